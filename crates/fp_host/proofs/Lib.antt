@@ -1,0 +1,9 @@
+pub mod Cause
+pub mod Follow
+pub mod Frame
+pub mod Goes
+pub mod Keep
+pub mod Kept
+pub mod PathTexts
+pub mod Separate
+pub mod Settled

@@ -1,0 +1,25 @@
+-- How a call over a host ends.
+use Rattle.std.specs.Prelude.{◌≡◌, ℕ, ◌≤◌, Option, Some, Result, IsErrOf}
+use Rattle.fp_host.specs.View.{View}
+use Rattle.fp_host.specs.Moments.{Moments, Rose}
+use Rattle.fp_host.specs.declared.host.HostError.{HostError}
+use Rattle.fp_host.specs.declared.host.HostError.TheVariants as error
+use Rattle.fp_host.specs.declared.path.PathFault.{PathFault}
+use Rattle.fp_host.specs.declared.path.PathFault.TheVariants as fault
+use Rattle.fp_host.specs.declared.host.HostEnd.{HostEnd}
+use Rattle.fp_host.specs.declared.host.HostEnd.TheVariants as end
+
+abbrev pub end_of : HostError → HostEnd
+end_of error.Failed = end.Fault
+end_of error.Clash = end.Fault
+end_of error.NoMemory = end.NoMemory
+
+abbrev pub end_of_path : PathFault → HostEnd
+end_of_path fault.Bad = end.Fault
+end_of_path fault.NoMemory = end.NoMemory
+
+-- On a host that doesn't tell its content, and on one whose present view meets the condition, `Fault` comes only
+-- where the count rose.
+pub record IsCaused {T : Type 0} (told : Option Moments) (Condition : View → Type 0) (before now : ℕ) (result : Result T HostEnd) : Type 0 where
+  pub later : before ≤ now
+  pub fault : IsErrOf result end.Fault → ((m : Moments) → told ≡ Some m → Condition m.now) → Rose before now

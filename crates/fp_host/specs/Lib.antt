@@ -1,0 +1,9 @@
+pub mod Paths
+pub mod View
+pub mod Calls
+pub mod Outcome
+pub mod Moments
+pub mod Reads
+pub mod Ends
+pub mod Frame
+pub mod Remote

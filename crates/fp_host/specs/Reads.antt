@@ -1,0 +1,70 @@
+-- What the calls that change nothing tell of a view.
+use Rattle.std.specs.Prelude.{◌≡◌, ◌≢◌, ◌↔◌, ◌≤◌, ◌-◌, ◌&&◌, ℕ, Bool, true, List, [], ◌∷◌, length, take, drop, min, Some, Result, Ok, Err, Contains}
+use Rattle.std.specs.List.{list_all}
+use Rattle.std.specs.Ordering.{is_lt, nat_cmp}
+use Rattle.std.specs.Cmp.Lexicographic.{slice_cmp}
+use Rattle.fp_host.specs.Paths.{Elements, Slot, absent, dir, file, link, is_element}
+use Rattle.fp_host.specs.View.{View, Inode}
+use Rattle.fp_host.specs.declared.host.HostError.{HostError}
+use Rattle.fp_host.specs.declared.host.HostError.TheVariants.{Failed, Clash, NoMemory}
+use Rattle.fp_host.specs.declared.host.Stat.{Stat}
+use Rattle.fp_host.specs.declared.host.Stat.TheVariants.{Absent, Dir, File as StatFile, Link}
+
+-- what a name holds, with the file's id, mode and length
+abbrev pub IsStat : View → Slot → Stat → Type 0
+IsStat v absent s = s ≡ Absent
+IsStat v dir s = s ≡ Dir
+IsStat v (link text) s = s ≡ Link
+IsStat v (file id) s = (f : Inode) × (v.files id ≡ Some f) × (s ≡ StatFile id f.mode (length f.bytes))
+
+-- a call that reads leaves an equal view or none
+abbrev pub Reads : {T : Type 0} → Type 0 → (T → Type 0) → Result T HostError → Type 0
+Reads can told (Ok t) = can × told t
+Reads can told (Err Clash) = can → ⊥
+Reads can told (Err Failed) = Unit {0}
+Reads can told (Err NoMemory) = Unit {0}
+
+pub record StatOf (p : Elements) (result : Result Stat HostError) (v w : View) : Type 0 where
+  pub same : w ≡ v
+  pub tells : Reads (Unit {0}) (λ s. IsStat v (v.names p) s) result
+
+-- Names as every host lists them: each may be an element of a path, and they ascend by their bytes.
+abbrev pub comes_first : List ℕ → List (List ℕ) → Bool
+comes_first x [] = true
+comes_first x (y ∷ ys) = is_lt (slice_cmp nat_cmp x y)
+
+abbrev pub is_ascending : List (List ℕ) → Bool
+is_ascending [] = true
+is_ascending (x ∷ xs) = comes_first x xs && is_ascending xs
+
+pub record AreNames (xs : List (List ℕ)) : Type 0 where
+  pub each : list_all is_element xs ≡ true
+  pub ascending : is_ascending xs ≡ true
+
+-- permission bits
+abbrev pub HasBits : Stat → Type 0
+HasBits Absent = Unit {0}
+HasBits Dir = Unit {0}
+HasBits Link = Unit {0}
+HasBits (StatFile id mode size) = mode ≤ 4095
+
+pub record ListOf (p : Elements) (result : Result (List (List ℕ)) HostError) (v w : View) : Type 0 where
+  pub same : w ≡ v
+  pub tells : Reads (v.names p ≡ dir) (λ xs. (x : List ℕ) → Contains xs x ↔ (v.names (x ∷ p) ≢ absent)) result
+
+abbrev pub IsRead : View → Slot → ℕ → List ℕ → ℕ → Type 0
+IsRead v absent at into n = ⊥
+IsRead v dir at into n = ⊥
+IsRead v (link text) at into n = ⊥
+IsRead v (file id) at into n = (f : Inode) × (v.files id ≡ Some f) × (n ≡ min (length into) (length f.bytes - at)) × (take n into ≡ take n (drop at f.bytes))
+
+abbrev pub IsAFile : Slot → Type 0
+IsAFile e = (id : ℕ) × (e ≡ file id)
+
+pub record ReadOf (p : Elements) (at : ℕ) (into : List ℕ) (result : Result ℕ HostError) (v w : View) : Type 0 where
+  pub same : w ≡ v
+  pub tells : Reads (IsAFile (v.names p)) (λ n. IsRead v (v.names p) at into n) result
+
+pub record LinkOf (p : Elements) (result : Result (List ℕ) HostError) (v w : View) : Type 0 where
+  pub same : w ≡ v
+  pub tells : Reads ((text : List ℕ) × (v.names p ≡ link text)) (λ text. v.names p ≡ link text) result

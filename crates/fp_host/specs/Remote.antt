@@ -1,0 +1,62 @@
+-- What remotes hold, and what a source has left.
+use Rattle.std.specs.Prelude.{◌≡◌, ◌≤◌, ◌-◌, ◌<◌, ℕ, List, [], length, take, drop, min, Option, Some}
+use Rattle.fp_host.specs.Paths.{Elements}
+use Rattle.fp_host.specs.declared.remotes.Node.{Node}
+use Rattle.fp_host.specs.declared.remotes.Node.TheVariants.{Absent, Dir, File, Link}
+use Rattle.fp_host.specs.declared.source.Taken.{Taken}
+use Rattle.fp_host.specs.declared.source.Taken.TheVariants.{Took, End, Failed}
+
+-- what a remote holds at a path
+pub data Held : Type 0 where
+  nothing : Held
+  directory : Held
+  contents : ℕ → List ℕ → Held
+  target : List ℕ → Held
+
+-- by the remote's url and the path
+abbrev pub Holdings : Type 0
+Holdings = List ℕ → Elements → Held
+
+-- what `node` answers: a file's permission bits and the number of its bytes
+abbrev pub IsNode : Held → Node → Type 0
+IsNode nothing node = node ≡ Absent
+IsNode directory node = node ≡ Dir
+IsNode (contents mode bytes) node = node ≡ File mode (length bytes)
+IsNode (target text) node = node ≡ Link text
+
+-- permission bits
+abbrev pub HasNodeBits : Node → Type 0
+HasNodeBits Absent = Unit {0}
+HasNodeBits Dir = Unit {0}
+HasNodeBits (File mode size) = mode ≤ 4095
+HasNodeBits (Link text) = Unit {0}
+
+-- the bytes of a file; anything else has none
+abbrev pub bytes_of : Held → List ℕ
+bytes_of nothing = []
+bytes_of directory = []
+bytes_of (contents mode bytes) = bytes
+bytes_of (target text) = []
+
+-- n bytes from this place on came into the buffer: as many as it has room for, or as are left
+pub record CameFrom (bytes : List ℕ) (at : ℕ) (into : List ℕ) (n : ℕ) : Type 0 where
+  pub many : n ≡ min (length into) (length bytes - at)
+  pub same : take n into ≡ take n (drop at bytes)
+
+-- The next bytes of what is left were taken into the buffer. The end, and nothing taken into a buffer with room, come
+-- only where nothing is left. After a failure nothing is said.
+abbrev pub TakesOf : List ℕ → List ℕ → Taken → List ℕ → Type 0
+TakesOf left into (Took n) after = (n ≤ length left) × (take n into ≡ take n left) × (after ≡ drop n left) × (n ≡ 0 → 0 < length into → left ≡ [])
+TakesOf left into End after = (left ≡ []) × (after ≡ [])
+TakesOf left into Failed after = Unit {0}
+
+-- no call changes whether the source tells what it has left
+pub record Takes (old new : Option (List ℕ)) (into : List ℕ) (taken : Taken) : Type 0 where
+  pub told : (left : List ℕ) → old ≡ Some left → (after : List ℕ) × (new ≡ Some after) × TakesOf left into taken after
+  pub untold : (after : List ℕ) → new ≡ Some after → (left : List ℕ) × (old ≡ Some left)
+
+-- at most what the buffer has room for
+abbrev pub IsWithin : Taken → ℕ → Type 0
+IsWithin (Took n) room = n ≤ room
+IsWithin End room = Unit {0}
+IsWithin Failed room = Unit {0}

@@ -1,0 +1,16 @@
+//! The host that an installation lives on, the remotes that objects come from, and the source of a command's input.
+#![tactic(auto)]
+
+mod host;
+mod items;
+mod path;
+mod remotes;
+mod source;
+mod text;
+
+pub use host::{Host, HostEnd, HostError, Stat};
+pub use items::Items;
+pub use path::{Path, PathFault, is_element};
+pub use remotes::{NoRemotes, Node, RemoteError, Remotes};
+pub use source::{Source, Taken};
+pub use text::{Blob, Text};

@@ -1,0 +1,245 @@
+// A path below the host's root, seen as the list of its elements, the innermost first.
+ghost use Rattle.std.specs.Prelude.{◌≡◌, ◌≢◌, ◌↔◌, ◌⊎◌, ℕ, List, ◌∷◌, ◌<◌, ◌≤◌, ◌+◌, [], length, drop, IsTrue, IsOk, IfOk, IfSome, IsNone, IsErrOf, MatchOption, false, count_by, ◌==◌};
+ghost use Rattle.std.specs.List.{list_all};
+ghost use Rattle.fp_host.specs.Paths.{is_element, is_name_byte, cut, elements_of, path_text, path_eq};
+ghost use Rattle.fp_host.specs.declared.path.PathFault.TheVariants.{NoMemory};
+
+use std::alloc::{AllocError, Global};
+use std::marker::Model;
+
+/// Why a text is no path, or an element can't be added.
+#[derive(Clone, Copy, Debug, PartialEq, Eq)]
+pub enum PathFault {
+    /// An element is empty, longer than 255 bytes, `.` or `..`, or has a slash or a zero byte.
+    Bad,
+    NoMemory,
+}
+
+impl From<AllocError> for PathFault {
+    ghost from_gives = { λ _ e. e ≡ NoMemory };
+
+    fn from(_: AllocError) -> PathFault {
+        PathFault::NoMemory
+    }
+}
+
+/// A path below the root of a host. Each of its elements has 1 to 255 bytes without a slash and a zero byte, and is
+/// neither `.` nor `..`.
+#[derive(Debug, Drop)]
+pub struct Path {
+    // the elements joined by slashes
+    text: String,
+}
+
+impl Model for Path {
+    ghost use Rattle.std.specs.Prelude.{◌≡◌, List, ℕ, true, string_bytes};
+    ghost use Rattle.std.specs.List.{list_all};
+    ghost use Rattle.fp_host.specs.Paths.{is_element, is_name_byte, elements_of};
+
+    ghost Value = { List (List ℕ) };
+
+    ghost view = { λ p. elements_of (string_bytes p.text) };
+
+    ghost invariant = { λ p. list_all is_element (elements_of (string_bytes p.text)) ≡ true };
+}
+
+/// Whether the text may be an element of a path.
+pub fn is_element(text: &str) -> bool
+    ensures { result ≡ is_element text.now }
+{
+    let bytes = text.as_bytes();
+    if bytes.is_empty() || bytes.len() > 255 {
+        return false;
+    }
+    if !are_name_bytes(bytes) {
+        return false;
+    }
+    if text == "." || text == ".." {
+        return false;
+    }
+    true
+}
+
+fn are_name_bytes(bytes: &[u8]) -> bool
+    ensures { result ≡ list_all is_name_byte bytes.now }
+{
+    bytes.iter().all(|b| !(*b == b'/' || *b == 0))
+}
+
+// What stands before the last slash, and behind it.
+fn around_last(text: &str) -> Option<(&str, &str)>
+    ensures around { IfSome result (λ parts. cut text.now ≡ parts.1.now ∷ cut parts.0.now) }
+    ensures shorter { IfSome result (λ parts. length parts.0.now < length text.now) }
+    ensures none { IsNone result → cut text.now ≡ text.now ∷ [] }
+{
+    let at = text.rfind('/')?;
+    Some((&text[..at], &text[at + 1..]))
+}
+
+// Whether the text is elements and slashes between them.
+fn are_elements(text: &str) -> bool
+    ensures { result ≡ list_all is_element (cut text.now) }
+{
+    let mut left = text;
+    while let Some((front, last)) = around_last(left) {
+        if !is_element(last) {
+            return false;
+        }
+        left = front;
+    }
+    is_element(left)
+}
+
+// The text without its last element.
+fn front(text: &str) -> &str
+    requires { IsTrue (list_all is_element (elements_of text.now)) }
+    ensures front { elements_of result.now ≡ drop 1 (elements_of text.now) }
+    ensures good { IsTrue (list_all is_element (elements_of result.now)) }
+{
+    match around_last(text) {
+        Some((front, _)) => front,
+        None => "",
+    }
+}
+
+// The last element.
+fn last(text: &str) -> &str
+    requires { text.now ≢ [] }
+    ensures { elements_of text.now ≡ result.now ∷ drop 1 (elements_of text.now) }
+{
+    match around_last(text) {
+        Some((_, last)) => last,
+        None => text,
+    }
+}
+
+impl Path {
+    /// The root, which takes no memory.
+    pub fn root(alloc: Global) -> Self
+        ensures { result ≡ [] }
+    {
+        Path {
+            text: String::new(alloc),
+        }
+    }
+
+    /// The path of a text, which is cut at its slashes. `Bad` where an element may not be one; so is the empty text.
+    pub fn parse(alloc: Global, text: &str) -> Result<Self, PathFault>
+        ensures path { IfOk result (λ p. p ≡ cut text.now) }
+        ensures ok { IsOk result → IsTrue (list_all is_element (cut text.now)) }
+        ensures bad { IsErrOf result PathFault.Bad → list_all is_element (cut text.now) ≡ false }
+    {
+        if !are_elements(text) {
+            return Err(PathFault::Bad);
+        }
+        Ok(Path {
+            text: text.to_string(alloc)?,
+        })
+    }
+
+    /// The elements joined by slashes; the root's text is empty. It takes no memory.
+    pub fn text(&self) -> &str
+        ensures text { result.now ≡ path_text self.now }
+        ensures back { elements_of result.now ≡ self.now }
+        ensures good { IsTrue (list_all is_element self.now) }
+    {
+        &self.text
+    }
+
+    /// How many elements there are.
+    pub fn len(&self) -> usize
+        ensures { result ≡ length self.now }
+    {
+        let text = self.text.as_str();
+        if text.is_empty() {
+            return 0;
+        }
+        count_slashes(text) + 1
+    }
+
+    /// Whether this is the root.
+    pub fn is_root(&self) -> bool
+        ensures { IsTrue result ↔ (self.now ≡ []) }
+    {
+        self.text.is_empty()
+    }
+
+    /// The innermost element; the root has none.
+    pub fn name(&self) -> Option<&str>
+        ensures root { IsNone result ↔ (self.now ≡ []) }
+        ensures name { IfSome result (λ x. self.now ≡ x.now ∷ drop 1 self.now) }
+        ensures good { IfSome result (λ x. IsTrue (is_element x.now)) }
+    {
+        let text = self.text.as_str();
+        if text.is_empty() {
+            return None;
+        }
+        Some(last(text))
+    }
+
+    /// The path with one element more.
+    pub fn child(&self, element: &str) -> Result<Self, AllocError>
+        requires { IsTrue (is_element element.now) }
+        ensures { IfOk result (λ p. p ≡ element.now ∷ self.now) }
+    {
+        let alloc = *self.text.allocator();
+        let above = self.text.as_str();
+        if above.is_empty() {
+            return Ok(Path {
+                text: element.to_string(alloc)?,
+            });
+        }
+        Ok(Path {
+            text: format!(in alloc; "{above}/{element}")?,
+        })
+    }
+
+    /// The path with one element more; `Bad` where the text may not be an element.
+    pub fn join(&self, element: &str) -> Result<Self, PathFault>
+        ensures path { IfOk result (λ p. p ≡ element.now ∷ self.now) }
+        ensures ok { IsOk result → IsTrue (is_element element.now) }
+        ensures bad { IsErrOf result PathFault.Bad → is_element element.now ≡ false }
+    {
+        if !is_element(element) {
+            return Err(PathFault::Bad);
+        }
+        Ok(self.child(element)?)
+    }
+
+    /// The folder so many elements above.
+    pub fn folder(&self, up: usize) -> Result<Self, AllocError>
+        requires { up ≤ length self.now }
+        ensures { IfOk result (λ p. p ≡ drop up self.now) }
+    {
+        let mut text = self.text.as_str();
+        for _i in 0..up {
+            text = front(text);
+        }
+        Ok(Path {
+            text: text.to_string(*self.text.allocator())?,
+        })
+    }
+
+    /// The same path once more.
+    pub fn copy(&self) -> Result<Self, AllocError>
+        ensures { IfOk result (λ p. p ≡ self.now) }
+    {
+        Ok(Path {
+            text: self.text.clone()?,
+        })
+    }
+
+    /// Whether the two paths are one.
+    pub fn is(&self, other: &Path) -> bool
+        ensures { result ≡ path_eq self.now other.now }
+    {
+        self.text == other.text
+    }
+}
+
+fn count_slashes(text: &str) -> usize
+    ensures count { result ≡ count_by (λ b. b == 47) text.now }
+    ensures small { result ≤ length text.now }
+{
+    text.as_bytes().iter().filter(|b| **b == b'/').count()
+}
