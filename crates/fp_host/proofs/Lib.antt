@@ -1,6 +1,8 @@
 pub mod Cause
+pub mod Filed
 pub mod Follow
 pub mod Frame
+pub mod Framed
 pub mod Goes
 pub mod Keep
 pub mod Kept

@@ -15,6 +15,7 @@ pub record Keeps (G : Elements → Spot → Type 0) (W A : Elements → Type 0) 
   pub follows : Follows G old new
   pub names : (q : Elements) → (W q → ⊥) → new.names q ≡ old.names q
   pub files : (id : ℕ) (f : Inode) → old.files id ≡ Some f → ((q : Elements) → A q → old.names q ≡ file id → ⊥) → new.files id ≡ Some f
+  pub rows : (id : ℕ) → new.files id ≡ None → old.files id ≡ None
   pub held : (q : Elements) (id : ℕ) → A q → new.names q ≡ file id → Holds A old new q id
   pub printed : new.printed ≡ old.printed
 

@@ -1,0 +1,191 @@
+-- What a call leaves of the files that were there.
+use Rattle.std.proofs.Common.{◌≡◌, ◌≢◌, ◌⊎◌, inl, inr, ℕ, List, [], ◌++◌, Option, Some, None, refl, sym, ◌∙◌, ap, subst}
+use Rattle.std.proofs.lemmas.Bool.{cases_eq}
+use Rattle.fp_host.specs.Paths.{Elements, Slot, absent, dir, file, link, set_at}
+use Rattle.fp_host.specs.View.{View, Inode}
+use Rattle.fp_host.specs.Calls.{Change, makes_dir, creates, appends, links, makes_link, renames, unlinks, removes_dir, syncs, says, Can, put, grow, grown, set_file, with_file, done, half, Went, Called}
+use Rattle.fp_host.proofs.Separate.{path_cases, set_same, set_other, file_same, file_other}
+
+-- the file that gets bytes
+abbrev pub Fills : Change → View → ℕ → Type 0
+Fills (appends p bytes) v id = v.names p ≡ file id
+Fills (makes_dir p) v id = ⊥
+Fills (creates p mode i) v id = ⊥
+Fills (links from to) v id = ⊥
+Fills (makes_link text p) v id = ⊥
+Fills (renames from to) v id = ⊥
+Fills (unlinks p) v id = ⊥
+Fills (removes_dir p) v id = ⊥
+Fills syncs v id = ⊥
+Fills (says piece) v id = ⊥
+
+-- a file that is there isn't a new one
+old_id : {f : Inode} (v : View) (id i : ℕ) → v.files id ≡ Some f → v.files i ≡ None → id ≢ i
+old_id v id i some none is = absurd (cc (some, none, ap v.files is))
+
+grow_other : (e : Slot) (bytes : List ℕ) (v : View) (id : ℕ) → (e ≡ file id → ⊥) → (grow e bytes v).files id ≡ v.files id
+grow_other absent bytes v id off = refl
+grow_other dir bytes v id off = refl
+grow_other (link text) bytes v id off = refl
+grow_other (file i) bytes v id off = file_other v.files i (grown (v.files i) bytes) id (λ is. off (ap file (sym is)))
+
+module _ (v : View) (id : ℕ) (f : Inode) (some : v.files id ≡ Some f) where
+  kept_done : (change : Change) → Can change v → (Fills change v id → ⊥) → (done change v).files id ≡ Some f
+  kept_done (makes_dir p) can off = some
+  kept_done (creates p mode i) can off = file_other v.files i (Some (record { mode = mode; bytes = [] })) id (old_id v id i some can.1) ∙ some
+  kept_done (appends p bytes) can off = grow_other (v.names p) bytes v id off ∙ some
+  kept_done (links from to) can off = some
+  kept_done (makes_link text p) can off = some
+  kept_done (renames from to) can off = some
+  kept_done (unlinks p) can off = some
+  kept_done (removes_dir p) can off = some
+  kept_done syncs can off = some
+  kept_done (says piece) can off = some
+
+  kept_half : (change : Change) → Can change v → (half change v).files id ≡ Some f
+  kept_half (makes_dir p) can = some
+  kept_half (creates p mode i) can = file_other v.files i (Some (record { mode = mode; bytes = [] })) id (old_id v id i some can.1) ∙ some
+  kept_half (appends p bytes) can = some
+  kept_half (links from to) can = some
+  kept_half (makes_link text p) can = some
+  kept_half (renames from to) can = some
+  kept_half (unlinks p) can = some
+  kept_half (removes_dir p) can = some
+  kept_half syncs can = some
+  kept_half (says piece) can = some
+
+  kept_of : (change : Change) (w : View) → Went change v w → (Fills change v id → ⊥) → w.files id ≡ Some f
+  kept_of change w (inl same) off = ap (λ (x : View). x.files id) same ∙ some
+  kept_of change w (inr went) off = elim went.1 [
+    | inl is ↦ ap (λ (x : View). x.files id) is ∙ kept_half change went.0
+    | inr is ↦ ap (λ (x : View). x.files id) is ∙ kept_done change went.0 off
+  ]
+
+-- a file that a call doesn't fill keeps its mode and its bytes
+pub files_kept : {change : Change} {v w : View} → Called change v w → (id : ℕ) (f : Inode) → v.files id ≡ Some f → (Fills change v id → ⊥) → w.files id ≡ Some f
+files_kept {change = change} {v = v} {w = w} call id f some off = kept_of v id f some change w call.went off
+
+new_some : (f : Inode) (v : View) (i id : ℕ) → set_file v.files i (Some f) id ≡ None → v.files id ≡ None
+new_some f v i id none = elim (cases_eq id i) [
+  | inl here ↦ absurd (cc (file_same v.files i (Some f) id here, none))
+  | inr off ↦ sym (file_other v.files i (Some f) id off) ∙ none
+]
+
+grown_none : (row : Option Inode) (bytes : List ℕ) → grown row bytes ≡ None → row ≡ None
+grown_none None bytes is = refl
+grown_none (Some f) bytes is = absurd (cc is)
+
+grow_none : (e : Slot) (bytes : List ℕ) (v : View) (id : ℕ) → (grow e bytes v).files id ≡ None → v.files id ≡ None
+grow_none absent bytes v id none = none
+grow_none dir bytes v id none = none
+grow_none (link text) bytes v id none = none
+grow_none (file i) bytes v id none = elim (cases_eq id i) [
+  | inl here ↦ ap v.files here ∙ grown_none (v.files i) bytes (sym (file_same v.files i (grown (v.files i) bytes) id here) ∙ none)
+  | inr off ↦ sym (file_other v.files i (grown (v.files i) bytes) id off) ∙ none
+]
+
+module _ (v : View) (id : ℕ) where
+  rows_done : (change : Change) → (done change v).files id ≡ None → v.files id ≡ None
+  rows_done (makes_dir p) none = none
+  rows_done (creates p mode i) none = new_some (record { mode = mode; bytes = [] }) v i id none
+  rows_done (appends p bytes) none = grow_none (v.names p) bytes v id none
+  rows_done (links from to) none = none
+  rows_done (makes_link text p) none = none
+  rows_done (renames from to) none = none
+  rows_done (unlinks p) none = none
+  rows_done (removes_dir p) none = none
+  rows_done syncs none = none
+  rows_done (says piece) none = none
+
+  rows_half : (change : Change) → (half change v).files id ≡ None → v.files id ≡ None
+  rows_half (makes_dir p) none = none
+  rows_half (creates p mode i) none = new_some (record { mode = mode; bytes = [] }) v i id none
+  rows_half (appends p bytes) none = none
+  rows_half (links from to) none = none
+  rows_half (makes_link text p) none = none
+  rows_half (renames from to) none = none
+  rows_half (unlinks p) none = none
+  rows_half (removes_dir p) none = none
+  rows_half syncs none = none
+  rows_half (says piece) none = none
+
+  rows_of : (change : Change) (w : View) → Went change v w → w.files id ≡ None → v.files id ≡ None
+  rows_of change w (inl same) none = sym (ap (λ (x : View). x.files id) same) ∙ none
+  rows_of change w (inr went) none = elim went.1 [
+    | inl is ↦ rows_half change (sym (ap (λ (x : View). x.files id) is) ∙ none)
+    | inr is ↦ rows_done change (sym (ap (λ (x : View). x.files id) is) ∙ none)
+  ]
+
+-- no file goes
+pub rows_kept : {change : Change} {v w : View} → Called change v w → (id : ℕ) → w.files id ≡ None → v.files id ≡ None
+rows_kept {change = change} {v = v} {w = w} call id none = rows_of v id change w call.went none
+
+-- A name of A that a call gives a file gets it from another name of A, or the file is new.
+abbrev pub Passes : (Elements → Type 0) → Change → Type 0
+Passes A (links from to) = A to → A from
+Passes A (renames from to) = A to → A from
+Passes A (makes_dir p) = Unit {0}
+Passes A (creates p mode i) = Unit {0}
+Passes A (appends p bytes) = Unit {0}
+Passes A (makes_link text p) = Unit {0}
+Passes A (unlinks p) = Unit {0}
+Passes A (removes_dir p) = Unit {0}
+Passes A syncs = Unit {0}
+Passes A (says piece) = Unit {0}
+
+-- the file of a name now, as it was before
+abbrev pub Had : (Elements → Type 0) → View → ℕ → Type 0
+Had A v id = (v.files id ≡ None) ⊎ ((p : Elements) × A p × (v.names p ≡ file id))
+
+module _ (A : Elements → Type 0) (v : View) (q : Elements) (id : ℕ) (at : A q) where
+  had_put : (p : Elements) (e : Slot) → (q ≡ p → e ≡ file id → Had A v id) → set_at v.names p e q ≡ file id → Had A v id
+  had_put p e given is = elim (path_cases q p) [
+    | inl here ↦ given here (sym (set_same v.names p e q here) ∙ is)
+    | inr off ↦ inr (q, at, sym (set_other v.names p e q off) ∙ is)
+  ]
+
+  had_grow : (e : Slot) (bytes : List ℕ) → (grow e bytes v).names q ≡ file id → Had A v id
+  had_grow absent bytes is = inr (q, at, is)
+  had_grow dir bytes is = inr (q, at, is)
+  had_grow (link text) bytes is = inr (q, at, is)
+  had_grow (file i) bytes is = inr (q, at, is)
+
+  moved : (from to : Elements) → (A to → A from) → q ≡ to → v.names from ≡ file id → Had A v id
+  moved from to passes here is = inr (from, passes (subst A here at), is)
+
+  had_done : (change : Change) → Can change v → Passes A change → (done change v).names q ≡ file id → Had A v id
+  had_done (makes_dir p) can passes is = had_put p dir (λ here e. absurd (cc e)) is
+  had_done (creates p mode i) can passes is = had_put p (file i) (λ here e. inl (ap v.files (let same : id ≡ i = cc e in same) ∙ can.1)) is
+  had_done (appends p bytes) can passes is = had_grow (v.names p) bytes is
+  had_done (links from to) can passes is = had_put to (v.names from) (moved from to passes) is
+  had_done (makes_link text p) can passes is = had_put p (link text) (λ here e. absurd (cc e)) is
+  had_done (renames from to) can passes is = elim (path_cases q from) [
+    | inl here ↦ absurd (cc (set_same (put to (v.names from) v).names from absent q here, is))
+    | inr off ↦ had_put to (v.names from) (moved from to passes) (sym (set_other (put to (v.names from) v).names from absent q off) ∙ is)
+  ]
+  had_done (unlinks p) can passes is = had_put p absent (λ here e. absurd (cc e)) is
+  had_done (removes_dir p) can passes is = had_put p absent (λ here e. absurd (cc e)) is
+  had_done syncs can passes is = inr (q, at, is)
+  had_done (says piece) can passes is = inr (q, at, is)
+
+  had_half : (change : Change) → (half change v).names q ≡ file id → Had A v id
+  had_half (makes_dir p) is = inr (q, at, is)
+  had_half (creates p mode i) is = inr (q, at, is)
+  had_half (appends p bytes) is = inr (q, at, is)
+  had_half (links from to) is = inr (q, at, is)
+  had_half (makes_link text p) is = inr (q, at, is)
+  had_half (renames from to) is = inr (q, at, is)
+  had_half (unlinks p) is = inr (q, at, is)
+  had_half (removes_dir p) is = inr (q, at, is)
+  had_half syncs is = inr (q, at, is)
+  had_half (says piece) is = inr (q, at, is)
+
+  had_of : (change : Change) (w : View) → Went change v w → Passes A change → w.names q ≡ file id → Had A v id
+  had_of change w (inl same) passes is = inr (q, at, sym (ap (λ (x : View). x.names q) same) ∙ is)
+  had_of change w (inr went) passes is = elim went.1 [
+    | inl e ↦ had_half change (sym (ap (λ (x : View). x.names q) e) ∙ is)
+    | inr e ↦ had_done change went.0 passes (sym (ap (λ (x : View). x.names q) e) ∙ is)
+  ]
+
+pub held_call : (A : Elements → Type 0) {change : Change} {v w : View} → Called change v w → Passes A change → (q : Elements) (id : ℕ) → A q → w.names q ≡ file id → Had A v id
+held_call A {change = change} {v = v} {w = w} call passes q id at is = had_of A v q id at change w call.went passes is
