@@ -1,4 +1,5 @@
 pub mod Cause
+pub mod Ending
 pub mod Filed
 pub mod Follow
 pub mod Frame

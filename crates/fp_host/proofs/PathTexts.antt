@@ -11,7 +11,7 @@ use Rattle.std.specs.Prelude.{All, count_by, ◌==◌}
 use Rattle.std.specs.Str.{bytes_eq}
 use Rattle.std.proofs.lemmas.Slice.Eq.{bytes_eq-Decides}
 use Rattle.fp_host.proofs.Separate.{path_decides}
-use Rattle.fp_host.specs.Paths.{Elements, is_name_byte, is_element, turned, turned_onto, cut, elements_of, path_text, path_eq}
+use Rattle.fp_host.specs.Paths.{Elements, is_name_byte, is_element, turned, turned_onto, cut, elements_of, path_text, path_eq, IsAbove}
 
 module _ {A : Type 0} where
   pub turned_onto-append : (xs done : List A) → turned_onto xs done ≡ turned xs ++ done
@@ -247,3 +247,26 @@ element_of x some short good one two =
     some_length : (x : List ℕ) → false ≡ (length x == 0) → 0 < length x
     some_length [] f = absurd (false≢true f)
     some_length (b ∷ rest) f = omega arith
+
+-- a path that isn't the root, and the folder above it
+above_found : (self p next : Elements) → p ≢ [] → next ≡ drop 1 p → next ≡ self → IsAbove self p
+above_found self [] next some is found = absurd (some refl)
+above_found self (x ∷ up) next some is found = inl (sym found ∙ is)
+
+above_other : (self p next : Elements) → p ≢ [] → next ≡ drop 1 p → next ≢ self → (IsAbove self p → IsAbove self next) × (IsAbove self next → IsAbove self p)
+above_other self [] next some is other = absurd (some refl)
+above_other self (x ∷ up) next some is other = (
+  λ above. elim above [ inl here ↦ absurd (other (is ∙ sym here)) | inr higher ↦ subst (IsAbove self) (sym is) higher ],
+  λ above. inr (subst (IsAbove self) is above),
+)
+
+some_elements : (text : List ℕ) → text ≢ [] → elements_of text ≢ []
+some_elements text some none = some (no_elements text none)
+
+module _ (up next own : List ℕ) (p : Elements) (own_is : elements_of own ≡ p) (some : false ≡ (length up == 0)) (is : elements_of next ≡ drop 1 (elements_of up)) where
+  pub is_found : true ≡ bytes_eq next own → IsAbove p (elements_of up)
+  is_found t = above_found p (elements_of up) (elements_of next) (some_elements up (not_empty up some)) is (ap elements_of ((bytes_eq-Decides next own).0 (sym t)) ∙ own_is)
+
+  pub is_other : false ≡ bytes_eq next own → (IsAbove p (elements_of up) → IsAbove p (elements_of next)) × (IsAbove p (elements_of next) → IsAbove p (elements_of up))
+  is_other f = above_other p (elements_of up) (elements_of next) (some_elements up (not_empty up some)) is
+      (λ same. false≢true (f ∙ (bytes_eq-Decides next own).1 (same_text next own (same ∙ sym own_is))))

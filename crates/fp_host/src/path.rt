@@ -1,7 +1,7 @@
 // A path below the host's root, seen as the list of its elements, the innermost first.
 ghost use Rattle.std.specs.Prelude.{◌≡◌, ◌≢◌, ◌↔◌, ◌⊎◌, ℕ, List, ◌∷◌, ◌<◌, ◌≤◌, ◌+◌, [], length, drop, IsTrue, IsOk, IfOk, IfSome, IsNone, IsErrOf, MatchOption, false, count_by, ◌==◌};
 ghost use Rattle.std.specs.List.{list_all};
-ghost use Rattle.fp_host.specs.Paths.{is_element, is_name_byte, cut, elements_of, path_text, path_eq};
+ghost use Rattle.fp_host.specs.Paths.{is_element, is_name_byte, cut, elements_of, path_text, path_eq, IsAbove};
 ghost use Rattle.fp_host.specs.declared.path.PathFault.TheVariants.{NoMemory};
 
 use std::alloc::{AllocError, Global};
@@ -227,6 +227,20 @@ impl Path {
         Ok(Path {
             text: self.text.clone()?,
         })
+    }
+
+    /// Whether this is a folder above the other path.
+    pub fn is_above(&self, other: &Path) -> bool
+        ensures { IsTrue result ↔ IsAbove self.now other.now }
+    {
+        let mut up = other.text.as_str();
+        while !up.is_empty() {
+            up = front(up);
+            if up == self.text.as_str() {
+                return true;
+            }
+        }
+        false
     }
 
     /// Whether the two paths are one.
