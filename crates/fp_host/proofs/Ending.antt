@@ -3,29 +3,32 @@ use Rattle.std.proofs.Common.{◌≡◌, ℕ, ◌≤◌, Option, Some, None, Res
 use Rattle.std.specs.Prelude.{IsErr, IsErrOf, OnOk}
 use Rattle.std.specs.Result.{IsErrAnd}
 use Rattle.std.proofs.lemmas.Result.{IfOk-from_err}
-use Rattle.fp_host.specs.Paths.{Elements}
+use Rattle.fp_host.specs.Paths.{Elements, Slot}
 use Rattle.fp_host.specs.View.{View, IsTree}
 use Rattle.fp_host.specs.Outcome.{Spot}
-use Rattle.fp_host.specs.Moments.{Moments, Since, Goes, HasCause}
-use Rattle.fp_host.specs.Ends.{IsCaused, end_of}
+use Rattle.fp_host.specs.Moments.{Moments, Goes, Makes, HasCause}
+use Rattle.fp_host.specs.Causes.{IsCaused, end_of}
 use Rattle.fp_host.specs.Frame.{Keeps, Frame, Ends, Looks}
 use Rattle.fp_host.specs.declared.host.HostError.{HostError}
 use Rattle.fp_host.specs.declared.host.HostError.TheVariants.{Failed, Clash, NoMemory}
 use Rattle.fp_host.specs.declared.host.HostEnd.{HostEnd}
 use Rattle.fp_host.specs.declared.host.HostEnd.TheVariants.{Fault}
-use Rattle.fp_host.proofs.Goes.{goes_on, begins, stays, ends, ends_tree}
-use Rattle.fp_host.proofs.Cause.{caused, passed_on}
+use Rattle.fp_host.proofs.Goes.{goes_on, begins, stays, ends, ends_tree, makes_goes}
+use Rattle.fp_host.proofs.Cause.{caused, passed_on, by_from}
 use Rattle.fp_host.proofs.Framed.{IsTold}
 
--- a call's clause
-pub ends_call : {a b : Option Moments} {R Q : View → View → Type 0} → IsTold a → Goes a b R Q → Ends Q a b
-ends_call told call = record { goes = begins told call (λ u w t r. tt) (λ u w t r q. q) }
+ends_goes : {a b : Option Moments} {R Q : View → View → Type 0} → IsTold a → Goes a b R Q → Ends Q a b
+ends_goes told call = record { goes = begins told call (λ u w t r. tt) (λ u w t r q. q) }
 
-pub ends_frame : {a b : Option Moments} {G : Elements → Spot → Type 0} {W A : Elements → Type 0} → IsTold a → Frame G W A a b → Ends (Keeps G W A) a b
-ends_frame told frame = ends_call told frame.goes
+-- a call's clause
+pub ends_call : {a b : Option Moments} {S : View → View → Type 0} → IsTold a → Makes S a b → Ends S a b
+ends_call told call = ends_goes told (makes_goes call)
+
+pub ends_frame : {a b : Option Moments} {G : Elements → Spot → Type 0} {W : Elements → Slot → Type 0} {A : Elements → Type 0} → IsTold a → Frame G W A a b → Ends (Keeps G W A) a b
+ends_frame told frame = ends_goes told frame.goes
 
 pub ends_looks : {a b : Option Moments} {T : View → Type 0} → IsTold a → Looks T a b → Ends (λ u w. (w ≡ u) × T u) a b
-ends_looks told looks = ends_call told looks.goes
+ends_looks told looks = ends_goes told looks.goes
 
 pub ends_start : {a : Option Moments} → IsTold a → Ends (λ u w. w ≡ u) a a
 ends_start told = record { goes = stays told (λ u. tt) (λ u t. refl) }
@@ -59,11 +62,11 @@ ends_err X r err = IfOk-from_err r (λ t. X) err
 
 -- the fault of a host's call is passed on by a `?`
 pub call_caused : {T U : Type 0} {a b c : Option Moments} {Q S : View → View → Type 0} (C D : View → Type 0) (fa fb fc : ℕ) (e : HostError) (s : Result U HostEnd)
-    → IsTold a → fa ≤ fb → Ends Q a b → Goes b c S S → HasCause {T = T} b fb fc (Err e) → IsErrAnd s (λ end. end ≡ end_of e)
-    → ((v w : View) → S v w → e ≡ Clash → D v → ⊥) → ((u v : View) → IsTree u → Q u v → C u → D v) → IsCaused a C fa fc s
-call_caused C D fa fb fc e s told le first call cause err clash can = caused C D fa fb fc e s told le first.goes call cause err clash (λ u v t r q c. can u v t q c)
+    → IsTold a → fa ≤ fb → Ends Q a b → Makes S b c → HasCause {T = T} b fb fc (Err e) → IsErrAnd s (λ end. end ≡ end_of e)
+    → ((v w : View) → S v w → e ≡ Clash → D v → ⊥) → ((u v : View) → IsTree u → Q u v → C u → D v) → IsCaused (IsErrOf s Fault) a C fa fc
+call_caused {T = T} C D fa fb fc e s told le first call cause err clash can = caused {T = T} (IsErrOf s Fault) C D fa fb fc e told le first call cause (by_from e s err) clash can
 
 -- and so is that of a function lower down
 pub fault_caused : {T U : Type 0} {a b : Option Moments} {Q : View → View → Type 0} (C D : View → Type 0) (fa fb fc : ℕ) (r : Result T HostEnd) (s : Result U HostEnd)
-    → IsTold a → fa ≤ fb → Ends Q a b → IsCaused b D fb fc r → (IsErrOf s Fault → IsErrOf r Fault) → ((u v : View) → IsTree u → Q u v → C u → D v) → IsCaused a C fa fc s
-fault_caused C D fa fb fc r s told le first call passes can = passed_on C D fa fb fc r s told le first.goes call passes (λ u v t r q c. can u v t q c)
+    → IsTold a → fa ≤ fb → Ends Q a b → IsCaused (IsErrOf r Fault) b D fb fc → (IsErrOf s Fault → IsErrOf r Fault) → ((u v : View) → IsTree u → Q u v → C u → D v) → IsCaused (IsErrOf s Fault) a C fa fc
+fault_caused C D fa fb fc r s told le first call passes can = passed_on (IsErrOf s Fault) (IsErrOf r Fault) C D fa fb fc told le first call passes can

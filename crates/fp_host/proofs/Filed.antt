@@ -4,6 +4,7 @@ use Rattle.std.proofs.lemmas.Bool.{cases_eq}
 use Rattle.fp_host.specs.Paths.{Elements, Slot, absent, dir, file, link, set_at}
 use Rattle.fp_host.specs.View.{View, Inode}
 use Rattle.fp_host.specs.Calls.{Change, makes_dir, creates, appends, links, makes_link, renames, unlinks, removes_dir, syncs, says, Can, put, grow, grown, set_file, with_file, done, half, Went, Called}
+use Rattle.fp_host.specs.Frame.{ComesFrom}
 use Rattle.fp_host.proofs.Separate.{path_cases, set_same, set_other, file_same, file_other}
 
 -- the file that gets bytes
@@ -133,27 +134,23 @@ Passes A (removes_dir p) = Unit {0}
 Passes A syncs = Unit {0}
 Passes A (says piece) = Unit {0}
 
--- the file of a name now, as it was before
-abbrev pub Had : (Elements → Type 0) → View → ℕ → Type 0
-Had A v id = (v.files id ≡ None) ⊎ ((p : Elements) × A p × (v.names p ≡ file id))
-
 module _ (A : Elements → Type 0) (v : View) (q : Elements) (id : ℕ) (at : A q) where
-  had_put : (p : Elements) (e : Slot) → (q ≡ p → e ≡ file id → Had A v id) → set_at v.names p e q ≡ file id → Had A v id
+  had_put : (p : Elements) (e : Slot) → (q ≡ p → e ≡ file id → ComesFrom A v id) → set_at v.names p e q ≡ file id → ComesFrom A v id
   had_put p e given is = elim (path_cases q p) [
     | inl here ↦ given here (sym (set_same v.names p e q here) ∙ is)
     | inr off ↦ inr (q, at, sym (set_other v.names p e q off) ∙ is)
   ]
 
-  had_grow : (e : Slot) (bytes : List ℕ) → (grow e bytes v).names q ≡ file id → Had A v id
+  had_grow : (e : Slot) (bytes : List ℕ) → (grow e bytes v).names q ≡ file id → ComesFrom A v id
   had_grow absent bytes is = inr (q, at, is)
   had_grow dir bytes is = inr (q, at, is)
   had_grow (link text) bytes is = inr (q, at, is)
   had_grow (file i) bytes is = inr (q, at, is)
 
-  moved : (from to : Elements) → (A to → A from) → q ≡ to → v.names from ≡ file id → Had A v id
+  moved : (from to : Elements) → (A to → A from) → q ≡ to → v.names from ≡ file id → ComesFrom A v id
   moved from to passes here is = inr (from, passes (subst A here at), is)
 
-  had_done : (change : Change) → Can change v → Passes A change → (done change v).names q ≡ file id → Had A v id
+  had_done : (change : Change) → Can change v → Passes A change → (done change v).names q ≡ file id → ComesFrom A v id
   had_done (makes_dir p) can passes is = had_put p dir (λ here e. absurd (cc e)) is
   had_done (creates p mode i) can passes is = had_put p (file i) (λ here e. inl (ap v.files (let same : id ≡ i = cc e in same) ∙ can.1)) is
   had_done (appends p bytes) can passes is = had_grow (v.names p) bytes is
@@ -168,7 +165,7 @@ module _ (A : Elements → Type 0) (v : View) (q : Elements) (id : ℕ) (at : A 
   had_done syncs can passes is = inr (q, at, is)
   had_done (says piece) can passes is = inr (q, at, is)
 
-  had_half : (change : Change) → (half change v).names q ≡ file id → Had A v id
+  had_half : (change : Change) → (half change v).names q ≡ file id → ComesFrom A v id
   had_half (makes_dir p) is = inr (q, at, is)
   had_half (creates p mode i) is = inr (q, at, is)
   had_half (appends p bytes) is = inr (q, at, is)
@@ -180,12 +177,75 @@ module _ (A : Elements → Type 0) (v : View) (q : Elements) (id : ℕ) (at : A 
   had_half syncs is = inr (q, at, is)
   had_half (says piece) is = inr (q, at, is)
 
-  had_of : (change : Change) (w : View) → Went change v w → Passes A change → w.names q ≡ file id → Had A v id
+  had_of : (change : Change) (w : View) → Went change v w → Passes A change → w.names q ≡ file id → ComesFrom A v id
   had_of change w (inl same) passes is = inr (q, at, sym (ap (λ (x : View). x.names q) same) ∙ is)
   had_of change w (inr went) passes is = elim went.1 [
     | inl e ↦ had_half change (sym (ap (λ (x : View). x.names q) e) ∙ is)
     | inr e ↦ had_done change went.0 passes (sym (ap (λ (x : View). x.names q) e) ∙ is)
   ]
 
-pub held_call : (A : Elements → Type 0) {change : Change} {v w : View} → Called change v w → Passes A change → (q : Elements) (id : ℕ) → A q → w.names q ≡ file id → Had A v id
+pub held_call : (A : Elements → Type 0) {change : Change} {v w : View} → Called change v w → Passes A change → (q : Elements) (id : ℕ) → A q → w.names q ≡ file id → ComesFrom A v id
 held_call A {change = change} {v = v} {w = w} call passes q id at is = had_of A v q id at change w call.went passes is
+
+-- what a call may put at which names
+abbrev pub PutsOf : Change → View → Elements → Slot → Type 0
+PutsOf (makes_dir p) v q e = (q ≡ p) × (e ≡ dir)
+PutsOf (creates p mode id) v q e = (q ≡ p) × (e ≡ file id)
+PutsOf (appends p bytes) v q e = ⊥
+PutsOf (links from to) v q e = (q ≡ to) × (e ≡ v.names from)
+PutsOf (makes_link text p) v q e = (q ≡ p) × (e ≡ link text)
+PutsOf (renames from to) v q e = ((q ≡ to) × (e ≡ v.names from)) ⊎ ((q ≡ from) × (e ≡ absent))
+PutsOf (unlinks p) v q e = (q ≡ p) × (e ≡ absent)
+PutsOf (removes_dir p) v q e = (q ≡ p) × (e ≡ absent)
+PutsOf syncs v q e = ⊥
+PutsOf (says piece) v q e = ⊥
+
+module _ (v : View) (q : Elements) where
+  put_name : (p : Elements) (e : Slot) → (set_at v.names p e q ≡ v.names q) ⊎ ((q ≡ p) × (set_at v.names p e q ≡ e))
+  put_name p e = elim (path_cases q p) [ inl here ↦ inr (here, set_same v.names p e q here) | inr off ↦ inl (set_other v.names p e q off) ]
+
+  grow_name : (e : Slot) (bytes : List ℕ) → (grow e bytes v).names q ≡ v.names q
+  grow_name absent bytes = refl
+  grow_name dir bytes = refl
+  grow_name (link text) bytes = refl
+  grow_name (file id) bytes = refl
+
+  puts_done : (change : Change) → ((done change v).names q ≡ v.names q) ⊎ PutsOf change v q ((done change v).names q)
+  puts_done (makes_dir p) = put_name p dir
+  puts_done (creates p mode id) = put_name p (file id)
+  puts_done (appends p bytes) = inl (grow_name (v.names p) bytes)
+  puts_done (links from to) = put_name to (v.names from)
+  puts_done (makes_link text p) = put_name p (link text)
+  puts_done (renames from to) = elim (path_cases q from) [
+    | inl here ↦ inr (inr (here, set_same (put to (v.names from) v).names from absent q here))
+    | inr off ↦
+        let same = set_other (put to (v.names from) v).names from absent q off in
+        elim (put_name to (v.names from)) [ inl old ↦ inl (same ∙ old) | inr new ↦ inr (inl (new.0, same ∙ new.1)) ]
+  ]
+  puts_done (unlinks p) = put_name p absent
+  puts_done (removes_dir p) = put_name p absent
+  puts_done syncs = inl refl
+  puts_done (says piece) = inl refl
+
+  names_half : (change : Change) → (half change v).names q ≡ v.names q
+  names_half (makes_dir p) = refl
+  names_half (creates p mode id) = refl
+  names_half (appends p bytes) = refl
+  names_half (links from to) = refl
+  names_half (makes_link text p) = refl
+  names_half (renames from to) = refl
+  names_half (unlinks p) = refl
+  names_half (removes_dir p) = refl
+  names_half syncs = refl
+  names_half (says piece) = refl
+
+  puts_of : (change : Change) (w : View) → Went change v w → (w.names q ≡ v.names q) ⊎ PutsOf change v q (w.names q)
+  puts_of change w (inl same) = inl (ap (λ (x : View). x.names q) same)
+  puts_of change w (inr went) = elim went.1 [
+    | inl is ↦ inl (ap (λ (x : View). x.names q) is ∙ names_half change)
+    | inr is ↦ subst (λ (x : View). (x.names q ≡ v.names q) ⊎ PutsOf change v q (x.names q)) (sym is) (puts_done change)
+  ]
+
+-- a name holds what it held, or what the call puts there
+pub puts_call : {change : Change} {v w : View} → Called change v w → (q : Elements) → (w.names q ≡ v.names q) ⊎ PutsOf change v q (w.names q)
+puts_call {change = change} {v = v} {w = w} call q = puts_of v q change w call.went

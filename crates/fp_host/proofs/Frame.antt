@@ -4,7 +4,7 @@ use Rattle.fp_host.specs.Paths.{Elements}
 use Rattle.fp_host.specs.View.{View}
 use Rattle.fp_host.specs.Outcome.{Spot, Disk, Leaves, Follows}
 
--- What is read of an disk depends on its fixed paths alone, which may themselves depend on the disk. Where nothing
+-- What is read of a disk depends on its fixed paths alone, which may themselves depend on the disk. Where nothing
 -- is given to a fixed path of any outcome from before, each outcome since reads as those from before do.
 pub frame : {X : Type 0} (f : Disk → X) (F : Disk → Elements → Type 0) (G : Elements → Spot → Type 0) {u w : View}
     → ((i j : Disk) → ((p : Elements) → F i p → j p ≡ i p) → f j ≡ f i)

@@ -28,7 +28,7 @@ IsFile absent = ⊥
 IsFile dir = ⊥
 IsFile (link text) = ⊥
 
--- a Inode or a Link
+-- a file or a link
 abbrev pub IsLeaf : Slot → Type 0
 IsLeaf (file id) = Unit {0}
 IsLeaf (link text) = Unit {0}
@@ -115,7 +115,7 @@ half (removes_dir p) v = may_put p absent v
 half syncs v = v
 half (says piece) v = v
 
--- a failed call leaves the view as it was, or as before or as after with both entries possible; a failed sync changes nothing
+-- A failed call did nothing, was done, or was not done though a stop may leave it done. A failed sync did nothing.
 abbrev pub HalfDone : Change → View → View → Type 0
 HalfDone syncs v w = w ≡ v
 HalfDone change v w = Can change v × ((w ≡ half change v) ⊎ (w ≡ done change v))

@@ -1,26 +1,28 @@
 -- What a function over a host says of all that it does: what it leaves alone at every moment, and what is known in the end.
-use Rattle.std.specs.Prelude.{◌≡◌, ◌⊎◌, ℕ, List, Option, Some, None, Contains}
-use Rattle.fp_host.specs.Paths.{Elements, file}
+use Rattle.std.specs.Prelude.{◌≡◌, ◌⊎◌, ℕ, Option, Some, None}
+use Rattle.fp_host.specs.Paths.{Elements, Slot, file}
 use Rattle.fp_host.specs.View.{View, Inode}
-use Rattle.fp_host.specs.Outcome.{Spot, gone, Follows}
+use Rattle.fp_host.specs.Outcome.{Spot, Follows}
 use Rattle.fp_host.specs.Moments.{Moments, Goes}
 
--- The file that a name of A holds now is none that was there at the start, but one that such a name held then.
-abbrev pub Holds : (Elements → Type 0) → View → View → Elements → ℕ → Type 0
-Holds A old new q id = (old.files id ≡ None) ⊎ ((p : Elements) × A p × (old.names p ≡ file id))
+-- a file that is new since old, or that a name of A held then
+abbrev pub ComesFrom : (Elements → Type 0) → View → ℕ → Type 0
+ComesFrom A old id = (old.files id ≡ None) ⊎ ((p : Elements) × A p × (old.names p ≡ file id))
 
--- In any outcome a path stands as some outcome of old has it, or as G allows. In the present view only names of W
--- change. Each file that was there keeps its mode and its bytes, but one that a name of A held. Nothing is printed.
-pub record Keeps (G : Elements → Spot → Type 0) (W A : Elements → Type 0) (old new : View) : Type 0 where
+-- G: what may come to stand at which path. W: what a name may come to hold in the present view. A: whose files may get
+-- bytes. Each outcome of new agrees with one outcome of old at every path but those where G allows what stands there. A
+-- name of the present view holds what it held, or what W allows. Each file that was there keeps its mode and its bytes,
+-- but one that a name of A held; a file that a name of A holds now is new, or was held by a name of A. Nothing is printed.
+pub record Keeps (G : Elements → Spot → Type 0) (W : Elements → Slot → Type 0) (A : Elements → Type 0) (old new : View) : Type 0 where
   pub follows : Follows G old new
-  pub names : (q : Elements) → (W q → ⊥) → new.names q ≡ old.names q
+  pub names : (q : Elements) → (new.names q ≡ old.names q) ⊎ W q (new.names q)
   pub files : (id : ℕ) (f : Inode) → old.files id ≡ Some f → ((q : Elements) → A q → old.names q ≡ file id → ⊥) → new.files id ≡ Some f
   pub rows : (id : ℕ) → new.files id ≡ None → old.files id ≡ None
-  pub held : (q : Elements) (id : ℕ) → A q → new.names q ≡ file id → Holds A old new q id
+  pub held : (q : Elements) (id : ℕ) → A q → new.names q ≡ file id → ComesFrom A old id
   pub printed : new.printed ≡ old.printed
 
 -- so at each moment since old
-pub record Frame (G : Elements → Spot → Type 0) (W A : Elements → Type 0) (old new : Option Moments) : Type 0 where
+pub record Frame (G : Elements → Spot → Type 0) (W : Elements → Slot → Type 0) (A : Elements → Type 0) (old new : Option Moments) : Type 0 where
   pub goes : Goes old new (Keeps G W A) (Keeps G W A)
 
 -- What the end tells: where the host tells its content, the present view of new relates so to that of old.
@@ -32,12 +34,16 @@ pub record Looks (T : View → Type 0) (old new : Option Moments) : Type 0 where
   pub goes : Goes old new (λ u w. w ≡ u) (λ u w. (w ≡ u) × T u)
 
 -- no path
-abbrev pub Nowhere : Elements → Type 0
-Nowhere q = ⊥
+abbrev pub NoPath : Elements → Type 0
+NoPath q = ⊥
 
 -- this path alone
 abbrev pub Only : Elements → Elements → Type 0
 Only p q = q ≡ p
+
+-- anything held at this path
+abbrev pub AnyHeld : Elements → Elements → Slot → Type 0
+AnyHeld p q e = q ≡ p
 
 -- anything at this path
 abbrev pub AnyAt : Elements → Elements → Spot → Type 0

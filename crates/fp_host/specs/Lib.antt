@@ -4,6 +4,6 @@ pub mod Calls
 pub mod Outcome
 pub mod Moments
 pub mod Reads
-pub mod Ends
+pub mod Causes
 pub mod Frame
 pub mod Remote

@@ -4,7 +4,7 @@ use Rattle.fp_host.specs.Paths.{Elements, Slot, absent, dir, file, link, at}
 use Rattle.fp_host.specs.View.{View, Inode, MayBe}
 use Rattle.fp_host.specs.Calls.{Change, makes_dir, creates, appends, links, makes_link, renames, unlinks, removes_dir, syncs, says}
 
--- what stands at a path of an disk
+-- what stands at a path of a disk
 pub data Spot : Type 0 where
   gone : Spot
   folder : Spot

@@ -17,7 +17,7 @@ IsStat v dir s = s ≡ Dir
 IsStat v (link text) s = s ≡ Link
 IsStat v (file id) s = (f : Inode) × (v.files id ≡ Some f) × (s ≡ StatFile id f.mode (length f.bytes))
 
--- a call that reads leaves an equal view or none
+-- `Ok` only where the condition holds, with what is told; `Clash` only where it doesn't
 abbrev pub Reads : {T : Type 0} → Type 0 → (T → Type 0) → Result T HostError → Type 0
 Reads can told (Ok t) = can × told t
 Reads can told (Err Clash) = can → ⊥

@@ -12,7 +12,8 @@ pub record View : Type 0 where
   pub names : Elements → Slot
   -- each file by its id
   pub files : ℕ → Option Inode
-  -- what a name held since the last sync, the oldest first
+  -- what a stop may bring back at a name besides, the oldest first: what it held since the last sync, or would hold had a
+  -- failed call been done
   pub earlier : Elements → List Slot
   -- the files created since the last sync
   pub dirty : ℕ → Bool

@@ -8,7 +8,7 @@ mod remotes;
 mod source;
 mod text;
 
-pub use host::{Host, HostEnd, HostError, Stat};
+pub use host::{Entry, Host, HostEnd, HostError, Stat};
 pub use items::Items;
 pub use path::{Path, PathFault, is_element};
 pub use remotes::{NoRemotes, Node, RemoteError, Remotes};

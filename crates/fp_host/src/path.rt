@@ -123,9 +123,11 @@ impl Path {
         }
     }
 
-    /// The path of a text, which is cut at its slashes. `Bad` where an element may not be one; so is the empty text.
+    /// The path of a text, which is cut at its slashes. `Bad` where an element may not be one. So is the empty text: the
+    /// root has no element to write.
     pub fn parse(alloc: Global, text: &str) -> Result<Self, PathFault>
         ensures path { IfOk result (λ p. p ≡ cut text.now) }
+        ensures text { IfOk result (λ p. path_text p ≡ text.now) }
         ensures ok { IsOk result → IsTrue (list_all is_element (cut text.now)) }
         ensures bad { IsErrOf result PathFault.Bad → list_all is_element (cut text.now) ≡ false }
     {
@@ -137,7 +139,7 @@ impl Path {
         })
     }
 
-    /// The elements joined by slashes; the root's text is empty. It takes no memory.
+    /// The elements joined by slashes, which `parse` reads back; the root's text is empty. It takes no memory.
     pub fn text(&self) -> &str
         ensures text { result.now ≡ path_text self.now }
         ensures back { elements_of result.now ≡ self.now }
@@ -177,7 +179,7 @@ impl Path {
         Some(last(text))
     }
 
-    /// The path with one element more.
+    /// The path with one element more, for an element that is known to be one.
     pub fn child(&self, element: &str) -> Result<Self, AllocError>
         requires { IsTrue (is_element element.now) }
         ensures { IfOk result (λ p. p ≡ element.now ∷ self.now) }
@@ -194,7 +196,7 @@ impl Path {
         })
     }
 
-    /// The path with one element more; `Bad` where the text may not be an element.
+    /// The path with one element more. `Bad` where the text may not be an element.
     pub fn join(&self, element: &str) -> Result<Self, PathFault>
         ensures path { IfOk result (λ p. p ≡ element.now ∷ self.now) }
         ensures ok { IsOk result → IsTrue (is_element element.now) }

@@ -1,5 +1,5 @@
--- How a call over a host ends.
-use Rattle.std.specs.Prelude.{◌≡◌, ℕ, ◌≤◌, Option, Some, Result, IsErrOf}
+-- How a function over a host ends, and why.
+use Rattle.std.specs.Prelude.{◌≡◌, ℕ, ◌≤◌, Option, Some}
 use Rattle.fp_host.specs.View.{View}
 use Rattle.fp_host.specs.Moments.{Moments, Rose}
 use Rattle.fp_host.specs.declared.host.HostError.{HostError}
@@ -18,8 +18,8 @@ abbrev pub end_of_path : PathFault → HostEnd
 end_of_path fault.Bad = end.Fault
 end_of_path fault.NoMemory = end.NoMemory
 
--- On a host that doesn't tell its content, and on one whose present view meets the condition, `Fault` comes only
+-- The cause of a function's fault: on a told host whose present view at the entry meets the condition, it comes only
 -- where the count rose.
-pub record IsCaused {T : Type 0} (told : Option Moments) (Condition : View → Type 0) (before now : ℕ) (result : Result T HostEnd) : Type 0 where
+pub record IsCaused (Faulted : Type 0) (told : Option Moments) (Condition : View → Type 0) (before now : ℕ) : Type 0 where
   pub later : before ≤ now
-  pub fault : IsErrOf result end.Fault → ((m : Moments) → told ≡ Some m → Condition m.now) → Rose before now
+  pub fault : Faulted → (m : Moments) → told ≡ Some m → Condition m.now → Rose before now
