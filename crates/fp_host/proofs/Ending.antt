@@ -17,7 +17,7 @@ use Rattle.fp_host.proofs.Goes.{goes_on, begins, stays, ends, ends_tree, makes_g
 use Rattle.fp_host.proofs.Cause.{caused, passed_on, by_from}
 use Rattle.fp_host.proofs.Framed.{IsTold}
 
-ends_goes : {a b : Option Moments} {R Q : View → View → Type 0} → IsTold a → Goes a b R Q → Ends Q a b
+pub ends_goes : {a b : Option Moments} {R Q : View → View → Type 0} → IsTold a → Goes a b R Q → Ends Q a b
 ends_goes told call = record { goes = begins told call (λ u w t r. tt) (λ u w t r q. q) }
 
 -- a call's clause
@@ -42,6 +42,24 @@ ends_in_tree told first more = record { goes = ends_tree told first.goes more }
 
 pub ends_on : {a b c : Option Moments} {Q T Q' : View → View → Type 0} → Ends T b c → Ends Q a b → IsTold b → ((u v w : View) → IsTree v → Q u v → T v w → Q' u w) → Ends Q' a c
 ends_on second first told step = record { goes = goes_on told first.goes second.goes (λ u v w t r q s. tt) (λ u v w t r q s e. step u v w t q e) }
+
+-- what is known of the last view beside
+pub goes_known : {a b : Option Moments} {R T Q : View → View → Type 0} → Goes a b R T → Ends Q a b → Goes a b R (λ u w. T u w × Q u w)
+goes_known {Q = Q} first second = record {
+  untold = first.untold;
+  told = λ m e.
+      let one = first.told m e in
+      let two = second.goes.told m e in
+      let same : two.0 ≡ one.0 = cc (one.1, two.1) in
+      (one.0, one.1, one.2, (one.3, subst (λ (n : Moments). Q m.now n.now) same two.3));
+}
+
+-- what holds of each view holds of the last one
+pub goes_last : {a b : Option Moments} {R Q : View → View → Type 0} → Goes a b R Q → Goes a b R R
+goes_last first = record {
+  untold = first.untold;
+  told = λ m e. let one = first.told m e in (one.0, one.1, one.2, one.2.last);
+}
 
 -- two things that one end tells
 pub ends_both : {a b : Option Moments} {Q T : View → View → Type 0} → Ends Q a b → Ends T a b → Ends (λ u w. Q u w × T u w) a b

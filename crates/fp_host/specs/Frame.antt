@@ -33,6 +33,10 @@ pub record Ends (Q : View → View → Type 0) (old new : Option Moments) : Type
 pub record Looks (T : View → Type 0) (old new : Option Moments) : Type 0 where
   pub goes : Goes old new (λ u w. w ≡ u) (λ u w. (w ≡ u) × T u)
 
+-- Nothing changes at any moment.
+abbrev pub Still : Option Moments → Option Moments → Type 0
+Still old new = Looks (λ v. Unit {0}) old new
+
 -- no path
 abbrev pub NoPath : Elements → Type 0
 NoPath q = ⊥

@@ -1,0 +1,5 @@
+pub mod Making
+pub mod NamingLemmas
+pub mod Replacement
+pub mod Staging
+pub mod Whole

@@ -1,0 +1,6 @@
+pub mod Places
+pub mod Naming
+pub mod Folders
+pub mod Stage
+pub mod Move
+pub mod Replace

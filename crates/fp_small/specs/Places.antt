@@ -1,0 +1,15 @@
+-- Where an installation keeps its work.
+use Rattle.std.specs.Prelude.{ℕ, List, [], ◌∷◌, ◌++◌, codes}
+use Rattle.std.specs.Fmt.{decimal}
+use Rattle.fp_host.specs.Paths.{Elements}
+
+abbrev pub repo : Elements
+repo = codes "repo" ∷ []
+
+-- work that counts for nothing
+abbrev pub tmp : Elements
+tmp = codes "tmp" ∷ repo
+
+-- the names that new files have until they come to their own: new0, new1 and so on
+abbrev pub new_name : ℕ → List ℕ
+new_name k = codes "new" ++ decimal k

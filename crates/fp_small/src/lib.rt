@@ -1,0 +1,6 @@
+//! The small files of an installation.
+#![tactic(auto)]
+
+mod replacing;
+
+pub use replacing::replace;

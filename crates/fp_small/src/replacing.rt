@@ -1,0 +1,178 @@
+// A small file that is written anew.
+ghost use Rattle.std.specs.Prelude.{◌≡◌, ◌↔◌, ◌≢◌, ℕ, List, ◌∷◌, [], OnOk, IfOk, IsTrue, IsErrOf, Contains, string_bytes};
+ghost use Rattle.fp_host.specs.Paths.{Elements, absent, dir, is_element};
+ghost use Rattle.fp_host.specs.View.{View};
+ghost use Rattle.fp_host.specs.Calls.{HasFolder};
+ghost use Rattle.fp_host.specs.Moments.{Goes};
+ghost use Rattle.fp_host.specs.Causes.{IsCaused};
+ghost use Rattle.fp_host.specs.Frame.{Frame, Ends, Still, AnyAt, AnyHeld, Only, NoPath};
+ghost use Rattle.fp_small.specs.Places.{tmp, new_name};
+ghost use Rattle.fp_small.specs.Folders.{ancestors, FolderAt, DirAt, FoldersAt, DirsAt, IsFree, AreFree, AreDirs, IsLadder};
+ghost use Rattle.fp_small.specs.Stage.{WasStaged, CanStage};
+ghost use Rattle.fp_small.specs.Move.{Moves, WasMoved, CanMove};
+ghost use Rattle.fp_small.specs.Naming.{IsFirstFree, ListsIn};
+ghost use Rattle.fp_small.specs.Replace.{folders_of, IsStaging, Replaces, WasReplaced, CanReplace};
+
+use fp_host::{Host, HostEnd, Items, Path, Stat, Text};
+use std::alloc::{AllocError, Global};
+
+/// Makes the folder where it is absent.
+fn make_folder<H: Host>(host: &mut H, path: &Path) -> Result<(), HostEnd>
+    ensures frame { Frame (FolderAt path.now) (DirAt path.now) NoPath (H.moments host.old) (H.moments host.new) }
+    ensures done { OnOk result (Ends (λ u w. IsFree u path.now → w.names path.now ≡ dir) (H.moments host.old) (H.moments host.new)) }
+    ensures cause { IsCaused (IsErrOf result HostEnd.Fault) (H.moments host.old) (λ v. v.names path.now ≡ absent → HasFolder v path.now) (H.faults host.old) (H.faults host.new) }
+    ensures memory { IsErrOf result HostEnd.NoMemory → ⊥ }
+{
+    match host.stat(path)? {
+        Stat::Absent => {
+            host.make_dir(path)?;
+            Ok(())
+        }
+        _ => Ok(()),
+    }
+}
+
+/// Makes the folders where they are absent, in this order.
+fn make_folders<H: Host>(host: &mut H, paths: &[Path]) -> Result<(), HostEnd>
+    ensures frame { Frame (FoldersAt paths.now) (DirsAt paths.now) NoPath (H.moments host.old) (H.moments host.new) }
+    ensures done { OnOk result (Ends (λ u w. AreFree paths.now u → AreDirs paths.now w) (H.moments host.old) (H.moments host.new)) }
+    ensures cause { IsCaused (IsErrOf result HostEnd.Fault) (H.moments host.old) (λ v. IsLadder paths.now × AreFree paths.now v) (H.faults host.old) (H.faults host.new) }
+    ensures memory { IsErrOf result HostEnd.NoMemory → ⊥ }
+{
+    for path in paths {
+        make_folder(host, path)?;
+    }
+    Ok(())
+}
+
+/// Writes a new file with the permission bits 0644, and syncs.
+fn stage<H: Host>(host: &mut H, path: &Path, bytes: &[u8]) -> Result<(), HostEnd>
+    ensures frame { Frame (AnyAt path.now) (AnyHeld path.now) (Only path.now) (H.moments host.old) (H.moments host.new) }
+    ensures done { OnOk result (Ends (WasStaged path.now bytes.now) (H.moments host.old) (H.moments host.new)) }
+    ensures cause { IsCaused (IsErrOf result HostEnd.Fault) (H.moments host.old) (CanStage path.now) (H.faults host.old) (H.faults host.new) }
+    ensures memory { IsErrOf result HostEnd.NoMemory → ⊥ }
+{
+    host.create(path, 0o644)?;
+    host.append(path, bytes)?;
+    host.sync()?;
+    Ok(())
+}
+
+/// Gives a file that is on the disk its name, and syncs.
+fn move_onto<H: Host>(host: &mut H, from: &Path, to: &Path) -> Result<(), HostEnd>
+    ensures moments { Goes (H.moments host.old) (H.moments host.new) (Moves from.now to.now) (Moves from.now to.now) }
+    ensures done { OnOk result (Ends (WasMoved from.now to.now) (H.moments host.old) (H.moments host.new)) }
+    ensures cause { IsCaused (IsErrOf result HostEnd.Fault) (H.moments host.old) (CanMove from.now to.now) (H.faults host.old) (H.faults host.new) }
+    ensures memory { IsErrOf result HostEnd.NoMemory → ⊥ }
+{
+    host.rename(from, to)?;
+    host.sync()?;
+    Ok(())
+}
+
+fn has_name(names: &[Text], name: &str) -> bool
+    ensures { IsTrue result ↔ Contains names.now name.now }
+{
+    for text in names {
+        if text.as_str() == name {
+            return true;
+        }
+    }
+    false
+}
+
+/// The first of the names new0, new1 and so on that isn't among these.
+fn free_name(alloc: Global, names: &[Text]) -> Result<String, AllocError>
+    ensures first { IfOk result (λ name. IsFirstFree names.now (string_bytes name)) }
+    ensures element { IfOk result (λ name. IsTrue (is_element (string_bytes name))) }
+{
+    let most = names.len();
+    let mut k: usize = 0;
+    loop {
+        let name = format!(in alloc; "new{k}")?;
+        if !has_name(names, &name) {
+            return Ok(name);
+        }
+        if k == most {
+            unreachable!();
+        }
+        k += 1;
+    }
+}
+
+/// The names in the folder; none where it is no folder.
+fn names_in<H: Host>(alloc: Global, host: &mut H, folder: &Path) -> Result<Items<Text>, HostEnd>
+    ensures still { Still (H.moments host.old) (H.moments host.new) }
+    ensures tells { IfOk result (λ names. Ends (λ u w. ListsIn folder.now u names) (H.moments host.old) (H.moments host.new)) }
+    ensures cause { IsCaused (IsErrOf result HostEnd.Fault) (H.moments host.old) (λ v. Unit {0}) (H.faults host.old) (H.faults host.new) }
+{
+    match host.stat(folder)? {
+        Stat::Dir => Ok(host.list(alloc, folder)?),
+        _ => Ok(Items::from_vec(Vec::new(alloc))),
+    }
+}
+
+/// Where the new file is staged.
+fn staging_place<H: Host>(alloc: Global, host: &mut H) -> Result<Path, HostEnd>
+    ensures still { Still (H.moments host.old) (H.moments host.new) }
+    ensures tells { IfOk result (λ place. Ends (λ u w. IsStaging u place) (H.moments host.old) (H.moments host.new)) }
+    ensures cause { IsCaused (IsErrOf result HostEnd.Fault) (H.moments host.old) (λ v. Unit {0}) (H.faults host.old) (H.faults host.new) }
+{
+    let folder = tmp_path(alloc)?;
+    let names = names_in(alloc, host, &folder)?;
+    let name = free_name(alloc, names.as_slice())?;
+    Ok(folder.child(&name)?)
+}
+
+/// The folder of staged files.
+fn tmp_path(alloc: Global) -> Result<Path, AllocError>
+    ensures { IfOk result (λ path. path ≡ tmp) }
+{
+    Path::root(alloc).child("repo")?.child("tmp")
+}
+
+/// The folders above a path, the outermost first, without the root.
+fn ancestors(alloc: Global, path: &Path) -> Result<Vec<Path>, AllocError>
+    ensures { IfOk result (λ folders. folders.items ≡ ancestors path.now) }
+{
+    let mut folders = Vec::new(alloc);
+    let mut up = path.len();
+    while up > 1 {
+        up -= 1;
+        folders.push(path.folder(up)?)?;
+    }
+    Ok(folders)
+}
+
+/// The folders that are made where they are absent.
+fn folders_of(alloc: Global, path: &Path) -> Result<Vec<Path>, AllocError>
+    ensures { IfOk result (λ folders. folders.items ≡ folders_of path.now) }
+{
+    let mut folders = ancestors(alloc, path)?;
+    folders.push(Path::root(alloc).child("repo")?)?;
+    folders.push(tmp_path(alloc)?)?;
+    Ok(folders)
+}
+
+/// Writes the file anew, with the permission bits 0644: the folders above it, `repo` and `repo/tmp` are made where they are
+/// absent, the new file is written at the first free name `repo/tmp/new0`, `repo/tmp/new1` and so on, synced, renamed onto
+/// the path, and synced again. All memory is taken before the first change.
+pub fn replace<H: Host>(
+    alloc: Global,
+    host: &mut H,
+    path: &Path,
+    bytes: &[u8],
+) -> Result<(), HostEnd>
+    // A stop at any moment leaves at the path what some stop before would have left, or the whole new file.
+    ensures moments { Goes (H.moments host.old) (H.moments host.new) (Replaces path.now bytes.now) (Replaces path.now bytes.now) }
+    // Behind it every stop leaves the new file.
+    ensures done { OnOk result (Ends (WasReplaced path.now bytes.now) (H.moments host.old) (H.moments host.new)) }
+    ensures cause { IsCaused (IsErrOf result HostEnd.Fault) (H.moments host.old) (CanReplace path.now) (H.faults host.old) (H.faults host.new) }
+    ensures memory { IsErrOf result HostEnd.NoMemory → Ends (λ u w. w ≡ u) (H.moments host.old) (H.moments host.new) }
+{
+    let folders = folders_of(alloc, path)?;
+    let place = staging_place(alloc, host)?;
+    make_folders(host, &folders)?;
+    stage(host, &place, bytes)?;
+    move_onto(host, &place, path)
+}
