@@ -1,0 +1,7 @@
+pub mod Bytes
+pub mod FileNames
+pub mod Grammar
+pub mod Hex
+pub mod Kinds
+pub mod Pins
+pub mod Refs

@@ -1,0 +1,35 @@
+-- The patterns of pins: a ref in which each of the last three parts may be `*`.
+use Rattle.std.specs.Prelude.{ℕ, List, Bool, true, false, ◌&&◌, ◌||◌, Option, Some, None, codes}
+use Rattle.std.specs.Str.{bytes_eq}
+use Rattle.fp_name.specs.declared.kind.RefKind.{RefKind}
+use Rattle.fp_name.specs.declared.kind.RefKind.TheVariants.{App, Runtime}
+use Rattle.fp_name.specs.Grammar.{is_id, is_arch, is_branch}
+use Rattle.fp_name.specs.Refs.{Ref, parts_of}
+
+abbrev pub is_star : List ℕ → Bool
+is_star part = bytes_eq part (codes "*")
+
+abbrev pub are_pin_parts : Option Ref → Bool
+are_pin_parts None = false
+are_pin_parts (Some p) = (is_star p.id || is_id p.id) && ((is_star p.arch || is_arch p.arch) && (is_star p.branch || is_branch p.branch))
+
+unfoldable pub is_pin : List ℕ → Bool
+is_pin text = are_pin_parts (parts_of text)
+
+abbrev pub same_kind : RefKind → RefKind → Bool
+same_kind App App = true
+same_kind App Runtime = false
+same_kind Runtime App = false
+same_kind Runtime Runtime = true
+
+-- A part of a pattern matches what is equal to it, and `*` matches anything.
+abbrev pub part_matches : List ℕ → List ℕ → Bool
+part_matches pattern part = is_star pattern || bytes_eq pattern part
+
+abbrev pub parts_match : Option Ref → Ref → Bool
+parts_match None r = false
+parts_match (Some p) r = same_kind p.kind r.kind && (part_matches p.id r.id && (part_matches p.arch r.arch && part_matches p.branch r.branch))
+
+-- whether the pattern of this text matches a ref
+unfoldable pub pin_matches : List ℕ → Ref → Bool
+pin_matches text r = parts_match (parts_of text) r

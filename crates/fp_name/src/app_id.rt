@@ -1,0 +1,85 @@
+//! The IDs of applications, runtimes and extensions.
+
+ghost use Rattle.std.specs.Prelude.{◌≡◌, ◌↔◌, true, false, IfOk, OnOk, IsErrOf};
+ghost use Rattle.fp_name.specs.Grammar.{is_id};
+
+use crate::fault::NameFault;
+use crate::grammar::is_id;
+use crate::text::Text;
+use std::alloc::{AllocError, Global};
+use std::marker::Model;
+use std::str;
+
+/// The ID of an application, a runtime or an extension, as `org.gnome.Maps`.
+#[derive(Debug, Drop, PartialEq, Eq, PartialOrd, Ord)]
+pub struct AppId {
+    text: Text,
+}
+
+impl Model for AppId {
+    ghost use Rattle.std.specs.Prelude.{◌≡◌, List, ℕ, true};
+    ghost use Rattle.fp_name.specs.Grammar.{is_id};
+
+    ghost Value = { List ℕ };
+
+    ghost view = { λ a. a.text };
+
+    ghost invariant = { λ a. is_id a.text ≡ true };
+
+    ghost inverse = { λ text. record { text = text } };
+}
+
+impl AppId {
+    /// Reads an ID. Bad comes exactly where the text is none.
+    #[tactic(auto, using(crate::proofs::Bytes::no_text_no_id))]
+    pub fn parse(alloc: Global, text: &[u8]) -> Result<Self, NameFault>
+        ensures ok { IfOk result (λ id. id ≡ text.now) }
+        ensures good { OnOk result (is_id text.now ≡ true) }
+        ensures bad { IsErrOf result NameFault.Bad ↔ (is_id text.now ≡ false) }
+    {
+        let Ok(text) = str::from_utf8(text) else {
+            return Err(NameFault::Bad);
+        };
+        if !is_id(text) {
+            return Err(NameFault::Bad);
+        }
+        Ok(AppId {
+            text: Text::from_str(alloc, text)?,
+        })
+    }
+
+    /// The ID of a text that is one.
+    pub fn of_id(alloc: Global, id: &str) -> Result<Self, AllocError>
+        requires { is_id id.now ≡ true }
+        ensures { IfOk result (λ value. value ≡ id.now) }
+    {
+        Ok(AppId {
+            text: Text::from_str(alloc, id)?,
+        })
+    }
+
+    /// The text of the ID.
+    pub fn as_str(&self) -> &str
+        ensures text { result.now ≡ self.now }
+        ensures good { is_id self.now ≡ true }
+    {
+        self.text.as_str()
+    }
+
+    /// The text of the ID, as a text of its own.
+    pub fn write(&self) -> Result<Text, AllocError>
+        ensures text { IfOk result (λ text. text ≡ self.now) }
+        ensures good { is_id self.now ≡ true }
+    {
+        self.text.copy()
+    }
+
+    /// Another value of the same ID.
+    pub fn copy(&self) -> Result<Self, AllocError>
+        ensures { IfOk result (λ id. id ≡ self.now) }
+    {
+        Ok(AppId {
+            text: self.text.copy()?,
+        })
+    }
+}

@@ -1,0 +1,93 @@
+//! SHA-256 digests.
+
+ghost use Rattle.std.specs.Prelude.{◌≡◌, true, length, SomeIff, IfOk, ok_or};
+ghost use Rattle.std.specs.List.{list_any};
+ghost use Rattle.std.specs.Char.{is_ascii_uppercase};
+ghost use Rattle.fp_name.specs.Hex.{hex as hex_text, unhex, is_digest};
+
+use crate::fault::NameFault;
+use crate::text::Text;
+use hex::FromHex;
+use std::alloc::{AllocError, Global};
+use std::marker::Model;
+
+/// A SHA-256 digest: 32 bytes, which contracts see as their list.
+#[derive(Clone, Copy, Debug, PartialEq, Eq, PartialOrd, Ord)]
+pub struct Digest {
+    bytes: [u8; 32],
+}
+
+impl Model for Digest {
+    ghost use Rattle.std.specs.Prelude.{◌≡◌, List, ℕ, true};
+    ghost use Rattle.fp_name.specs.Hex.{is_digest};
+
+    ghost Value = { List ℕ };
+
+    ghost view = { λ d. d.bytes };
+
+    ghost invariant = { λ d. is_digest d.bytes ≡ true };
+
+    ghost inverse = { λ bytes. record { bytes = bytes } };
+}
+
+impl Digest {
+    /// The digest of these bytes.
+    pub fn from_bytes(bytes: [u8; 32]) -> Self
+        ensures { result ≡ bytes }
+    {
+        Digest { bytes }
+    }
+
+    /// The digest of a slice of 32 bytes, and None for a slice of another length.
+    pub fn from_slice(bytes: &[u8]) -> Option<Self>
+        ensures { SomeIff result (length bytes.now ≡ 32) bytes.now }
+    {
+        let bytes = <[u8; 32]>::try_from(bytes).ok()?;
+        Some(Digest::from_bytes(bytes))
+    }
+
+    /// Its bytes.
+    pub fn as_bytes(&self) -> &[u8; 32]
+        ensures bytes { result.now ≡ self.now }
+        ensures good { is_digest self.now ≡ true }
+    {
+        &self.bytes
+    }
+
+    /// Reads 64 hexadecimal digits in lower case, which takes no memory. Any other text is Bad.
+    pub fn parse(text: &[u8]) -> Result<Self, NameFault>
+        ensures { result ≡ ok_or (unhex text.now) NameFault.Bad }
+    {
+        if has_uppercase(text) {
+            return Err(NameFault::Bad);
+        }
+        match <[u8; 32]>::from_hex(text) {
+            Ok(bytes) => Ok(Digest::from_bytes(bytes)),
+            Err(_) => Err(NameFault::Bad),
+        }
+    }
+
+    /// The 64 hexadecimal digits of the digest, in lower case, which takes no memory.
+    pub fn digits(&self) -> [u8; 64]
+        ensures { result ≡ hex_text self.now }
+    {
+        let mut digits = [0; 64];
+        hex::encode_to_slice(self.bytes, &mut digits).unwrap();
+        digits
+    }
+
+    /// The digest as 64 hexadecimal digits in lower case.
+    pub fn write(&self, alloc: Global) -> Result<Text, AllocError>
+        ensures text { IfOk result (λ text. text ≡ hex_text self.now) }
+        ensures good { is_digest self.now ≡ true }
+    {
+        Ok(Text::from_string(hex::encode(alloc, self.bytes)?))
+    }
+}
+
+/// Whether a capital letter stands in a text.
+fn has_uppercase(text: &[u8]) -> bool
+    ensures { result ≡ list_any is_ascii_uppercase text.now }
+{
+    text.iter().any(u8::is_ascii_uppercase)
+}

@@ -1,0 +1,36 @@
+//! Why a text was not read as a name.
+
+ghost use Rattle.std.specs.Prelude.{◌≡◌};
+ghost use Rattle.fp_name.specs.declared.fault.NameFault.TheVariants.{NoMemory};
+
+use std::alloc::AllocError;
+use std::error::Error;
+use std::fmt;
+
+/// Why a text was not read as a name.
+#[derive(Clone, Copy, Debug, PartialEq, Eq)]
+pub enum NameFault {
+    /// The text is not in the grammar of the name.
+    Bad,
+    /// There was no memory for the name.
+    NoMemory,
+}
+
+impl fmt::Display for NameFault {
+    fn fmt<W: fmt::Write>(&self, f: &mut fmt::Formatter<W>) -> fmt::Result {
+        match self {
+            NameFault::Bad => write!(f, "bad name"),
+            NameFault::NoMemory => write!(f, "out of memory"),
+        }
+    }
+}
+
+impl Error for NameFault {}
+
+impl From<AllocError> for NameFault {
+    ghost from_gives = { λ _ e. e ≡ NoMemory };
+
+    fn from(_e: AllocError) -> NameFault {
+        NameFault::NoMemory
+    }
+}

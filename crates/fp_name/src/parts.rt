@@ -1,0 +1,118 @@
+//! The four parts of a ref or of a pattern of refs.
+
+ghost use Rattle.std.specs.Prelude.{◌≡◌, Some, option_map, is_some, IfOk};
+ghost use Rattle.std.specs.List.{slice_split};
+ghost use Rattle.fp_name.specs.Bytes.{is_slash};
+ghost use Rattle.fp_name.specs.Refs.{ref_with, is_ref, ref_text, behind_kind, parts_of, ref_of};
+ghost use Rattle.fp_name.specs.Pins.{are_pin_parts, is_pin, part_matches, parts_match};
+
+use crate::grammar::{is_arch, is_branch, is_id};
+use crate::kind::RefKind;
+use crate::text::Text;
+use std::alloc::{AllocError, Global};
+
+/// KIND/ID/ARCH/BRANCH, whatever stands in the last three.
+#[derive(Clone, Copy)]
+pub struct Parts<'a> {
+    pub kind: RefKind,
+    pub id: &'a str,
+    pub arch: &'a str,
+    pub branch: &'a str,
+}
+
+impl Parts<'_> {
+    /// Whether each part is in its grammar.
+    pub fn are_ref(self) -> bool
+        ensures { result ≡ is_ref (ref_with self.entry.kind self.entry.id.now self.entry.arch.now self.entry.branch.now) }
+    {
+        is_id(self.id) && is_arch(self.arch) && is_branch(self.branch)
+    }
+
+    /// Whether each of the last three parts is `*` or in its grammar.
+    pub fn are_pin(self) -> bool
+        ensures { result ≡ are_pin_parts (Some (ref_with self.entry.kind self.entry.id.now self.entry.arch.now self.entry.branch.now)) }
+    {
+        (self.id == "*" || is_id(self.id))
+            && (self.arch == "*" || is_arch(self.arch))
+            && (self.branch == "*" || is_branch(self.branch))
+    }
+
+    /// Whether a pattern of these parts matches other parts: each is equal, or `*` in the pattern.
+    pub fn match_parts(self, other: Parts<'_>) -> bool
+        ensures { result ≡ parts_match
+            (Some (ref_with self.entry.kind self.entry.id.now self.entry.arch.now self.entry.branch.now))
+            (ref_with other.entry.kind other.entry.id.now other.entry.arch.now other.entry.branch.now) }
+    {
+        self.kind == other.kind
+            && matches_part(self.id, other.id)
+            && matches_part(self.arch, other.arch)
+            && matches_part(self.branch, other.branch)
+    }
+
+    /// The text of the parts: KIND/ID/ARCH/BRANCH.
+    pub fn join(self, alloc: Global) -> Result<Text, AllocError>
+        ensures { IfOk result (λ text. text ≡ ref_text (ref_with self.entry.kind self.entry.id.now self.entry.arch.now self.entry.branch.now)) }
+    {
+        let word = self.kind.word();
+        let id = self.id;
+        let arch = self.arch;
+        let branch = self.branch;
+        let text = format!(in alloc; "{word}/{id}/{arch}/{branch}")?;
+        Ok(Text::from_string(text))
+    }
+}
+
+/// Whether a part of a pattern matches a part of a ref.
+fn matches_part(pattern: &str, part: &str) -> bool
+    ensures { result ≡ part_matches pattern.now part.now }
+{
+    pattern == "*" || pattern == part
+}
+
+/// ID/ARCH/BRANCH behind a kind: three parts, which slashes separate.
+pub fn parts_behind(kind: RefKind, text: &str) -> Option<Parts<'_>>
+    ensures { option_map (λ p. ref_with p.kind p.id.now p.arch.now p.branch.now) result ≡ behind_kind (slice_split is_slash text.now) kind }
+{
+    let (id, rest) = text.split_once('/')?;
+    let (arch, branch) = rest.split_once('/')?;
+    if branch.contains('/') {
+        return None;
+    }
+    Some(Parts {
+        kind,
+        id,
+        arch,
+        branch,
+    })
+}
+
+/// The parts of a text: four, which slashes separate, the first of them a kind's word.
+pub fn parts_of(text: &str) -> Option<Parts<'_>>
+    ensures { option_map (λ p. ref_with p.kind p.id.now p.arch.now p.branch.now) result ≡ parts_of text.now }
+{
+    let (word, rest) = text.split_once('/')?;
+    let kind = RefKind::of_word(word)?;
+    parts_behind(kind, rest)
+}
+
+/// Whether a text is that of a ref.
+#[tactic(auto, unfolding(crate::specs::Refs::ref_of))]
+pub fn is_ref(text: &str) -> bool
+    ensures { result ≡ is_some (ref_of text.now) }
+{
+    let Some(parts) = parts_of(text) else {
+        return false;
+    };
+    parts.are_ref()
+}
+
+/// Whether a text is a pattern of refs.
+#[tactic(auto, unfolding(crate::specs::Pins::is_pin))]
+pub fn is_pin(text: &str) -> bool
+    ensures { result ≡ is_pin text.now }
+{
+    let Some(parts) = parts_of(text) else {
+        return false;
+    };
+    parts.are_pin()
+}

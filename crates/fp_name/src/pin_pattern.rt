@@ -1,0 +1,88 @@
+//! The patterns of pins.
+
+ghost use Rattle.std.specs.Prelude.{◌≡◌, ◌↔◌, true, false, IfOk, OnOk, IsErrOf};
+ghost use Rattle.fp_name.specs.Pins.{is_pin, pin_matches};
+
+use crate::fault::NameFault;
+use crate::parts::{is_pin, parts_of};
+use crate::ref_name::RefName;
+use crate::text::Text;
+use std::alloc::{AllocError, Global};
+use std::marker::Model;
+use std::str;
+
+/// A pattern of refs, `KIND/ID/ARCH/BRANCH`, in which each of the last three parts may be `*`.
+#[derive(Debug, Drop, PartialEq, Eq, PartialOrd, Ord)]
+pub struct PinPattern {
+    text: Text,
+}
+
+impl Model for PinPattern {
+    ghost use Rattle.std.specs.Prelude.{◌≡◌, List, ℕ, true};
+    ghost use Rattle.fp_name.specs.Pins.{is_pin};
+
+    ghost Value = { List ℕ };
+
+    ghost view = { λ a. a.text };
+
+    ghost invariant = { λ a. is_pin a.text ≡ true };
+
+    ghost inverse = { λ text. record { text = text } };
+}
+
+impl PinPattern {
+    /// Reads a pattern. Bad comes exactly where the text is none.
+    #[tactic(auto, using(crate::proofs::Pins::no_text_no_pin))]
+    pub fn parse(alloc: Global, text: &[u8]) -> Result<Self, NameFault>
+        ensures ok { IfOk result (λ pattern. pattern ≡ text.now) }
+        ensures good { OnOk result (is_pin text.now ≡ true) }
+        ensures bad { IsErrOf result NameFault.Bad ↔ (is_pin text.now ≡ false) }
+    {
+        let Ok(text) = str::from_utf8(text) else {
+            return Err(NameFault::Bad);
+        };
+        if !is_pin(text) {
+            return Err(NameFault::Bad);
+        }
+        Ok(PinPattern {
+            text: Text::from_str(alloc, text)?,
+        })
+    }
+
+    /// The text of the pattern.
+    pub fn as_str(&self) -> &str
+        ensures text { result.now ≡ self.now }
+        ensures good { is_pin self.now ≡ true }
+    {
+        self.text.as_str()
+    }
+
+    /// The text of the pattern, as a text of its own.
+    pub fn write(&self) -> Result<Text, AllocError>
+        ensures text { IfOk result (λ text. text ≡ self.now) }
+        ensures good { is_pin self.now ≡ true }
+    {
+        self.text.copy()
+    }
+
+    /// Another value of the same pattern.
+    pub fn copy(&self) -> Result<Self, AllocError>
+        ensures { IfOk result (λ pattern. pattern ≡ self.now) }
+    {
+        Ok(PinPattern {
+            text: self.text.copy()?,
+        })
+    }
+
+    /// Whether the pattern matches a ref: the kinds are equal, and each other part of the pattern is
+    /// equal to the ref's or `*`. It takes no memory.
+    #[tactic(auto, unfolding(crate::specs::Pins::pin_matches))]
+    pub fn matches(&self, name: &RefName) -> bool
+        ensures { result ≡ pin_matches self.now name.now }
+    {
+        let Some(parts) = parts_of(self.text.as_str()) else {
+            return false;
+        };
+        parts.match_parts(name.parts())
+    }
+}

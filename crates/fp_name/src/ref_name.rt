@@ -1,0 +1,228 @@
+//! Refs: the names of applications and runtimes.
+
+ghost use Rattle.std.specs.Prelude.{◌≡◌, ◌↔◌, true, false, ◌∷◌, ◌++◌, Some, None, IsTrue, IfOk, OnOk, IsErrOf, is_some};
+ghost use Rattle.std.specs.Ordering.{nat_cmp};
+ghost use Rattle.std.specs.Cmp.Lexicographic.{slice_cmp};
+ghost use Rattle.std.specs.Str.{bytes_eq};
+ghost use Rattle.std.specs.Cmp.{partial_order_from_own_ties};
+ghost use Rattle.std.specs.Cmp.Rules.{comparing};
+ghost use Rattle.std.proofs.Common.{rules};
+ghost use Rattle.fp_name.specs.Refs.{ref_of};
+
+use crate::app_id::AppId;
+use crate::fault::NameFault;
+use crate::kind::RefKind;
+use crate::parts::{Parts, is_ref, parts_behind, parts_of};
+use crate::text::Text;
+use std::alloc::{AllocError, Global};
+use std::cmp::Ordering;
+use std::marker::Model;
+use std::str;
+
+/// The name of an application or a runtime: `app/ID/ARCH/BRANCH` or `runtime/ID/ARCH/BRANCH`.
+#[derive(Debug, Drop)]
+pub struct RefName {
+    text: Text,
+}
+
+impl Model for RefName {
+    ghost use Rattle.std.specs.Prelude.{IsSome};
+    ghost use Rattle.fp_name.specs.Refs.{Ref, ref_of, ref_at};
+
+    ghost Value = { Ref };
+
+    ghost view = { λ a. ref_at a.text };
+
+    ghost invariant = { λ a. IsSome (ref_of a.text) };
+}
+
+impl RefName {
+    ghost use Rattle.fp_name.specs.Refs.{is_ref, ref_text, ref_of, ref_with};
+    ghost use Rattle.fp_name.specs.Kinds.{kind_word};
+    ghost use Rattle.fp_name.specs.Grammar.{is_id, is_arch, is_branch};
+
+    /// Reads the text of a ref. Bad comes exactly where the text is none.
+    #[tactic(auto, using(crate::proofs::Refs::no_text_no_ref))]
+    pub fn parse(alloc: Global, text: &[u8]) -> Result<Self, NameFault>
+        ensures ok { IfOk result (λ name. ref_of text.now ≡ Some name) }
+        ensures bad { IsErrOf result NameFault.Bad ↔ (ref_of text.now ≡ None) }
+    {
+        let Ok(text) = str::from_utf8(text) else {
+            return Err(NameFault::Bad);
+        };
+        if !is_ref(text) {
+            return Err(NameFault::Bad);
+        }
+        Ok(RefName {
+            text: Text::from_str(alloc, text)?,
+        })
+    }
+
+    /// The ref of these parts. Bad comes exactly where one of them is outside its grammar.
+    pub fn new(
+        alloc: Global,
+        kind: RefKind,
+        id: &str,
+        arch: &str,
+        branch: &str,
+    ) -> Result<Self, NameFault>
+        ensures ok { IfOk result (λ name. name ≡ ref_with kind id.now arch.now branch.now) }
+        ensures good { OnOk result (is_ref (ref_with kind id.now arch.now branch.now) ≡ true) }
+        ensures bad { IsErrOf result NameFault.Bad ↔ (is_ref (ref_with kind id.now arch.now branch.now) ≡ false) }
+    {
+        let parts = Parts {
+            kind,
+            id,
+            arch,
+            branch,
+        };
+        if !parts.are_ref() {
+            return Err(NameFault::Bad);
+        }
+        Ok(RefName {
+            text: parts.join(alloc)?,
+        })
+    }
+
+    /// The ref of a kind and the text `ID/ARCH/BRANCH`. Bad comes exactly where the two make none.
+    pub fn of_kind(alloc: Global, kind: RefKind, text: &str) -> Result<Self, NameFault>
+        ensures ok { IfOk result (λ name. ref_of (kind_word kind ++ 47 ∷ text.now) ≡ Some name) }
+        ensures bad { IsErrOf result NameFault.Bad ↔ (ref_of (kind_word kind ++ 47 ∷ text.now) ≡ None) }
+    {
+        let Some(parts) = parts_behind(kind, text) else {
+            return Err(NameFault::Bad);
+        };
+        RefName::new(alloc, parts.kind, parts.id, parts.arch, parts.branch)
+    }
+
+    /// The text of the ref.
+    pub fn as_str(&self) -> &str
+        ensures text { result.now ≡ ref_text self.now }
+        ensures good { is_ref self.now ≡ true }
+    {
+        self.text.as_str()
+    }
+
+    /// Its parts.
+    pub(crate) fn parts(&self) -> Parts<'_>
+        ensures parts { ref_with result.kind result.id.now result.arch.now result.branch.now ≡ self.now }
+        ensures good { is_ref self.now ≡ true }
+    {
+        parts_of(self.text.as_str()).unwrap()
+    }
+
+    /// Its kind.
+    pub fn kind(&self) -> RefKind
+        ensures { result ≡ self.now.kind }
+    {
+        self.parts().kind
+    }
+
+    /// Its ID.
+    pub fn id(&self) -> &str
+        ensures id { result.now ≡ self.now.id }
+        ensures good { is_id self.now.id ≡ true }
+    {
+        self.parts().id
+    }
+
+    /// Its ID, as a value of its own.
+    pub fn app_id(&self) -> Result<AppId, AllocError>
+        ensures { IfOk result (λ id. id ≡ self.now.id) }
+    {
+        AppId::of_id(self.text.allocator(), self.id())
+    }
+
+    /// Its architecture.
+    pub fn arch(&self) -> &str
+        ensures arch { result.now ≡ self.now.arch }
+        ensures good { is_arch self.now.arch ≡ true }
+    {
+        self.parts().arch
+    }
+
+    /// Its branch.
+    pub fn branch(&self) -> &str
+        ensures branch { result.now ≡ self.now.branch }
+        ensures good { is_branch self.now.branch ≡ true }
+    {
+        self.parts().branch
+    }
+
+    /// The text of the ref, as a text of its own.
+    pub fn write(&self) -> Result<Text, AllocError>
+        ensures text { IfOk result (λ text. text ≡ ref_text self.now) }
+        ensures good { is_ref self.now ≡ true }
+    {
+        self.text.copy()
+    }
+
+    /// The ref as a path: KIND/ID/ARCH/BRANCH, the text of the ref.
+    pub fn path(&self) -> Result<Text, AllocError>
+        ensures { IfOk result (λ text. text ≡ ref_text self.now) }
+    {
+        self.write()
+    }
+
+    /// Another name of the same ref.
+    pub fn copy(&self) -> Result<Self, AllocError>
+        ensures { IfOk result (λ name. name ≡ self.now) }
+    {
+        Ok(RefName {
+            text: self.text.copy()?,
+        })
+    }
+}
+
+// Refs are equal where their texts are, and ordered by the bytes of their texts. The order of their
+// parts is another one, since `-` and `.` come before `/`.
+
+impl PartialEq for RefName {
+    ghost use Rattle.std.specs.Ordering.{on};
+    ghost use Rattle.fp_name.specs.Refs.{ref_text};
+
+    ghost eq = { on ref_text bytes_eq };
+
+    ghost laws = { Prim.search (comparing, rules) };
+
+    fn eq(&self, other: &Self) -> bool
+        ensures value { result ≡ bytes_eq (ref_text self.now) (ref_text other.now) }
+        ensures same { IsTrue result ↔ (self.now ≡ other.now) }
+    {
+        self.as_str() == other.as_str()
+    }
+}
+
+impl Eq for RefName {
+    ghost laws = { Prim.search (comparing, rules) };
+}
+
+impl PartialOrd for RefName {
+    ghost use Rattle.std.specs.Ordering.{on, as_partial_cmp};
+    ghost use Rattle.fp_name.specs.Refs.{ref_text};
+
+    ghost partial_cmp = { as_partial_cmp (on ref_text (slice_cmp nat_cmp)) };
+
+    ghost laws = { partial_order_from_own_ties (Prim.search (comparing, rules)) (Prim.search (comparing, rules)) };
+
+    fn partial_cmp(&self, other: &Self) -> Option<Ordering> {
+        Some(self.cmp(other))
+    }
+}
+
+impl Ord for RefName {
+    ghost use Rattle.std.specs.Ordering.{on};
+    ghost use Rattle.fp_name.specs.Refs.{ref_text};
+
+    ghost cmp = { on ref_text (slice_cmp nat_cmp) };
+
+    ghost total = { Prim.search (comparing, rules) };
+
+    ghost matches_partial_cmp = { Prim.search (comparing, rules) };
+
+    ghost matches_eq = { Prim.search (comparing, rules) };
+
+    fn cmp(&self, other: &Self) -> Ordering {
+        self.as_str().cmp(other.as_str())
+    }
+}

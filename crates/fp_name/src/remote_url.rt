@@ -1,0 +1,75 @@
+//! The urls of remotes.
+
+ghost use Rattle.std.specs.Prelude.{◌≡◌, ◌↔◌, true, false, IfOk, OnOk, IsErrOf};
+ghost use Rattle.fp_name.specs.Grammar.{is_url};
+
+use crate::fault::NameFault;
+use crate::grammar::is_url;
+use crate::text::Text;
+use std::alloc::{AllocError, Global};
+use std::marker::Model;
+use std::str;
+
+/// The url of a remote, as `file:///srv/repo`.
+#[derive(Debug, Drop, PartialEq, Eq, PartialOrd, Ord)]
+pub struct RemoteUrl {
+    text: Text,
+}
+
+impl Model for RemoteUrl {
+    ghost use Rattle.std.specs.Prelude.{◌≡◌, List, ℕ, true};
+    ghost use Rattle.fp_name.specs.Grammar.{is_url};
+
+    ghost Value = { List ℕ };
+
+    ghost view = { λ a. a.text };
+
+    ghost invariant = { λ a. is_url a.text ≡ true };
+
+    ghost inverse = { λ text. record { text = text } };
+}
+
+impl RemoteUrl {
+    /// Reads a remote's url. Bad comes exactly where the text is none.
+    #[tactic(auto, using(crate::proofs::Bytes::no_text_no_url))]
+    pub fn parse(alloc: Global, text: &[u8]) -> Result<Self, NameFault>
+        ensures ok { IfOk result (λ url. url ≡ text.now) }
+        ensures good { OnOk result (is_url text.now ≡ true) }
+        ensures bad { IsErrOf result NameFault.Bad ↔ (is_url text.now ≡ false) }
+    {
+        let Ok(text) = str::from_utf8(text) else {
+            return Err(NameFault::Bad);
+        };
+        if !is_url(text) {
+            return Err(NameFault::Bad);
+        }
+        Ok(RemoteUrl {
+            text: Text::from_str(alloc, text)?,
+        })
+    }
+
+    /// The text of the url.
+    pub fn as_str(&self) -> &str
+        ensures text { result.now ≡ self.now }
+        ensures good { is_url self.now ≡ true }
+    {
+        self.text.as_str()
+    }
+
+    /// The text of the url, as a text of its own.
+    pub fn write(&self) -> Result<Text, AllocError>
+        ensures text { IfOk result (λ text. text ≡ self.now) }
+        ensures good { is_url self.now ≡ true }
+    {
+        self.text.copy()
+    }
+
+    /// Another value of the same url.
+    pub fn copy(&self) -> Result<Self, AllocError>
+        ensures { IfOk result (λ url. url ≡ self.now) }
+    {
+        Ok(RemoteUrl {
+            text: self.text.copy()?,
+        })
+    }
+}
