@@ -3,3 +3,4 @@ pub mod NamingLemmas
 pub mod Replacement
 pub mod Staging
 pub mod Whole
+mod SmallFiles

@@ -1,4 +1,5 @@
 pub mod Places
+pub mod Load
 pub mod Naming
 pub mod Folders
 pub mod Stage
