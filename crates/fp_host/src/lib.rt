@@ -14,3 +14,6 @@ pub use path::{Path, PathFault, is_element};
 pub use remotes::{NoRemotes, Node, RemoteError, Remotes};
 pub use source::{Source, Taken};
 pub use text::{Blob, Text};
+
+#[cfg(test)]
+mod tests;
