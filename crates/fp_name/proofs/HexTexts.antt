@@ -22,10 +22,10 @@ array_digest bytes long fits = and_from (eqb (length bytes) 32) (list_all is_byt
 
 -- ---- our words and those of the crate `hex`
 
-pub hex-encode_lower : (bytes : List ℕ) → hex bytes ≡ encode_lower bytes
+pub hex_is_encoded : (bytes : List ℕ) → hex bytes ≡ encode_lower bytes
 unfolding hex encode_with
-hex-encode_lower [] = refl
-hex-encode_lower (b ∷ bs) = ap (λ text. digit (b / 16) ∷ digit (b % 16) ∷ text) (hex-encode_lower bs)
+hex_is_encoded [] = refl
+hex_is_encoded (b ∷ bs) = ap (λ text. digit (b / 16) ∷ digit (b % 16) ∷ text) (hex_is_encoded bs)
 
 -- where no capital stands, a digit has the number that `hex` gives it
 lower_value : (c : ℕ) → is_ascii_uppercase c ≡ false → hex_digit_value c ≡ digit_value c
@@ -103,9 +103,9 @@ cond_none : (b : Bool) (o : Option (List ℕ)) → o ≡ None → cond b o None 
 cond_none true o h = h
 cond_none false o h = refl
 
-pub unhex-upper : (text : List ℕ) → list_any is_ascii_uppercase text ≡ true → unhex text ≡ None
+pub unhex_upper : (text : List ℕ) → list_any is_ascii_uppercase text ≡ true → unhex text ≡ None
 unfolding unhex
-unhex-upper text h = cond_none (eqb (length text) 64) (bytes_of text) (bytes_of-upper text h)
+unhex_upper text h = cond_none (eqb (length text) 64) (bytes_of text) (bytes_of-upper text h)
 
 -- ---- from a digest to its text and back
 

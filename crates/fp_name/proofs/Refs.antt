@@ -1,5 +1,11 @@
 -- The text of a ref and the ref of a text.
 use Rattle.std.proofs.Common.{◌≡◌, ◌∷◌, [], ◌++◌, ℕ, Bool, true, false, ◌&&◌, cond, List, Option, Some, None, Result, Ok, Err, codes, option_and_then, unwrap_or, lit<, refl, sym, ap, ◌∙◌}
+use Rattle.std.specs.declared.cmp.Ordering.{Ordering}
+use Rattle.std.specs.declared.cmp.Ordering.TheVariants.{Equal}
+use Rattle.std.specs.Cmp.{Equal-is}
+use Rattle.std.specs.Cmp.Lexicographic.{slice_cmp}
+use Rattle.std.specs.Ordering.{nat_cmp, is_eq}
+use Rattle.std.proofs.lemmas.Map.Text.{is_eq-slice_cmp}
 use Rattle.std.specs.List.{slice_split, join_with_byte, All}
 use Rattle.std.specs.Option.{IsSome, is_some}
 use Rattle.std.specs.Result.{IfOk, OnOk}
@@ -107,6 +113,18 @@ pub ref_text-injective : (a b : Ref) → is_ref a ≡ true → is_ref b ≡ true
 ref_text-injective a b good fine e =
     same_Some a b (sym (ref_of-ref_text a good) ∙ ap ref_of e ∙ ref_of-ref_text b fine)
 
+-- the same, by what a comparison of their texts answered
+pub same_by_eq : (a b : Ref) → is_ref a ≡ true → is_ref b ≡ true → (r : Bool) → r ≡ bytes_eq (ref_text a) (ref_text b) → (r ≡ true → a ≡ b) × (a ≡ b → r ≡ true)
+same_by_eq a b good fine r is =
+    let compared = bytes_eq-Decides (ref_text a) (ref_text b) in
+    (λ e. ref_text-injective a b good fine (compared.0 (sym is ∙ e)), λ e. is ∙ compared.1 (ap ref_text e))
+
+pub same_by_cmp : (a b : Ref) → is_ref a ≡ true → is_ref b ≡ true → (r : Ordering) → r ≡ slice_cmp nat_cmp (ref_text a) (ref_text b) → (r ≡ Equal → a ≡ b) × (a ≡ b → r ≡ Equal)
+same_by_cmp a b good fine r is =
+    let equal = Equal-is r in
+    let same = same_by_eq a b good fine (is_eq r) (ap is_eq is ∙ is_eq-slice_cmp (ref_text a) (ref_text b)) in
+    (λ e. same.0 (equal.1 e), λ e. equal.0 (same.1 e))
+
 -- the parts that a text with a ref has
 pub parts_of-some : (text : List ℕ) (r : Ref) → ref_of text ≡ Some r → parts_of text ≡ Some r
 unfolding ref_of
@@ -114,9 +132,9 @@ parts_of-some text r h =
     option_and_then_some if_ref (parts_of text) r h (λ s read kept. read ∙ ap Some (cond_some (is_ref s) s r kept).1)
 
 -- a kind, and ID/ARCH/BRANCH behind it
-pub ref_of-kind : (kind : RefKind) (text : List ℕ) → ref_of (kind_word kind ++ 47 ∷ text) ≡ option_and_then if_ref (behind_kind (slice_split is_slash text) kind)
+pub ref_of_kind : (kind : RefKind) (text : List ℕ) → ref_of (kind_word kind ++ 47 ∷ text) ≡ option_and_then if_ref (behind_kind (slice_split is_slash text) kind)
 unfolding ref_of
-ref_of-kind kind text =
+ref_of_kind kind text =
     ap (λ ps. option_and_then if_ref (of_parts ps)) (slice_split_at is_slash (kind_word kind) 47 text (word_no_slash kind) refl)
     ∙ ap (λ k. option_and_then if_ref (option_and_then (behind_kind (slice_split is_slash text)) k)) (kind_back kind)
 
@@ -132,6 +150,9 @@ kept text h = kept_by text (ref_of text) refl h
 
 pub kept_text : (text : List ℕ) → IsSome (ref_of text) → text ≡ ref_text (ref_at text)
 kept_text text h = (ref_of-some text (ref_at text) (kept text h)).0
+
+pub kept_parts : (text : List ℕ) → IsSome (ref_of text) → parts_of text ≡ Some (ref_at text)
+kept_parts text h = parts_of-some text (ref_at text) (kept text h)
 
 pub kept_good : (text : List ℕ) → IsSome (ref_of text) → is_ref (ref_at text) ≡ true
 kept_good text h = (ref_of-some text (ref_at text) (kept text h)).1

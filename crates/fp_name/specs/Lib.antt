@@ -3,5 +3,6 @@ pub mod FileNames
 pub mod Grammar
 pub mod Hex
 pub mod Kinds
+pub mod Parts
 pub mod Pins
 pub mod Refs

@@ -55,6 +55,7 @@ impl Digest {
     }
 
     /// Reads 64 hexadecimal digits in lower case, which takes no memory. Any other text is Bad.
+    #[tactic(auto, using(crate::proofs::HexTexts::unhex_upper))]
     pub fn parse(text: &[u8]) -> Result<Self, NameFault>
         ensures { result ≡ ok_or (unhex text.now) NameFault.Bad }
     {
@@ -68,6 +69,7 @@ impl Digest {
     }
 
     /// The 64 hexadecimal digits of the digest, in lower case, which takes no memory.
+    #[tactic(auto, using(crate::proofs::HexTexts::hex_is_encoded))]
     pub fn digits(&self) -> [u8; 64]
         ensures { result ≡ hex_text self.now }
     {
@@ -77,6 +79,7 @@ impl Digest {
     }
 
     /// The digest as 64 hexadecimal digits in lower case.
+    #[tactic(auto, using(crate::proofs::HexTexts::hex_is_encoded))]
     pub fn write(&self, alloc: Global) -> Result<Text, AllocError>
         ensures text { IfOk result (λ text. text ≡ hex_text self.now) }
         ensures good { is_digest self.now ≡ true }

@@ -6,6 +6,9 @@ ghost use Rattle.std.specs.Char.{is_ascii_graphic};
 ghost use Rattle.fp_name.specs.Bytes.{is_word_start, is_word, is_dashed, is_dotted, is_dot, begins_with};
 ghost use Rattle.fp_name.specs.Grammar.{is_element, is_last_element, are_elements, is_id, is_arch, is_branch, is_remote_name, is_url};
 
+/// How many dots an ID has at least: they separate three elements.
+const FEWEST_DOTS: usize = 2;
+
 /// A letter or `_`.
 fn starts_word(byte: u8) -> bool
     ensures { result ≡ is_word_start byte }
@@ -86,7 +89,7 @@ fn has_elements(text: &str) -> bool
         dots += 1;
         rest = behind;
     }
-    dots >= 2 && is_end_element(rest)
+    dots >= FEWEST_DOTS && is_end_element(rest)
 }
 
 /// Whether a text is the ID of an application, a runtime or an extension: at most 255 bytes, and at

@@ -3,7 +3,8 @@
 ghost use Rattle.std.specs.Prelude.{◌≡◌, Some, option_map, is_some, IfOk};
 ghost use Rattle.std.specs.List.{slice_split};
 ghost use Rattle.fp_name.specs.Bytes.{is_slash};
-ghost use Rattle.fp_name.specs.Refs.{ref_with, is_ref, ref_text, behind_kind, parts_of, ref_of};
+ghost use Rattle.fp_name.specs.Refs.{is_ref, ref_text, behind_kind, parts_of, ref_of};
+ghost use Rattle.fp_name.specs.Parts.{ref_in};
 ghost use Rattle.fp_name.specs.Pins.{are_pin_parts, is_pin, part_matches, parts_match};
 
 use crate::grammar::{is_arch, is_branch, is_id};
@@ -23,14 +24,14 @@ pub struct Parts<'a> {
 impl Parts<'_> {
     /// Whether each part is in its grammar.
     pub fn are_ref(self) -> bool
-        ensures { result ≡ is_ref (ref_with self.entry.kind self.entry.id.now self.entry.arch.now self.entry.branch.now) }
+        ensures { result ≡ is_ref (ref_in self.entry) }
     {
         is_id(self.id) && is_arch(self.arch) && is_branch(self.branch)
     }
 
     /// Whether each of the last three parts is `*` or in its grammar.
     pub fn are_pin(self) -> bool
-        ensures { result ≡ are_pin_parts (Some (ref_with self.entry.kind self.entry.id.now self.entry.arch.now self.entry.branch.now)) }
+        ensures { result ≡ are_pin_parts (Some (ref_in self.entry)) }
     {
         (self.id == "*" || is_id(self.id))
             && (self.arch == "*" || is_arch(self.arch))
@@ -39,9 +40,7 @@ impl Parts<'_> {
 
     /// Whether a pattern of these parts matches other parts: each is equal, or `*` in the pattern.
     pub fn match_parts(self, other: Parts<'_>) -> bool
-        ensures { result ≡ parts_match
-            (Some (ref_with self.entry.kind self.entry.id.now self.entry.arch.now self.entry.branch.now))
-            (ref_with other.entry.kind other.entry.id.now other.entry.arch.now other.entry.branch.now) }
+        ensures { result ≡ parts_match (Some (ref_in self.entry)) (ref_in other.entry) }
     {
         self.kind == other.kind
             && matches_part(self.id, other.id)
@@ -51,7 +50,7 @@ impl Parts<'_> {
 
     /// The text of the parts: KIND/ID/ARCH/BRANCH.
     pub fn join(self, alloc: Global) -> Result<Text, AllocError>
-        ensures { IfOk result (λ text. text ≡ ref_text (ref_with self.entry.kind self.entry.id.now self.entry.arch.now self.entry.branch.now)) }
+        ensures { IfOk result (λ text. text ≡ ref_text (ref_in self.entry)) }
     {
         let word = self.kind.word();
         let id = self.id;
@@ -71,7 +70,7 @@ fn matches_part(pattern: &str, part: &str) -> bool
 
 /// ID/ARCH/BRANCH behind a kind: three parts, which slashes separate.
 pub fn parts_behind(kind: RefKind, text: &str) -> Option<Parts<'_>>
-    ensures { option_map (λ p. ref_with p.kind p.id.now p.arch.now p.branch.now) result ≡ behind_kind (slice_split is_slash text.now) kind }
+    ensures { option_map ref_in result ≡ behind_kind (slice_split is_slash text.now) kind }
 {
     let (id, rest) = text.split_once('/')?;
     let (arch, branch) = rest.split_once('/')?;
@@ -88,7 +87,7 @@ pub fn parts_behind(kind: RefKind, text: &str) -> Option<Parts<'_>>
 
 /// The parts of a text: four, which slashes separate, the first of them a kind's word.
 pub fn parts_of(text: &str) -> Option<Parts<'_>>
-    ensures { option_map (λ p. ref_with p.kind p.id.now p.arch.now p.branch.now) result ≡ parts_of text.now }
+    ensures { option_map ref_in result ≡ parts_of text.now }
 {
     let (word, rest) = text.split_once('/')?;
     let kind = RefKind::of_word(word)?;

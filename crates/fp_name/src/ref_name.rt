@@ -40,6 +40,7 @@ impl RefName {
     ghost use Rattle.fp_name.specs.Refs.{is_ref, ref_text, ref_of, ref_with};
     ghost use Rattle.fp_name.specs.Kinds.{kind_word};
     ghost use Rattle.fp_name.specs.Grammar.{is_id, is_arch, is_branch};
+    ghost use Rattle.fp_name.specs.Parts.{ref_in};
 
     /// Reads the text of a ref. Bad comes exactly where the text is none.
     #[tactic(auto, using(crate::proofs::Refs::no_text_no_ref))]
@@ -85,6 +86,7 @@ impl RefName {
     }
 
     /// The ref of a kind and the text `ID/ARCH/BRANCH`. Bad comes exactly where the two make none.
+    #[tactic(auto, using(crate::proofs::Refs::ref_of_kind, crate::proofs::Refs::made, crate::proofs::Refs::refused))]
     pub fn of_kind(alloc: Global, kind: RefKind, text: &str) -> Result<Self, NameFault>
         ensures ok { IfOk result (λ name. ref_of (kind_word kind ++ 47 ∷ text.now) ≡ Some name) }
         ensures bad { IsErrOf result NameFault.Bad ↔ (ref_of (kind_word kind ++ 47 ∷ text.now) ≡ None) }
@@ -96,6 +98,7 @@ impl RefName {
     }
 
     /// The text of the ref.
+    #[tactic(auto, using(crate::proofs::Refs::kept_text, crate::proofs::Refs::kept_good))]
     pub fn as_str(&self) -> &str
         ensures text { result.now ≡ ref_text self.now }
         ensures good { is_ref self.now ≡ true }
@@ -104,8 +107,9 @@ impl RefName {
     }
 
     /// Its parts.
+    #[tactic(auto, using(crate::proofs::Refs::kept_parts, crate::proofs::Refs::kept_good))]
     pub(crate) fn parts(&self) -> Parts<'_>
-        ensures parts { ref_with result.kind result.id.now result.arch.now result.branch.now ≡ self.now }
+        ensures parts { ref_in result ≡ self.now }
         ensures good { is_ref self.now ≡ true }
     {
         parts_of(self.text.as_str()).unwrap()
@@ -119,6 +123,7 @@ impl RefName {
     }
 
     /// Its ID.
+    #[tactic(auto, using(crate::proofs::Refs::parts_good))]
     pub fn id(&self) -> &str
         ensures id { result.now ≡ self.now.id }
         ensures good { is_id self.now.id ≡ true }
@@ -134,6 +139,7 @@ impl RefName {
     }
 
     /// Its architecture.
+    #[tactic(auto, using(crate::proofs::Refs::parts_good))]
     pub fn arch(&self) -> &str
         ensures arch { result.now ≡ self.now.arch }
         ensures good { is_arch self.now.arch ≡ true }
@@ -142,6 +148,7 @@ impl RefName {
     }
 
     /// Its branch.
+    #[tactic(auto, using(crate::proofs::Refs::parts_good))]
     pub fn branch(&self) -> &str
         ensures branch { result.now ≡ self.now.branch }
         ensures good { is_branch self.now.branch ≡ true }
@@ -150,6 +157,7 @@ impl RefName {
     }
 
     /// The text of the ref, as a text of its own.
+    #[tactic(auto, using(crate::proofs::Refs::kept_text, crate::proofs::Refs::kept_good))]
     pub fn write(&self) -> Result<Text, AllocError>
         ensures text { IfOk result (λ text. text ≡ ref_text self.now) }
         ensures good { is_ref self.now ≡ true }
@@ -185,6 +193,7 @@ impl PartialEq for RefName {
 
     ghost laws = { Prim.search (comparing, rules) };
 
+    #[tactic(auto, using(crate::proofs::Refs::same_by_eq))]
     fn eq(&self, other: &Self) -> bool
         ensures value { result ≡ bytes_eq (ref_text self.now) (ref_text other.now) }
         ensures same { IsTrue result ↔ (self.now ≡ other.now) }
@@ -222,7 +231,11 @@ impl Ord for RefName {
 
     ghost matches_eq = { Prim.search (comparing, rules) };
 
-    fn cmp(&self, other: &Self) -> Ordering {
+    #[tactic(auto, using(crate::proofs::Refs::same_by_cmp))]
+    fn cmp(&self, other: &Self) -> Ordering
+        ensures value { result ≡ slice_cmp nat_cmp (ref_text self.now) (ref_text other.now) }
+        ensures same { (result ≡ Ordering.Equal) ↔ (self.now ≡ other.now) }
+    {
         self.as_str().cmp(other.as_str())
     }
 }

@@ -23,12 +23,12 @@ loop-element-preserved c =
       bound = omega (arith, c.loop-element.invariant.bound, cut.1);
     }
 
-pub returns-then-dots-ge2 : goal.returns-then-dots-ge2
-returns-then-dots-ge2 c =
+pub returns-then-dots-ge-FEWEST_DOTS : goal.returns-then-dots-ge-FEWEST_DOTS
+returns-then-dots-ge-FEWEST_DOTS c =
     let rest = c.loop-element.rest.now in
-    c.is_end_element.ensures ∙ enough_dots c.loop-element.dots rest c.args.text.now (cuts_once 46 rest None c.in_default.ensures.cases (lit< tt)) c.loop-element.invariant.count c.loop-element.invariant.elements c.if-dots-ge2.true
+    c.is_end_element.ensures ∙ enough_dots c.loop-element.dots rest c.args.text.now (cuts_once 46 rest None c.in_default.ensures.cases (lit< tt)) c.loop-element.invariant.count c.loop-element.invariant.elements c.if-dots-ge-FEWEST_DOTS.true
 
-pub returns-else-dots-ge2 : goal.returns-else-dots-ge2
-returns-else-dots-ge2 c =
+pub returns-else-dots-ge-FEWEST_DOTS : goal.returns-else-dots-ge-FEWEST_DOTS
+returns-else-dots-ge-FEWEST_DOTS c =
     let rest = c.loop-element.rest.now in
-    few_dots c.loop-element.dots rest c.args.text.now (cuts_once 46 rest None c.in_default.ensures.cases (lit< tt)) c.loop-element.invariant.count c.if-dots-ge2.false
+    few_dots c.loop-element.dots rest c.args.text.now (cuts_once 46 rest None c.in_default.ensures.cases (lit< tt)) c.loop-element.invariant.count c.if-dots-ge-FEWEST_DOTS.false

@@ -1,12 +1,7 @@
 use Rattle.std.proofs.Common.{Ok, refl, sym, ap, ◌∙◌}
 use Rattle.std.specs.Result.{result_ok}
-use Rattle.fp_name.proofs.HexTexts.{unhex-upper, digest_read}
+use Rattle.fp_name.proofs.HexTexts.{digest_read}
 use Rattle.fp_name.proofs.digest.Digest.parse.Goals as goal
-
-pub returns-then-has_uppercase : goal.returns-then-has_uppercase
-returns-then-has_uppercase c =
-    let none = unhex-upper c.args.text.now (sym c.has_uppercase.ensures ∙ c.if-has_uppercase.true) in
-    rw none refl
 
 pub returns-in-Ok : goal.returns-in-Ok
 returns-in-Ok c =

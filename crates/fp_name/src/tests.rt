@@ -1,0 +1,472 @@
+use super::*;
+use std::alloc::{AllocError, Global};
+use std::cmp::Ordering;
+use std::test::Fail;
+
+/// What a text that is in no grammar gives, and a text that is in it.
+fn fault_if(good: bool) -> Option<NameFault> {
+    if good { None } else { Some(NameFault::Bad) }
+}
+
+/// A text of `length` bytes or more: the front, and letters behind it.
+fn filled(alloc: Global, front: &str, length: usize) -> Result<String, AllocError> {
+    let mut text = String::from_str(alloc, front)?;
+    for _ in front.len()..length {
+        text.push('a')?;
+    }
+    Ok(text)
+}
+
+#[test]
+fn ids(rt: HostRuntime) -> Result<(), Fail> {
+    let table: [(&str, bool); 34] = [
+        ("org.gnome.Maps", true),
+        ("a.b.c", true),
+        ("_._._", true),
+        ("A.b2.c_3", true),
+        ("com.example.App_1", true),
+        ("org.x.Y-z", true),
+        ("org.x.Y-", true),
+        ("org.x.Y--9", true),
+        ("org.freedesktop.Platform.GL.nvidia-550", true),
+        ("", false),
+        ("org", false),
+        ("org.x", false),
+        ("org.x.", false),
+        (".org.x.Y", false),
+        ("org..x.Y", false),
+        ("...", false),
+        ("org.x.-Y", false),
+        ("org.x-y.Z", false),
+        ("o-rg.x.Y", false),
+        ("1org.x.Y", false),
+        ("org.1x.Y", false),
+        ("org.x.1Y", false),
+        ("org.x.Y z", false),
+        (" org.x.Y", false),
+        ("org.x.Y\n", false),
+        ("org.x.Y\u{1f}", false),
+        ("org.x.Y\u{7f}", false),
+        ("org.x.Y\0", false),
+        ("org.x.Y/z", false),
+        ("org.x.Y+z", false),
+        ("org.x.Y*", false),
+        ("org.x.\u{e9}", false),
+        ("org.x.Y@", false),
+        ("org.x.Y[", false),
+    ];
+    for (text, good) in table {
+        let read = AppId::parse(rt.alloc(), text.as_bytes());
+        assert_eq!(rt; read.err(), fault_if(good), "{text:?}");
+        assert_eq!(rt; is_id(text), good, "{text:?}");
+    }
+    assert_eq!(rt;
+        AppId::parse(rt.alloc(), b"org.x.\xff").err(),
+        Some(NameFault::Bad)
+    );
+    for (length, good) in [(255, true), (256, false)] {
+        let text = filled(rt.alloc(), "org.x.", length)?;
+        assert_eq!(rt;
+            AppId::parse(rt.alloc(), text.as_bytes()).err(),
+            fault_if(good)
+        );
+    }
+    Ok(())
+}
+
+#[test]
+fn archs_and_branches(rt: HostRuntime) -> Result<(), Fail> {
+    // A text, whether it is an ARCH, and whether it is a BRANCH.
+    let table: [(&str, bool, bool); 26] = [
+        ("x86_64", true, true),
+        ("aarch64", true, true),
+        ("_", true, true),
+        ("0", true, true),
+        ("Z9", true, true),
+        ("stable", true, true),
+        ("22.08", false, true),
+        ("-", false, true),
+        ("1-", false, true),
+        ("a.", false, true),
+        ("a..b", false, true),
+        ("5.15-22.08", false, true),
+        ("", false, false),
+        (".", false, false),
+        ("..", false, false),
+        (".stable", false, false),
+        ("a/b", false, false),
+        ("a b", false, false),
+        ("a+b", false, false),
+        ("a\t", false, false),
+        ("a\u{7f}", false, false),
+        ("a\0", false, false),
+        ("\u{e9}", false, false),
+        ("*", false, false),
+        ("a:b", false, false),
+        ("a,b", false, false),
+    ];
+    for (text, arch, branch) in table {
+        assert_eq!(rt; is_arch(text), arch, "{text:?}");
+        assert_eq!(rt; is_branch(text), branch, "{text:?}");
+    }
+    for (length, good) in [(1, true), (255, true), (256, false)] {
+        let text = filled(rt.alloc(), "", length)?;
+        assert_eq!(rt; is_arch(text.as_str()), good);
+        assert_eq!(rt; is_branch(text.as_str()), good);
+    }
+    Ok(())
+}
+
+#[test]
+fn remotes(rt: HostRuntime) -> Result<(), Fail> {
+    let names: [(&str, bool); 15] = [
+        ("flathub", true),
+        ("0", true),
+        ("_x", true),
+        ("a-b.c", true),
+        ("f.", true),
+        ("9-", true),
+        ("", false),
+        ("-x", false),
+        (".x", false),
+        ("a b", false),
+        ("a/b", false),
+        ("a\n", false),
+        ("a\u{7f}", false),
+        ("\u{e9}", false),
+        ("a\"b", false),
+    ];
+    for (text, good) in names {
+        let read = RemoteName::parse(rt.alloc(), text.as_bytes());
+        assert_eq!(rt; read.err(), fault_if(good), "{text:?}");
+    }
+    let urls: [(&str, bool); 18] = [
+        ("file:///", true),
+        ("file:///srv/repo", true),
+        ("file:///!~", true),
+        ("file:////", true),
+        ("", false),
+        ("file://", false),
+        ("file:/srv", false),
+        ("File:///srv", false),
+        ("http:///srv", false),
+        (" file:///srv", false),
+        ("file:///a b", false),
+        ("file:///srv ", false),
+        ("file:///a\u{7f}", false),
+        ("file:///a\u{1f}", false),
+        ("file:///a\n", false),
+        ("file:///a\0", false),
+        ("file:///\u{e9}", false),
+        ("file//:/", false),
+    ];
+    for (text, good) in urls {
+        let read = RemoteUrl::parse(rt.alloc(), text.as_bytes());
+        assert_eq!(rt; read.err(), fault_if(good), "{text:?}");
+    }
+    assert_eq!(rt;
+        RemoteName::parse(rt.alloc(), b"a\x80").err(),
+        Some(NameFault::Bad)
+    );
+    assert_eq!(rt;
+        RemoteUrl::parse(rt.alloc(), b"file:///\xc3").err(),
+        Some(NameFault::Bad)
+    );
+    for (length, good) in [(64, true), (65, false)] {
+        let text = filled(rt.alloc(), "a", length)?;
+        assert_eq!(rt;
+            RemoteName::parse(rt.alloc(), text.as_bytes()).err(),
+            fault_if(good)
+        );
+    }
+    for (length, good) in [(1024, true), (1025, false)] {
+        let text = filled(rt.alloc(), "file:///", length)?;
+        assert_eq!(rt;
+            RemoteUrl::parse(rt.alloc(), text.as_bytes()).err(),
+            fault_if(good)
+        );
+    }
+    Ok(())
+}
+
+#[test]
+fn refs_and_patterns(rt: HostRuntime) {
+    // A text, whether it is a ref, and whether it is a pattern.
+    let table: [(&str, bool, bool); 30] = [
+        ("app/org.x.App/x86_64/stable", true, true),
+        ("runtime/org.x.Y-z/x86_64/22.08", true, true),
+        ("app/a.b.c/_/-", true, true),
+        ("app/org.x/x86_64/stable", false, false),
+        ("runtime/org.x-y.Z/x86_64/1", false, false),
+        ("", false, false),
+        ("app", false, false),
+        ("app/", false, false),
+        ("app/org.x.App", false, false),
+        ("app/org.x.App/x86_64", false, false),
+        ("app/org.x.App/x86_64/", false, false),
+        ("app/org.x.App//stable", false, false),
+        ("app//x86_64/stable", false, false),
+        ("/org.x.App/x86_64/stable", false, false),
+        ("app/org.x.App/x86_64/stable/", false, false),
+        ("app/org.x.App/x86_64/sta/ble", false, false),
+        ("App/org.x.App/x86_64/stable", false, false),
+        ("apps/org.x.App/x86_64/stable", false, false),
+        ("extension/org.x.App/x86_64/stable", false, false),
+        ("app/org.x.App/x86-64/stable", false, false),
+        ("app/org.x.App/x86_64/.stable", false, false),
+        ("app/org.x.App/x86_64/stable\n", false, false),
+        ("app/*/*/*", false, true),
+        ("app/org.x.App/*/stable", false, true),
+        ("runtime/*/x86_64/22.08", false, true),
+        ("*/org.x.App/x86_64/stable", false, false),
+        ("app/org.x.*/x86_64/stable", false, false),
+        ("app/**/x86_64/stable", false, false),
+        ("app/*/*", false, false),
+        ("app/*/*/*/*", false, false),
+    ];
+    for (text, name, pattern) in table {
+        let read = RefName::parse(rt.alloc(), text.as_bytes());
+        assert_eq!(rt; read.err(), fault_if(name), "{text:?}");
+        assert_eq!(rt; is_ref(text), name, "{text:?}");
+        let read = PinPattern::parse(rt.alloc(), text.as_bytes());
+        assert_eq!(rt; read.err(), fault_if(pattern), "{text:?}");
+        assert_eq!(rt; is_pin(text), pattern, "{text:?}");
+    }
+    let odd = b"app/org.x.App/x86_64/\xfe";
+    assert_eq!(rt; RefName::parse(rt.alloc(), odd).err(), Some(NameFault::Bad));
+    assert_eq!(rt;
+        PinPattern::parse(rt.alloc(), odd).err(),
+        Some(NameFault::Bad)
+    );
+}
+
+fn has_parts(name: &RefName, kind: RefKind, id: &str, arch: &str, branch: &str) -> bool {
+    name.kind() == kind && name.id() == id && name.arch() == arch && name.branch() == branch
+}
+
+fn is_written(name: &RefName, text: &str) -> Result<bool, AllocError> {
+    let written = name.write()?;
+    let path = name.path()?;
+    Ok(name.as_str() == text && written.as_str() == text && path.as_str() == text)
+}
+
+fn is_copied(name: &RefName) -> Result<bool, AllocError> {
+    let copy = name.copy()?;
+    let id = name.app_id()?;
+    Ok(copy == *name && id.as_str() == name.id())
+}
+
+fn of_kind_alike(alloc: Global, kind: RefKind, rest: &str, text: &str) -> Result<bool, NameFault> {
+    let made = RefName::of_kind(alloc, kind, rest)?;
+    let read = RefName::parse(alloc, text.as_bytes())?;
+    Ok(made == read)
+}
+
+fn made_alike(alloc: Global, kind: RefKind, id: &str, text: &str) -> Result<bool, NameFault> {
+    let made = RefName::new(alloc, kind, id, "x86_64", "22.08")?;
+    let read = RefName::parse(alloc, text.as_bytes())?;
+    Ok(made == read)
+}
+
+#[test]
+fn parts_of_refs(rt: HostRuntime) -> Result<(), Fail> {
+    let text = "runtime/org.x.Y-z/x86_64/22.08";
+    let name = RefName::parse(rt.alloc(), text.as_bytes())?;
+    assert!(rt; has_parts(&name, RefKind::Runtime, "org.x.Y-z", "x86_64", "22.08"));
+    assert!(rt; is_written(&name, text)?);
+    assert!(rt; is_copied(&name)?);
+    Ok(())
+}
+
+#[test]
+fn refs_of_parts(rt: HostRuntime) -> Result<(), Fail> {
+    let text = "runtime/org.x.Y-z/x86_64/22.08";
+    assert!(rt; made_alike(rt.alloc(), RefKind::Runtime, "org.x.Y-z", text)?);
+    let rest = "org.x.Y-z/x86_64/22.08";
+    assert!(rt; of_kind_alike(rt.alloc(), RefKind::Runtime, rest, text)?);
+    for text in [
+        "org.x.Y/x86_64",
+        "org.x.Y/x86_64/1/2",
+        "org.x/x86_64/1",
+        "a.b.c/a/.1",
+        "",
+    ] {
+        let made = RefName::of_kind(rt.alloc(), RefKind::App, text);
+        assert_eq!(rt; made.err(), Some(NameFault::Bad), "{text:?}");
+    }
+    for (id, arch, branch) in [
+        ("org.x", "a", "1"),
+        ("a.b.c", "", "1"),
+        ("a.b.c", "a", "1/2"),
+    ] {
+        let made = RefName::new(rt.alloc(), RefKind::App, id, arch, branch);
+        assert_eq!(rt; made.err(), Some(NameFault::Bad));
+    }
+    Ok(())
+}
+
+/// How two refs compare, and how the patterns of their texts do.
+fn compared(alloc: Global, left: &str, right: &str) -> Result<(Ordering, Ordering), NameFault> {
+    let first = RefName::parse(alloc, left.as_bytes())?;
+    let second = RefName::parse(alloc, right.as_bytes())?;
+    let pattern = PinPattern::parse(alloc, left.as_bytes())?;
+    let other = PinPattern::parse(alloc, right.as_bytes())?;
+    Ok((first.cmp(&second), pattern.cmp(&other)))
+}
+
+#[test]
+fn order(rt: HostRuntime) {
+    // By the bytes of the texts the left ref comes first. The marked ones have the other order by
+    // their parts.
+    let table = [
+        ("app/org.x.A-b/x86_64/1", "app/org.x.A/x86_64/1"), // marked: `-` comes before `/`
+        ("app/org.x.A.b/x86_64/1", "app/org.x.A/x86_64/1"), // marked: `.` comes before `/`
+        ("app/org.x.A-b/x86_64/1", "app/org.x.A.b/x86_64/1"),
+        ("app/org.x.A/x86_64/2", "app/org.x.A_/x86_64/1"),
+        ("app/org.x.A/x86_64/2", "app/org.x.A/x86_64_v3/1"),
+        ("app/org.x.A/x86_64/1", "app/org.x.A/x86_64/1-"),
+        ("app/org.x.A/x86_64/1-0", "app/org.x.A/x86_64/1.0"),
+        ("app/org.x.B/x86_64/1", "app/org.x.a/x86_64/1"),
+        ("app/org.x.Z/x86_64/9", "runtime/a.b.c/a/0"),
+        ("app/org.x.A/x86_64/10", "app/org.x.A/x86_64/9"),
+    ];
+    for (left, right) in table {
+        let answer = compared(rt.alloc(), left, right).ok();
+        assert_eq!(rt; answer, Some((Ordering::Less, Ordering::Less)), "{left:?}");
+        let answer = compared(rt.alloc(), right, left).ok();
+        assert_eq!(rt;
+            answer,
+            Some((Ordering::Greater, Ordering::Greater)),
+            "{left:?}"
+        );
+        let answer = compared(rt.alloc(), left, left).ok();
+        assert_eq!(rt;
+            answer,
+            Some((Ordering::Equal, Ordering::Equal)),
+            "{left:?}"
+        );
+    }
+}
+
+#[test]
+fn matching(rt: HostRuntime) -> Result<(), Fail> {
+    let table = [
+        ("app/org.x.App/x86_64/stable", true),
+        ("app/*/*/*", true),
+        ("app/org.x.App/*/*", true),
+        ("app/*/x86_64/*", true),
+        ("app/*/*/stable", true),
+        ("runtime/org.x.App/x86_64/stable", false),
+        ("runtime/*/*/*", false),
+        ("app/org.x.Ap/*/*", false),
+        ("app/org.x.App2/*/*", false),
+        ("app/org.x.app/*/*", false),
+        ("app/*/x86/*", false),
+        ("app/*/x86_64_v3/*", false),
+        ("app/*/*/stabl", false),
+        ("app/*/*/stable2", false),
+        ("app/org.x.Other/*/*", false),
+        ("app/*/aarch64/stable", false),
+    ];
+    let name = RefName::parse(rt.alloc(), b"app/org.x.App/x86_64/stable")?;
+    for (pattern, matches) in table {
+        let pattern = PinPattern::parse(rt.alloc(), pattern.as_bytes())?;
+        assert_eq!(rt; pattern.matches(&name), matches, "{pattern:?}");
+    }
+    Ok(())
+}
+
+// SHA-256 of no bytes.
+const EMPTY: &str = "e3b0c44298fc1c149afbf4c8996fb92427ae41e4649b934ca495991b7852b855";
+
+fn digest_is_written(alloc: Global, digest: &Digest, text: &str) -> Result<bool, AllocError> {
+    let written = digest.write(alloc)?;
+    Ok(written.as_str() == text && digest.digits().as_slice() == text.as_bytes())
+}
+
+#[test]
+fn digest(rt: HostRuntime) -> Result<(), Fail> {
+    let bytes: [u8; 32] = [
+        0xe3, 0xb0, 0xc4, 0x42, 0x98, 0xfc, 0x1c, 0x14, 0x9a, 0xfb, 0xf4, 0xc8, 0x99, 0x6f, 0xb9,
+        0x24, 0x27, 0xae, 0x41, 0xe4, 0x64, 0x9b, 0x93, 0x4c, 0xa4, 0x95, 0x99, 0x1b, 0x78, 0x52,
+        0xb8, 0x55,
+    ];
+    let digest = Digest::from_bytes(bytes);
+    assert!(rt; digest_is_written(rt.alloc(), &digest, EMPTY)?);
+    assert_eq!(rt; Digest::parse(EMPTY.as_bytes()), Ok(digest));
+    assert_eq!(rt; *digest.as_bytes(), bytes);
+    assert_eq!(rt; Digest::from_slice(&bytes), Some(digest));
+    assert_eq!(rt; Digest::from_slice(&bytes[1..]), None);
+    assert!(rt; Digest::from_bytes([0; 32]) < digest);
+    Ok(())
+}
+
+#[test]
+fn no_digests(rt: HostRuntime) {
+    let bad = [
+        "",
+        "e3",
+        "e3b0c44298fc1c149afbf4c8996fb92427ae41e4649b934ca495991b7852b85",
+        "e3b0c44298fc1c149afbf4c8996fb92427ae41e4649b934ca495991b7852b8555",
+        "E3b0c44298fc1c149afbf4c8996fb92427ae41e4649b934ca495991b7852b855",
+        "e3b0c44298fc1c149afbf4c8996fb92427ae41e4649b934ca495991b7852b85F",
+        "g3b0c44298fc1c149afbf4c8996fb92427ae41e4649b934ca495991b7852b855",
+        "e3b0c44298fc1c149afbf4c8996fb92427ae41e4649b934ca495991b7852b85\n",
+        "e3b0c44298fc1c149afbf4c8996fb92427ae41e4649b934ca495991b7852b8\u{e9}",
+        "e3b0c44298fc1c149afbf4c8996fb92427ae41e4649b934ca495991b7852b85/",
+        "e3b0c44298fc1c149afbf4c8996fb92427ae41e4649b934ca495991b7852b85:",
+        "e3b0c44298fc1c149afbf4c8996fb92427ae41e4649b934ca495991b7852b85`",
+    ];
+    for text in bad {
+        assert_eq!(rt;
+            Digest::parse(text.as_bytes()),
+            Err(NameFault::Bad),
+            "{text:?}"
+        );
+    }
+}
+
+fn id_is_written(alloc: Global, text: &str) -> Result<bool, NameFault> {
+    let id = AppId::parse(alloc, text.as_bytes())?;
+    let written = id.write()?;
+    let copy = id.copy()?;
+    Ok(written.as_str() == text && copy == id)
+}
+
+fn remote_is_written(alloc: Global, text: &str) -> Result<bool, NameFault> {
+    let name = RemoteName::parse(alloc, text.as_bytes())?;
+    let written = name.write()?;
+    let copy = name.copy()?;
+    Ok(written.as_str() == text && copy == name)
+}
+
+fn url_is_written(alloc: Global, text: &str) -> Result<bool, NameFault> {
+    let url = RemoteUrl::parse(alloc, text.as_bytes())?;
+    let written = url.write()?;
+    let copy = url.copy()?;
+    Ok(written.as_str() == text && copy == url)
+}
+
+fn pattern_is_written(alloc: Global, text: &str) -> Result<bool, NameFault> {
+    let pattern = PinPattern::parse(alloc, text.as_bytes())?;
+    let written = pattern.write()?;
+    let copy = pattern.copy()?;
+    Ok(written.as_str() == text && copy == pattern)
+}
+
+fn text_is_copied(alloc: Global) -> Result<bool, AllocError> {
+    let text = Text::from_str(alloc, "b")?;
+    let copy = text.copy()?;
+    let less = Text::from_string(String::from_str(alloc, "a")?);
+    Ok(copy.into_string().as_str() == "b" && less < text)
+}
+
+#[test]
+fn texts_of_names(rt: HostRuntime) -> Result<(), Fail> {
+    assert!(rt; id_is_written(rt.alloc(), "org.x.App")?);
+    assert!(rt; remote_is_written(rt.alloc(), "flathub")?);
+    assert!(rt; url_is_written(rt.alloc(), "file:///srv")?);
+    assert!(rt; pattern_is_written(rt.alloc(), "app/*/*/stable")?);
+    assert!(rt; text_is_copied(rt.alloc())?);
+    Ok(())
+}
