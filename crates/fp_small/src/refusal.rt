@@ -12,11 +12,13 @@ pub enum What {
 #[derive(Drop)]
 pub enum Refusal {
     /// The words are no command. The index is that of the first word with which they can't go on to be one.
-    BadWords(u64),
-    PinExists(PinPattern),
-    NoSuchPin(PinPattern),
-    /// A quantity would be this, beyond its limit.
+    BadWords { index: u64 },
+    /// The pattern is pinned already.
+    PinExists { pin: PinPattern },
+    /// The pattern isn't pinned.
+    NoSuchPin { pin: PinPattern },
+    /// There would be so many of something, beyond its limit.
     Limit { what: What, number: u64 },
     /// The installation doesn't read at this path.
-    Damaged(Path),
+    Damaged { path: Path },
 }

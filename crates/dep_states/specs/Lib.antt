@@ -1,0 +1,4 @@
+pub mod Names
+pub mod Shown
+pub mod Zones
+pub mod Sound
