@@ -1,5 +1,5 @@
 -- Sound images, and the paths on which what they show depends.
-use Rattle.std.specs.Prelude.{◌≡◌, ℕ}
+use Rattle.std.specs.Prelude.{◌≡◌}
 use Rattle.fp_host.specs.Paths.{Elements}
 use Rattle.fp_host.specs.View.{View}
 use Rattle.fp_host.specs.Outcome.{Spot, Disk, Leaves}
@@ -26,7 +26,7 @@ pub record IsSound (v : View) : Type 0 where
 pub data Fixed (p : Elements) : Type 0 where
   is_config : p ≡ config → Fixed p
 
--- What is given to a path touches nothing fixed, and may stand there.
+-- What may come to stand where: nothing at a fixed path, and elsewhere what may stand there.
 pub record Spares (G : Elements → Spot → Type 0) : Type 0 where
   pub avoids : (p : Elements) (spot : Spot) → Fixed p → G p spot → ⊥
   pub permits : (p : Elements) (spot : Spot) → G p spot → Allowed p spot
