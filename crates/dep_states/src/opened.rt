@@ -1,7 +1,7 @@
 // An installation that was opened.
-use fp_small::State;
-
 ghost use Rattle.std.specs.Prelude.{◌≡◌};
+
+use fp_small::State;
 
 /// An installation that was opened, with its state: it stands for a view of the host in which every stop leaves that
 /// state, and is sound.

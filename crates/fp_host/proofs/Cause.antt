@@ -1,5 +1,5 @@
 -- When a call over a host may answer a fault.
-use Rattle.std.proofs.Common.{◌≡◌, ℕ, ◌≤◌, Option, Some, None, Err, refl, arith}
+use Rattle.std.proofs.Common.{◌≡◌, ℕ, ◌≤◌, Option, Some, Err, refl, arith}
 use Rattle.std.proofs.Common.{sym, ◌∙◌, ap, subst}
 use Rattle.std.specs.Prelude.{IsErrOf, Result}
 use Rattle.std.specs.Result.{IsErrAnd}

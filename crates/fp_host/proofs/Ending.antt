@@ -1,5 +1,5 @@
 -- What the end of a function tells, from what the ends of its calls tell.
-use Rattle.std.proofs.Common.{◌≡◌, ℕ, ◌≤◌, Option, Some, None, Result, Err, refl, sym, ◌∙◌, ap, subst, arith}
+use Rattle.std.proofs.Common.{◌≡◌, ℕ, ◌≤◌, Option, Result, Err, refl, subst}
 use Rattle.std.specs.Prelude.{IsErr, IsErrOf, OnOk}
 use Rattle.std.specs.Result.{IsErrAnd}
 use Rattle.std.proofs.lemmas.Result.{IfOk-from_err}
@@ -10,7 +10,7 @@ use Rattle.fp_host.specs.Moments.{Moments, Goes, Makes, HasCause}
 use Rattle.fp_host.specs.Causes.{IsCaused, end_of}
 use Rattle.fp_host.specs.Frame.{Keeps, Frame, Ends, Looks}
 use Rattle.fp_host.specs.declared.host.HostError.{HostError}
-use Rattle.fp_host.specs.declared.host.HostError.TheVariants.{Failed, Clash, NoMemory}
+use Rattle.fp_host.specs.declared.host.HostError.TheVariants.{Clash}
 use Rattle.fp_host.specs.declared.host.HostEnd.{HostEnd}
 use Rattle.fp_host.specs.declared.host.HostEnd.TheVariants.{Fault}
 use Rattle.fp_host.proofs.Goes.{goes_on, begins, stays, ends, ends_tree, makes_goes}

@@ -1,12 +1,12 @@
 -- One lemma for each kind of call, for any frame; each takes the call's clause first.
-use Rattle.std.proofs.Common.{◌≡◌, ◌⊎◌, inl, inr, ℕ, List, Option, Some, None, Result, refl, sym, ◌∙◌, ap, subst}
+use Rattle.std.proofs.Common.{◌≡◌, inl, inr, ℕ, List, Option, Some, Result, refl, sym, ◌∙◌, ap, subst}
 use Rattle.fp_host.specs.Paths.{Elements, Slot, absent, dir, file, link, at}
-use Rattle.fp_host.specs.View.{View, Inode, IsTree}
-use Rattle.fp_host.specs.Calls.{Change, makes_dir, creates, appends, links, makes_link, renames, unlinks, removes_dir, syncs, Step, Creates, Called, IsSilent}
-use Rattle.fp_host.specs.Outcome.{Spot, folder, gone, holds, points, GivesOf, Gives, NewFile, Disk, Leaves, spot_of}
+use Rattle.fp_host.specs.View.{View, IsTree}
+use Rattle.fp_host.specs.Calls.{Change, makes_dir, appends, links, makes_link, renames, unlinks, removes_dir, syncs, Step, Creates, Called, IsSilent}
+use Rattle.fp_host.specs.Outcome.{Spot, folder, gone, holds, points, GivesOf, Gives, Disk, Leaves, spot_of}
 use Rattle.fp_host.specs.Moments.{Moments, Goes, Makes}
 use Rattle.fp_host.specs.Reads.{StatOf, ListOf, ReadOf, LinkOf}
-use Rattle.fp_host.specs.Frame.{ComesFrom, Keeps, Frame, Ends, Looks}
+use Rattle.fp_host.specs.Frame.{Keeps, Frame, Ends, Looks}
 use Rattle.fp_host.specs.declared.host.HostError.{HostError}
 use Rattle.fp_host.specs.declared.host.Stat.{Stat}
 use Rattle.fp_host.proofs.Follow.{follows_refl, follows_on, follows_to, follows_call, called, called_create}

@@ -1,13 +1,13 @@
 -- Functions that only look.
-use Rattle.std.proofs.Common.{◌≡◌, ℕ, List, Option, Some, Result, refl, sym, ◌∙◌, subst}
+use Rattle.std.proofs.Common.{◌≡◌, ℕ, List, Option, Result, refl, ◌∙◌}
 use Rattle.fp_host.specs.Paths.{Elements}
-use Rattle.fp_host.specs.View.{View, IsTree}
-use Rattle.fp_host.specs.Moments.{Moments, Goes, Makes}
+use Rattle.fp_host.specs.View.{View}
+use Rattle.fp_host.specs.Moments.{Moments, Makes}
 use Rattle.fp_host.specs.Reads.{StatOf, ListOf, ReadOf, LinkOf}
-use Rattle.fp_host.specs.Frame.{Ends, Looks}
+use Rattle.fp_host.specs.Frame.{Looks}
 use Rattle.fp_host.specs.declared.host.HostError.{HostError}
 use Rattle.fp_host.specs.declared.host.Stat.{Stat}
-use Rattle.fp_host.proofs.Goes.{goes_on, stays, begins, makes_goes}
+use Rattle.fp_host.proofs.Goes.{goes_on, stays, makes_goes}
 use Rattle.fp_host.proofs.Framed.{IsTold}
 
 pub looks_start : {a : Option Moments} → IsTold a → Looks (λ v. Unit {0}) a a

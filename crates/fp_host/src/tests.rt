@@ -1,4 +1,4 @@
-use crate::{Blob, Node, NoRemotes, Path, PathFault, Remotes, Text, is_element};
+use crate::{Blob, NoRemotes, Node, Path, PathFault, Remotes, Text, is_element};
 use std::alloc::{AllocError, Global};
 use std::test::Fail;
 
@@ -32,7 +32,11 @@ fn elements(rt: HostRuntime) -> Result<(), Fail> {
 fn no_paths(rt: HostRuntime) {
     let bad = ["", "/", "/a", "a/", "a//b", "./a", "a/..", "a/./b", "a\0/b"];
     for text in bad {
-        assert_eq!(rt; Path::parse(rt.alloc(), text).err(), Some(PathFault::Bad), "{text:?}");
+        assert_eq!(rt;
+            Path::parse(rt.alloc(), text).err(),
+            Some(PathFault::Bad),
+            "{text:?}"
+        );
     }
 }
 
@@ -97,7 +101,12 @@ fn no_remotes(rt: HostRuntime) -> Result<(), Fail> {
     let config = Path::parse(rt.alloc(), "config")?;
     let mut none = NoRemotes;
     let mut into = [7u8; 4];
-    assert!(rt; matches!(none.node(rt.alloc(), "file:///srv", &config), Ok(Node::Absent)));
+    assert!(rt;
+        matches!(
+            none.node(rt.alloc(), "file:///srv", &config),
+            Ok(Node::Absent)
+        )
+    );
     assert_eq!(rt; none.read_at("file:///srv", &config, 0, &mut into), Ok(0));
     assert_eq!(rt; into, [7u8; 4]);
     Ok(())

@@ -1,21 +1,14 @@
 -- Folders that are made.
-use Rattle.std.proofs.Common.{◌≡◌, ◌⊎◌, inl, inr, ℕ, ◌+◌, ◌<◌, List, [], ◌∷◌, ◌++◌, length, take, get_or, Option, Some, Ok, refl, sym, ◌∙◌, ap, subst, Contains, arith}
+use Rattle.std.proofs.Common.{◌≡◌, ◌⊎◌, inl, inr, ℕ, ◌+◌, ◌<◌, List, [], ◌∷◌, length, take, get_or, Ok, refl, sym, ◌∙◌, ap, subst, Contains}
 use Rattle.std.proofs.lemmas.List.{take_more}
 use Rattle.std.proofs.lemmas.List.Elements.{Contains-push_cases, Contains-get_or}
 use Rattle.fp_host.specs.Paths.{Elements, Slot, absent, dir, file, link}
-use Rattle.fp_host.specs.View.{View, Inode, IsTree}
-use Rattle.fp_host.specs.Calls.{makes_dir, Step, HasFolder, Can}
+use Rattle.fp_host.specs.View.{View, IsTree}
+use Rattle.fp_host.specs.Calls.{makes_dir, Step, HasFolder}
 use Rattle.fp_host.specs.Reads.{StatOf, ListOf, IsStat}
-use Rattle.fp_host.specs.Outcome.{Spot, folder}
-use Rattle.fp_host.specs.Moments.{Moments}
-use Rattle.fp_host.specs.Frame.{Keeps}
-use Rattle.fp_host.specs.declared.host.HostError.{HostError}
-use Rattle.fp_host.specs.declared.host.HostError.TheVariants.{Failed, Clash, NoMemory}
 use Rattle.fp_host.specs.declared.host.Stat.{Stat}
-use Rattle.fp_host.specs.declared.host.Stat.TheVariants.{Absent, Dir, Link, File as StatFile}
-use Rattle.fp_host.proofs.Separate.{path_cases, set_same, set_other}
-use Rattle.fp_host.proofs.Framed.{IsTold}
-use Rattle.fp_host.proofs.Ending.{ends_on, ends_to}
+use Rattle.fp_host.specs.declared.host.Stat.TheVariants.{Absent, Dir}
+use Rattle.fp_host.proofs.Separate.{set_same}
 use Rattle.fp_small.specs.Naming.{ListsIn}
 use Rattle.fp_small.specs.Folders.{IsFree, AreFree, AreDirs, IsLadder, DirAt}
 

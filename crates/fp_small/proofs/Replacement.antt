@@ -1,5 +1,5 @@
 -- The whole of a replacement, step by step.
-use Rattle.std.proofs.Common.{◌≡◌, ◌≢◌, ◌⊎◌, inl, inr, ℕ, zero, suc, ◌+◌, ◌-◌, ◌<◌, ◌≤◌, ◌^◌, ◌&&◌, List, [], ◌∷◌, ◌++◌, length, drop, take, get_or, Bool, true, false, Option, Some, None, Result, Ok, refl, sym, ◌∙◌, ap, subst, codes, Contains, arith, length-append, lit<}
+use Rattle.std.proofs.Common.{◌≡◌, ◌≢◌, ◌⊎◌, inl, inr, ℕ, zero, suc, ◌+◌, ◌-◌, ◌<◌, ◌≤◌, ◌^◌, ◌&&◌, List, [], ◌∷◌, ◌++◌, length, drop, take, get_or, true, refl, sym, ◌∙◌, ap, subst, codes, Contains, arith, length-append, lit<}
 use Rattle.std.specs.List.{list_all}
 use Rattle.std.specs.Fmt.{decimal}
 use Rattle.std.proofs.lemmas.Bool.{cases_lt, cases_order, le-leb}
@@ -11,18 +11,17 @@ use Rattle.std.proofs.lemmas.Fmt.{length-decimal-le, decimal_by_steps}
 use Rattle.std.proofs.lemmas.List.Folds.{list_all-append}
 use Rattle.std.proofs.lemmas.List.Elements.{Contains-append_cases, Contains-append_right, Contains-append_left, Contains-push, Contains-push_cases}
 use Rattle.fp_host.specs.Paths.{Elements, Slot, absent, dir, file, IsAbove, is_element, is_name_byte}
-use Rattle.fp_host.specs.View.{View, Inode, IsTree, MayBe}
-use Rattle.fp_host.specs.Calls.{HasFolder, IsFile, IsNoDir}
-use Rattle.fp_host.specs.Outcome.{Spot, folder}
-use Rattle.fp_host.specs.Frame.{Keeps, AnyAt, AnyHeld, Only, NoPath, ComesFrom}
+use Rattle.fp_host.specs.View.{View, IsTree}
+use Rattle.fp_host.specs.Calls.{HasFolder, IsNoDir}
+use Rattle.fp_host.specs.Frame.{Keeps, AnyAt, AnyHeld, Only, NoPath}
 use Rattle.fp_host.proofs.Separate.{absent_cases}
 use Rattle.fp_host.proofs.Framed.{keeps_on, keeps_to, keeps_same}
 use Rattle.fp_small.specs.Places.{repo, tmp, new_name}
-use Rattle.fp_small.specs.Folders.{ancestors, FoldersAt, DirsAt, AreFree, AreDirs, IsFree, IsLadder}
+use Rattle.fp_small.specs.Folders.{ancestors, FoldersAt, DirsAt, AreDirs, IsLadder}
 use Rattle.fp_small.specs.Stage.{IsReady, WasStaged, CanStage}
-use Rattle.fp_small.specs.Move.{IsNew, MovesAt, MovesName, OneOf, Moves, WasMoved, CanMove}
+use Rattle.fp_small.specs.Move.{Moves, WasMoved, CanMove}
 use Rattle.fp_small.specs.Naming.{IsFirstFree, ListsIn}
-use Rattle.fp_small.specs.Replace.{IsStaging, folders_of, ReplacesAt, ReplacesName, ReplacesFile, Replaces, WasReplaced, CanReplace}
+use Rattle.fp_small.specs.Replace.{IsStaging, folders_of, Replaces, WasReplaced, CanReplace}
 
 -- the names that are tried may be elements of a path
 good_byte : (b : ℕ) → b ≢ 47 → b ≢ 0 → is_name_byte b ≡ true

@@ -1,12 +1,12 @@
 -- Files that are read whole.
-use Rattle.std.proofs.Common.{◌≡◌, ◌≤◌, ◌<◌, ◌-◌, ℕ, List, length, take, drop, min, leb, Option, Some, None, Ok, refl, sym, ◌∙◌, ap, subst, arith, if◌then◌else◌, true, false}
+use Rattle.std.proofs.Common.{◌≡◌, ◌≤◌, ◌<◌, ◌-◌, ℕ, List, length, take, min, Some, Ok, refl, sym, ◌∙◌, ap, subst, arith, if◌then◌else◌}
 use Rattle.std.proofs.lemmas.Bool.{le-leb, lt-leb}
 use Rattle.std.proofs.Math.Nat.{min-le_left, le-min}
 use Rattle.std.proofs.Math.Seq.{take-length}
 use Rattle.fp_host.specs.Paths.{Elements, Slot, absent, dir, file, link}
 use Rattle.fp_host.specs.View.{View, Inode, IsTree}
-use Rattle.fp_host.specs.Outcome.{Spot, gone, folder, holds, points, shows, spot_of, holding}
-use Rattle.fp_host.specs.Reads.{StatOf, IsStat, IsRead, ReadOf, IsAFile}
+use Rattle.fp_host.specs.Outcome.{spot_of, holding}
+use Rattle.fp_host.specs.Reads.{StatOf, IsStat, IsRead, ReadOf}
 use Rattle.fp_host.specs.declared.host.Stat.TheVariants.{Absent, Dir, Link, File as StatFile}
 use Rattle.fp_small.specs.Load.{Loads, IsWhole, loaded_of}
 use Rattle.fp_small.specs.declared.loading.Loaded.{Loaded}
@@ -48,14 +48,14 @@ loads_long {p = p} {most = most} {v = v} {id = id} {size = size} tree stat long 
     let is = stat_file stat in
     let f = is.1.0 in
     loads_spot v p most (file id) (TooLong size) tree is.0
-        (ap TooLong is.1.2 ∙ sym (ap (λ b. if b then Bytes f.bytes else TooLong (length f.bytes)) (lt-leb (length f.bytes) most (subst (λ n. most < n) is.1.2 long))) ∙ ap (λ row. loaded_of most (holding id row)) (sym is.1.1))
+    (ap TooLong is.1.2 ∙ sym (ap (λ b. if b then Bytes f.bytes else TooLong (length f.bytes)) (lt-leb (length f.bytes) most (subst (λ n. most < n) is.1.2 long))) ∙ ap (λ row. loaded_of most (holding id row)) (sym is.1.1))
 
 pub loads_whole : {p : Elements} {most : ℕ} {v w : View} {id mode size : ℕ} {bytes : List ℕ} → IsTree v → StatOf p (Ok (StatFile id mode size)) v w → size ≤ most → IsWhole p size v bytes → Loads p most v (Bytes bytes)
 loads_whole {p = p} {most = most} {v = v} {id = id} {size = size} {bytes = bytes} tree stat short whole =
     let is = stat_file stat in
     let f = is.1.0 in
     loads_spot v p most (file id) (Bytes bytes) tree is.0
-        (ap Bytes (whole.whole id f is.0 is.1.1 is.1.2) ∙ sym (ap (λ b. if b then Bytes f.bytes else TooLong (length f.bytes)) (le-leb (length f.bytes) most (subst (λ n. n ≤ most) is.1.2 short))) ∙ ap (λ row. loaded_of most (holding id row)) (sym is.1.1))
+    (ap Bytes (whole.whole id f is.0 is.1.1 is.1.2) ∙ sym (ap (λ b. if b then Bytes f.bytes else TooLong (length f.bytes)) (le-leb (length f.bytes) most (subst (λ n. n ≤ most) is.1.2 short))) ∙ ap (λ row. loaded_of most (holding id row)) (sym is.1.1))
 
 min_same : (n : ℕ) → min n (n - 0) ≡ n
 min_same n = let same : n ≤ n - 0 = omega arith in let self : n ≤ n = omega arith in omega (arith, min-le_left n (n - 0), le-min self same)

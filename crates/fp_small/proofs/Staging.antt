@@ -1,19 +1,18 @@
 -- A new file on its way, and to its name.
-use Rattle.std.proofs.Common.{◌≡◌, ◌≢◌, inl, inr, ℕ, List, [], true, false, Option, Some, None, Result, Ok, refl, sym, ◌∙◌, ap, subst}
+use Rattle.std.proofs.Common.{◌≡◌, inl, inr, ℕ, List, [], true, Option, Some, Result, Ok, refl, sym, ◌∙◌, ap, subst}
 use Rattle.std.proofs.lemmas.Bool.{false≢true}
 use Rattle.fp_host.specs.Paths.{Elements, Slot, absent, file, set_at}
 use Rattle.fp_host.specs.View.{View, Inode, IsTree}
 use Rattle.fp_host.specs.Calls.{IsDirty, IsFile, IsLeaf, Can, appends, syncs, renames, grow, grown, put, Step, Creates}
-use Rattle.fp_host.specs.Outcome.{Spot, spot_of, holding, GivesOf, IsSettled, Disk, Leaves}
-use Rattle.fp_host.specs.Frame.{Keeps, Only}
+use Rattle.fp_host.specs.Outcome.{Spot, spot_of, holding, GivesOf, IsSettled}
 use Rattle.fp_host.specs.declared.host.HostError.{HostError}
 use Rattle.fp_host.proofs.Separate.{set_same, set_other, file_same}
 use Rattle.fp_host.proofs.Follow.{called}
 use Rattle.fp_host.proofs.Filed.{PutsOf}
-use Rattle.fp_host.proofs.Framed.{keeps_refl, keeps_on, keeps_call}
+use Rattle.fp_host.proofs.Framed.{keeps_on, keeps_call}
 use Rattle.fp_host.proofs.Settled.{settled_disk}
-use Rattle.fp_small.specs.Stage.{IsReady, WasStaged, CanStage}
-use Rattle.fp_small.specs.Move.{IsNew, MovesAt, MovesName, OneOf, Moves, HasNew, WasMoved, CanMove}
+use Rattle.fp_small.specs.Stage.{IsReady, WasStaged}
+use Rattle.fp_small.specs.Move.{MovesAt, MovesName, Moves, HasNew, WasMoved, CanMove}
 
 -- after the create, and after the append
 pub record Written (t : Elements) (bytes : List ℕ) (old new : View) : Type 0 where

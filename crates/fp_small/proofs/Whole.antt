@@ -1,17 +1,17 @@
 -- A replacement over the moments.
-use Rattle.std.proofs.Common.{◌≡◌, ℕ, List, Option, refl, sym, ◌∙◌, subst}
+use Rattle.std.proofs.Common.{◌≡◌, ℕ, List, Option, refl, sym, subst}
 use Rattle.fp_host.specs.Paths.{Elements}
-use Rattle.fp_host.specs.View.{View, IsTree}
+use Rattle.fp_host.specs.View.{View}
 use Rattle.fp_host.specs.Moments.{Moments, Goes}
 use Rattle.fp_host.specs.Frame.{Keeps, Frame, Ends, Still, AnyAt, AnyHeld, Only, NoPath}
 use Rattle.fp_host.proofs.Goes.{goes_on, begins}
 use Rattle.fp_host.proofs.Framed.{IsTold}
-use Rattle.fp_host.proofs.Ending.{goes_known, ends_frame}
+use Rattle.fp_host.proofs.Ending.{goes_known}
 use Rattle.fp_small.specs.Folders.{FoldersAt, DirsAt, AreFree, AreDirs}
-use Rattle.fp_small.specs.Stage.{IsReady, WasStaged, CanStage}
+use Rattle.fp_small.specs.Stage.{IsReady, WasStaged}
 use Rattle.fp_small.specs.Move.{Moves, CanMove}
 use Rattle.fp_small.specs.Replace.{IsStaging, folders_of, Replaces, CanReplace}
-use Rattle.fp_small.proofs.Replacement.{still, with_folders, with_stage, with_move, can_stage, can_move}
+use Rattle.fp_small.proofs.Replacement.{still, with_folders, with_stage, with_move, can_move}
 
 -- the place is known
 pub record Placed (place : Elements) (u v : View) : Type 0 where

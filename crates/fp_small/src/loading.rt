@@ -21,12 +21,7 @@ pub enum Loaded {
 }
 
 /// Reads the file of at most so many bytes.
-pub fn load<H: Host>(
-    alloc: Global,
-    host: &mut H,
-    path: &Path,
-    max: u64,
-) -> Result<Loaded, HostEnd>
+pub fn load<H: Host>(alloc: Global, host: &mut H, path: &Path, max: u64) -> Result<Loaded, HostEnd>
     ensures still { Still (H.moments host.old) (H.moments host.new) }
     ensures tells { IfOk result (λ loaded. Ends (λ u w. Loads path.now max u loaded) (H.moments host.old) (H.moments host.new)) }
     ensures cause { IsCaused (IsErrOf result HostEnd.Fault) (H.moments host.old) (λ v. Unit {0}) (H.faults host.old) (H.faults host.new) }
@@ -40,12 +35,7 @@ pub fn load<H: Host>(
 }
 
 /// The bytes of a file of this size.
-fn read_whole<H: Host>(
-    alloc: Global,
-    host: &mut H,
-    path: &Path,
-    size: u64,
-) -> Result<Blob, HostEnd>
+fn read_whole<H: Host>(alloc: Global, host: &mut H, path: &Path, size: u64) -> Result<Blob, HostEnd>
     ensures still { Still (H.moments host.old) (H.moments host.new) }
     ensures tells { IfOk result (λ bytes. Ends (λ u w. IsWhole path.now size u bytes) (H.moments host.old) (H.moments host.new)) }
     ensures cause { IsCaused (IsErrOf result HostEnd.Fault) (H.moments host.old) (λ v. IsAFile (v.names path.now)) (H.faults host.old) (H.faults host.new) }

@@ -1,4 +1,4 @@
-use Rattle.std.proofs.Common.{◌≡◌, ◌∙◌, ◌∷◌, List, ℕ, ap, sym, suc, take, drop, lit<, Some, None}
+use Rattle.std.proofs.Common.{◌∙◌, ◌∷◌, List, ℕ, ap, sym, take, drop, lit<, Some, None}
 use Rattle.std.proofs.lemmas.Str.Pattern.{rfind_char}
 use Rattle.fp_host.specs.Paths.{cut}
 use Rattle.fp_host.proofs.PathTexts.{cut_last, cut_none, no_slash, from_start, add_one}

@@ -1,4 +1,4 @@
-use Rattle.std.proofs.Common.{◌∙◌, ap, sym, subst, arith, List, ℕ, ◌≡◌, ◌≤◌, length, false, true}
+use Rattle.std.proofs.Common.{◌∙◌, ap, subst, List, ℕ, ◌≤◌}
 use Rattle.std.specs.Prelude.{◌==◌}
 use Rattle.std.specs.List.{list_all}
 use Rattle.fp_host.specs.Paths.{is_name_byte}

@@ -1,4 +1,4 @@
-use Rattle.std.proofs.Common.{◌≡◌, List, ℕ, arith, subst, Ok, inl, inr}
+use Rattle.std.proofs.Common.{arith, subst, Ok, inl, inr}
 use Rattle.fp_host.specs.View.{IsTree}
 use Rattle.fp_host.specs.Reads.{StatOf}
 use Rattle.fp_small.specs.Load.{IsWhole}
@@ -25,7 +25,7 @@ returns-in-Dir-clause-still g c = let t = g.met.H.Host.is_tree in looks_stat c.s
 
 pub returns-in-Dir-clause-tells : goal.returns-in-Dir-clause-tells
 returns-in-Dir-clause-tells g c = ends_in_tree (g.met.H.Host.is_tree c.stat.new.self) (ends_call (g.met.H.Host.is_tree c.args.host.now) c.in_ok-stat.ensures.step) (λ u w tree s. elim c.in-Dir.is [
-    inl is ↦ loads_dir (subst IsTree s.same tree) (subst (λ r. StatOf c.args.path.now (Ok r) u w) is s)
+  | inl is ↦ loads_dir (subst IsTree s.same tree) (subst (λ r. StatOf c.args.path.now (Ok r) u w) is s)
   | inr is ↦ loads_link (subst IsTree s.same tree) (subst (λ r. StatOf c.args.path.now (Ok r) u w) is s)
 ])
 

@@ -1,4 +1,4 @@
-use Rattle.std.proofs.Common.{◌≡◌, ◌∙◌, ◌++◌, ◌∷◌, ◌-◌, [], suc, List, ℕ, ap, sym, arith, drop, length}
+use Rattle.std.proofs.Common.{◌≡◌, ◌∙◌, ◌++◌, ◌∷◌, ◌-◌, [], suc, List, ℕ, ap, sym, arith, drop}
 use Rattle.fp_small.specs.Folders.{ancestors}
 use Rattle.fp_small.proofs.Replacement.{last_ancestor, next_ancestor}
 use Rattle.fp_small.proofs.replacing.ancestors.Goals as goal

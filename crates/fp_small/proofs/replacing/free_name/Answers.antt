@@ -1,5 +1,4 @@
 use Rattle.std.proofs.Common.{◌+◌, ◌≤◌, length, arith, refl, ap, ◌∙◌}
-use Rattle.fp_small.specs.Places.{new_name}
 use Rattle.fp_host.specs.Paths.{is_element}
 use Rattle.fp_small.proofs.NamingLemmas.{enough, one_more}
 use Rattle.fp_small.proofs.Replacement.{name_good}

@@ -1,4 +1,4 @@
-use Rattle.std.proofs.Common.{◌∙◌, ap, sym, inl, inr, arith, refl}
+use Rattle.std.proofs.Common.{◌∙◌, ap, refl}
 use Rattle.fp_host.proofs.Framed.{frame_start, frame_stat, frame_make_dir}
 use Rattle.fp_host.proofs.Ending.{ends_call, ends_on, ends_to}
 use Rattle.fp_host.specs.View.{View}

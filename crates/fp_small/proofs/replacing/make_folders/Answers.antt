@@ -1,8 +1,8 @@
-use Rattle.std.proofs.Common.{◌≡◌, ◌∷◌, inl, inr, sym, subst, arith, take, Contains}
+use Rattle.std.proofs.Common.{◌≡◌, sym, subst, arith, take, Contains}
 use Rattle.fp_host.specs.Paths.{absent}
 use Rattle.fp_host.specs.View.{IsTree}
 use Rattle.fp_host.specs.Calls.{HasFolder}
-use Rattle.fp_host.proofs.Framed.{frame_start, frame_within}
+use Rattle.fp_host.proofs.Framed.{frame_within}
 use Rattle.fp_host.proofs.Ending.{ends_on, ends_both, ends_frame, ends_in_tree, fault_caused}
 use Rattle.fp_host.proofs.Cause.{same_fault}
 use Rattle.fp_small.specs.Folders.{AreFree, AreDirs, IsLadder}

@@ -1,5 +1,4 @@
-use Rattle.std.proofs.Common.{◌≡◌, ◌≤◌, take}
-use Rattle.fp_host.specs.Paths.{dir}
+use Rattle.std.proofs.Common.{◌≤◌, take}
 use Rattle.fp_host.specs.Frame.{Frame, Ends, NoPath}
 use Rattle.fp_small.specs.Folders.{FoldersAt, DirsAt, AreFree, AreDirs}
 use Rattle.fp_small.proofs.replacing.make_folders.Given as goal

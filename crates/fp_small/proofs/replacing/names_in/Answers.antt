@@ -1,4 +1,4 @@
-use Rattle.std.proofs.Common.{◌≡◌, ap, sym, subst, List, ℕ, [], inl, inr, ◌∙◌}
+use Rattle.std.proofs.Common.{sym, subst, ◌∙◌}
 use Rattle.fp_host.specs.View.{IsTree}
 use Rattle.fp_small.specs.Naming.{ListsIn}
 use Rattle.fp_host.proofs.Looking.{looks_start, looks_stat, looks_list}

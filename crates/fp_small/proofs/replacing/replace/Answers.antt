@@ -1,6 +1,5 @@
-use Rattle.std.proofs.Common.{◌≡◌, ◌∙◌, List, ℕ, ap, sym, subst, arith}
+use Rattle.std.proofs.Common.{◌∙◌, List, ℕ, sym, subst, arith}
 use Rattle.std.proofs.lemmas.Result.{on_ok_weaker}
-use Rattle.fp_host.specs.View.{View, IsTree}
 use Rattle.fp_host.proofs.Cause.{same_fault}
 use Rattle.fp_host.proofs.Ending.{ends_goes, ends_on, fault_caused, ends_looks, ends_to}
 use Rattle.fp_small.specs.Folders.{AreFree, IsLadder}

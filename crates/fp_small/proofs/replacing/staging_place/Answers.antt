@@ -1,4 +1,4 @@
-use Rattle.std.proofs.Common.{◌≡◌, ◌∷◌, ◌∙◌, List, ℕ, ap, sym, subst, string_bytes}
+use Rattle.std.proofs.Common.{◌∷◌, ◌∙◌, List, ℕ, ap, sym, subst, string_bytes}
 use Rattle.fp_host.proofs.Ending.{ends_to}
 use Rattle.fp_small.specs.Replace.{IsStaging}
 use Rattle.fp_small.specs.Naming.{IsFirstFree, ListsIn}

@@ -1,4 +1,4 @@
-use Rattle.std.proofs.Common.{◌≡◌, ◌∙◌, ◌∷◌, ◌++◌, [], List, ℕ, ap, sym, subst, length, string_bytes, append_assoc, refl}
+use Rattle.std.proofs.Common.{◌∙◌, ◌∷◌, ◌++◌, [], List, ℕ, ap, sym, subst, length, string_bytes, refl}
 use Rattle.std.specs.Prelude.{◌==◌}
 use Rattle.fp_host.specs.Paths.{elements_of}
 use Rattle.fp_host.proofs.PathTexts.{elements_root, not_empty, child_root, child_below, good_child, IsGood}

@@ -1,4 +1,4 @@
-use Rattle.std.proofs.Common.{◌≡◌, ◌∙◌, ap, sym, string_bytes, refl}
+use Rattle.std.proofs.Common.{◌∙◌, ap, string_bytes, refl}
 use Rattle.std.specs.Str.{bytes_eq}
 use Rattle.fp_host.proofs.PathTexts.{is_found, is_other}
 use Rattle.fp_host.proofs.path.Path.is_above.Goals as goal
