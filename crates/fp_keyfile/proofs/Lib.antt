@@ -1,0 +1,11 @@
+pub mod Names
+pub mod Good
+pub mod Texts
+pub mod Says
+pub mod Written
+pub mod Changes
+pub mod Read
+pub mod FirstPlace
+pub mod Cuts
+pub mod Drafts
+pub mod Removal

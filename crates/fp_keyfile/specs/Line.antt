@@ -1,0 +1,15 @@
+-- A line as the code holds it.
+use Rattle.std.specs.Prelude.{Result, Ok, Err}
+use Rattle.fp_keyfile.specs.declared.fault.KeyRule.{KeyRule}
+use Rattle.fp_keyfile.specs.declared.line.Line.{Line}
+use Rattle.fp_keyfile.specs.declared.line.Line.TheVariants as lines
+use Rattle.fp_keyfile.specs.Lines.{Statement, nothing, header, entry}
+
+abbrev pub statement : Line → Statement
+statement lines.Nothing = nothing
+statement (lines.Header name) = header name.now
+statement (lines.Entry key value) = entry key.now value.now
+
+abbrev pub said : Result Line KeyRule → Result Statement KeyRule
+said (Ok line) = Ok (statement line)
+said (Err rule) = Err rule

@@ -1,0 +1,47 @@
+//! Changes of one pair in a list of groups.
+
+ghost use Rattle.std.specs.Prelude.{◌≡◌, OnOk, OnErr};
+ghost use Rattle.fp_keyfile.specs.KeyFile.{value_at, with_pair, without_pair};
+
+use crate::group::Group;
+use crate::items::Items;
+use crate::places::group_place;
+use crate::text::Text;
+use std::alloc::AllocError;
+
+/// Sets the value of the key in the group. Want of memory changes nothing.
+pub(crate) fn set_pair(
+    groups: &mut Items<Group>,
+    name: &str,
+    key: &str,
+    value: &str,
+) -> Result<(), AllocError>
+    ensures ok { OnOk result (groups.new ≡ with_pair groups.old name.now key.now value.now) }
+    ensures err { OnErr result (groups.new ≡ groups.old) }
+{
+    match group_place(groups.as_slice(), name) {
+        Some(at) => {
+            let group = &mut groups.inner[at];
+            group.put(key, value)
+        }
+        None => {
+            let group = Group::of_pair(groups.allocator(), name, key, value)?;
+            groups.push(group)
+        }
+    }
+}
+
+/// Takes the pair away, and its group with its last pair, and answers its value. Where it isn't there, all stays.
+pub(crate) fn take_pair(groups: &mut Items<Group>, name: &str, key: &str) -> Option<Text>
+    ensures value { result ≡ value_at groups.old name.now key.now }
+    ensures after { groups.new ≡ without_pair groups.old name.now key.now }
+{
+    let at = group_place(groups.as_slice(), name)?;
+    let group = &mut groups.inner[at];
+    let value = group.take(key)?;
+    let is_last = group.pairs.is_empty();
+    if is_last {
+        let _ = groups.remove(at);
+    }
+    Some(value)
+}

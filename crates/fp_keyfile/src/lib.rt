@@ -1,0 +1,28 @@
+//! Key files: groups of pairs of a key and a value, one a line.
+#![tactic(auto)]
+
+mod change;
+mod draft;
+mod fault;
+mod grammar;
+mod group;
+mod index;
+mod items;
+mod key_file;
+pub mod laws;
+mod line;
+mod parsing;
+mod places;
+mod table;
+mod text;
+mod writing;
+
+pub use fault::{KeyError, KeyFault, KeyRule};
+pub use grammar::{is_group_name, is_pair_key, is_pair_value};
+pub use group::{Group, Pair};
+pub use items::Items;
+pub use key_file::KeyFile;
+pub use text::Text;
+
+#[cfg(test)]
+mod tests;

@@ -1,0 +1,59 @@
+ghost use Rattle.std.specs.Prelude.{◌≡◌, string_bytes, IfOk};
+
+use std::alloc::{AllocError, Global};
+use std::marker::Model;
+
+/// A text, which contracts see as its bytes.
+#[derive(Debug, Drop)]
+pub struct Text {
+    inner: String,
+}
+
+impl Model for Text {
+    ghost use Rattle.std.specs.Prelude.{List, ℕ, string_bytes};
+
+    ghost Value = { List ℕ };
+
+    ghost view = { λ t. string_bytes t.inner };
+}
+
+impl Text {
+    /// The text of a string, which takes no memory.
+    pub fn from_string(text: String) -> Self
+        ensures { result ≡ string_bytes text }
+    {
+        Text { inner: text }
+    }
+
+    /// A text of its own with these bytes.
+    pub fn from_str(alloc: Global, text: &str) -> Result<Self, AllocError>
+        ensures { IfOk result (λ t. t ≡ text.now) }
+    {
+        Ok(Text {
+            inner: String::from_str(alloc, text)?,
+        })
+    }
+
+    /// The string of the text, which takes no memory.
+    pub fn into_string(self) -> String
+        ensures { string_bytes result ≡ self }
+    {
+        self.inner
+    }
+
+    /// The text as it stands.
+    pub fn as_str(&self) -> &str
+        ensures { result.now ≡ self.now }
+    {
+        &self.inner
+    }
+
+    /// A copy in memory of its own.
+    pub fn copy(&self) -> Result<Self, AllocError>
+        ensures { IfOk result (λ t. t ≡ self.now) }
+    {
+        Ok(Text {
+            inner: self.inner.clone()?,
+        })
+    }
+}
