@@ -1,6 +1,7 @@
 //! Key files with what they read as, worked out from the rules by hand.
 
 use super::*;
+use std::alloc::AllocError;
 use std::test::*;
 
 /// Bytes that are a key file, and the text that is written for it.
@@ -152,30 +153,53 @@ fn names_the_first_fault(rt: HostRuntime) {
     }
 }
 
+/// A pair that is set, or taken away where there is no value, and the text of the file after it.
+const CHANGES: [(&str, &str, Option<&str>, &str); 12] = [
+    ("g", "a", Some("1"), "[g]\na=1\n"),
+    ("g", "b c", Some("2 = [x]"), "[g]\na=1\nb c=2 = [x]\n"),
+    ("h", "a", Some(""), "[g]\na=1\nb c=2 = [x]\n[h]\na=\n"),
+    ("g", "a", Some("3"), "[g]\na=3\nb c=2 = [x]\n[h]\na=\n"),
+    ("i", "a", None, "[g]\na=3\nb c=2 = [x]\n[h]\na=\n"),
+    ("h", "b c", None, "[g]\na=3\nb c=2 = [x]\n[h]\na=\n"),
+    ("g", "a", None, "[g]\nb c=2 = [x]\n[h]\na=\n"),
+    ("g", "a", Some("4"), "[g]\nb c=2 = [x]\na=4\n[h]\na=\n"),
+    ("g", "b c", None, "[g]\na=4\n[h]\na=\n"),
+    ("g", "a", None, "[h]\na=\n"),
+    ("g", "a", Some("5"), "[h]\na=\n[g]\na=5\n"),
+    ("h", "a", None, "[g]\na=5\n"),
+];
+
+/// Sets a pair that can be written.
+fn put(file: &mut KeyFile, group: &str, key: &str, value: &str) -> Result<(), AllocError> {
+    if is_group_name(group) && is_pair_key(key) && is_pair_value(value) {
+        file.set(group, key, value)?;
+    }
+    Ok(())
+}
+
 #[test]
 fn changes(rt: HostRuntime) -> Result<(), Fail> {
     let mut file = KeyFile::new(rt.alloc());
-    file.set("g", "a", "1")?;
-    file.set("g", "b c", "2 = [x]")?;
-    file.set("h", "a", "")?;
-    file.set("g", "a", "3")?;
-    assert_eq!(rt; file.write()?.as_str(), "[g]\na=3\nb c=2 = [x]\n[h]\na=\n");
-    assert_eq!(rt; file.get("g", "b c"), Some("2 = [x]"));
-    assert_eq!(rt; file.get("h", "a"), Some(""));
-    assert_eq!(rt; file.get("h", "b c"), None);
-    assert_eq!(rt; file.get("i", "a"), None);
-    let mut other = file.copy()?;
-    let taken = other.remove("g", "a").ok_or("the pair is there")?;
-    assert_eq!(rt; taken.as_str(), "3");
-    assert!(rt; other.remove("g", "a").is_none());
-    assert!(rt; other.remove("i", "a").is_none());
-    assert_eq!(rt; other.write()?.as_str(), "[g]\nb c=2 = [x]\n[h]\na=\n");
-    assert!(rt; other.remove("g", "b c").is_some());
-    assert_eq!(rt; other.write()?.as_str(), "[h]\na=\n");
-    assert_eq!(rt; file.write()?.as_str(), "[g]\na=3\nb c=2 = [x]\n[h]\na=\n");
-    let mut empty = KeyFile::parse(rt.alloc(), b"[e]")?;
-    assert!(rt; empty.remove("e", "a").is_none());
-    assert_eq!(rt; empty.groups().len(), 1);
+    for (group, key, value, want) in &CHANGES {
+        match value {
+            Some(value) => put(&mut file, group, key, value)?,
+            None => {
+                let _ = file.remove(group, key);
+            }
+        }
+        assert_eq!(rt; file.copy()?.write()?.as_str(), *want);
+        assert_eq!(rt; file.get(group, key), *value, "for {want:?}");
+    }
+    Ok(())
+}
+
+#[test]
+fn takes_away(rt: HostRuntime) -> Result<(), Fail> {
+    let mut file = KeyFile::parse(rt.alloc(), b"[e]\n[f]\nk=v")?;
+    assert!(rt; file.remove("e", "k").is_none());
+    let taken = file.remove("f", "k").ok_or("the pair is there")?;
+    assert_eq!(rt; taken.as_str(), "v");
+    assert_eq!(rt; file.groups().len(), 1);
     Ok(())
 }
 
