@@ -1,3 +1,4 @@
 pub mod Verbs
 pub mod Words
 pub mod Behind
+pub mod Lines
