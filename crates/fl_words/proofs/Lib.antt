@@ -1,3 +1,4 @@
 pub mod Beginnings
 pub mod Escapes
 pub mod Extra
+pub mod Rows
