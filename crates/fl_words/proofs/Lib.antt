@@ -2,3 +2,4 @@ pub mod Beginnings
 pub mod Escapes
 pub mod Extra
 pub mod Rows
+pub mod Unescaped

@@ -1,15 +1,15 @@
 -- Worked rows, closed by computing.
-use Rattle.std.proofs.Common.{◌≡◌, ℕ, List, [], ◌∷◌, Some, None, refl}
+use Rattle.std.proofs.Common.{◌≡◌, [], ◌∷◌, Some, refl}
 use Rattle.std.specs.Prelude.{codes}
 use Rattle.std.specs.Fmt.{digits}
-use Rattle.fp_name.specs.Grammar.{is_id, is_arch, is_branch}
+use Rattle.fp_name.specs.Grammar.{is_id, is_branch}
 use Rattle.fp_name.specs.Pins.{is_pin}
 use Rattle.fp_small.specs.declared.refusal.Refusal.TheVariants.{BadWords, PinExists, NoSuchPin, Limit, Damaged}
 use Rattle.fp_small.specs.declared.refusal.What.TheVariants.{Pins}
 use Rattle.fp_small.specs.declared.op.Op.TheVariants.{AddPin, DropPin}
 use Rattle.fl_words.specs.declared.command.Command.TheVariants.{Pin, Unpin, ListPins}
 use Rattle.fl_words.specs.Words.{command_of, bad_index}
-use Rattle.fl_words.specs.Lines.{escaped, refusal_text, op_text, pins_text}
+use Rattle.fl_words.specs.Lines.{refusal_text, op_text}
 
 pub pin_all : command_of (codes "pin" ∷ codes "app/*/*/*" ∷ []) ≡ Some (Pin (codes "app/*/*/*"))
 unfolding is_pin

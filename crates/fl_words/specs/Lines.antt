@@ -11,9 +11,13 @@ use Rattle.fp_small.specs.declared.op.Op.TheVariants.{AddPin, DropPin}
 
 -- ---- a text that we didn't make
 
--- a control byte (below 0x20, or 0x7f) or a backslash
+-- a control byte: below 0x20, or 0x7f
+abbrev pub is_control : ℕ → Bool
+is_control b = nat_lt b 32 || b == 127
+
+-- a control byte or a backslash
 abbrev pub is_escaped : ℕ → Bool
-is_escaped b = nat_lt b 32 || b == 127 || b == 92
+is_escaped b = is_control b || b == 92
 
 -- such a byte as a backslash and its two lower-case hexadecimal digits, any other as it is
 abbrev pub escape_of : ℕ → List ℕ

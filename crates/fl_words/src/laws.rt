@@ -1,5 +1,7 @@
 // What holds of all words, by their definitions. Nothing is done here: each contract is a law.
-ghost use Rattle.std.specs.Prelude.{◌≡◌, ◌↔◌, ◌<◌, ◌≤◌, ◌+◌, ◌⊎◌, ℕ, List, Some, true, false, length, take};
+ghost use Rattle.std.specs.Prelude.{◌≡◌, ◌↔◌, ◌<◌, ◌≤◌, ◌+◌, ℕ, List, Some, true, not, length, take};
+ghost use Rattle.std.specs.List.{list_all};
+ghost use Rattle.fl_words.specs.Lines.{is_control, escaped};
 ghost use Rattle.fl_words.specs.Words.{command_of, begins, Begins, bad_index, words_of, is_command};
 
 use crate::command::Command;
@@ -21,4 +23,10 @@ pub fn bad_index_is_least()
     ensures before { (words : List (List ℕ)) (i : ℕ) → i < bad_index words → Begins (take (i + 1) words) }
     ensures there { (words : List (List ℕ)) → bad_index words < length words → ¬ Begins (take (bad_index words + 1) words) }
     ensures within { (words : List (List ℕ)) → bad_index words ≤ length words }
+{}
+
+/// What is printed of a text has no control byte, and tells the text: no two are printed alike.
+pub fn escapes_tell_texts()
+    ensures printable { (text : List ℕ) → list_all (λ b. not (is_control b)) (escaped text) ≡ true }
+    ensures apart { (a b : List ℕ) → escaped a ≡ escaped b → a ≡ b }
 {}

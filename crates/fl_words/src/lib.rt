@@ -9,7 +9,7 @@ mod reading;
 mod verb;
 
 pub use command::{Command, WordsError};
-pub use laws::{bad_index_is_least, beginnings_go_on, words_read_back};
+pub use laws::{bad_index_is_least, beginnings_go_on, escapes_tell_texts, words_read_back};
 pub use lines::{op_line, pins_text, refusal_line};
 pub use reading::read_words;
 
