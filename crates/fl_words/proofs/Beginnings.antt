@@ -1,0 +1,106 @@
+-- Which words can go on to be a command, and where words go wrong.
+use Rattle.std.proofs.Common.{◌≡◌, ℕ, ◌+◌, ◌<◌, ◌≤◌, suc, zero, Bool, true, false, cond, List, [], ◌∷◌, ◌++◌, length, take, Option, Some, None, refl, ap, sym, rules, arith, add-one, ◌∙◌}
+use Rattle.std.proofs.lemmas.Bool.{false≢true}
+use Rattle.std.specs.Prelude.{IsSome, codes, option_and_then}
+use Rattle.fp_name.specs.Pins.{is_pin}
+use Rattle.fl_words.specs.declared.verb.Verb.{Verb}
+use Rattle.fl_words.specs.declared.verb.Verb.TheVariants as verbs
+use Rattle.fl_words.specs.declared.command.Command.{Command}
+use Rattle.fl_words.specs.declared.command.Command.TheVariants.{Pin, Unpin}
+use Rattle.std.specs.Option.{option_map}
+use Rattle.fl_words.specs.Verbs.{verb_of}
+use Rattle.fl_words.specs.Words.{behind, begins, begins_behind, Begins, first_bad, bad_index}
+
+-- some pattern
+any_pin : List ℕ
+any_pin = codes "app/*/*/*"
+
+any_pin_is : is_pin (codes "app/*/*/*") ≡ true
+unfolding is_pin
+any_pin_is = refl
+
+-- the command of a verb, where it is one, and the words behind it
+abbrev with_verb : Option Verb → List (List ℕ) → Option Command
+with_verb verb words = option_and_then (λ v. behind v words) verb
+
+goes_on : (verb : Option Verb) (words : List (List ℕ)) → begins_behind verb words ≡ true → (more : List (List ℕ)) × IsSome (with_verb verb (words ++ more))
+goes_on None words h = absurd (cc)
+goes_on (Some verbs.Pin) [] h = (codes "app/*/*/*" ∷ [], rw any_pin_is (search rules))
+goes_on (Some verbs.Pin) (p ∷ []) h = ([], rw h (search rules))
+goes_on (Some verbs.Pin) (p ∷ q ∷ more) h = absurd (cc)
+goes_on (Some verbs.Unpin) [] h = (codes "app/*/*/*" ∷ [], rw any_pin_is (search rules))
+goes_on (Some verbs.Unpin) (p ∷ []) h = ([], rw h (search rules))
+goes_on (Some verbs.Unpin) (p ∷ q ∷ more) h = absurd (cc)
+goes_on (Some verbs.List) [] h = (codes "--pins" ∷ [], search rules)
+goes_on (Some verbs.List) (word ∷ []) h = ([], rw h (search rules))
+goes_on (Some verbs.List) (word ∷ next ∷ more) h = absurd (cc)
+
+-- a pattern that is looked for is there only if the test passed
+passed : {A : Type 0} (b : Bool) (x : A) → IsSome (cond b (Some x) None) → b ≡ true
+passed true x h = refl
+passed false x h = absurd (search rules)
+
+passed_map : {A B : Type 0} (f : A → B) (b : Bool) (x : A) → IsSome (option_map f (cond b (Some x) None)) → b ≡ true
+passed_map f true x h = refl
+passed_map f false x h = absurd (search rules)
+
+began : (verb : Option Verb) (words more : List (List ℕ)) → IsSome (with_verb verb (words ++ more)) → begins_behind verb words ≡ true
+began None words more h = absurd (search rules)
+began (Some verbs.Pin) [] more h = refl
+began (Some verbs.Pin) (p ∷ []) [] h = passed_map Pin (is_pin p) p h
+began (Some verbs.Pin) (p ∷ []) (m ∷ more) h = absurd (search rules)
+began (Some verbs.Pin) (p ∷ q ∷ words) more h = absurd (search rules)
+began (Some verbs.Unpin) [] more h = refl
+began (Some verbs.Unpin) (p ∷ []) [] h = passed_map Unpin (is_pin p) p h
+began (Some verbs.Unpin) (p ∷ []) (m ∷ more) h = absurd (search rules)
+began (Some verbs.Unpin) (p ∷ q ∷ words) more h = absurd (search rules)
+began (Some verbs.List) [] more h = refl
+began (Some verbs.List) (word ∷ []) [] h = passed _ _ h
+began (Some verbs.List) (word ∷ []) (m ∷ more) h = absurd (search rules)
+began (Some verbs.List) (word ∷ next ∷ words) more h = absurd (search rules)
+
+-- the test is right
+pub begins_right : (words : List (List ℕ)) → (begins words ≡ true → Begins words) × (Begins words → begins words ≡ true)
+begins_right [] = (λ h. record { more = codes "list" ∷ codes "--pins" ∷ []; accepted = search rules }, λ b. refl)
+begins_right (word ∷ words) =
+    (λ h. (let on = goes_on (verb_of word) words h in record { more = on.0; accepted = on.1 }), λ b. began (verb_of word) words b.more b.accepted)
+
+-- ---- the first place where words fail a test
+
+stays : (b : Bool) (n i : ℕ) → i < cond b (n + 1) 0 → (b ≡ true) × (i < n + 1)
+stays true n i h = (refl, h)
+stays false n i h = absurd (omega arith)
+
+first_bad-before : (passes : List (List ℕ) → Bool) (words : List (List ℕ)) (i : ℕ) → i < first_bad passes words → passes (take (suc i) words) ≡ true
+first_bad-before passes [] i h = absurd (omega arith)
+first_bad-before passes (word ∷ words) zero h = (stays (passes (word ∷ [])) (first_bad (λ more. passes (word ∷ more)) words) 0 h).0
+first_bad-before passes (word ∷ words) (suc i) h =
+    let on = stays (passes (word ∷ [])) (first_bad (λ more. passes (word ∷ more)) words) (suc i) h in
+    first_bad-before (λ more. passes (word ∷ more)) words i (omega (arith, on.1))
+
+fails_there : (b : Bool) (passes : List (List ℕ) → Bool) (word : List ℕ) (words : List (List ℕ)) (n : ℕ) → passes (word ∷ []) ≡ b → cond b (n + 1) 0 < length (word ∷ words) → (n < length words → passes (word ∷ take (suc n) words) ≡ false) → passes (word ∷ take (cond b (n + 1) 0) words) ≡ false
+fails_there true passes word words n e h next = rw add-one (next (omega arith))
+fails_there false passes word words n e h next = e
+
+first_bad-there : (passes : List (List ℕ) → Bool) (words : List (List ℕ)) → first_bad passes words < length words → passes (take (suc (first_bad passes words)) words) ≡ false
+first_bad-there passes [] h = absurd (omega arith)
+first_bad-there passes (word ∷ words) h =
+    let rest = λ (more : List (List ℕ)). passes (word ∷ more) in
+    fails_there (passes (word ∷ [])) passes word words (first_bad rest words) refl h (first_bad-there rest words)
+
+pub first_bad-within : (passes : List (List ℕ) → Bool) (words : List (List ℕ)) → first_bad passes words ≤ length words
+first_bad-within passes [] = omega arith
+first_bad-within passes (word ∷ words) =
+    let on = first_bad-within (λ more. passes (word ∷ more)) words in
+    elim (passes (word ∷ [])) as (λ b. cond b (first_bad (λ more. passes (word ∷ more)) words + 1) 0 ≤ length (word ∷ words)) [ true ↦ omega (arith, on) | false ↦ omega arith ]
+
+-- each beginning before the bad index goes on, and the one at it doesn't
+pub goes_on_before : (words : List (List ℕ)) (i : ℕ) → i < bad_index words → Begins (take (i + 1) words)
+goes_on_before words i h = (begins_right (take (i + 1) words)).0 (rw add-one (first_bad-before begins words i h))
+
+pub ends_there : (words : List (List ℕ)) → bad_index words < length words → Begins (take (bad_index words + 1) words) → ⊥
+ends_there words h b =
+    let passed_too = (begins_right (take (bad_index words + 1) words)).1 b in
+    let failed = first_bad-there begins words h in
+    let one = add-one (bad_index words) in
+    false≢true (sym failed ∙ ap (λ n. begins (take n words)) (sym one) ∙ passed_too)

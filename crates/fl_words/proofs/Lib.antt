@@ -1,0 +1,5 @@
+pub mod Beginnings
+pub mod Escapes
+pub mod Extra
+pub mod Rows
+pub mod Unescaped

@@ -1,0 +1,12 @@
+use Rattle.fl_words.specs.Words.{begins}
+use Rattle.fl_words.proofs.Beginnings.{goes_on_before, ends_there, first_bad-within}
+use Rattle.fl_words.proofs.laws.bad_index_is_least.Goals as goal
+
+pub returns-clause-before : goal.returns-clause-before
+returns-clause-before c = goes_on_before
+
+pub returns-clause-there : goal.returns-clause-there
+returns-clause-there c = ends_there
+
+pub returns-clause-within : goal.returns-clause-within
+returns-clause-within c = first_bad-within begins

@@ -1,0 +1,73 @@
+// The lines that commands print.
+ghost use Rattle.std.specs.Prelude.{◌≡◌, IfOk};
+ghost use Rattle.fl_words.specs.Lines.{what_word, refusal_text, op_text, pins_text};
+
+use crate::escaping::escape;
+use fp_host::Text;
+use fp_name::PinPattern;
+use fp_small::{Op, Refusal, What};
+use std::alloc::{AllocError, Global};
+
+/// The line of a refusal.
+pub fn refusal_line(alloc: Global, refusal: &Refusal) -> Result<Text, AllocError>
+    ensures { IfOk result (λ t. t ≡ refusal_text refusal.now) }
+{
+    let line = match refusal {
+        Refusal::BadWords { index } => format!(in alloc; "error: words {index}\n")?,
+        Refusal::PinExists { pin } => {
+            let pin = pin.as_str();
+            format!(in alloc; "error: pin exists {pin}\n")?
+        }
+        Refusal::NoSuchPin { pin } => {
+            let pin = pin.as_str();
+            format!(in alloc; "error: no pin {pin}\n")?
+        }
+        Refusal::Limit { what, number } => {
+            let word = word_of(*what);
+            format!(in alloc; "error: limit {word} {number}\n")?
+        }
+        Refusal::Damaged { path } => {
+            let path = escape(alloc, path.text())?;
+            format!(in alloc; "error: damaged {path}\n")?
+        }
+    };
+    Ok(Text::from_string(line))
+}
+
+// The word for what has a limit.
+fn word_of(what: What) -> &'static str
+    ensures { result.now ≡ what_word what }
+{
+    match what {
+        What::Pins => "pins",
+    }
+}
+
+/// The line that acknowledges an operation.
+pub fn op_line(alloc: Global, op: &Op) -> Result<Text, AllocError>
+    ensures { IfOk result (λ t. t ≡ op_text op.now) }
+{
+    let line = match op {
+        Op::AddPin(pin) => {
+            let pin = pin.as_str();
+            format!(in alloc; "pinned {pin}\n")?
+        }
+        Op::DropPin(pin) => {
+            let pin = pin.as_str();
+            format!(in alloc; "unpinned {pin}\n")?
+        }
+    };
+    Ok(Text::from_string(line))
+}
+
+/// A line for each pattern, in the order given.
+pub fn pins_text(alloc: Global, pins: &[PinPattern]) -> Result<Text, AllocError>
+    ensures { IfOk result (λ t. t ≡ pins_text pins.now) }
+{
+    let mut text = String::new(alloc);
+    for pin in pins {
+        text.push_str(pin.as_str())?;
+        text.push('\n')?;
+    }
+    Ok(Text::from_string(text))
+}

@@ -1,0 +1,61 @@
+// Reading the words of a command line.
+ghost use Rattle.std.specs.Prelude.{◌≡◌, Some, IfOk, IfErr, map, string_bytes};
+ghost use Rattle.fl_words.specs.Words.{command_of, pattern_of, begins_pattern, list_of, begins_list};
+ghost use Rattle.fl_words.specs.Behind.{IsNoCommand, GoesWrong};
+
+use crate::command::{Command, WordsError};
+use crate::verb::Verb;
+use fp_name::{NameFault, PinPattern};
+use std::alloc::Global;
+
+/// The command of the words of a command line. `BadWords` comes exactly where they are none.
+pub fn read_words(alloc: Global, words: &[String]) -> Result<Command, WordsError>
+    ensures ok { IfOk result (λ command. command_of (map string_bytes words.now) ≡ Some command) }
+    ensures bad { IfErr result (IsNoCommand (map string_bytes words.now)) }
+{
+    let Some((first, rest)) = words.split_first() else {
+        return Err(WordsError::BadWords { index: 0 });
+    };
+    match Verb::of_word(first) {
+        Some(Verb::Pin) => Ok(Command::Pin(read_pattern(alloc, rest)?)),
+        Some(Verb::Unpin) => Ok(Command::Unpin(read_pattern(alloc, rest)?)),
+        Some(Verb::List) => read_list(rest),
+        None => Err(WordsError::BadWords { index: 0 }),
+    }
+}
+
+// The pattern that stands alone behind a verb.
+fn read_pattern(alloc: Global, words: &[String]) -> Result<PinPattern, WordsError>
+    ensures ok { IfOk result (λ pin. pattern_of (map string_bytes words.now) ≡ Some pin) }
+    ensures bad { IfErr result (GoesWrong pattern_of begins_pattern (map string_bytes words.now)) }
+{
+    let Some((word, rest)) = words.split_first() else {
+        return Err(WordsError::BadWords { index: 1 });
+    };
+    let pin = match PinPattern::parse(alloc, word.as_bytes()) {
+        Ok(pin) => pin,
+        Err(NameFault::Bad) => return Err(WordsError::BadWords { index: 1 }),
+        Err(NameFault::NoMemory) => return Err(WordsError::NoMemory),
+    };
+    if !rest.is_empty() {
+        return Err(WordsError::BadWords { index: 2 });
+    }
+    Ok(pin)
+}
+
+// What to list.
+fn read_list(words: &[String]) -> Result<Command, WordsError>
+    ensures ok { IfOk result (λ command. list_of (map string_bytes words.now) ≡ Some command) }
+    ensures bad { IfErr result (GoesWrong list_of begins_list (map string_bytes words.now)) }
+{
+    let Some((word, rest)) = words.split_first() else {
+        return Err(WordsError::BadWords { index: 1 });
+    };
+    if word.as_str() != "--pins" {
+        return Err(WordsError::BadWords { index: 1 });
+    }
+    if !rest.is_empty() {
+        return Err(WordsError::BadWords { index: 2 });
+    }
+    Ok(Command::ListPins)
+}

@@ -1,0 +1,145 @@
+use crate::{Command, WordsError, op_line, pins_text, read_words, refusal_line};
+use fp_host::{Path, Text};
+use fp_name::PinPattern;
+use fp_small::{Op, Refusal, What};
+use std::alloc::{AllocError, Global};
+use std::test::Fail;
+
+/// What the words read as, in one text.
+fn told(alloc: Global, words: &[&str]) -> Result<String, AllocError> {
+    let mut owned = Vec::new(alloc);
+    for word in words {
+        owned.push(String::from_str(alloc, word)?)?;
+    }
+    match read_words(alloc, &owned) {
+        Ok(Command::Pin(pin)) => format!(in alloc; "Pin {}", pin.as_str()),
+        Ok(Command::Unpin(pin)) => format!(in alloc; "Unpin {}", pin.as_str()),
+        Ok(Command::ListPins) => "ListPins".to_string(alloc),
+        Err(error) => format!(in alloc; "{error}"),
+    }
+}
+
+#[test]
+fn words(rt: HostRuntime) -> Result<(), Fail> {
+    let table: [(&[&str], &str); 32] = [
+        (&["pin", "app/*/*/*"], "Pin app/*/*/*"),
+        (
+            &["pin", "runtime/org.x.Y/x86_64/1.0"],
+            "Pin runtime/org.x.Y/x86_64/1.0",
+        ),
+        (&["unpin", "app/*/*/*"], "Unpin app/*/*/*"),
+        (&["list", "--pins"], "ListPins"),
+        (&[], "bad words at 0"),
+        (&[""], "bad words at 0"),
+        (&["", "x"], "bad words at 0"),
+        (&["pins"], "bad words at 0"),
+        (&["Pin", "app/*/*/*"], "bad words at 0"),
+        (&["pin ", "app/*/*/*"], "bad words at 0"),
+        (&["app/*/*/*"], "bad words at 0"),
+        (&["\u{e9}"], "bad words at 0"),
+        (&["pin"], "bad words at 1"),
+        (&["pin", "x"], "bad words at 1"),
+        (&["pin", ""], "bad words at 1"),
+        (&["pin", "x", "y"], "bad words at 1"),
+        (&["pin", "app/*/*"], "bad words at 1"),
+        (&["pin", "*/*/*/*"], "bad words at 1"),
+        (&["pin", "--pins"], "bad words at 1"),
+        (&["pin", "app/*/*/*", "x"], "bad words at 2"),
+        (&["pin", "app/*/*/*", ""], "bad words at 2"),
+        (&["pin", "app/*/*/*", "app/*/*/*", "x"], "bad words at 2"),
+        (&["unpin"], "bad words at 1"),
+        (&["unpin", "x"], "bad words at 1"),
+        (&["unpin", "app/*/*/*", "x"], "bad words at 2"),
+        (&["list"], "bad words at 1"),
+        (&["list", ""], "bad words at 1"),
+        (&["list", "--pin"], "bad words at 1"),
+        (&["list", "pins"], "bad words at 1"),
+        (&["list", "--pins="], "bad words at 1"),
+        (&["list", "--pins", ""], "bad words at 2"),
+        (&["list", "--pins", "--pins"], "bad words at 2"),
+    ];
+    for (words, want) in table {
+        assert_eq!(rt; told(rt.alloc(), words)?.as_str(), want, "{words:?}");
+    }
+    assert_eq!(rt;
+        format!(in rt.alloc(); "{}", WordsError::NoMemory)?.as_str(),
+        "out of memory"
+    );
+    Ok(())
+}
+
+fn pattern(alloc: Global, text: &str) -> Result<PinPattern, Fail> {
+    Ok(PinPattern::parse(alloc, text.as_bytes())?)
+}
+
+/// Whether the refusal is printed as this line.
+fn is_line(alloc: Global, refusal: &Refusal, want: &str) -> Result<bool, AllocError> {
+    Ok(refusal_line(alloc, refusal)?.as_str() == want)
+}
+
+#[test]
+fn refusals(rt: HostRuntime) -> Result<(), Fail> {
+    let alloc = rt.alloc();
+    let first = Refusal::BadWords { index: 0 };
+    let last = Refusal::BadWords { index: u64::MAX };
+    let limit = Refusal::Limit {
+        what: What::Pins,
+        number: 1025,
+    };
+    assert!(rt; is_line(alloc, &first, "error: words 0\n")?);
+    assert!(rt; is_line(alloc, &last, "error: words 18446744073709551615\n")?);
+    assert!(rt; is_line(alloc, &limit, "error: limit pins 1025\n")?);
+    Ok(())
+}
+
+#[test]
+fn refused_pins(rt: HostRuntime) -> Result<(), Fail> {
+    let alloc = rt.alloc();
+    let pin = pattern(alloc, "app/*/*/*")?;
+    let exists = Refusal::PinExists { pin };
+    assert!(rt; is_line(alloc, &exists, "error: pin exists app/*/*/*\n")?);
+    let pin = pattern(alloc, "runtime/org.x.Y/*/1.0")?;
+    let unknown = Refusal::NoSuchPin { pin };
+    assert!(rt; is_line(alloc, &unknown, "error: no pin runtime/org.x.Y/*/1.0\n")?);
+    Ok(())
+}
+
+#[test]
+fn damaged_paths(rt: HostRuntime) -> Result<(), Fail> {
+    let table: [(&str, &str); 6] = [
+        ("config", "error: damaged config\n"),
+        ("repo/refs/heads", "error: damaged repo/refs/heads\n"),
+        ("a\nb", "error: damaged a\\0ab\n"),
+        ("a\\b/\u{1f}\u{7f}", "error: damaged a\\5cb/\\1f\\7f\n"),
+        (" !~[]\"'", "error: damaged  !~[]\"'\n"),
+        (
+            "\u{e9}\u{80}\u{1f600}\\",
+            "error: damaged \u{e9}\u{80}\u{1f600}\\5c\n",
+        ),
+    ];
+    for (text, want) in table {
+        let path = Path::parse(rt.alloc(), text)?;
+        let refusal = Refusal::Damaged { path };
+        assert!(rt; is_line(rt.alloc(), &refusal, want)?, "{text:?}");
+    }
+    Ok(())
+}
+
+fn is_text(text: &Text, want: &str) -> bool {
+    text.as_str() == want
+}
+
+#[test]
+fn operations(rt: HostRuntime) -> Result<(), Fail> {
+    let alloc = rt.alloc();
+    let added = Op::AddPin(pattern(alloc, "app/*/*/*")?);
+    let dropped = Op::DropPin(pattern(alloc, "app/org.x.Y/*/*")?);
+    assert!(rt; is_text(&op_line(alloc, &added)?, "pinned app/*/*/*\n"));
+    assert!(rt; is_text(&op_line(alloc, &dropped)?, "unpinned app/org.x.Y/*/*\n"));
+    let mut pins = Vec::new(alloc);
+    assert!(rt; is_text(&pins_text(alloc, &pins)?, ""));
+    pins.push(pattern(alloc, "runtime/*/*/*")?)?;
+    pins.push(pattern(alloc, "app/*/*/*")?)?;
+    assert!(rt; is_text(&pins_text(alloc, &pins)?, "runtime/*/*/*\napp/*/*/*\n"));
+    Ok(())
+}

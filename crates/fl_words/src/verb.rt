@@ -1,0 +1,25 @@
+// The first word of a command.
+ghost use Rattle.std.specs.Prelude.{◌≡◌};
+ghost use Rattle.fl_words.specs.Verbs.{verb_of};
+
+/// What the first word of a command says.
+#[derive(Clone, Copy, Debug, PartialEq, Eq)]
+pub enum Verb {
+    Pin,
+    Unpin,
+    List,
+}
+
+impl Verb {
+    /// The verb that a word is.
+    pub fn of_word(word: &str) -> Option<Verb>
+        ensures { result ≡ verb_of word.now }
+    {
+        match word {
+            "pin" => Some(Verb::Pin),
+            "unpin" => Some(Verb::Unpin),
+            "list" => Some(Verb::List),
+            _ => None,
+        }
+    }
+}
