@@ -1,0 +1,7 @@
+pub mod Arrays
+pub mod Cutting
+pub mod Lists
+pub mod Numbers
+mod Rows
+pub mod Seen
+pub mod Tuples

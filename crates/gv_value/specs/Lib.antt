@@ -1,0 +1,13 @@
+pub mod Basics
+pub mod Bytes
+pub mod Framing
+pub mod Layout
+pub mod Reading
+pub mod Shape
+pub mod Signs
+pub mod Spelled
+pub mod Spelling
+pub mod Texts
+pub mod Tree
+pub mod TypeText
+pub mod Views

@@ -1,0 +1,16 @@
+//! The types and values of GVariant, GLib's format of typed data.
+#![tactic(auto)]
+
+mod basic;
+mod blob;
+mod sign;
+mod text;
+mod types;
+mod value;
+
+pub use basic::Basic;
+pub use blob::Blob;
+pub use sign::Sign;
+pub use text::Text;
+pub use types::GvType;
+pub use value::GvValue;
