@@ -1,7 +1,10 @@
 pub mod Arrays
+pub mod Contents
 pub mod Cutting
+pub mod Laws
 pub mod Lists
 pub mod Numbers
 mod Rows
 pub mod Seen
 pub mod Tuples
+pub mod TypeLaws

@@ -28,12 +28,16 @@ number_at w bytes = let n = le_value bytes in if bytes_eq (le_bytes w n) bytes t
 abbrev pub eight_at : List ℕ → Option Content
 eight_at bytes = if length bytes == 8 && are_bytes bytes then Some (Content.eight bytes) else None
 
--- a text of its kind before a zero byte
+-- the first bytes, where one zero byte is all that stands behind them
+abbrev pub before_zero : ℕ → List ℕ → Option (List ℕ)
+before_zero n bytes = if bytes_eq (drop n bytes) (0 ∷ []) then Some (take n bytes) else None
+
+abbrev pub text_if : TextKind → List ℕ → Option Content
+text_if kind text = if is_text kind text then Some (Content.text text) else None
+
+-- a text of its kind and a zero byte
 abbrev pub text_at : TextKind → List ℕ → Option Content
-text_at kind bytes = text_before (length bytes - 1)
-  where
-    text_before : ℕ → Option Content
-    text_before n = if bytes_eq (drop n bytes) (0 ∷ []) && is_text kind (take n bytes) then Some (Content.text (take n bytes)) else None
+text_at kind bytes = option_and_then (text_if kind) (before_zero (length bytes - 1) bytes)
 
 abbrev pub content_at : Form → List ℕ → Option Content
 content_at Form.truth bytes = truth_at bytes
@@ -56,22 +60,23 @@ read_each one no_shapes [] = Some no_trees
 read_each one (shape t ts) (child ∷ children) = option_and_then (λ v. option_map (tree v) (read_each one ts children)) (one t child)
 read_each one _ _ = None
 
+abbrev pub just_at : Reader → Option ℕ → Reader
+just_at one (Some size) bytes = one bytes
+just_at one None bytes = option_and_then one (before_zero (length bytes - 1) bytes)
+
 abbrev pub maybe_at : Reader → Option ℕ → Reader
 maybe_at one size [] = Some Tree.nothing
-maybe_at one (Some size) (b ∷ bytes) = option_map Tree.just (one (b ∷ bytes))
-maybe_at one None (b ∷ bytes) = just_before (length bytes)
-  where
-    just_before : ℕ → Option Tree
-    just_before n = if bytes_eq (drop n (b ∷ bytes)) (0 ∷ []) then option_map Tree.just (one (take n (b ∷ bytes))) else None
+maybe_at one size (b ∷ bytes) = option_map Tree.just (just_at one size (b ∷ bytes))
+
+-- where a byte stands before bytes that part, or before others
+abbrev pub parted_behind : ℕ → List ℕ → Option (List ℕ × List ℕ) → Option (List ℕ × List ℕ)
+parted_behind b bytes (Some p) = Some (b ∷ p.0, p.1)
+parted_behind b bytes None = if b == 0 then Some ([], bytes) else None
 
 -- the bytes before the last zero byte, and those behind it
 abbrev pub parted : List ℕ → Option (List ℕ × List ℕ)
 parted [] = None
-parted (b ∷ bytes) = later (parted bytes)
-  where
-    later : Option (List ℕ × List ℕ) → Option (List ℕ × List ℕ)
-    later (Some p) = Some (b ∷ p.0, p.1)
-    later None = if b == 0 then Some ([], bytes) else None
+parted (b ∷ bytes) = parted_behind b bytes (parted bytes)
 
 abbrev pub variant_at : (Shape → Reader) → Reader
 variant_at one bytes =
