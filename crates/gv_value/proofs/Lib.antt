@@ -8,3 +8,4 @@ mod Rows
 pub mod Seen
 pub mod Tuples
 pub mod TypeLaws
+pub mod Unique
