@@ -3,6 +3,7 @@ pub mod Contents
 pub mod Cutting
 pub mod Laws
 pub mod Lists
+pub mod Members
 pub mod Numbers
 mod Rows
 pub mod Seen

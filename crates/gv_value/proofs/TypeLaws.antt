@@ -64,7 +64,7 @@ sign_takes (letter ∷ others) s rest e =
 -- ---- what is spelled is read again
 
 -- a type begins with a sign that is no closing bracket
-abbrev opens : Sign → Bool
+abbrev pub opens : Sign → Bool
 opens signs.TupleClose = false
 opens _ = true
 
@@ -105,7 +105,7 @@ members_at-type one n t rest e =
     ∙ members_from-open one (members_at one n) text b.sign (b.rest ++ rest) b.open_sign
     ∙ ap (option_and_then (λ p. type_map (shape p.0) (members_at one n p.1))) e
 
-length-type : (t : Shape) → 0 < length (type_text t)
+pub length-type : (t : Shape) → 0 < length (type_text t)
 length-type t = let b = type_begins t in omega (arith, ap length b.is)
 
 module _ (one : TypeReader) (n : ℕ) (again : (t : Shape) (rest : List ℕ) → nests_within n t ≡ true → one (type_text t ++ rest) ≡ Some (t, rest)) where

@@ -3,6 +3,7 @@ pub mod Bytes
 pub mod Framing
 pub mod Layout
 pub mod Reading
+pub mod Reads
 pub mod Shape
 pub mod Signs
 pub mod Spelled

@@ -46,6 +46,10 @@ entry_from one (signs.Basic b) rest =
     option_and_then (λ v. option_and_then (λ p. entry_closed (entry (basic b) v.0) p.0 p.1) (sign_at v.1)) (one rest)
 entry_from one _ rest = None
 
+-- the same with the key's sign at the front
+abbrev pub entry_at : TypeReader → List ℕ → Option (Shape × List ℕ)
+entry_at one text = option_and_then (λ p. entry_from one p.0 p.1) (sign_at text)
+
 -- a type that begins with a sign, where types may nest
 abbrev pub type_from : TypeReader → Sign → List ℕ → Option (Shape × List ℕ)
 type_from one (signs.Basic b) rest = Some (basic b, rest)
@@ -54,7 +58,7 @@ type_from one signs.Array rest = type_map array (one rest)
 type_from one signs.Maybe rest = type_map maybe (one rest)
 type_from one signs.TupleOpen rest = type_map tuple (members_at one (length rest) rest)
 type_from one signs.TupleClose rest = None
-type_from one signs.EntryOpen rest = option_and_then (λ p. entry_from one p.0 p.1) (sign_at rest)
+type_from one signs.EntryOpen rest = entry_at one rest
 type_from one signs.EntryClose rest = None
 
 -- a type that nests 0

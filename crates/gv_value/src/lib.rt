@@ -3,6 +3,8 @@
 
 mod basic;
 mod blob;
+mod error;
+mod parsing;
 mod sign;
 mod text;
 mod types;
@@ -10,7 +12,8 @@ mod value;
 
 pub use basic::Basic;
 pub use blob::Blob;
+pub use error::TypeError;
 pub use sign::Sign;
 pub use text::Text;
-pub use types::GvType;
+pub use types::{GvType, MAX_DEPTH};
 pub use value::GvValue;
