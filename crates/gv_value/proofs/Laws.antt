@@ -82,7 +82,7 @@ width_len_pos w32 = omega arith
 width_len_pos w64 = omega arith
 width_len_pos w128 = omega arith
 
-form_size-pos : (f : Form) (s : ℕ) → form_size f ≡ Some s → 0 < s
+pub form_size-pos : (f : Form) (s : ℕ) → form_size f ≡ Some s → 0 < s
 form_size-pos Form.truth s e = omega (arith, same_Some 1 s e)
 form_size-pos (Form.unsigned w) s e = omega (arith, same_Some (byte_len w) s e, width_len_pos w)
 form_size-pos (Form.signed w) s e = omega (arith, same_Some (byte_len w) s e, width_len_pos w)

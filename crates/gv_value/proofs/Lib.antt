@@ -1,9 +1,11 @@
 pub mod Arrays
 pub mod Contents
 pub mod Cutting
+pub mod Extents
 pub mod Laws
 pub mod Lists
 pub mod Members
+pub mod Nodes
 pub mod Numbers
 mod Rows
 pub mod Seen

@@ -1,6 +1,8 @@
 pub mod Basics
 pub mod Bytes
+pub mod Capped
 pub mod Framing
+pub mod Kinds
 pub mod Layout
 pub mod Reading
 pub mod Reads
