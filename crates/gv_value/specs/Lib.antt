@@ -4,6 +4,7 @@ pub mod Capped
 pub mod Framing
 pub mod Kinds
 pub mod Layout
+pub mod Parts
 pub mod Reading
 pub mod Reads
 pub mod Shape
