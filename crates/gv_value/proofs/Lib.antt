@@ -10,6 +10,7 @@ pub mod Nodes
 pub mod Numbers
 mod Rows
 pub mod Seen
+pub mod SignatureSteps
 pub mod Tuples
 pub mod TypeLaws
 pub mod Unique

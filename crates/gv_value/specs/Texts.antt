@@ -25,8 +25,7 @@ are_elements begun (c ∷ cs) = if c == 47 then begun && are_elements false cs e
 -- `/` alone, or a slash and elements
 abbrev pub is_object_path : List ℕ → Bool
 is_object_path [] = false
-is_object_path (c ∷ []) = c == 47
-is_object_path (c ∷ d ∷ cs) = c == 47 && are_elements false (d ∷ cs)
+is_object_path (c ∷ cs) = c == 47 && (length cs == 0 || are_elements false cs)
 
 -- ---- signatures
 

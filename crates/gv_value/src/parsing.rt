@@ -27,12 +27,9 @@ impl GvType {
 fn read_sign(text: &[u8]) -> Result<(Sign, &[u8]), TypeError>
     ensures { Reads (λ x. (x.0, x.1.now)) result (sign_at text.now) }
 {
-    match text {
-        [] => Err(TypeError::Bad),
-        [letter, rest @ ..] => match Sign::of(*letter) {
-            Some(sign) => Ok((sign, rest)),
-            None => Err(TypeError::Bad),
-        },
+    match Sign::at_front(text) {
+        Some(found) => Ok(found),
+        None => Err(TypeError::Bad),
     }
 }
 

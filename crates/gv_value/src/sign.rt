@@ -1,5 +1,5 @@
-ghost use Rattle.std.specs.Prelude.{◌≡◌};
-ghost use Rattle.gv_value.specs.Signs.{sign_of};
+ghost use Rattle.std.specs.Prelude.{◌≡◌, option_map};
+ghost use Rattle.gv_value.specs.Signs.{sign_of, sign_at};
 
 use crate::basic::Basic;
 
@@ -45,5 +45,14 @@ impl Sign {
             _ => return None,
         };
         Some(Sign::Basic(basic))
+    }
+
+    /// The sign at the front of a type string, and what stands behind it.
+    pub fn at_front(text: &[u8]) -> Option<(Sign, &[u8])>
+        ensures { option_map (λ p. (p.0, p.1.now)) result ≡ sign_at text.now }
+    {
+        let (letter, rest) = text.split_first()?;
+        let sign = Sign::of(*letter)?;
+        Some((sign, rest))
     }
 }
