@@ -163,7 +163,7 @@ fits_half n h limit e lt = omega arith
 from_half : (n h limit : ℕ) → h + h ≡ limit → n + n < limit → n < h
 from_half n h limit e lt = omega arith
 
-fits_signed-from : (w : Width) (z : ℤ) → SFits w z → fits_signed w z ≡ true
+pub fits_signed-from : (w : Width) (z : ℤ) → SFits w z → fits_signed w z ≡ true
 fits_signed-from w (pos n) h = lt-ltb (n + n) (256 ^ byte_len w) (fits_half n (2 ^ hbits w) (256 ^ byte_len w) (half w) h.sfits)
 fits_signed-from w (negsuc n) h = lt-ltb (n + n) (256 ^ byte_len w) (fits_half n (2 ^ hbits w) (256 ^ byte_len w) (half w) h.sfits)
 

@@ -2,6 +2,7 @@ pub mod Arrays
 pub mod Contents
 pub mod Cutting
 pub mod Extents
+pub mod FitSteps
 pub mod Known
 pub mod Laws
 pub mod Lists
