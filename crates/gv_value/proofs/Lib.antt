@@ -1,6 +1,8 @@
 pub mod Arrays
 pub mod Contents
 pub mod Cutting
+pub mod Depths
+pub mod Exact
 pub mod Extents
 pub mod FitSteps
 pub mod Known

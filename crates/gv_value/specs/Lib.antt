@@ -1,6 +1,7 @@
 pub mod Basics
 pub mod Bytes
 pub mod Capped
+pub mod Exact
 pub mod Framing
 pub mod Kinds
 pub mod Layout
