@@ -11,6 +11,7 @@ pub mod Lists
 pub mod Members
 pub mod Nodes
 pub mod Numbers
+pub mod Planned
 mod Rows
 pub mod Seen
 pub mod SignatureSteps

@@ -6,6 +6,7 @@ pub mod Framing
 pub mod Kinds
 pub mod Layout
 pub mod Parts
+pub mod Plans
 pub mod Reading
 pub mod Reads
 pub mod Shape
