@@ -3,9 +3,10 @@ use Rattle.std.proofs.Common.{◌≡◌, ℕ, zero, suc, ◌+◌, ◌<◌, Bool,
 use Rattle.std.proofs.lemmas.Bool.{and_parts, and_from, eq-eqb, eqb-true}
 use Rattle.std.proofs.lemmas.List.{map-append, take_more, drop_more}
 use Rattle.gv_value.specs.Shape.{Shape, Shapes, no_shapes, shape}
-use Rattle.gv_value.specs.Layout.{align_of, size_of}
-use Rattle.gv_value.specs.Capped.{capped_size, IsExtent}
-use Rattle.gv_value.specs.Plans.{Seen, seen, seen_step, seen_shapes, all_good, seen_entry, plan_shape, is_plan, plan_shapes, are_plans, same_size, extent_is, IsPlanOf, ArePlansOf}
+use Rattle.gv_value.specs.Layout.{align_of, size_of, greatest_align, end_of}
+use Rattle.gv_value.specs.Spelled.{two_shapes}
+use Rattle.gv_value.specs.Capped.{capped_size, IsExtent, IsRun}
+use Rattle.gv_value.specs.Plans.{Seen, seen, seen_step, seen_shapes, all_good, seen_entry, plan_shape, is_plan, plan_shapes, are_plans, same_size, extent_is, run_is, IsPlanOf, ArePlansOf}
 use Rattle.gv_value.specs.declared.extent.Extent.{Extent}
 use Rattle.gv_value.specs.declared.plan.Plan.{Plan, Plan-F, fold-roll-Plan}
 use Rattle.gv_value.specs.declared.plan.Plan.TheVariants as plans
@@ -37,23 +38,32 @@ extent-from e t h =
     let p = and_parts _ _ h in
     record { align = eqb-true e.align (align_of t) p.0; size = same_size-to e.size (capped_size (size_of t)) p.1 }
 
-pub seen-Tuple : (e : Extent) (ps : Vec Plan Global) → seen (plans.Tuple e ps) ≡ record { shape = Shape.tuple (plan_shapes ps.items); good = are_plans ps.items && extent_is e (Shape.tuple (plan_shapes ps.items)) }
+pub run-is : (e : Extent) (ts : Shapes) → IsRun e (greatest_align ts) (end_of 0 ts) → run_is e ts ≡ true
+run-is e ts is = and_from _ _ (eq-eqb e.align (greatest_align ts) is.align_is) (same_size-from e.size (capped_size (end_of 0 ts)) is.end_is)
+
+pub run-from-is : (e : Extent) (ts : Shapes) → run_is e ts ≡ true → IsRun e (greatest_align ts) (end_of 0 ts)
+run-from-is e ts h =
+    let p = and_parts _ _ h in
+    record { align_is = eqb-true e.align (greatest_align ts) p.0; end_is = same_size-to e.size (capped_size (end_of 0 ts)) p.1 }
+
+pub seen-Tuple : (e : Extent) (ps : Vec Plan Global) → seen (plans.Tuple e ps) ≡ record { shape = Shape.tuple (plan_shapes ps.items); good = are_plans ps.items && run_is e (plan_shapes ps.items) }
 seen-Tuple e ps = ap seen (sym (plans.rolls-Tuple e ps)) ∙ fold-roll-Plan Seen seen_step (Plan-F.Tuple e ps)
 
 pub seen-Entry : (e : Extent) (ps : Vec Plan Global) → seen (plans.Entry e ps) ≡ seen_entry e (map seen ps.items)
 seen-Entry e ps = ap seen (sym (plans.rolls-Entry e ps)) ∙ fold-roll-Plan Seen seen_step (Plan-F.Entry e ps)
 
-pub tuple-plan : (e : Extent) (ps : Vec Plan Global) (ts : Shapes) → ArePlansOf ps.items ts → IsExtent e (Shape.tuple (plan_shapes ps.items)) → IsPlanOf (plans.Tuple e ps) (Shape.tuple ts)
+pub tuple-plan : (e : Extent) (ps : Vec Plan Global) (ts : Shapes) → ArePlansOf ps.items ts → IsRun e (greatest_align (plan_shapes ps.items)) (end_of 0 (plan_shapes ps.items)) → IsPlanOf (plans.Tuple e ps) (Shape.tuple ts)
 tuple-plan e ps ts are is =
-    record { type = ap (λ (s : Seen). s.shape) (seen-Tuple e ps) ∙ ap Shape.tuple are.types; good = ap (λ (s : Seen). s.good) (seen-Tuple e ps) ∙ and_from _ _ are.good (extent-is e (Shape.tuple (plan_shapes ps.items)) is) }
+    record { type = ap (λ (s : Seen). s.shape) (seen-Tuple e ps) ∙ ap Shape.tuple are.types; good = ap (λ (s : Seen). s.good) (seen-Tuple e ps) ∙ and_from _ _ are.good (run-is e (plan_shapes ps.items) is) }
 
-pub entry-plan : (e : Extent) (ps : Vec Plan Global) (k v : Plan) (tk tv : Shape) → ps.items ≡ k ∷ v ∷ [] → IsPlanOf k tk → IsPlanOf v tv → IsExtent e (Shape.tuple (plan_shapes ps.items)) → IsPlanOf (plans.Entry e ps) (Shape.entry tk tv)
+pub entry-plan : (e : Extent) (ps : Vec Plan Global) (k v : Plan) (tk tv : Shape) → ps.items ≡ k ∷ v ∷ [] → IsPlanOf k tk → IsPlanOf v tv → IsRun e (greatest_align (plan_shapes ps.items)) (end_of 0 (plan_shapes ps.items)) → IsPlanOf (plans.Entry e ps) (Shape.entry tk tv)
 entry-plan e ps k v tk tv items is_k is_v is =
     let both = ap (λ (xs : List Plan). seen_entry e (map seen xs)) items in
-    let extent : IsExtent e (Shape.entry (plan_shape k) (plan_shape v)) = let two = subst (λ (xs : List Plan). IsExtent e (Shape.tuple (plan_shapes xs))) items is in record { align = two.align; size = two.size } in
+    let ts = two_shapes (plan_shape k) (plan_shape v) in
+    let run = subst (λ (xs : List Plan). IsRun e (greatest_align (plan_shapes xs)) (end_of 0 (plan_shapes xs))) items is in
     record {
       type = ap (λ (s : Seen). s.shape) (seen-Entry e ps ∙ both) ∙ ap₂ Shape.entry is_k.type is_v.type;
-      good = ap (λ (s : Seen). s.good) (seen-Entry e ps ∙ both) ∙ and_from _ _ (and_from _ _ is_k.good is_v.good) (extent-is e (Shape.entry (plan_shape k) (plan_shape v)) extent);
+      good = ap (λ (s : Seen). s.good) (seen-Entry e ps ∙ both) ∙ and_from _ _ (and_from _ _ is_k.good is_v.good) (run-is e ts run);
     }
 
 -- ---- one plan more

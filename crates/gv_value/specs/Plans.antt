@@ -4,8 +4,9 @@ use Rattle.gv_value.specs.declared.extent.Extent.{Extent}
 use Rattle.gv_value.specs.declared.plan.Plan.{Plan, fold-Plan}
 use Rattle.gv_value.specs.declared.plan.Plan.TheOpen.{Plan-F}
 use Rattle.gv_value.specs.Shape.{Shape, Shapes, no_shapes, shape}
-use Rattle.gv_value.specs.Layout.{align_of, size_of}
+use Rattle.gv_value.specs.Layout.{align_of, size_of, greatest_align, end_of}
 use Rattle.gv_value.specs.Capped.{capped_size}
+use Rattle.gv_value.specs.Spelled.{two_shapes}
 
 abbrev pub same_size : Option ℕ → Option ℕ → Bool
 same_size None None = true
@@ -15,6 +16,10 @@ same_size _ _ = false
 -- it is the extent of the type
 abbrev pub extent_is : Extent → Shape → Bool
 extent_is e t = e.align == align_of t && same_size e.size (capped_size (size_of t))
+
+-- it is the extent of these members, one behind the other
+abbrev pub run_is : Extent → Shapes → Bool
+run_is e ts = e.align == greatest_align ts && same_size e.size (capped_size (end_of 0 ts))
 
 -- a plan's type, and whether each extent in the plan is right
 pub record Seen : Type 0 where
@@ -30,7 +35,7 @@ all_good [] = true
 all_good (s ∷ ss) = s.good && all_good ss
 
 abbrev pub seen_entry : Extent → List Seen → Seen
-seen_entry e (k ∷ v ∷ []) = record { shape = Shape.entry k.shape v.shape; good = k.good && v.good && extent_is e (Shape.entry k.shape v.shape) }
+seen_entry e (k ∷ v ∷ []) = record { shape = Shape.entry k.shape v.shape; good = k.good && v.good && run_is e (two_shapes k.shape v.shape) }
 seen_entry e _ = record { shape = Shape.variant; good = false }
 
 -- one level, with what is seen of each plan inside in its place
@@ -40,7 +45,7 @@ seen_step Plan-F.Variant = record { shape = Shape.variant; good = true }
 seen_step (Plan-F.Array e t) = record { shape = Shape.array t.value.shape; good = t.value.good && extent_is e (Shape.array t.value.shape) }
 seen_step (Plan-F.Maybe e t) = record { shape = Shape.maybe t.value.shape; good = t.value.good && extent_is e (Shape.maybe t.value.shape) }
 seen_step (Plan-F.Tuple e ts) =
-    record { shape = Shape.tuple (seen_shapes ts.items); good = all_good ts.items && extent_is e (Shape.tuple (seen_shapes ts.items)) }
+    record { shape = Shape.tuple (seen_shapes ts.items); good = all_good ts.items && run_is e (seen_shapes ts.items) }
 seen_step (Plan-F.Entry e ts) = seen_entry e ts.items
 
 abbrev pub seen : Plan → Seen

@@ -9,6 +9,7 @@ pub enum Plan {
     Variant,
     Array(Extent, Box<Plan>),
     Maybe(Extent, Box<Plan>),
+    /// With the extent of the members, one behind the other.
     Tuple(Extent, Vec<Plan>),
     /// Of a dictionary entry: the key and the value, as two members.
     Entry(Extent, Vec<Plan>),

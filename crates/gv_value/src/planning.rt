@@ -21,8 +21,8 @@ impl Plan {
             Plan::Variant => Extent::variant(),
             Plan::Array(extent, _) => *extent,
             Plan::Maybe(extent, _) => *extent,
-            Plan::Tuple(extent, _) => *extent,
-            Plan::Entry(extent, _) => *extent,
+            Plan::Tuple(run, _) => run.filled(),
+            Plan::Entry(run, _) => run.filled(),
         }
     }
 }
@@ -59,13 +59,13 @@ pub fn plan_of(alloc: Global, of: &GvType) -> Result<Plan, AllocError>
         }
         Kind::Tuple(members) => {
             let plans = plans_of(alloc, members)?;
-            Ok(Plan::Tuple(extent_of_plans(&plans).filled(), plans))
+            Ok(Plan::Tuple(extent_of_plans(&plans), plans))
         }
         Kind::Entry(key, value) => {
             let mut plans = Vec::with_capacity(alloc, 2)?;
             plans.push(plan_of(alloc, key)?)?;
             plans.push(plan_of(alloc, value)?)?;
-            Ok(Plan::Entry(extent_of_plans(&plans).filled(), plans))
+            Ok(Plan::Entry(extent_of_plans(&plans), plans))
         }
     }
 }

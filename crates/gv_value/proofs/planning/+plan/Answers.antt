@@ -1,6 +1,7 @@
 use Rattle.std.proofs.Common.{◌≡◌, ◌+◌, ◌<◌, List, [], ◌∷◌, ◌++◌, take, sym, ap, ap₂, ◌∙◌, subst, arith, rules}
 use Rattle.std.proofs.lemmas.List.{take_more}
-use Rattle.gv_value.specs.Capped.{IsExtent}
+use Rattle.gv_value.specs.Capped.{IsRun}
+use Rattle.gv_value.specs.Layout.{greatest_align, end_of}
 use Rattle.gv_value.specs.Plans.{plan_shapes, ArePlansOf, IsPlanOf}
 use Rattle.gv_value.specs.Shape.{Shape}
 use Rattle.gv_value.specs.Views.{shape_of, shapes_of}
@@ -15,24 +16,22 @@ pub plan_of-returns-in_ok-plans-in-Tuple : goal.plan_of-returns-in_ok-plans-in-T
 plan_of-returns-in_ok-plans-in-Tuple t c =
     let ps = c.in_ok-plans-in-Tuple.plans in
     let are : ArePlansOf ps.items (shapes_of c.in-Tuple.members.now) = search rules in
-    let e = c.filled.result in
-    let extent : IsExtent e (Shape.tuple (plan_shapes ps.items)) =
-        subst (λ (xs : List Plan). IsExtent e (Shape.tuple (plan_shapes xs))) c.deref.ensures.value
-        (filled-from c.extent_of_plans.result e (plan_shapes c.deref.result.now) c.extent_of_plans.ensures c.filled.ensures.align c.filled.ensures.size) in
+    let e = c.extent_of_plans.result in
+    let extent : IsRun e (greatest_align (plan_shapes ps.items)) (end_of 0 (plan_shapes ps.items)) =
+        subst (λ (xs : List Plan). IsRun e (greatest_align (plan_shapes xs)) (end_of 0 (plan_shapes xs))) c.deref.ensures.value c.extent_of_plans.ensures in
     subst (IsPlanOf _) c.in-Tuple.ensures (tuple-plan e ps (shapes_of c.in-Tuple.members.now) are extent)
 
 pub plan_of-returns-in_ok-push-in-Entry-2 : goal.plan_of-returns-in_ok-push-in-Entry-2
 plan_of-returns-in_ok-push-in-Entry-2 t c =
     let ps = c.push-in-Entry.new.self in
-    let e = c.filled-in-Entry.result in
+    let e = c.extent_of_plans-in-Entry.result in
     let k = c.in_ok-plan_of-in-Entry.field-0 in
     let v = c.in_ok-plan_of-in-Entry-2.field-0 in
     let items : ps.items ≡ k ∷ v ∷ [] = search rules in
     let is_k : IsPlanOf k (shape_of c.in-Entry.key.now) = search rules in
     let is_v : IsPlanOf v (shape_of c.in-Entry.value.now) = search rules in
-    let extent : IsExtent e (Shape.tuple (plan_shapes ps.items)) =
-        subst (λ (xs : List Plan). IsExtent e (Shape.tuple (plan_shapes xs))) c.deref-in-Entry.ensures.value
-        (filled-from c.extent_of_plans-in-Entry.result e (plan_shapes c.deref-in-Entry.result.now) c.extent_of_plans-in-Entry.ensures c.filled-in-Entry.ensures.align c.filled-in-Entry.ensures.size) in
+    let extent : IsRun e (greatest_align (plan_shapes ps.items)) (end_of 0 (plan_shapes ps.items)) =
+        subst (λ (xs : List Plan). IsRun e (greatest_align (plan_shapes xs)) (end_of 0 (plan_shapes xs))) c.deref-in-Entry.ensures.value c.extent_of_plans-in-Entry.ensures in
     subst (IsPlanOf _) c.in-Entry.ensures (entry-plan e ps k v (shape_of c.in-Entry.key.now) (shape_of c.in-Entry.value.now) items is_k is_v extent)
 
 pub plans_of-plan_of-requires : goal.plans_of-plan_of-requires
