@@ -74,7 +74,7 @@ elements-ascii begun (c ∷ cs) e = by (λ flag. elements-ascii flag cs) (eqb c 
 path-ascii : (text : List ℕ) → is_object_path text ≡ true → AllBelow 128 text
 path-ascii [] e = tt
 path-ascii (c ∷ cs) e =
-    let p = and_parts _ _ e in
+    let p = and_parts (eqb c 47) _ e in
     (omega (arith, eqb-true c 47 p.0), or_parts _ _ p.1 (none cs) (elements-ascii false cs))
   where
     none : (xs : List ℕ) → eqb (length xs) 0 ≡ true → AllBelow 128 xs
