@@ -1,13 +1,13 @@
 -- What steps that spare the fixed paths leave.
-use Rattle.std.proofs.Common.{◌≡◌, ◌⊎◌, inl, inr, refl, sym, ◌∙◌, ap, subst, Option, Some}
+use Rattle.std.proofs.Common.{◌≡◌, ◌⊎◌, inl, inr, refl, sym, ◌∙◌, ap, subst}
 use Rattle.fp_host.specs.Paths.{Elements}
 use Rattle.fp_host.specs.View.{View}
 use Rattle.fp_host.specs.Outcome.{Spot, Disk, Leaves, Follows, Nothing, gone, shows}
 use Rattle.fp_small.specs.declared.state.State.{State}
 use Rattle.dep_states.specs.Names.{config}
-use Rattle.dep_states.specs.Shown.{Shows, IsShown, settings_at, settings_of, state_of, empty_settings}
+use Rattle.dep_states.specs.Shown.{Shows, settings_at, settings_of, state_of, empty_settings}
 use Rattle.dep_states.specs.Zones.{Allowed}
-use Rattle.dep_states.specs.Sound.{Sound, Opens, IsSound, Fixed, is_config, Spares}
+use Rattle.dep_states.specs.Sound.{Sound, Opens, IsSound, is_config, Spares}
 
 pub one_state : (disk : Disk) (s t : State) → Shows disk s → Shows disk t → s ≡ t
 one_state disk s t one two =

@@ -1,0 +1,4 @@
+pub mod Bounds
+pub mod Basics
+pub mod Runs
+pub mod Tables

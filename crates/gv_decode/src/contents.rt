@@ -1,0 +1,121 @@
+ghost use Rattle.std.specs.Prelude.{◌≡◌, ◌≤◌, ◌<◌, ◌^◌, ◌-◌, length, if◌then◌else◌, Some, None, IfOk, option_map};
+ghost use Rattle.std.specs.Str.{is_utf8};
+ghost use Rattle.gv_value.specs.Basics.{string, object_path, signature, form_of};
+ghost use Rattle.gv_value.specs.Reading.{truth_at, number_at, eight_at, before_zero as before_zero_byte, text_at, content_at};
+ghost use Rattle.gv_value.specs.Tree.{leaf, truth, eight, text as text_content};
+ghost use Rattle.gv_value.specs.Views.{plain};
+ghost use Rattle.gv_decode.specs.Decoded.{Gives};
+
+use crate::error::DecodeError;
+use crate::numbers::number;
+use gv_value::{has_zero, is_object_path, is_signature, Basic, GvValue, Text};
+use std::alloc::Global;
+
+/// The number that so many bytes are.
+fn number_of(bytes: &[u8], size: usize) -> Result<u64, DecodeError>
+    requires { size ≤ 8 }
+    ensures value { Gives (λ n. n) result (number_at size bytes.now) }
+    ensures below { IfOk result (λ n. n < 256 ^ size) }
+{
+    if bytes.len() != size {
+        return Err(DecodeError::NotNormal);
+    }
+    Ok(number(bytes))
+}
+
+/// The bytes before a zero byte, which is the last one.
+pub fn before_zero(bytes: &[u8]) -> Result<&[u8], DecodeError>
+    ensures { Gives (λ text. text.now) result (before_zero_byte (length bytes.now - 1) bytes.now) }
+{
+    match bytes.split_last() {
+        Some((last, text)) => {
+            if *last == 0 {
+                Ok(text)
+            } else {
+                Err(DecodeError::NotNormal)
+            }
+        }
+        None => Err(DecodeError::NotNormal),
+    }
+}
+
+/// A text of its own from UTF-8.
+fn kept(alloc: Global, text: &[u8]) -> Result<Text, DecodeError>
+    ensures { Gives (λ kept. kept) result (if is_utf8 text.now then Some text.now else None) }
+{
+    match std::str::from_utf8(text) {
+        Ok(text) => Ok(Text::from_string(String::from_str(alloc, text)?)),
+        Err(_) => Err(DecodeError::NotNormal),
+    }
+}
+
+fn string_of(alloc: Global, bytes: &[u8]) -> Result<Text, DecodeError>
+    ensures { Gives text_content result (text_at string bytes.now) }
+{
+    let text = before_zero(bytes)?;
+    if has_zero(text) {
+        return Err(DecodeError::NotNormal);
+    }
+    kept(alloc, text)
+}
+
+fn object_path_of(alloc: Global, bytes: &[u8]) -> Result<Text, DecodeError>
+    ensures { Gives text_content result (text_at object_path bytes.now) }
+{
+    let text = before_zero(bytes)?;
+    if !is_object_path(text) {
+        return Err(DecodeError::NotNormal);
+    }
+    kept(alloc, text)
+}
+
+fn signature_of(alloc: Global, bytes: &[u8]) -> Result<Text, DecodeError>
+    ensures { Gives text_content result (text_at signature bytes.now) }
+{
+    let text = before_zero(bytes)?;
+    if !is_signature(text) {
+        return Err(DecodeError::NotNormal);
+    }
+    kept(alloc, text)
+}
+
+fn truth_of(bytes: &[u8]) -> Result<bool, DecodeError>
+    ensures { Gives truth result (truth_at bytes.now) }
+{
+    match bytes {
+        [0] => Ok(false),
+        [1] => Ok(true),
+        _ => Err(DecodeError::NotNormal),
+    }
+}
+
+/// The eight bytes of a double.
+fn double_of(bytes: &[u8]) -> Result<[u8; 8], DecodeError>
+    ensures { Gives eight result (eight_at bytes.now) }
+{
+    match bytes {
+        [a, b, c, d, e, f, g, h] => Ok([*a, *b, *c, *d, *e, *f, *g, *h]),
+        _ => Err(DecodeError::NotNormal),
+    }
+}
+
+/// The value of a basic type that bytes are.
+pub fn read_basic(alloc: Global, of: Basic, bytes: &[u8]) -> Result<GvValue, DecodeError>
+    ensures { Gives plain result (option_map (leaf of) (content_at (form_of of) bytes.now)) }
+{
+    match of {
+        Basic::Bool => Ok(GvValue::Bool(truth_of(bytes)?)),
+        Basic::Byte => Ok(GvValue::Byte(number_of(bytes, 1)? as u8)),
+        Basic::Int16 => Ok(GvValue::Int16((number_of(bytes, 2)? as u16).cast_signed())),
+        Basic::Uint16 => Ok(GvValue::Uint16(number_of(bytes, 2)? as u16)),
+        Basic::Int32 => Ok(GvValue::Int32((number_of(bytes, 4)? as u32).cast_signed())),
+        Basic::Uint32 => Ok(GvValue::Uint32(number_of(bytes, 4)? as u32)),
+        Basic::Int64 => Ok(GvValue::Int64(number_of(bytes, 8)?.cast_signed())),
+        Basic::Uint64 => Ok(GvValue::Uint64(number_of(bytes, 8)?)),
+        Basic::Handle => Ok(GvValue::Handle((number_of(bytes, 4)? as u32).cast_signed())),
+        Basic::Double => Ok(GvValue::Double(double_of(bytes)?)),
+        Basic::Str => Ok(GvValue::Str(string_of(alloc, bytes)?)),
+        Basic::ObjectPath => Ok(GvValue::ObjectPath(object_path_of(alloc, bytes)?)),
+        Basic::Signature => Ok(GvValue::Signature(signature_of(alloc, bytes)?)),
+    }
+}

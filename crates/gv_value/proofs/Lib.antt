@@ -1,0 +1,20 @@
+pub mod Arrays
+pub mod Contents
+pub mod Cutting
+pub mod Depths
+pub mod Exact
+pub mod Extents
+pub mod FitSteps
+pub mod Known
+pub mod Laws
+pub mod Lists
+pub mod Members
+pub mod Nodes
+pub mod Numbers
+pub mod Planned
+mod Rows
+pub mod Seen
+pub mod SignatureSteps
+pub mod Tuples
+pub mod TypeLaws
+pub mod Unique

@@ -1,0 +1,36 @@
+-- Sizes that count as one from 16 MiB on, so that they fit in a number of the code.
+use Rattle.std.specs.Prelude.{◌≡◌, ℕ, ◌+◌, ◌≤◌, min, max, nat_le, if◌then◌else◌, Option, Some, None, option_map, option_and_then}
+use Rattle.gv_value.specs.Shape.{Shape, basic, variant, array, maybe, tuple, entry, Shapes, no_shapes, shape}
+use Rattle.gv_value.specs.Layout.{end_behind, filled, align_of, greatest_align, size_of, end_of}
+use Rattle.gv_value.specs.Spelled.{max_bytes}
+use Rattle.gv_value.specs.declared.extent.Extent.{Extent}
+
+abbrev pub too_large : ℕ
+too_large = 16777217
+
+abbrev pub capped : ℕ → ℕ
+capped n = min n too_large
+
+abbrev pub capped_size : Option ℕ → Option ℕ
+capped_size size = option_map capped size
+
+-- the extent of a type
+pub record IsExtent (e : Extent) (t : Shape) : Type 0 where
+  pub align : e.align ≡ align_of t
+  pub size : e.size ≡ capped_size (size_of t)
+
+-- where one more member ends, behind members that end at a place
+abbrev pub run_end : Option ℕ → ℕ → Option ℕ → Option ℕ
+run_end at align size = option_and_then (λ a. option_map (λ n. capped (end_behind a align n)) size) at
+
+-- members so far: their greatest alignment, and where they end
+pub record IsRun (e : Extent) (align : ℕ) (end : Option ℕ) : Type 0 where
+  pub align_is : e.align ≡ align
+  pub end_is : e.size ≡ capped_size end
+
+-- the size of a type, where it is fixed and at most 16 MiB
+abbrev pub if_small : ℕ → Option ℕ
+if_small n = if nat_le n max_bytes then Some n else None
+
+abbrev pub small_size : Shape → Option ℕ
+small_size t = option_and_then if_small (size_of t)

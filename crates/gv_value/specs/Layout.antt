@@ -1,0 +1,53 @@
+-- The alignment of each type, and its size where that is fixed (GVariant specification, "Alignment" and "Fixed-size").
+use Rattle.std.specs.Prelude.{ℕ, ◌+◌, ◌-◌, ◌%◌, max, Bool, Option, Some, None, option_map, option_and_then, unwrap_or}
+use Rattle.std.specs.Int.{byte_len}
+use Rattle.gv_value.specs.Basics.{Form, truth, unsigned, signed, double, text, form_of}
+use Rattle.gv_value.specs.Shape.{Shape, basic, variant, array, maybe, tuple, entry, Shapes, no_shapes, shape}
+
+-- how far a position is from the next multiple of an alignment
+abbrev pub padding : ℕ → ℕ → ℕ
+padding at align = (align - at % align) % align
+
+abbrev pub form_size : Form → Option ℕ
+form_size truth = Some 1
+form_size (unsigned w) = Some (byte_len w)
+form_size (signed w) = Some (byte_len w)
+form_size double = Some 8
+form_size (text k) = None
+
+abbrev mutual
+  pub align_of : Shape → ℕ
+  align_of (basic b) = unwrap_or (form_size (form_of b)) 1
+  align_of variant = 8
+  align_of (array t) = align_of t
+  align_of (maybe t) = align_of t
+  align_of (tuple ts) = greatest_align ts
+  align_of (entry k v) = max (align_of k) (max (align_of v) 1)
+
+  pub greatest_align : Shapes → ℕ
+  greatest_align no_shapes = 1
+  greatest_align (shape t ts) = max (align_of t) (greatest_align ts)
+
+-- where a child ends whose padding begins at a position
+abbrev pub end_behind : ℕ → ℕ → ℕ → ℕ
+end_behind at align size = at + padding at align + size
+
+-- the size of a tuple, by its alignment and by where its last member ends: a multiple of the alignment, and not 0
+abbrev pub filled : ℕ → ℕ → ℕ
+filled align end = max 1 (end + padding end align)
+
+abbrev mutual
+  pub size_of : Shape → Option ℕ
+  size_of (basic b) = form_size (form_of b)
+  size_of variant = None
+  size_of (array t) = None
+  size_of (maybe t) = None
+  size_of (tuple ts) = option_map (filled (greatest_align ts)) (end_of 0 ts)
+  -- as a tuple of two
+  size_of (entry k v) = option_map (filled (max (align_of k) (max (align_of v) 1)))
+      (option_and_then (λ m. option_and_then (λ n. Some (end_behind (end_behind 0 (align_of k) m) (align_of v) n)) (size_of v)) (size_of k))
+
+  -- where the last of members of fixed size ends, which begin behind a position
+  pub end_of : ℕ → Shapes → Option ℕ
+  end_of at no_shapes = Some at
+  end_of at (shape t ts) = option_and_then (λ n. end_of (end_behind at (align_of t) n) ts) (size_of t)

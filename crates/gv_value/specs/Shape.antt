@@ -1,0 +1,52 @@
+-- The types of GVariant, without where they lie in memory.
+use Rattle.std.specs.Prelude.{ℕ, zero, suc, Bool, true, false, ◌&&◌}
+use Rattle.gv_value.specs.declared.basic.Basic.{Basic}
+
+mutual
+  pub data Shape : Type 0 where
+    basic : Basic → Shape
+    variant : Shape
+    array : Shape → Shape
+    maybe : Shape → Shape
+    tuple : Shapes → Shape
+    -- a key and a value, as a dictionary has them
+    entry : Shape → Shape → Shape
+
+  pub data Shapes : Type 0 where
+    no_shapes : Shapes
+    shape : Shape → Shapes → Shapes
+
+abbrev pub is_basic : Shape → Bool
+is_basic (basic b) = true
+is_basic variant = false
+is_basic (array t) = false
+is_basic (maybe t) = false
+is_basic (tuple ts) = false
+is_basic (entry k v) = false
+
+-- each type of the list passes the test
+abbrev pub all_shapes : (Shape → Bool) → Shapes → Bool
+all_shapes test no_shapes = true
+all_shapes test (shape t ts) = test t && all_shapes test ts
+
+-- It is a type nested at most so deep: a basic type nests 0, and each other type is 1 deeper than what stands in it.
+-- A dictionary's key is basic.
+abbrev pub nests_within : ℕ → Shape → Bool
+nests_within n (basic b) = true
+nests_within zero variant = false
+nests_within zero (array t) = false
+nests_within zero (maybe t) = false
+nests_within zero (tuple ts) = false
+nests_within zero (entry k v) = false
+nests_within (suc n) variant = true
+nests_within (suc n) (array t) = nests_within n t
+nests_within (suc n) (maybe t) = nests_within n t
+nests_within (suc n) (tuple ts) = all_shapes (nests_within n) ts
+nests_within (suc n) (entry k v) = is_basic k && nests_within n v
+
+-- how deep types nest, and values
+abbrev pub max_depth : ℕ
+max_depth = 64
+
+abbrev pub is_type : Shape → Bool
+is_type = nests_within max_depth

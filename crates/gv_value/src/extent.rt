@@ -1,0 +1,115 @@
+ghost use Rattle.std.specs.Prelude.{◌≡◌, ◌+◌, ◌<◌, ◌≤◌, max};
+ghost use Rattle.std.specs.Option.{ForSome};
+
+use crate::basic::Basic;
+use crate::paddings::padding;
+
+/// The most bytes that a value may have, 16 MiB.
+pub const MAX_BYTES: u64 = 0x100_0000;
+
+/// The size that stands for every size above `MAX_BYTES`.
+pub const TOO_LARGE: u64 = 0x100_0001;
+
+/// The alignment of a type, and its size where that is fixed.
+#[derive(Clone, Copy, Debug)]
+pub struct Extent {
+    /// What the position of a value is a multiple of, in bytes: 1, 2, 4 or 8.
+    pub align: u64,
+    /// The size in bytes, at most `TOO_LARGE`, where all values of the type have one size.
+    pub size: Option<u64>,
+    ghost aligned: { (0 < align) × (align ≤ 8) },
+    ghost bounded: { ForSome size (λ n. n ≤ 16777217) },
+}
+
+impl Extent {
+    ghost use Rattle.gv_value.specs.Shape.{basic, variant};
+    ghost use Rattle.gv_value.specs.Layout.{filled};
+    ghost use Rattle.gv_value.specs.Capped.{capped, run_end, IsExtent};
+    ghost use Rattle.std.specs.Prelude.{option_map};
+
+    /// Of a variant, whose size its type does not say.
+    pub fn variant() -> Extent
+        ensures { IsExtent result variant }
+    {
+        Extent {
+            align: 8,
+            size: None,
+        }
+    }
+
+    /// Of a basic type.
+    pub fn of_basic(of: Basic) -> Extent
+        ensures { IsExtent result (basic of) }
+    {
+        let size = match of {
+            Basic::Bool | Basic::Byte => 1,
+            Basic::Int16 | Basic::Uint16 => 2,
+            Basic::Int32 | Basic::Uint32 | Basic::Handle => 4,
+            Basic::Int64 | Basic::Uint64 | Basic::Double => 8,
+            Basic::Str | Basic::ObjectPath | Basic::Signature => {
+                return Extent {
+                    align: 1,
+                    size: None,
+                };
+            }
+        };
+        Extent {
+            align: size,
+            size: Some(size),
+        }
+    }
+
+    /// Of a container of which only its child's alignment tells.
+    pub fn open(self) -> Extent
+        ensures align { result.align ≡ self.align }
+        ensures size { result.size ≡ None }
+    {
+        Extent {
+            align: self.align,
+            size: None,
+        }
+    }
+
+    /// Of no members: the size is where the last one ends.
+    pub fn no_members() -> Extent
+        ensures align { result.align ≡ 1 }
+        ensures end { result.size ≡ Some 0 }
+    {
+        Extent {
+            align: 1,
+            size: Some(0),
+        }
+    }
+
+    /// Of these members and one more.
+    pub fn with_member(self, member: Extent) -> Extent
+        ensures align { result.align ≡ max self.align member.align }
+        ensures end { result.size ≡ run_end self.size member.align member.size }
+    {
+        let size = match (self.size, member.size) {
+            (Some(at), Some(size)) => {
+                Some((at + padding(at, member.align) + size).min(TOO_LARGE))
+            }
+            _ => None,
+        };
+        Extent {
+            align: self.align.max(member.align),
+            size,
+        }
+    }
+
+    /// Of the tuple of these members.
+    pub fn filled(self) -> Extent
+        ensures align { result.align ≡ self.align }
+        ensures size { result.size ≡ option_map (λ end. capped (filled self.align end)) self.size }
+    {
+        let size = match self.size {
+            Some(end) => Some((end + padding(end, self.align)).max(1).min(TOO_LARGE)),
+            None => None,
+        };
+        Extent {
+            align: self.align,
+            size,
+        }
+    }
+}

@@ -1,0 +1,45 @@
+//! The types and values of GVariant, GLib's format of typed data.
+#![tactic(auto)]
+
+mod basic;
+mod blob;
+mod error;
+mod fitting;
+mod kind;
+mod law;
+mod measuring;
+mod nesting;
+mod paddings;
+mod extent;
+mod parsing;
+mod parts;
+mod plan;
+mod planning;
+mod sign;
+mod signatures;
+mod text;
+mod texts;
+mod type_strings;
+mod types;
+mod value;
+
+pub use basic::Basic;
+pub use blob::Blob;
+pub use error::TypeError;
+pub use fitting::fits;
+pub use kind::Kind;
+pub use law::one_spelling;
+pub use measuring::{align_of, extent_of, size_of};
+pub use nesting::is_type;
+pub use paddings::padding;
+pub use parts::{Content, Parts};
+pub use extent::{Extent, MAX_BYTES, TOO_LARGE};
+pub use sign::Sign;
+pub use plan::Plan;
+pub use planning::plan_of;
+pub use signatures::is_signature;
+pub use text::Text;
+pub use texts::{has_zero, is_object_path};
+pub use type_strings::push_type;
+pub use types::{GvType, MAX_DEPTH};
+pub use value::GvValue;

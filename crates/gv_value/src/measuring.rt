@@ -1,0 +1,55 @@
+ghost use Rattle.std.specs.Prelude.{◌≡◌};
+ghost use Rattle.gv_value.specs.Capped.{IsExtent, IsRun, small_size};
+ghost use Rattle.gv_value.specs.Layout.{align_of as align_of_shape, greatest_align, end_of};
+ghost use Rattle.gv_value.specs.Views.{shape_of, shapes_of};
+
+use crate::extent::{Extent, MAX_BYTES};
+use crate::kind::Kind;
+use crate::types::GvType;
+
+/// The size in bytes of each value of a type, where it is fixed and at most 16 MiB.
+pub fn size_of(of: &GvType) -> Option<u64>
+    ensures { result ≡ small_size (shape_of of.now) }
+{
+    match extent_of(of).size {
+        Some(size) if size <= MAX_BYTES => Some(size),
+        _ => None,
+    }
+}
+
+/// What the position of each value of a type is a multiple of, in bytes.
+pub fn align_of(of: &GvType) -> u64
+    ensures { result ≡ align_of_shape (shape_of of.now) }
+{
+    extent_of(of).align
+}
+
+/// The extent of a type.
+#[cycle(measure)]
+pub fn extent_of(of: &GvType) -> Extent
+    ensures { IsExtent result (shape_of of.now) }
+{
+    match of.kind() {
+        Kind::Basic(basic) => Extent::of_basic(basic),
+        Kind::Variant => Extent::variant(),
+        Kind::Array(element) => extent_of(element).open(),
+        Kind::Maybe(child) => extent_of(child).open(),
+        Kind::Tuple(members) => extent_of_members(members).filled(),
+        Kind::Entry(key, value) => Extent::no_members()
+            .with_member(extent_of(key))
+            .with_member(extent_of(value))
+            .filled(),
+    }
+}
+
+/// The extent of members, one behind the other.
+#[cycle(measure)]
+fn extent_of_members(members: &[GvType]) -> Extent
+    ensures { IsRun result (greatest_align (shapes_of members.now)) (end_of 0 (shapes_of members.now)) }
+{
+    let mut run = Extent::no_members();
+    for member in members {
+        run = run.with_member(extent_of(member));
+    }
+    run
+}

@@ -1,0 +1,11 @@
+ghost use Rattle.std.specs.Prelude.{◌≡◌, ◌<◌};
+ghost use Rattle.gv_value.specs.Layout.{padding as padding_of};
+
+/// How many bytes a position is from the next multiple of an alignment.
+pub fn padding(at: u64, align: u64) -> u64
+    requires { 0 < align }
+    ensures value { result ≡ padding_of at align }
+    ensures below { result < align }
+{
+    (align - at % align) % align
+}

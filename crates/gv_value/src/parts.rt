@@ -1,0 +1,86 @@
+ghost use Rattle.std.specs.Prelude.{◌≡◌, length};
+ghost use Rattle.gv_value.specs.Tree.{array, leaf, byte_trees, eight as eight_content};
+ghost use Rattle.gv_value.specs.Parts.{part_tree, IsHeld};
+ghost use Rattle.gv_value.specs.Views.{plain};
+
+use crate::basic::Basic;
+use crate::types::GvType;
+use crate::value::GvValue;
+
+/// What a value of a basic type holds.
+#[derive(Clone, Copy, Debug)]
+pub enum Content<'a> {
+    Truth(bool),
+    Number(u64),
+    Integer(i64),
+    Eight(&'a [u8]),
+    Text(&'a str),
+}
+
+/// A value by its form, with the values in it.
+#[derive(Clone, Copy, Debug)]
+pub enum Parts<'a> {
+    Basic(Basic, Content<'a>),
+    Variant(&'a GvType, &'a GvValue),
+    Array(&'a [GvValue]),
+    Nothing,
+    Just(&'a GvValue),
+    Tuple(&'a [GvValue]),
+    Entry(&'a GvValue, &'a GvValue),
+    Bytes(&'a [u8]),
+}
+
+impl<'a> Parts<'a> {
+    fn of_bytes(bytes: &'a [u8]) -> Parts<'a>
+        ensures tree { part_tree result ≡ array (byte_trees bytes.now) }
+        ensures held { IsHeld result }
+    {
+        Parts::Bytes(bytes)
+    }
+
+    fn of_double(eight: &'a [u8; 8]) -> Parts<'a>
+        ensures tree { part_tree result ≡ leaf Basic.Double (eight_content eight.now) }
+        ensures held { IsHeld result }
+    {
+        Parts::of_eight(eight)
+    }
+
+    fn of_eight(eight: &'a [u8]) -> Parts<'a>
+        requires { length eight.now ≡ 8 }
+        ensures tree { part_tree result ≡ leaf Basic.Double (eight_content eight.now) }
+        ensures held { IsHeld result }
+    {
+        Parts::Basic(Basic::Double, Content::Eight(eight))
+    }
+}
+
+impl GvValue {
+    /// The form of a value.
+    pub fn parts(&self) -> Parts<'_>
+        ensures tree { part_tree result ≡ plain self.now }
+        ensures held { IsHeld result }
+    {
+        match self {
+            GvValue::Bool(truth) => Parts::Basic(Basic::Bool, Content::Truth(*truth)),
+            GvValue::Byte(number) => Parts::Basic(Basic::Byte, Content::Number(u64::from(*number))),
+            GvValue::Int16(number) => Parts::Basic(Basic::Int16, Content::Integer(i64::from(*number))),
+            GvValue::Uint16(number) => Parts::Basic(Basic::Uint16, Content::Number(u64::from(*number))),
+            GvValue::Int32(number) => Parts::Basic(Basic::Int32, Content::Integer(i64::from(*number))),
+            GvValue::Uint32(number) => Parts::Basic(Basic::Uint32, Content::Number(u64::from(*number))),
+            GvValue::Int64(number) => Parts::Basic(Basic::Int64, Content::Integer(*number)),
+            GvValue::Uint64(number) => Parts::Basic(Basic::Uint64, Content::Number(*number)),
+            GvValue::Handle(number) => Parts::Basic(Basic::Handle, Content::Integer(i64::from(*number))),
+            GvValue::Double(eight) => Parts::of_double(eight),
+            GvValue::Str(text) => Parts::Basic(Basic::Str, Content::Text(text.as_str())),
+            GvValue::ObjectPath(text) => Parts::Basic(Basic::ObjectPath, Content::Text(text.as_str())),
+            GvValue::Signature(text) => Parts::Basic(Basic::Signature, Content::Text(text.as_str())),
+            GvValue::Variant(of, child) => Parts::Variant(of, child),
+            GvValue::Array(items) => Parts::Array(items),
+            GvValue::Maybe(None) => Parts::Nothing,
+            GvValue::Maybe(Some(child)) => Parts::Just(child),
+            GvValue::Tuple(items) => Parts::Tuple(items),
+            GvValue::Entry(key, value) => Parts::Entry(key, value),
+            GvValue::Bytes(bytes) => Parts::of_bytes(bytes.as_slice()),
+        }
+    }
+}

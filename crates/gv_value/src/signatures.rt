@@ -1,0 +1,102 @@
+ghost use Rattle.std.specs.Prelude.{◌≡◌, ◌+◌, length, option_and_then};
+ghost use Rattle.std.specs.Option.{option_copied};
+ghost use Rattle.gv_value.specs.Signs.{sign_at};
+ghost use Rattle.gv_value.specs.Texts.{is_signature as is_signature_text, after_type as behind_type, after_members as behind_members, after_element as behind_element, after_key};
+
+use crate::sign::Sign;
+
+/// How many bytes a signature has at most.
+const MAX_SIGNATURE: usize = 255;
+
+/// How many arrays, and how many structs, are open at a place of a signature at most.
+const MAX_OPEN: u32 = 32;
+
+/// Whether a text is a D-Bus signature: at most 255 bytes, which are complete types, one after the other.
+pub fn is_signature(text: &[u8]) -> bool
+    ensures { result ≡ is_signature_text text.now }
+{
+    if text.len() > MAX_SIGNATURE {
+        return false;
+    }
+    let mut left = text;
+    'types: while !left.is_empty() {
+        match after_type(left, MAX_OPEN, MAX_OPEN) {
+            Some(rest) => left = rest,
+            None => return false,
+        }
+    }
+    true
+}
+
+/// What follows the type at the front, where so many arrays and structs may still open.
+#[cycle(signature)]
+fn after_type(text: &[u8], arrays: u32, structs: u32) -> Option<&[u8]>
+    ensures { option_copied result ≡ behind_type (arrays + structs) arrays structs text.now }
+{
+    let (sign, rest) = Sign::at_front(text)?;
+    match sign {
+        Sign::Basic(_) => Some(rest),
+        Sign::Variant => Some(rest),
+        Sign::Array => {
+            if arrays == 0 {
+                return None;
+            }
+            after_element(rest, arrays - 1, structs)
+        }
+        Sign::TupleOpen => {
+            if structs == 0 {
+                return None;
+            }
+            after_members(rest, arrays, structs - 1)
+        }
+        _ => None,
+    }
+}
+
+/// What follows the element of an array. It alone may be a dictionary entry.
+#[cycle(signature)]
+fn after_element(text: &[u8], arrays: u32, structs: u32) -> Option<&[u8]>
+    ensures { option_copied result
+        ≡ option_and_then (λ p. behind_element (behind_type (arrays + structs) arrays structs) text.now p.0 p.1) (sign_at text.now) }
+{
+    let (sign, rest) = Sign::at_front(text)?;
+    match sign {
+        Sign::EntryOpen => after_entry(rest, arrays, structs),
+        _ => after_type(text, arrays, structs),
+    }
+}
+
+/// What follows a key, a value and a closing brace.
+#[cycle(signature)]
+fn after_entry(text: &[u8], arrays: u32, structs: u32) -> Option<&[u8]>
+    ensures { option_copied result
+        ≡ option_and_then (λ p. after_key (behind_type (arrays + structs) arrays structs) p.0 p.1) (sign_at text.now) }
+{
+    let (key, rest) = Sign::at_front(text)?;
+    match key {
+        Sign::Basic(_) => {}
+        _ => return None,
+    }
+    let rest = after_type(rest, arrays, structs)?;
+    let (close, rest) = Sign::at_front(rest)?;
+    match close {
+        Sign::EntryClose => Some(rest),
+        _ => None,
+    }
+}
+
+/// What follows one type or more and a closing bracket.
+#[cycle(signature)]
+fn after_members(text: &[u8], arrays: u32, structs: u32) -> Option<&[u8]>
+    ensures { option_copied result
+        ≡ behind_members (behind_type (arrays + structs) arrays structs) (length text.now) text.now }
+{
+    let mut left = text;
+    'members: loop {
+        left = after_type(left, arrays, structs)?;
+        let (sign, rest) = Sign::at_front(left)?;
+        if let Sign::TupleClose = sign {
+            return Some(rest);
+        }
+    }
+}
