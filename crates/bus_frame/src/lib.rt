@@ -1,0 +1,24 @@
+//! D-Bus messages: what a whole message is, its header, and the few bodies that a filter reads or writes.
+#![tactic(auto)]
+
+mod blob;
+mod cursor;
+mod header;
+mod items;
+mod names;
+mod room;
+mod rule;
+mod steps;
+mod text;
+mod types;
+mod value;
+
+pub use blob::Blob;
+pub use header::{Header, ReadFrame};
+pub use items::Items;
+pub use names::{
+    is_bus_name, is_interface_name, is_member_name, is_object_path, is_unique_name,
+    is_well_known_name,
+};
+pub use rule::{FrameError, FrameRule};
+pub use text::Text;
