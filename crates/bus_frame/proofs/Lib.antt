@@ -1,3 +1,4 @@
+pub mod FieldSteps
 pub mod Texts
 pub mod TypeSteps
 pub mod ValueSteps

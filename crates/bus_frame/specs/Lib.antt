@@ -1,6 +1,10 @@
+pub mod Answers
+pub mod Fields
 pub mod Names
 pub mod Numbers
 pub mod Places
+pub mod Reading
+pub mod Results
 pub mod Steps
 pub mod Types
 pub mod Values

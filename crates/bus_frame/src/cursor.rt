@@ -16,13 +16,15 @@ pub struct Cursor<'a> {
 
 ghost use Rattle.bus_frame.specs.Numbers.{are_zero, number_from, is_text};
 
-fn all_zero(bytes: &[u8]) -> bool
+/// Whether each byte is zero.
+pub fn all_zero(bytes: &[u8]) -> bool
     ensures { result ≡ are_zero bytes.now }
 {
     bytes.iter().all(|byte| *byte == 0)
 }
 
-fn number(little: bool, digits: [u8; 4]) -> u32
+/// The number that four bytes stand for.
+pub fn number(little: bool, digits: [u8; 4]) -> u32
     ensures { result ≡ number_from little digits }
 {
     if little {

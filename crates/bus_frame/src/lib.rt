@@ -3,9 +3,13 @@
 
 mod blob;
 mod cursor;
+mod field;
+mod fixed;
 mod header;
 mod items;
+mod known;
 mod names;
+mod reading;
 mod room;
 mod rule;
 mod steps;
@@ -20,5 +24,9 @@ pub use names::{
     is_bus_name, is_interface_name, is_member_name, is_object_path, is_unique_name,
     is_well_known_name,
 };
+pub use reading::read_frame;
 pub use rule::{FrameError, FrameRule};
 pub use text::Text;
+
+#[cfg(test)]
+mod tests;
