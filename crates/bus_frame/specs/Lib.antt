@@ -8,3 +8,4 @@ pub mod Results
 pub mod Steps
 pub mod Types
 pub mod Values
+pub mod Writing

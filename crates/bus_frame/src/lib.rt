@@ -16,6 +16,7 @@ mod steps;
 mod text;
 mod types;
 mod value;
+mod writing;
 
 pub use blob::Blob;
 pub use header::{Header, ReadFrame};
