@@ -1,4 +1,5 @@
 pub mod FieldSteps
+pub mod TextSteps
 pub mod Texts
 pub mod TypeSteps
 pub mod ValueSteps

@@ -9,3 +9,4 @@ pub mod Steps
 pub mod Types
 pub mod Values
 pub mod Writing
+pub mod Bodies

@@ -2,6 +2,7 @@
 #![tactic(auto)]
 
 mod blob;
+mod bodies;
 mod cursor;
 mod field;
 mod fixed;
@@ -19,6 +20,7 @@ mod value;
 mod writing;
 
 pub use blob::Blob;
+pub use bodies::{first_string, is_names, names_body, three_strings};
 pub use header::{Header, ReadFrame};
 pub use items::Items;
 pub use names::{
