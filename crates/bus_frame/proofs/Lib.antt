@@ -1,4 +1,6 @@
 pub mod FieldSteps
+pub mod Frames
+pub mod Rows
 pub mod TextSteps
 pub mod Texts
 pub mod TypeSteps

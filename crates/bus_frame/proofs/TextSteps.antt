@@ -47,20 +47,20 @@ module _ (little : Bool) (p : Place) where
 module _ (little : Bool) (front : List (List ℕ)) (p : Place) (total : Option (List (List ℕ))) where
   pub collected : (n : ℕ) → eqb (length p.rest) 0 ≡ true → with_front front (texts_at little n p) ≡ total → total ≡ Some front
   collected n done so_far =
-    let here : with_front front (texts_at little n p) ≡ Some (front ++ []) = ap (with_front front) (texts_done little p n done) in
-    sym so_far ∙ here ∙ ap (λ (xs : List (List ℕ)). Some xs) (append-nil front)
+      let here : with_front front (texts_at little n p) ≡ Some (front ++ []) = ap (with_front front) (texts_done little p n done) in
+      sym so_far ∙ here ∙ ap (λ (xs : List (List ℕ)). Some xs) (append-nil front)
 
   pub collects_none : (i count : ℕ) → i < count → eqb (length p.rest) 0 ≡ false → with_front front (texts_at little (count - i) p) ≡ total → long_text_at little p ≡ None → total ≡ None
   collects_none i count lt some_left so_far read = sym so_far ∙ ap (with_front front) (texts_none little p i count lt some_left read)
 
   pub collects_out : (i count : ℕ) → count ≤ i → eqb (length p.rest) 0 ≡ false → with_front front (texts_at little (count - i) p) ≡ total → total ≡ None
   collects_out i count le some_left so_far =
-    let none : texts_at little (count - i) p ≡ None = texts_out little p i count le ∙ ap (λ (b : Bool). cond b (Some []) None) some_left in
-    sym so_far ∙ ap (with_front front) none
+      let none : texts_at little (count - i) p ≡ None = texts_out little p i count le ∙ ap (λ (b : Bool). cond b (Some []) None) some_left in
+      sym so_far ∙ ap (with_front front) none
 
   pub collects_more : (i count : ℕ) (text : List ℕ) (q : Place) → i < count → eqb (length p.rest) 0 ≡ false → with_front front (texts_at little (count - i) p) ≡ total → long_text_at little p ≡ Some (text, q) → with_front (front ++ text ∷ []) (texts_at little (count - (i + 1)) q) ≡ total
   collects_more i count text q lt some_left so_far read =
-    sym (regroup front text (texts_at little (count - (i + 1)) q)) ∙ sym (ap (with_front front) (texts_more little p i count lt some_left text q read)) ∙ so_far
+      sym (regroup front text (texts_at little (count - (i + 1)) q)) ∙ sym (ap (with_front front) (texts_more little p i count lt some_left text q read)) ∙ so_far
 
 -- the loop that only looks
 module _ (little : Bool) (p : Place) (total : Bool) where
@@ -75,4 +75,4 @@ module _ (little : Bool) (p : Place) (total : Bool) where
 
   pub looks_more : (i count : ℕ) (text : List ℕ) (q : Place) → i < count → eqb (length p.rest) 0 ≡ false → is_some (texts_at little (count - i) p) ≡ total → long_text_at little p ≡ Some (text, q) → is_some (texts_at little (count - (i + 1)) q) ≡ total
   looks_more i count text q lt some_left so_far read =
-    sym (is_some_map text (texts_at little (count - (i + 1)) q)) ∙ sym (ap (λ (r : Option (List (List ℕ))). is_some r) (texts_more little p i count lt some_left text q read)) ∙ so_far
+      sym (is_some_map text (texts_at little (count - (i + 1)) q)) ∙ sym (ap (λ (r : Option (List (List ℕ))). is_some r) (texts_more little p i count lt some_left text q read)) ∙ so_far

@@ -11,6 +11,7 @@ mod items;
 mod known;
 mod names;
 mod reading;
+mod renaming;
 mod room;
 mod rule;
 mod steps;
@@ -28,8 +29,10 @@ pub use names::{
     is_well_known_name,
 };
 pub use reading::read_frame;
+pub use renaming::with_names;
 pub use rule::{FrameError, FrameRule};
 pub use text::Text;
+pub use writing::error_frame;
 
 #[cfg(test)]
 mod tests;

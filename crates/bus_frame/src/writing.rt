@@ -12,7 +12,7 @@ use crate::blob::Blob;
 use std::alloc::{AllocError, Global};
 
 /// The four bytes of a number.
-fn number_bytes_of(little: bool, number: u32) -> [u8; 4]
+pub fn number_bytes_of(little: bool, number: u32) -> [u8; 4]
     ensures { result ≡ number_bytes little number }
 {
     if little {
@@ -23,7 +23,7 @@ fn number_bytes_of(little: bool, number: u32) -> [u8; 4]
 }
 
 /// Adds the zero bytes that lead from a place to the next multiple of `alignment`.
-fn put_zeros(out: &mut Vec<u8>, alignment: usize, at: usize) -> Result<(), AllocError>
+pub fn put_zeros(out: &mut Vec<u8>, alignment: usize, at: usize) -> Result<(), AllocError>
     requires { 0 < alignment }
     ensures { OnOk result (out.new.items ≡ out.old.items ++ zeros alignment at) }
 {
@@ -34,7 +34,7 @@ fn put_zeros(out: &mut Vec<u8>, alignment: usize, at: usize) -> Result<(), Alloc
 }
 
 /// Adds a text with its length before it and a zero byte behind it.
-fn put_text(out: &mut Vec<u8>, little: bool, text: &str) -> Result<(), AllocError>
+pub fn put_text(out: &mut Vec<u8>, little: bool, text: &str) -> Result<(), AllocError>
     requires { length text.now < 2 ^ 32 }
     ensures { OnOk result (out.new.items ≡ out.old.items ++ text_bytes little text.now) }
 {
