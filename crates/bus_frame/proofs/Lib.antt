@@ -1,7 +1,10 @@
 pub mod FieldSteps
 pub mod Frames
 pub mod Rows
+pub mod Spelled
+pub mod Taking
 pub mod TextSteps
 pub mod Texts
+pub mod TypeLaws
 pub mod TypeSteps
 pub mod ValueSteps
