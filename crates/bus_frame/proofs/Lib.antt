@@ -8,3 +8,4 @@ pub mod Texts
 pub mod TypeLaws
 pub mod TypeSteps
 pub mod ValueSteps
+pub mod ValueTakes

@@ -144,7 +144,7 @@ abbrev AllTys : (Ty → Type 0) → Tys → Type 0
 AllTys P none = Unit {0}
 AllTys P (more t ts) = P t × AllTys P ts
 
-or_else_some : {A : Type 0} (x y : Option A) (z : A) → or_else x y ≡ Some z → (x ≡ Some z) ⊎ (y ≡ Some z)
+pub or_else_some : {A : Type 0} (x y : Option A) (z : A) → or_else x y ≡ Some z → (x ≡ Some z) ⊎ (y ≡ Some z)
 or_else_some (Some x) y z e = inl e
 or_else_some None y z e = inr e
 
