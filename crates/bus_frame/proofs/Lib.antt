@@ -7,5 +7,6 @@ pub mod TextSteps
 pub mod Texts
 pub mod TypeLaws
 pub mod TypeSteps
+pub mod ValueAgain
 pub mod ValueSteps
 pub mod ValueTakes

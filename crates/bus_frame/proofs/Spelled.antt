@@ -58,13 +58,14 @@ number_takes little p n q fits e =
     let fits_d = (Takes-bytes a.0 d.0.1 d.0.0 fits_a digits.0).0 in
     let both = some_pair_parts (number_from little d.0.0) n d.0.1 q d.2 in
     let whole = Takes-then p a.0 d.0.1 (zeros 4 p.at) d.0.0 before digits.0 in
-    let back : d.0.0 ≡ number_bytes little n = sym (number_bytes-from little d.0.0 digits.1 fits_d) ∙ ap (number_bytes little) both.0 in
-    (zeros 4 p.at ++ d.0.0,
-    subst (λ (r : Place). Takes p (zeros 4 p.at ++ d.0.0) r) both.1 whole,
-    record {
-      fits = subst (λ (k : ℕ). k < 2 ^ 32) both.0 (number_from-below little d.0.0 fits_d);
-      spelled = ap (λ (b : List ℕ). zeros 4 p.at ++ b) back;
-    })
+    let back : d.0.0 ≡ number_bytes little n = sym (number_bytes-from little d.0.0 digits.1 fits_d) ∙ ap (number_bytes little) both.0 in (
+      zeros 4 p.at ++ d.0.0,
+      subst (λ (r : Place). Takes p (zeros 4 p.at ++ d.0.0) r) both.1 whole,
+      record {
+        fits = subst (λ (k : ℕ). k < 2 ^ 32) both.0 (number_from-below little d.0.0 fits_d);
+        spelled = ap (λ (b : List ℕ). zeros 4 p.at ++ b) back;
+      },
+    )
 
 pub number_again : (little : Bool) (p : Place) (n : ℕ) (x rest : List ℕ) → p.rest ≡ x ++ rest → IsNumber little p.at n x → number_at little p ≡ Some (n, place (p.at + length x) rest)
 unfolding number_at
@@ -95,10 +96,11 @@ text_takes n p t q e =
     let text = bytes_takes n p a.0.0 a.0.1 a.1 in
     let end = byte_takes a.0.1 b.0.0 b.0.1 b.1 in
     let whole = Takes-then p a.0.1 b.0.1 a.0.0 (b.0.0 ∷ []) text.0 end in
-    let x_is : a.0.0 ++ b.0.0 ∷ [] ≡ t ++ 0 ∷ [] = ap (λ (c : ℕ). a.0.0 ++ c ∷ []) (eqb-true b.0.0 0 tests.1) ∙ ap (λ (l : List ℕ). l ++ 0 ∷ []) t_is in
-    (subst (λ (r : Place). Takes p (t ++ 0 ∷ []) r) q_is (subst (λ (x : List ℕ). Takes p x b.0.1) x_is whole),
-    sym (ap (λ (l : List ℕ). length l) t_is) ∙ text.1,
-    sym (ap is_text t_is) ∙ tests.0)
+    let x_is : a.0.0 ++ b.0.0 ∷ [] ≡ t ++ 0 ∷ [] = ap (λ (c : ℕ). a.0.0 ++ c ∷ []) (eqb-true b.0.0 0 tests.1) ∙ ap (λ (l : List ℕ). l ++ 0 ∷ []) t_is in (
+      subst (λ (r : Place). Takes p (t ++ 0 ∷ []) r) q_is (subst (λ (x : List ℕ). Takes p x b.0.1) x_is whole),
+      sym (ap (λ (l : List ℕ). length l) t_is) ∙ text.1,
+      sym (ap is_text t_is) ∙ tests.0,
+    )
 
 text_again : (p : Place) (t rest : List ℕ) (n : ℕ) → p.rest ≡ (t ++ 0 ∷ []) ++ rest → length t ≡ n → is_text t ≡ true → text_at n p ≡ Some (t, place (p.at + length (t ++ 0 ∷ [])) rest)
 unfolding text_at
@@ -121,12 +123,15 @@ long_text_takes little p t q fits e =
     let text = text_takes a.0.0 a.0.1 t q a.2 in
     let tail = t ++ 0 ∷ [] in
     let head = zeros 4 p.at ++ number_bytes little (length t) in
-    let head_is : len.0 ≡ head = len.2.spelled ∙ ap (λ (k : ℕ). zeros 4 p.at ++ number_bytes little k) (sym text.1) in
-    (len.0 ++ tail, Takes-then p a.0.1 q len.0 tail len.1 text.0, record {
-      fits = subst (λ (k : ℕ). k < 2 ^ 32) (sym text.1) len.2.fits;
-      valid = text.2;
-      spelled = ap (λ (l : List ℕ). l ++ tail) head_is ∙ sym (append_assoc head t (0 ∷ []));
-    })
+    let head_is : len.0 ≡ head = len.2.spelled ∙ ap (λ (k : ℕ). zeros 4 p.at ++ number_bytes little k) (sym text.1) in (
+      len.0 ++ tail,
+      Takes-then p a.0.1 q len.0 tail len.1 text.0,
+      record {
+        fits = subst (λ (k : ℕ). k < 2 ^ 32) (sym text.1) len.2.fits;
+        valid = text.2;
+        spelled = ap (λ (l : List ℕ). l ++ tail) head_is ∙ sym (append_assoc head t (0 ∷ []));
+      },
+    )
 
 pub long_text_again : (little : Bool) (p : Place) (t x rest : List ℕ) → p.rest ≡ x ++ rest → IsLongText little p.at t x → long_text_at little p ≡ Some (t, place (p.at + length x) rest)
 unfolding long_text_at
@@ -148,12 +153,15 @@ short_text_takes p t q fits e =
     let len = byte_takes p a.0.0 a.0.1 a.1 in
     let text = text_takes a.0.0 a.0.1 t q a.2 in
     let tail = t ++ 0 ∷ [] in
-    let head_fits = (Takes-bytes p a.0.1 (a.0.0 ∷ []) fits len).0 0 in
-    (a.0.0 ∷ tail, Takes-then p a.0.1 q (a.0.0 ∷ []) tail len text.0, record {
-      fits = subst (λ (k : ℕ). k < 256) (sym text.1) head_fits;
-      valid = text.2;
-      spelled = ap (λ (k : ℕ). k ∷ tail) (sym text.1);
-    })
+    let head_fits = (Takes-bytes p a.0.1 (a.0.0 ∷ []) fits len).0 0 in (
+      a.0.0 ∷ tail,
+      Takes-then p a.0.1 q (a.0.0 ∷ []) tail len text.0,
+      record {
+        fits = subst (λ (k : ℕ). k < 256) (sym text.1) head_fits;
+        valid = text.2;
+        spelled = ap (λ (k : ℕ). k ∷ tail) (sym text.1);
+      },
+    )
 
 pub short_text_again : (p : Place) (t x rest : List ℕ) → p.rest ≡ x ++ rest → IsShortText t x → short_text_at p ≡ Some (t, place (p.at + length x) rest)
 unfolding short_text_at

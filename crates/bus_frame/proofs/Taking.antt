@@ -47,11 +47,13 @@ bytes_takes n p x q e =
     let q_is : place (p.at + n) (drop n p.rest) ≡ q = ap (λ (r : List ℕ × Place). r.1) t.1 in
     let len : length x ≡ n = sym (ap (λ (l : List ℕ). length l) x_is) ∙ length-take-le n p.rest room in
     let at_is = ap (λ (r : Place). r.at) q_is in
-    let rest_is = ap (λ (r : Place). r.rest) q_is in
-    (record {
-      at = omega (arith, at_is, len);
-      parts = sym (take-append-drop n p.rest) ∙ ap (λ (l : List ℕ). l ++ drop n p.rest) x_is ∙ ap (λ (l : List ℕ). x ++ l) rest_is;
-    }, len)
+    let rest_is = ap (λ (r : Place). r.rest) q_is in (
+      record {
+        at = omega (arith, at_is, len);
+        parts = sym (take-append-drop n p.rest) ∙ ap (λ (l : List ℕ). l ++ drop n p.rest) x_is ∙ ap (λ (l : List ℕ). x ++ l) rest_is;
+      },
+      len,
+    )
 
 pub bytes_again : (p : Place) (x rest : List ℕ) (n : ℕ) → p.rest ≡ x ++ rest → length x ≡ n → bytes_at n p ≡ Some (x, place (p.at + length x) rest)
 bytes_again p x rest n parts len =

@@ -50,11 +50,11 @@ abbrev ReadsAll : (List ℕ → Option (List ℕ)) → Tys → Type 0
 ReadsAll one none = Unit {0}
 ReadsAll one (more t ts) = ((rest : List ℕ) → one (type_text t ++ rest) ≡ Some rest) × ReadsAll one ts
 
-abbrev count : Tys → ℕ
+abbrev pub count : Tys → ℕ
 count none = 0
 count (more t ts) = count ts + 1
 
-count_le : (ts : Tys) → count ts ≤ length (types_text ts)
+pub count_le : (ts : Tys) → count ts ≤ length (types_text ts)
 count_le none = omega arith
 count_le (more t ts) = omega (arith, count_le ts, text_some t, length-append (type_text t) (types_text ts))
 
@@ -105,34 +105,34 @@ mutual
   again (basic c) e all a s rest good le = as_type e all a s c rest (Some rest) (basic_apart c 123 good refl) (at_basic all a s c rest good)
   again variant e all a s rest good le = as_type e all a s 118 rest (Some rest) refl (step all a s (118 ∷ rest))
   again (array t) e all a s rest good le =
-    let goods = and_parts (ltb 0 a) (is_type true t (a - 1) s) good in
-    let some = ltb-true 0 a goods.0 in
-    let inner = again t true (all - 1) (a - 1) s rest goods.1 (omega arith) in
-    as_type e all a s 97 (type_text t ++ rest) (Some rest) refl (at_array all a s (type_text t ++ rest) (Some rest) (omega arith) some inner)
+      let goods = and_parts (ltb 0 a) (is_type true t (a - 1) s) good in
+      let some = ltb-true 0 a goods.0 in
+      let inner = again t true (all - 1) (a - 1) s rest goods.1 (omega arith) in
+      as_type e all a s 97 (type_text t ++ rest) (Some rest) refl (at_array all a s (type_text t ++ rest) (Some rest) (omega arith) some inner)
   again (struct t ts) e all a s rest good le =
-    let goods = and_parts (ltb 0 s && is_type false t a (s - 1)) (are_types ts a (s - 1)) good in
-    let firsts = and_parts (ltb 0 s) (is_type false t a (s - 1)) goods.0 in
-    let some = ltb-true 0 s firsts.0 in
-    let first = λ (r : List ℕ). again t false (all - 1) a (s - 1) r firsts.1 (omega arith) in
-    let others = again_all ts (all - 1) a (s - 1) goods.1 (omega arith) in
-    let types = ((type_text t ++ types_text ts) ++ 41 ∷ []) ++ rest in
-    let grouped : types ≡ (type_text t ++ types_text ts) ++ 41 ∷ rest = append_assoc (type_text t ++ types_text ts) (41 ∷ []) rest in
-    let enough : count ts < length types = omega (arith, ap (λ (l : List ℕ). length l) grouped, length-append (type_text t ++ types_text ts) (41 ∷ rest), length-append (type_text t) (types_text ts), count_le ts, text_some t) in
-    let read = ap (members_after (type_after (all - 1) a (s - 1)) (length types)) grouped ∙ members_again (type_after (all - 1) a (s - 1)) a (s - 1) (length types) t ts rest enough first others goods.1 in
-    as_type e all a s 40 types (Some rest) refl (at_struct all a s types (Some rest) (omega arith) some read)
+      let goods = and_parts (ltb 0 s && is_type false t a (s - 1)) (are_types ts a (s - 1)) good in
+      let firsts = and_parts (ltb 0 s) (is_type false t a (s - 1)) goods.0 in
+      let some = ltb-true 0 s firsts.0 in
+      let first = λ (r : List ℕ). again t false (all - 1) a (s - 1) r firsts.1 (omega arith) in
+      let others = again_all ts (all - 1) a (s - 1) goods.1 (omega arith) in
+      let types = ((type_text t ++ types_text ts) ++ 41 ∷ []) ++ rest in
+      let grouped : types ≡ (type_text t ++ types_text ts) ++ 41 ∷ rest = append_assoc (type_text t ++ types_text ts) (41 ∷ []) rest in
+      let enough : count ts < length types = omega (arith, ap (λ (l : List ℕ). length l) grouped, length-append (type_text t ++ types_text ts) (41 ∷ rest), length-append (type_text t) (types_text ts), count_le ts, text_some t) in
+      let read = ap (members_after (type_after (all - 1) a (s - 1)) (length types)) grouped ∙ members_again (type_after (all - 1) a (s - 1)) a (s - 1) (length types) t ts rest enough first others goods.1 in
+      as_type e all a s 40 types (Some rest) refl (at_struct all a s types (Some rest) (omega arith) some read)
   again (entry key t) e all a s rest good le =
-    let goods = and_parts (e && is_basic key) (is_type false t a s) good in
-    let keys = and_parts e (is_basic key) goods.0 in
-    let grouped : (type_text t ++ 125 ∷ []) ++ rest ≡ type_text t ++ 125 ∷ rest = append_assoc (type_text t) (125 ∷ []) rest in
-    let inner : type_after all a s ((type_text t ++ 125 ∷ []) ++ rest) ≡ Some (125 ∷ rest) = ap (type_after all a s) grouped ∙ again t false all a s (125 ∷ rest) goods.1 le in
-    let read : element_after (type_after all a s) (123 ∷ key ∷ ((type_text t ++ 125 ∷ []) ++ rest)) ≡ Some rest = rw (keys.1, inner) refl in
-    subst (λ (b : Bool). read_as b all a s (123 ∷ key ∷ ((type_text t ++ 125 ∷ []) ++ rest)) ≡ Some rest) (sym keys.0) read
+      let goods = and_parts (e && is_basic key) (is_type false t a s) good in
+      let keys = and_parts e (is_basic key) goods.0 in
+      let grouped : (type_text t ++ 125 ∷ []) ++ rest ≡ type_text t ++ 125 ∷ rest = append_assoc (type_text t) (125 ∷ []) rest in
+      let inner : type_after all a s ((type_text t ++ 125 ∷ []) ++ rest) ≡ Some (125 ∷ rest) = ap (type_after all a s) grouped ∙ again t false all a s (125 ∷ rest) goods.1 le in
+      let read : element_after (type_after all a s) (123 ∷ key ∷ ((type_text t ++ 125 ∷ []) ++ rest)) ≡ Some rest = rw (keys.1, inner) refl in
+      subst (λ (b : Bool). read_as b all a s (123 ∷ key ∷ ((type_text t ++ 125 ∷ []) ++ rest)) ≡ Some rest) (sym keys.0) read
 
   again_all : (ts : Tys) (all a s : ℕ) → are_types ts a s ≡ true → a + s ≤ all → ReadsAll (type_after all a s) ts
   again_all none all a s good le = tt
   again_all (more t ts) all a s good le =
-    let goods = and_parts (is_type false t a s) (are_types ts a s) good in
-    (λ (r : List ℕ). again t false all a s r goods.0 le, again_all ts all a s goods.1 le)
+      let goods = and_parts (is_type false t a s) (are_types ts a s) good in
+      (λ (r : List ℕ). again t false all a s r goods.0 le, again_all ts all a s goods.1 le)
 
 -- ---- what is read is a type
 
@@ -270,9 +270,9 @@ complete_takes types e = from_read (whole_type_after types) refl e
     from_read : (o : Option (List ℕ)) → whole_type_after types ≡ o → option_map_or (λ rest. eqb (length rest) 0) o false ≡ true → (t : Ty) × (is_type false t 32 32 ≡ true) × (types ≡ type_text t)
     from_read None is h = absurd (false≢true h)
     from_read (Some rest) is h =
-      let held = type_takes 64 32 32 types rest is in
-      let nothing : rest ≡ [] = nil_from_length rest (eqb-true (length rest) 0 h) in
-      (held.0, held.1, held.2 ∙ ap (λ (l : List ℕ). type_text held.0 ++ l) nothing ∙ append-nil (type_text held.0))
+        let held = type_takes 64 32 32 types rest is in
+        let nothing : rest ≡ [] = nil_from_length rest (eqb-true (length rest) 0 h) in
+        (held.0, held.1, held.2 ∙ ap (λ (l : List ℕ). type_text held.0 ++ l) nothing ∙ append-nil (type_text held.0))
 
 pub complete_again : (t : Ty) → is_type false t 32 32 ≡ true → is_one_type (type_text t) ≡ true
 complete_again t good =

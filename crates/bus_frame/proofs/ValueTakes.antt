@@ -162,7 +162,7 @@ abbrev pub SoundAll : (List ℕ → Place → Option Ended) → (Ty → ℕ → 
 SoundAll one P none = Unit {0}
 SoundAll one P (more t ts) = ((left : List ℕ) → SoundAt one (type_text t ++ left) left (P t)) × SoundAll one P ts
 
-pub closing : (b : ℕ) → Type 0
+unfoldable pub closing : (b : ℕ) → Type 0
 closing b = (eqb b 41 || eqb b 125) ≡ true
 
 -- a type closes nothing
@@ -258,15 +258,15 @@ array_takes little one P t left sound skipped p end fits e =
     let bytes = array_head little (type_alignment t) p.at a.0.0 ++ b.0.0 in
     let whole = Takes-then p a.0.1 b.0.1 (array_head little (type_alignment t) p.at a.0.0) b.0.0 head.0 body.0 in
     let row : EndsRow P (place a.0.1.at b.0.0) left d.0 =
-      elim (chosen (eqb (length b.0.0) 0) (element_after whole_type_after types) (elements_at one (length b.0.0) types (place a.0.1.at b.0.0)) (Some d.0) d.1) [
-        | inl g ↦ record {
-            left_is = cc (sym g.1 ∙ skipped);
-            elements = [];
-            parts = nil_from_length b.0.0 (eqb-true _ _ g.0);
-            each = tt;
-          }
-        | inr g ↦ elements_take one types left P sound (length b.0.0) (place a.0.1.at b.0.0) d.0 fits_body g.1
-      ] in
+    elim (chosen (eqb (length b.0.0) 0) (element_after whole_type_after types) (elements_at one (length b.0.0) types (place a.0.1.at b.0.0)) (Some d.0) d.1) [
+      | inl g ↦ record {
+        left_is = cc (sym g.1 ∙ skipped);
+        elements = [];
+        parts = nil_from_length b.0.0 (eqb-true _ _ g.0);
+        each = tt;
+      }
+      | inr g ↦ elements_take one types left P sound (length b.0.0) (place a.0.1.at b.0.0) d.0 fits_body g.1
+    ] in
     let count_is : a.0.0 ≡ length (concat row.elements) = sym body.1 ∙ ap (λ (l : List ℕ). length l) row.parts in
     let head_is : array_head little (type_alignment t) p.at a.0.0 ≡ array_head little (type_alignment t) p.at (length (concat row.elements)) = ap (array_head little (type_alignment t) p.at) count_is in
     record {
@@ -318,12 +318,17 @@ variant_type_takes p text q fits e =
     let whole = Takes-then p a.0.1 d.0.1 (a.0.0 ∷ []) (b.0.0 ++ d.0.0 ∷ []) count tail in
     let bytes = a.0.0 ∷ (b.0.0 ++ d.0.0 ∷ []) in
     let count_fits = (Takes-bytes p a.0.1 (a.0.0 ∷ []) fits count).0 0 in
-    let count_is : a.0.0 ≡ length (type_text held.0) = sym types.1 ∙ ap (λ (l : List ℕ). length l) held.2 in
-    (held.0, bytes, subst (λ (r : Place). Takes p bytes r) q_is whole, record {
-      complete = held.1;
-      fits = subst (λ (k : ℕ). k < 256) count_is count_fits;
-      spelled = ap (λ (k : ℕ). k ∷ (b.0.0 ++ d.0.0 ∷ [])) count_is ∙ ap (λ (l : List ℕ). length (type_text held.0) ∷ (l ++ d.0.0 ∷ [])) held.2 ∙ ap (λ (c : ℕ). length (type_text held.0) ∷ (type_text held.0 ++ c ∷ [])) (eqb-true _ _ tests.0);
-    }, sym text_is ∙ held.2)
+    let count_is : a.0.0 ≡ length (type_text held.0) = sym types.1 ∙ ap (λ (l : List ℕ). length l) held.2 in (
+      held.0,
+      bytes,
+      subst (λ (r : Place). Takes p bytes r) q_is whole,
+      record {
+        complete = held.1;
+        fits = subst (λ (k : ℕ). k < 256) count_is count_fits;
+        spelled = ap (λ (k : ℕ). k ∷ (b.0.0 ++ d.0.0 ∷ [])) count_is ∙ ap (λ (l : List ℕ). length (type_text held.0) ∷ (l ++ d.0.0 ∷ [])) held.2 ∙ ap (λ (c : ℕ). length (type_text held.0) ∷ (type_text held.0 ++ c ∷ [])) (eqb-true _ _ tests.0);
+      },
+      sym text_is ∙ held.2,
+    )
 
 variant_takes : (one : List ℕ → Place → Option Ended) (P : Ty → ℕ → List ℕ → Type 0) → ((t : Ty) → is_type false t 32 32 ≡ true → SoundAt one (type_text t) [] (P t)) → (p q : Place) → IsBytes p.rest → variant_at one p ≡ Some q → Spells (IsVariant P) p q
 unfolding variant_at
@@ -355,24 +360,24 @@ mutual
   wider (basic c) e a s x y la ls good = good
   wider variant e a s x y la ls good = good
   wider (array t) e a s x y la ls good =
-    let goods = and_parts (ltb 0 a) (is_type true t (a - 1) s) good in
-    let some = ltb-true 0 a goods.0 in
-    and_from (ltb 0 x) (is_type true t (x - 1) y) (lt-ltb 0 x (omega arith)) (wider t true (a - 1) s (x - 1) y (omega arith) ls goods.1)
+      let goods = and_parts (ltb 0 a) (is_type true t (a - 1) s) good in
+      let some = ltb-true 0 a goods.0 in
+      and_from (ltb 0 x) (is_type true t (x - 1) y) (lt-ltb 0 x (omega arith)) (wider t true (a - 1) s (x - 1) y (omega arith) ls goods.1)
   wider (struct t ts) e a s x y la ls good =
-    let goods = and_parts (ltb 0 s && is_type false t a (s - 1)) (are_types ts a (s - 1)) good in
-    let firsts = and_parts (ltb 0 s) (is_type false t a (s - 1)) goods.0 in
-    let some = ltb-true 0 s firsts.0 in
-    let first = and_from (ltb 0 y) (is_type false t x (y - 1)) (lt-ltb 0 y (omega arith)) (wider t false a (s - 1) x (y - 1) la (omega arith) firsts.1) in
-    and_from (ltb 0 y && is_type false t x (y - 1)) (are_types ts x (y - 1)) first (wider_all ts a (s - 1) x (y - 1) la (omega arith) goods.1)
+      let goods = and_parts (ltb 0 s && is_type false t a (s - 1)) (are_types ts a (s - 1)) good in
+      let firsts = and_parts (ltb 0 s) (is_type false t a (s - 1)) goods.0 in
+      let some = ltb-true 0 s firsts.0 in
+      let first = and_from (ltb 0 y) (is_type false t x (y - 1)) (lt-ltb 0 y (omega arith)) (wider t false a (s - 1) x (y - 1) la (omega arith) firsts.1) in
+      and_from (ltb 0 y && is_type false t x (y - 1)) (are_types ts x (y - 1)) first (wider_all ts a (s - 1) x (y - 1) la (omega arith) goods.1)
   wider (entry key t) e a s x y la ls good =
-    let goods = and_parts (e && is_basic key) (is_type false t a s) good in
-    and_from (e && is_basic key) (is_type false t x y) goods.0 (wider t false a s x y la ls goods.1)
+      let goods = and_parts (e && is_basic key) (is_type false t a s) good in
+      and_from (e && is_basic key) (is_type false t x y) goods.0 (wider t false a s x y la ls goods.1)
 
   wider_all : (ts : Tys) (a s x y : ℕ) → a ≤ x → s ≤ y → are_types ts a s ≡ true → are_types ts x y ≡ true
   wider_all none a s x y la ls good = refl
   wider_all (more t ts) a s x y la ls good =
-    let goods = and_parts (is_type false t a s) (are_types ts a s) good in
-    and_from (is_type false t x y) (are_types ts x y) (wider t false a s x y la ls goods.0) (wider_all ts a s x y la ls goods.1)
+      let goods = and_parts (is_type false t a s) (are_types ts a s) good in
+      and_from (is_type false t x y) (are_types ts x y) (wider t false a s x y la ls goods.0) (wider_all ts a s x y la ls goods.1)
 
 -- what holds of the values within
 abbrev Inner : Bool → ℕ → Type 0
@@ -384,11 +389,11 @@ inner_all little all ih a s (more t ts) x y good lx ly =
     let goods = and_parts (is_type false t x y) (are_types ts x y) good in
     (λ left. ih a s t false x y left goods.0 lx ly, inner_all little all ih a s ts x y goods.1 lx ly)
 
-shuts_struct : closing 41
+pub shuts_struct : closing 41
 unfolding closing
 shuts_struct = refl
 
-shuts_entry : closing 125
+pub shuts_entry : closing 125
 unfolding closing
 shuts_entry = refl
 
@@ -396,7 +401,7 @@ has_room : (b : Bool) (x : Option Ended) (end : Ended) → cond b None x ≡ Som
 has_room true x end e = absurd cc
 has_room false x end e = (refl, e)
 
-less_one : (n : ℕ) → suc n - 1 ≡ n
+pub less_one : (n : ℕ) → suc n - 1 ≡ n
 less_one n = omega arith
 
 basic_value : (little : Bool) (all a s c : ℕ) (inner : ℕ → ℕ → List ℕ → Place → Option Ended) (left : List ℕ) (p : Place) (end : Ended) → is_basic c ≡ true → IsBytes p.rest → value_step little all a s inner (c ∷ left) p ≡ Some end → Ends (IsBasic little c) p left end
@@ -459,7 +464,7 @@ value_takes little (suc all) a s (entry key t) e x y left good lx ly p end fits 
     let keys = and_parts e (is_basic key) goods.0 in
     let types = key ∷ ((type_text t ++ 125 ∷ []) ++ left) in
     let grouped : types ≡ (type_text (basic key) ++ types_text (more t none)) ++ 125 ∷ left =
-      ap (λ (l : List ℕ). key ∷ l) (append_assoc (type_text t) (125 ∷ []) left ∙ ap (λ (l : List ℕ). l ++ 125 ∷ left) (sym (append-nil (type_text t)))) in
+    ap (λ (l : List ℕ). key ∷ l) (append_assoc (type_text t) (125 ∷ []) left ∙ ap (λ (l : List ℕ). l ++ 125 ∷ left) (sym (append-nil (type_text t)))) in
     let all_good = and_from (is_basic key) (is_type false t x y && true) keys.1 (and_from (is_type false t x y) true goods.1 refl) in
     let members = inner_all little all (value_takes little all) a s (more (basic key) (more t none)) x y all_good lx ly in
     struct_takes (value_at little all a s) (IsValue little all a s) 125 x y (basic key) (more t none) left shuts_entry members (and_from (is_type false t x y) true goods.1 refl) p end fits (sym (ap (λ (l : List ℕ). struct_at (value_at little all a s) l p) grouped) ∙ (has_room (eqb (suc all) 0) (struct_at (value_at little all a s) types p) end h).1)
