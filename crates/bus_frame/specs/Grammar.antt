@@ -1,6 +1,6 @@
 -- What values and fields are, by the bytes that spell them at a place: the D-Bus specification's "Marshaling" and
 -- "Message Protocol". Places are counted from the message's first byte.
-use Rattle.std.specs.Prelude.{◌≡◌, ℕ, zero, suc, ◌+◌, ◌^◌, ◌<◌, ◌≤◌, Bool, true, false, ◌||◌, ◌&&◌, ◌==◌, MatchBool, List, [], ◌∷◌, ◌++◌, length}
+use Rattle.std.specs.Prelude.{◌≡◌, ◌⊎◌, ℕ, zero, suc, ◌+◌, ◌^◌, ◌<◌, ◌≤◌, Bool, true, false, ◌||◌, ◌&&◌, ◌==◌, MatchBool, List, [], ◌∷◌, ◌++◌, length}
 use Rattle.std.specs.List.{concat}
 use Rattle.bus_frame.specs.Types.{Ty, Tys, basic, variant, array, struct, entry, none, more, type_text, is_type}
 use Rattle.bus_frame.specs.Numbers.{padding, is_text}
@@ -107,3 +107,34 @@ IsValue little (suc all) arrays (suc structs) (struct t ts) at bytes =
 IsValue little (suc all) arrays structs (entry key t) at bytes =
     IsStruct (IsValue little all arrays structs) (more (basic key) (more t none)) at bytes
 IsValue little all arrays structs t at bytes = ⊥
+
+-- whether a field of this type tells a text or a number
+abbrev pub is_telling : Ty → Bool
+is_telling (basic c) = c == 115 || c == 111 || c == 103 || c == 117
+is_telling variant = false
+is_telling (array t) = false
+is_telling (struct t ts) = false
+is_telling (entry key t) = false
+
+-- what a field with a value of this type says; the field's variant is the first of the 64 containers
+abbrev pub IsContent : Bool → Ty → ℕ → Content → List ℕ → Type 0
+IsContent little t at (word code text) bytes =
+    ((t ≡ basic code) × ((code ≡ 115) ⊎ (code ≡ 111)) × IsLongText little at text bytes)
+    ⊎ ((t ≡ basic code) × (code ≡ 103) × IsShortText text bytes)
+IsContent little t at (number n) bytes = (t ≡ basic 117) × IsNumber little at n bytes
+IsContent little t at other bytes = (is_telling t ≡ false) × IsValue little 63 32 32 t at bytes
+
+-- a field: a code and a variant, at a multiple of 8
+pub record IsField (little : Bool) (at : ℕ) (f : Field) (bytes : List ℕ) : Type 0 where
+  pub held : Ty
+  pub text : List ℕ
+  pub value : List ℕ
+  pub typed : IsTypeText held text
+  pub spelled : bytes ≡ (zeros 8 at ++ f.code ∷ text) ++ value
+  pub says : IsContent little held (at + length (zeros 8 at ++ f.code ∷ text)) f.content value
+
+-- fields one after another
+abbrev pub AreFields : Bool → ℕ → List Field → List ℕ → Type 0
+AreFields little at [] bytes = bytes ≡ []
+AreFields little at (f ∷ fs) bytes =
+    (first : List ℕ) × (rest : List ℕ) × (bytes ≡ first ++ rest) × IsField little at f first × AreFields little (at + length first) fs rest

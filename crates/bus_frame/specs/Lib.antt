@@ -1,5 +1,6 @@
 pub mod Answers
 pub mod Fields
+pub mod Frame
 pub mod Grammar
 pub mod Names
 pub mod Numbers
