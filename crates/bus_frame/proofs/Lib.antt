@@ -1,6 +1,7 @@
 pub mod FieldLaws
 pub mod FieldSteps
 pub mod Frames
+pub mod KnownLaws
 pub mod Rows
 pub mod Spelled
 pub mod Taking

@@ -19,9 +19,19 @@ abbrev pub given : ℕ → List Field → Option Content
 given code [] = None
 given code (f ∷ fs) = if f.code == code then Some f.content else given code fs
 
--- the type of a known field by its code, itself by its code: PATH o, SIGNATURE g, REPLY_SERIAL and UNIX_FDS u, others s
-abbrev pub known_type : ℕ → ℕ
-known_type code = if code == 1 then 111 else (if code == 8 then 103 else (if code == 5 || code == 9 then 117 else 115))
+-- the type of a known field with a text, by the codes of both: PATH o, SIGNATURE g, others s
+abbrev pub word_type : ℕ → ℕ
+word_type code = if code == 1 then 111 else (if code == 8 then 103 else 115)
+
+-- REPLY_SERIAL and UNIX_FDS are numbers of the type u
+abbrev pub is_number_field : ℕ → Bool
+is_number_field code = code == 5 || code == 9
+
+-- whether a known field has its type
+abbrev pub is_kind : ℕ → Content → Bool
+is_kind code (word type text) = not (is_number_field code) && type == word_type code
+is_kind code (number n) = is_number_field code
+is_kind code other = false
 
 -- what a known text is held to
 abbrev pub known_grammar : ℕ → Grammar
@@ -32,15 +42,10 @@ known_grammar code =
     else (if code == 8 then grammar.Signature
     else grammar.Interface)))
 
-abbrev pub content_type : Content → ℕ
-content_type (word code text) = code
-content_type (number n) = 117
-content_type other = 0
-
 -- a known text is as its grammar says, and a reply serial isn't 0
 abbrev pub is_good : ℕ → Content → Bool
-is_good code (word t text) = good_text (known_grammar code) text
-is_good code (number n) = code == 9 || not (n == 0)
+is_good code (word type text) = not (is_number_field code) && good_text (known_grammar code) text
+is_good code (number n) = code == 9 || (code == 5 && not (n == 0))
 is_good code other = false
 
 -- the first rule that a field breaks, behind others
@@ -49,7 +54,7 @@ field_fault before f =
     if f.code == 0 then Some Code
     else (if nat_lt 9 f.code then None
     else (if is_some (given f.code before) then Some Double
-    else (if not (content_type f.content == known_type f.code) then Some Kind
+    else (if not (is_kind f.code f.content) then Some Kind
     else (if not (is_good f.code f.content) then Some Value
     else None))))
 
