@@ -366,7 +366,7 @@ tied_put k before f t low high absent kind = record {
 }
 
 -- the rule that is broken, or the known fields with one more
-pub Added : Known → List Field → Field → Option FrameRule → Type 0
+unfoldable pub Added : Known → List Field → Field → Option FrameRule → Type 0
 Added k before f None = (more : Known) × (add_field k f ≡ Ok more) × Tied more (before ++ f ∷ [])
 Added k before f (Some rule) = add_field k f ≡ Err rule
 

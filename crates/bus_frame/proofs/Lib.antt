@@ -1,3 +1,4 @@
+pub mod ArrayLaws
 pub mod FieldLaws
 pub mod FieldSteps
 pub mod Frames
