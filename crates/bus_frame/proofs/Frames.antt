@@ -1,5 +1,5 @@
 -- What a read message, a broken rule and a want of bytes say of the bytes, and what says that they are so read.
-use Rattle.std.proofs.Common.{◌≡◌, ℕ, ◌+◌, ◌-◌, ◌<◌, ◌≤◌, Bool, true, false, ◌||◌, not, eqb, ltb, cond, List, length, Option, Some, None, Result, Ok, Err, refl, sym, ap, subst, ◌∙◌, inl, inr, arith}
+use Rattle.std.proofs.Common.{◌≡◌, ℕ, ◌+◌, ◌-◌, ◌<◌, ◌≤◌, Bool, true, false, ◌||◌, not, eqb, ltb, cond, List, ◌++◌, length, Option, Some, None, Result, Ok, Err, refl, sym, ap, subst, ◌∙◌, inl, inr, arith}
 use Rattle.std.specs.Prelude.{◌⊎◌}
 use Rattle.std.proofs.lemmas.Bool.{ltb-false, le-ltb, ltb-true, not-false, or_cases, eqb-true, eqb-false}
 use Rattle.bus_frame.specs.declared.rule.FrameRule.{FrameRule}
@@ -8,6 +8,8 @@ use Rattle.bus_frame.specs.declared.fixed.Fixed.{Fixed}
 use Rattle.bus_frame.specs.declared.header.Header.{Header}
 use Rattle.bus_frame.specs.Fields.{Known}
 use Rattle.bus_frame.specs.Reading.{fixed_of, body_start, message_len, fixed_fault, known_in, header_of, Read, need, bad, whole, read_known, read_fixed, frame_of}
+use Rattle.bus_frame.proofs.ValueAgain.{at_yes, at_no}
+use Rattle.bus_frame.proofs.StableLaws.{same_front}
 
 -- a message is there
 pub record IsRead (bytes : List ℕ) (f : Fixed) (k : Known) (h : Header) (n : ℕ) : Type 0 where
@@ -102,3 +104,67 @@ body_of_read bytes f k h n r =
 
 pub has_body : (bytes : List ℕ) (h : Header) (n : ℕ) → frame_of bytes ≡ whole h n → HasBody h n (length bytes)
 has_body bytes h n e = let r = reads_whole bytes h n e in body_of_read bytes (fixed_of bytes) r.0 h n r.1
+
+-- a rule is broken
+pub record IsBroken (bytes : List ℕ) (f : Fixed) (rule : FrameRule) : Type 0 where
+  pub head : 16 ≤ length bytes
+  pub why : (fixed_fault f ≡ Some rule) ⊎ ((fixed_fault f ≡ None) × (message_len f ≤ length bytes) × (known_in f bytes ≡ Err rule))
+
+not_need_bad : (b : Bool) (k : ℕ) (x : Read) (rule : FrameRule) → cond b (need k) x ≡ bad rule → (b ≡ false) × (x ≡ bad rule)
+not_need_bad true k x rule e = absurd cc
+not_need_bad false k x rule e = (refl, e)
+
+known_bad : (f : Fixed) (r : Result Known FrameRule) (rule : FrameRule) → read_known f r ≡ bad rule → r ≡ Err rule
+known_bad f (Ok k) rule e = absurd cc
+known_bad f (Err other) rule e = cc
+
+fixed_bad : (f : Fixed) (o : Option FrameRule) (bytes : List ℕ) (rule : FrameRule) → read_fixed f o bytes ≡ bad rule → (o ≡ Some rule) ⊎ ((o ≡ None) × (message_len f ≤ length bytes) × (known_in f bytes ≡ Err rule))
+fixed_bad f (Some other) bytes rule e = inl cc
+fixed_bad f None bytes rule e =
+    let rest = not_need_bad (ltb (length bytes) (message_len f)) (message_len f - length bytes) (read_known f (known_in f bytes)) rule e in
+    inr (refl, ltb-false _ _ rest.0, known_bad f (known_in f bytes) rule rest.1)
+
+pub reads_bad : (bytes : List ℕ) (rule : FrameRule) → frame_of bytes ≡ bad rule → IsBroken bytes (fixed_of bytes) rule
+unfolding frame_of
+reads_bad bytes rule e =
+    let f = fixed_of bytes in
+    let head = not_need_bad (ltb (length bytes) 16) (16 - length bytes) (read_fixed f (fixed_fault f) bytes) rule e in
+    record { head = ltb-false _ _ head.0; why = fixed_bad f (fixed_fault f) bytes rule head.1 }
+
+pub makes_whole : (bytes : List ℕ) (k : Known) → 16 ≤ length bytes → fixed_fault (fixed_of bytes) ≡ None → message_len (fixed_of bytes) ≤ length bytes → known_in (fixed_of bytes) bytes ≡ Ok k
+    → frame_of bytes ≡ whole (header_of (fixed_of bytes) k) (message_len (fixed_of bytes))
+unfolding frame_of
+makes_whole bytes k head sound enough known =
+    let f = fixed_of bytes in
+    at_no (ltb (length bytes) 16) (need (16 - length bytes)) (read_fixed f (fixed_fault f) bytes) (le-ltb _ _ head)
+    ∙ ap (λ (o : Option FrameRule). read_fixed f o bytes) sound
+    ∙ at_no (ltb (length bytes) (message_len f)) (need (message_len f - length bytes)) (read_known f (known_in f bytes)) (le-ltb _ _ enough)
+    ∙ ap (read_known f) known
+
+pub makes_bad : (bytes : List ℕ) (rule : FrameRule) → IsBroken bytes (fixed_of bytes) rule → frame_of bytes ≡ bad rule
+unfolding frame_of
+makes_bad bytes rule broken =
+    let f = fixed_of bytes in
+    at_no (ltb (length bytes) 16) (need (16 - length bytes)) (read_fixed f (fixed_fault f) bytes) (le-ltb _ _ broken.head)
+    ∙ elim broken.why [
+      | inl fault ↦ ap (λ (o : Option FrameRule). read_fixed f o bytes) fault
+      | inr w ↦
+          ap (λ (o : Option FrameRule). read_fixed f o bytes) w.0
+          ∙ at_no (ltb (length bytes) (message_len f)) (need (message_len f - length bytes)) (read_known f (known_in f bytes)) (le-ltb _ _ w.1)
+          ∙ ap (read_known f) w.2
+    ]
+
+-- a message and a broken rule stay, whatever comes behind them
+pub stays_whole : (x y : List ℕ) (h : Header) (n : ℕ) → frame_of x ≡ whole h n → frame_of (x ++ y) ≡ whole h n
+stays_whole x y h n e =
+    let r = reads_whole x h n e in
+    same_front x y r.1.head (λ _. r.1.all) ∙ e
+
+pub stays_bad : (x y : List ℕ) (rule : FrameRule) → frame_of x ≡ bad rule → frame_of (x ++ y) ≡ bad rule
+stays_bad x y rule e =
+    let r = reads_bad x rule e in
+    same_front x y r.head (λ none. enough (fixed_fault (fixed_of x)) none r.why) ∙ e
+  where
+    enough : (o : Option FrameRule) → o ≡ None → (o ≡ Some rule) ⊎ ((o ≡ None) × (message_len (fixed_of x) ≤ length x) × (known_in (fixed_of x) x ≡ Err rule)) → message_len (fixed_of x) ≤ length x
+    enough o none (inl some) = absurd cc
+    enough o none (inr w) = w.1

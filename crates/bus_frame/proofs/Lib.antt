@@ -1,10 +1,13 @@
 pub mod ArrayLaws
+pub mod EndLaws
 pub mod FieldLaws
 pub mod FieldSteps
 pub mod Frames
 pub mod KnownLaws
+pub mod MessageLaws
 pub mod Rows
 pub mod Spelled
+pub mod StableLaws
 pub mod Taking
 pub mod TextSteps
 pub mod Texts
