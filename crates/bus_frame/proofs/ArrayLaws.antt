@@ -72,8 +72,8 @@ more_stops little before p q rule f x t is fine others = record {
   spelled = (x, others.front, refl, is, subst (λ (n : ℕ). AreFields little n others.fields others.front) t.at others.spelled);
   fine = (fine, others.fine);
   why =
-    subst (λ (n : ℕ). Why little (before ++ f ∷ others.fields) n others.rest rule) (omega (arith, t.at, length-append x others.front))
-    (subst (λ (fs : List Field). Why little fs (q.at + length others.front) others.rest rule) (append_assoc before (f ∷ []) others.fields) others.why);
+      subst (λ (n : ℕ). Why little (before ++ f ∷ others.fields) n others.rest rule) (omega (arith, t.at, length-append x others.front))
+      (subst (λ (fs : List Field). Why little fs (q.at + length others.front) others.rest rule) (append_assoc before (f ∷ []) others.fields) others.why);
 }
 
 more : (little : Bool) (before : List Field) (p q : Place) (r : Result Known FrameRule) (f : Field) (x : List ℕ) → Takes p x q → IsField little p.at f x → field_fault before f ≡ None → Outcome little (before ++ f ∷ []) q r → Outcome little before p r
@@ -93,8 +93,8 @@ stop_here little k before p rule why = record {
   spelled = refl;
   fine = tt;
   why =
-    subst (λ (n : ℕ). Why little (before ++ []) n p.rest rule) (omega arith)
-    (subst (λ (fs : List Field). Why little fs p.at p.rest rule) (sym (append-nil before)) why);
+      subst (λ (n : ℕ). Why little (before ++ []) n p.rest rule) (omega arith)
+      (subst (λ (fs : List Field). Why little fs p.at p.rest rule) (sym (append-nil before)) why);
 }
 
 with_field : (little : Bool) (n : ℕ) (k : Known) (before : List Field) (p : Place) (f : Field) (q : Place) (x : List ℕ) → Shorter little n → IsBytes p.rest → length p.rest ≤ suc n → Takes p x q → IsField little p.at f x
@@ -196,9 +196,13 @@ fields_front little (f ∷ fs) (suc n) k before p x rest parts spelled fine t le
     let first = read_field little n k add.0 p q f (some_bytes u (y ++ rest) p grouped some) read add.1 in
     let less : length (y ++ rest) ≤ n = omega (arith, le, some, ap (λ (l : List ℕ). length l) grouped, length-append u (y ++ rest)) in
     let others = fields_front little fs n add.0 (before ++ f ∷ []) q y rest refl spelled.4 fine.1 add.2 less in
-    let place_is : place (q.at + length y) rest ≡ place (p.at + length x) rest = ap (λ (a : ℕ). place a rest) (omega (arith, ap (λ (l : List ℕ). length l) spelled.2, length-append u y)) in
-    (others.0, others.1, first ∙ others.2 ∙ ap (λ (r : Place). fields_at little others.1 others.0 r) place_is,
-    subst (λ (l : List Field). Tied others.0 l) (append_assoc before (f ∷ []) fs) others.3, others.4)
+    let place_is : place (q.at + length y) rest ≡ place (p.at + length x) rest = ap (λ (a : ℕ). place a rest) (omega (arith, ap (λ (l : List ℕ). length l) spelled.2, length-append u y)) in (
+      others.0,
+      others.1,
+      first ∙ others.2 ∙ ap (λ (r : Place). fields_at little others.1 others.0 r) place_is,
+      subst (λ (l : List Field). Tied others.0 l) (append_assoc before (f ∷ []) fs) others.3,
+      others.4,
+    )
 
 pub fields_again : (little : Bool) (fs : List Field) (n : ℕ) (k : Known) (before : List Field) (p : Place) → AreFields little p.at fs p.rest → AreFine before fs → Tied k before → length p.rest ≤ n
     → (m : Known) × (fields_at little n k p ≡ Ok m) × Tied m (before ++ fs)
@@ -215,13 +219,14 @@ fields_stop little fs n k before p x rest rule fits parts spelled fine t le why 
     no_read : (q : Place) → IsBytes q.rest → ((f : Field) (u v : List ℕ) → q.rest ≡ u ++ v → IsField little q.at f u → ⊥) → (o : Option (Field × Place)) → field_at little q ≡ o → o ≡ None
     no_read q fits_q none None e = refl
     no_read q fits_q none (Some r) e = let x' = field_takes little q r.0 r.1 fits_q e in absurd (none r.0 x'.0 r.1.rest x'.1.parts x'.2)
+
     stops : (left : ℕ) (m : Known) (q : Place) (done_fields : List Field) → Tied m done_fields → length q.rest ≤ left → IsBytes q.rest → Why little done_fields q.at q.rest rule → fields_at little left m q ≡ Err rule
     stops left m q done_fields tied enough fits_q (inl w) =
-      let some : eqb (length q.rest) 0 ≡ false = ne_eqb (length q.rest) 0 (λ e. w.0 (nil_from_length q.rest e)) in
-      no_field little left m q some (no_read q fits_q w.1 (field_at little q) refl) ∙ ap (λ (r : FrameRule). Err r) (sym w.2)
+        let some : eqb (length q.rest) 0 ≡ false = ne_eqb (length q.rest) 0 (λ e. w.0 (nil_from_length q.rest e)) in
+        no_field little left m q some (no_read q fits_q w.1 (field_at little q) refl) ∙ ap (λ (r : FrameRule). Err r) (sym w.2)
     stops zero m q done_fields tied enough fits_q (inr w) =
-      let some = field_some little q.at w.0 w.1 w.4 in
-      absurd (omega (arith, enough, some, ap (λ (l : List ℕ). length l) w.3, length-append w.1 w.2))
+        let some = field_some little q.at w.0 w.1 w.4 in
+        absurd (omega (arith, enough, some, ap (λ (l : List ℕ). length l) w.3, length-append w.1 w.2))
     stops (suc left) m q done_fields tied enough fits_q (inr w) =
-      let some = field_some little q.at w.0 w.1 w.4 in
-      break_field little left m q (place (q.at + length w.1) w.2) w.0 rule (some_bytes w.1 w.2 q w.3 some) (field_again little q w.0 w.1 w.2 w.3 w.4) (broken_added m done_fields w.0 rule tied w.5)
+        let some = field_some little q.at w.0 w.1 w.4 in
+        break_field little left m q (place (q.at + length w.1) w.2) w.0 rule (some_bytes w.1 w.2 q w.3 some) (field_again little q w.0 w.1 w.2 w.3 w.4) (broken_added m done_fields w.0 rule tied w.5)

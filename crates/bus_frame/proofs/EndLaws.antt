@@ -66,10 +66,10 @@ lacks-known kind k =
     let signal : ((is_none k.path || is_none k.interface) || is_none k.member) ≡ p (1 ∷ 2 ∷ 3 ∷ []) = three_lack (is_none k.path) (is_none k.interface) (is_none k.member) ∙ sym (rw (path, interface, member) refl) in
     same_cond (eqb kind 1) _ _ _ _ call (same_cond (eqb kind 2) _ _ _ _ answer (same_cond (eqb kind 3) _ _ _ _ error (same_cond (eqb kind 4) _ _ _ _ signal refl)))
     ∙ sym (
-      push_cond p (eqb kind 1) (1 ∷ 3 ∷ []) (cond (eqb kind 2) (5 ∷ []) (cond (eqb kind 3) (4 ∷ 5 ∷ []) (cond (eqb kind 4) (1 ∷ 2 ∷ 3 ∷ []) [])))
-      ∙ same_cond (eqb kind 1) _ _ _ _ refl (push_cond p (eqb kind 2) (5 ∷ []) (cond (eqb kind 3) (4 ∷ 5 ∷ []) (cond (eqb kind 4) (1 ∷ 2 ∷ 3 ∷ []) [])))
-      ∙ same_cond (eqb kind 1) _ _ _ _ refl (same_cond (eqb kind 2) _ _ _ _ refl (push_cond p (eqb kind 3) (4 ∷ 5 ∷ []) (cond (eqb kind 4) (1 ∷ 2 ∷ 3 ∷ []) [])))
-      ∙ same_cond (eqb kind 1) _ _ _ _ refl (same_cond (eqb kind 2) _ _ _ _ refl (same_cond (eqb kind 3) _ _ _ _ refl (push_cond p (eqb kind 4) (1 ∷ 2 ∷ 3 ∷ []) []))))
+    push_cond p (eqb kind 1) (1 ∷ 3 ∷ []) (cond (eqb kind 2) (5 ∷ []) (cond (eqb kind 3) (4 ∷ 5 ∷ []) (cond (eqb kind 4) (1 ∷ 2 ∷ 3 ∷ []) [])))
+    ∙ same_cond (eqb kind 1) _ _ _ _ refl (push_cond p (eqb kind 2) (5 ∷ []) (cond (eqb kind 3) (4 ∷ 5 ∷ []) (cond (eqb kind 4) (1 ∷ 2 ∷ 3 ∷ []) [])))
+    ∙ same_cond (eqb kind 1) _ _ _ _ refl (same_cond (eqb kind 2) _ _ _ _ refl (push_cond p (eqb kind 3) (4 ∷ 5 ∷ []) (cond (eqb kind 4) (1 ∷ 2 ∷ 3 ∷ []) [])))
+    ∙ same_cond (eqb kind 1) _ _ _ _ refl (same_cond (eqb kind 2) _ _ _ _ refl (same_cond (eqb kind 3) _ _ _ _ refl (push_cond p (eqb kind 4) (1 ∷ 2 ∷ 3 ∷ []) []))))
 
 -- codes of known fields
 abbrev InRange : List ℕ → Type 0
@@ -129,7 +129,7 @@ pub end-rest : (f : Fixed) (k : Known) (fields : List Field) (gap body : List �
 unfolding end_fault
 end-rest f k fields gap body t len =
     let typed : (ltb 0 f.body_len && eqb (length (unwrap_or k.signature [])) 0) ≡ not (eqb (length body) 0 || is_typing (given 8 fields)) =
-      body_untyped k fields f.body_len t ∙ ap (λ (n : ℕ). not (eqb n 0 || is_typing (given 8 fields))) (sym len) in
+    body_untyped k fields f.body_len t ∙ ap (λ (n : ℕ). not (eqb n 0 || is_typing (given 8 fields))) (sym len) in
     ap (λ (b : Bool). cond (not (are_zero gap)) (Some Padding) (cond b (Some Required) (cond (ltb 0 f.body_len && eqb (length (unwrap_or k.signature [])) 0) (Some Body) None))) (lacks-needed f.kind k fields t)
     ∙ ap (λ (b : Bool). cond (not (are_zero gap)) (Some Padding) (cond (not (has_needed f.kind fields)) (Some Required) (cond b (Some Body) None))) typed
 

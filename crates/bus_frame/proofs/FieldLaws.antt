@@ -104,78 +104,78 @@ pub record Says (little : Bool) (t : Ty) (p : Place) (c : Content) (q : Place) :
 module _ (little : Bool) (t : Ty) (p : Place) (c : Content) (q : Place) (fits : IsBytes p.rest) where
   long_says : (eqb (tag t) 115 || eqb (tag t) 111) ≡ true → option_map (as_word (tag t)) (long_text_at little p) ≡ Some (c, q) → Says little t p c q
   long_says g e =
-    let k = tag t in
-    let x = map_some (long_text_at little p) (as_word k) (c, q) e in
-    let v = long_text_takes little p x.0.0 x.0.1 fits x.1 in
-    let c_is : word k x.0.0 ≡ c = ap (λ (r : Content × Place). r.0) x.2 in
-    let q_is : x.0.1 ≡ q = ap (λ (r : Content × Place). r.1) x.2 in
-    let kind : (t ≡ basic k) × ((k ≡ 115) ⊎ (k ≡ 111)) =
+      let k = tag t in
+      let x = map_some (long_text_at little p) (as_word k) (c, q) e in
+      let v = long_text_takes little p x.0.0 x.0.1 fits x.1 in
+      let c_is : word k x.0.0 ≡ c = ap (λ (r : Content × Place). r.0) x.2 in
+      let q_is : x.0.1 ≡ q = ap (λ (r : Content × Place). r.1) x.2 in
+      let kind : (t ≡ basic k) × ((k ≡ 115) ⊎ (k ≡ 111)) =
       elim (or_cases (eqb k 115) (eqb k 111) g) [
         | inl a ↦ let is = eqb-true k 115 a in (begins t 115 a refl ∙ ap basic (sym is), inl is)
         | inr a ↦ let is = eqb-true k 111 a in (begins t 111 a refl ∙ ap basic (sym is), inr is)
       ] in
-    record {
-      value = v.0;
-      takes = subst (λ (r : Place). Takes p v.0 r) q_is v.1;
-      is = subst (λ (d : Content). IsContent little t p.at d v.0) c_is (inl (kind.0, kind.1, v.2));
-    }
+      record {
+        value = v.0;
+        takes = subst (λ (r : Place). Takes p v.0 r) q_is v.1;
+        is = subst (λ (d : Content). IsContent little t p.at d v.0) c_is (inl (kind.0, kind.1, v.2));
+      }
 
   short_says : eqb (tag t) 103 ≡ true → option_map (as_word (tag t)) (short_text_at p) ≡ Some (c, q) → Says little t p c q
   short_says g e =
-    let k = tag t in
-    let x = map_some (short_text_at p) (as_word k) (c, q) e in
-    let v = short_text_takes p x.0.0 x.0.1 fits x.1 in
-    let c_is : word k x.0.0 ≡ c = ap (λ (r : Content × Place). r.0) x.2 in
-    let q_is : x.0.1 ≡ q = ap (λ (r : Content × Place). r.1) x.2 in
-    let code_is = eqb-true k 103 g in
-    let type_is : t ≡ basic k = begins t 103 g refl ∙ ap basic (sym code_is) in
-    record {
-      value = v.0;
-      takes = subst (λ (r : Place). Takes p v.0 r) q_is v.1;
-      is = subst (λ (d : Content). IsContent little t p.at d v.0) c_is (inr (type_is, code_is, v.2));
-    }
+      let k = tag t in
+      let x = map_some (short_text_at p) (as_word k) (c, q) e in
+      let v = short_text_takes p x.0.0 x.0.1 fits x.1 in
+      let c_is : word k x.0.0 ≡ c = ap (λ (r : Content × Place). r.0) x.2 in
+      let q_is : x.0.1 ≡ q = ap (λ (r : Content × Place). r.1) x.2 in
+      let code_is = eqb-true k 103 g in
+      let type_is : t ≡ basic k = begins t 103 g refl ∙ ap basic (sym code_is) in
+      record {
+        value = v.0;
+        takes = subst (λ (r : Place). Takes p v.0 r) q_is v.1;
+        is = subst (λ (d : Content). IsContent little t p.at d v.0) c_is (inr (type_is, code_is, v.2));
+      }
 
   number_says : eqb (tag t) 117 ≡ true → option_map as_number (number_at little p) ≡ Some (c, q) → Says little t p c q
   number_says g e =
-    let x = map_some (number_at little p) as_number (c, q) e in
-    let v = number_takes little p x.0.0 x.0.1 fits x.1 in
-    let c_is : number x.0.0 ≡ c = ap (λ (r : Content × Place). r.0) x.2 in
-    let q_is : x.0.1 ≡ q = ap (λ (r : Content × Place). r.1) x.2 in
-    record {
-      value = v.0;
-      takes = subst (λ (r : Place). Takes p v.0 r) q_is v.1;
-      is = subst (λ (d : Content). IsContent little t p.at d v.0) c_is (begins t 117 g refl, v.2);
-    }
+      let x = map_some (number_at little p) as_number (c, q) e in
+      let v = number_takes little p x.0.0 x.0.1 fits x.1 in
+      let c_is : number x.0.0 ≡ c = ap (λ (r : Content × Place). r.0) x.2 in
+      let q_is : x.0.1 ≡ q = ap (λ (r : Content × Place). r.1) x.2 in
+      record {
+        value = v.0;
+        takes = subst (λ (r : Place). Takes p v.0 r) q_is v.1;
+        is = subst (λ (d : Content). IsContent little t p.at d v.0) c_is (begins t 117 g refl, v.2);
+      }
 
   other_says : is_type false t 32 32 ≡ true → is_telling t ≡ false → other_end little (type_text t) p ≡ Some (c, q) → Says little t p c q
   other_says complete silent e =
-    let x = map_some (value_at little 63 32 32 (type_text t) p) as_other (c, q) e in
-    let c_is : other ≡ c = ap (λ (r : Content × Place). r.0) x.2 in
-    let q_is : x.0.1 ≡ q = ap (λ (r : Content × Place). r.1) x.2 in
-    let read : value_at little 63 32 32 (type_text t ++ []) p ≡ Some x.0 = ap (λ (l : List ℕ). value_at little 63 32 32 l p) (append-nil (type_text t)) ∙ x.1 in
-    let v = value_takes little 63 32 32 t false 32 32 [] complete (omega arith) (omega arith) p x.0 fits read in
-    record {
-      value = v.value;
-      takes = subst (λ (r : Place). Takes p v.value r) q_is v.takes;
-      is = subst (λ (d : Content). IsContent little t p.at d v.value) c_is (silent, v.is);
-    }
+      let x = map_some (value_at little 63 32 32 (type_text t) p) as_other (c, q) e in
+      let c_is : other ≡ c = ap (λ (r : Content × Place). r.0) x.2 in
+      let q_is : x.0.1 ≡ q = ap (λ (r : Content × Place). r.1) x.2 in
+      let read : value_at little 63 32 32 (type_text t ++ []) p ≡ Some x.0 = ap (λ (l : List ℕ). value_at little 63 32 32 l p) (append-nil (type_text t)) ∙ x.1 in
+      let v = value_takes little 63 32 32 t false 32 32 [] complete (omega arith) (omega arith) p x.0 fits read in
+      record {
+        value = v.value;
+        takes = subst (λ (r : Place). Takes p v.value r) q_is v.takes;
+        is = subst (λ (d : Content). IsContent little t p.at d v.value) c_is (silent, v.is);
+      }
 
   content_takes : is_type false t 32 32 ≡ true → content_at little (type_text t) p ≡ Some (c, q) → Says little t p c q
   content_takes complete e =
-    let k = tag t in
-    let types = type_text t in
-    elim (chosen (eqb k 115 || eqb k 111) (option_map (as_word k) (long_text_at little p)) (short_end k little types p) (Some (c, q)) (sym (at_content little p t) ∙ e)) [
-      | inl g ↦ long_says g.0 g.1
-      | inr g ↦
-          elim (chosen (eqb k 103) (option_map (as_word k) (short_text_at p)) (number_end k little types p) (Some (c, q)) g.1) [
-            | inl h ↦ short_says h.0 h.1
-            | inr h ↦
-                elim (chosen (eqb k 117) (option_map as_number (number_at little p)) (other_end little types p) (Some (c, q)) h.1) [
-                  | inl l ↦ number_says l.0 l.1
-                  | inr l ↦ other_says complete (tells_nothing t g.0 h.0 l.0) l.1
-                ]
-          ]
-    ]
+      let k = tag t in
+      let types = type_text t in
+      elim (chosen (eqb k 115 || eqb k 111) (option_map (as_word k) (long_text_at little p)) (short_end k little types p) (Some (c, q)) (sym (at_content little p t) ∙ e)) [
+        | inl g ↦ long_says g.0 g.1
+        | inr g ↦
+            elim (chosen (eqb k 103) (option_map (as_word k) (short_text_at p)) (number_end k little types p) (Some (c, q)) g.1) [
+              | inl h ↦ short_says h.0 h.1
+              | inr h ↦
+                  elim (chosen (eqb k 117) (option_map as_number (number_at little p)) (other_end little types p) (Some (c, q)) h.1) [
+                    | inl l ↦ number_says l.0 l.1
+                    | inr l ↦ other_says complete (tells_nothing t g.0 h.0 l.0) l.1
+                  ]
+            ]
+      ]
 
 at_long : (little : Bool) (p : Place) (code : ℕ) (types : List ℕ) → (eqb code 115 || eqb code 111) ≡ true → long_end code little types p ≡ option_map (as_word code) (long_text_at little p)
 at_long little p code types e = at_yes (eqb code 115 || eqb code 111) (option_map (as_word code) (long_text_at little p)) (short_end code little types p) e
@@ -188,10 +188,10 @@ content_again little t p (word code text) v rest complete parts (inl is) =
     let q = place (p.at + length v) rest in
     let read = map_is (long_text_at little p) (as_word code) (text, q) (long_text_again little p text v rest parts is.2) in
     let test : (eqb code 115 || eqb code 111) ≡ true =
-      elim is.1 [
-        | inl e ↦ ap (λ (k : ℕ). eqb k 115 || eqb k 111) e
-        | inr e ↦ ap (λ (k : ℕ). eqb k 115 || eqb k 111) e
-      ] in
+    elim is.1 [
+      | inl e ↦ ap (λ (k : ℕ). eqb k 115 || eqb k 111) e
+      | inr e ↦ ap (λ (k : ℕ). eqb k 115 || eqb k 111) e
+    ] in
     ap (λ (u : Ty). content_at little (type_text u) p) is.0 ∙ at_content little p (basic code) ∙ at_long little p code (code ∷ []) test ∙ read
 content_again little t p (word code text) v rest complete parts (inr is) =
     let q = place (p.at + length v) rest in
@@ -237,15 +237,18 @@ field_takes little p f q fits e =
     let whole = Takes-then p d.0.1 g.0.1 head says.value to_value says.takes in
     let made : Field × Place = (record { code = b.0.0; content = g.0.0 }, g.0.1) in
     let made_is : made ≡ (f, q) = cc (g.2) in
-    subst (λ (r : Field × Place). (x : List ℕ) × Takes p x r.1 × IsField little p.at r.0 x) made_is
-    (head ++ says.value, whole, record {
-      held = types.0;
-      text = types.1;
-      value = says.value;
-      typed = types.3;
-      spelled = refl;
-      says = subst (λ (k : ℕ). IsContent little types.0 k g.0.0 says.value) to_value.at says.is;
-    })
+    subst (λ (r : Field × Place). (x : List ℕ) × Takes p x r.1 × IsField little p.at r.0 x) made_is (
+      head ++ says.value,
+      whole,
+      record {
+        held = types.0;
+        text = types.1;
+        value = says.value;
+        typed = types.3;
+        spelled = refl;
+        says = subst (λ (k : ℕ). IsContent little types.0 k g.0.0 says.value) to_value.at says.is;
+      },
+    )
 
 pub field_again : (little : Bool) (p : Place) (f : Field) (x rest : List ℕ) → p.rest ≡ x ++ rest → IsField little p.at f x → field_at little p ≡ Some (f, place (p.at + length x) rest)
 unfolding field_at

@@ -344,25 +344,25 @@ none_if_not None e = refl
 tied_above : (k : Known) (before : List Field) (f : Field) → Tied k before → 9 < f.code → Tied k (before ++ f ∷ [])
 tied_above k before f t lt = record {
   says = λ code low high.
-    let apart : eqb f.code code ≡ false = ne_eqb f.code code (λ e. omega arith) in
-    t.says code low high ∙ sym (given-push code before f ∙ ap (λ (b : Bool). or_else (given code before) (cond b (Some f.content) None)) apart ∙ or_else_none (given code before));
+      let apart : eqb f.code code ≡ false = ne_eqb f.code code (λ e. omega arith) in
+      t.says code low high ∙ sym (given-push code before f ∙ ap (λ (b : Bool). or_else (given code before) (cond b (Some f.content) None)) apart ∙ or_else_none (given code before));
 }
 
 tied_put : (k : Known) (before : List Field) (f : Field) → Tied k before → 1 ≤ f.code → f.code ≤ 9 → given f.code before ≡ None → is_kind f.code f.content ≡ true → Tied (put k f.code f.content) (before ++ f ∷ [])
 unfolding PutSaid
 tied_put k before f t low high absent kind = record {
   says = λ o o_low o_high.
-    put_said k f.code f.content low high kind o
-    ∙ elim (cases_eq f.code o) [
-      | inl e ↦
-          let test = eq-eqb f.code o e in
-          at_yes (eqb f.code o) (Some f.content) (known_says k o) test
-          ∙ sym (given-push o before f ∙ ap (λ (b : Bool). or_else (given o before) (cond b (Some f.content) None)) test ∙ ap (λ (r : Option Content). or_else r (Some f.content)) (ap (λ (c : ℕ). given c before) (sym e) ∙ absent))
-      | inr ne ↦
-          let test = ne_eqb f.code o ne in
-          at_no (eqb f.code o) (Some f.content) (known_says k o) test ∙ t.says o o_low o_high
-          ∙ sym (given-push o before f ∙ ap (λ (b : Bool). or_else (given o before) (cond b (Some f.content) None)) test ∙ or_else_none (given o before))
-    ];
+      put_said k f.code f.content low high kind o
+      ∙ elim (cases_eq f.code o) [
+        | inl e ↦
+            let test = eq-eqb f.code o e in
+            at_yes (eqb f.code o) (Some f.content) (known_says k o) test
+            ∙ sym (given-push o before f ∙ ap (λ (b : Bool). or_else (given o before) (cond b (Some f.content) None)) test ∙ ap (λ (r : Option Content). or_else r (Some f.content)) (ap (λ (c : ℕ). given c before) (sym e) ∙ absent))
+        | inr ne ↦
+            let test = ne_eqb f.code o ne in
+            at_no (eqb f.code o) (Some f.content) (known_says k o) test ∙ t.says o o_low o_high
+            ∙ sym (given-push o before f ∙ ap (λ (b : Bool). or_else (given o before) (cond b (Some f.content) None)) test ∙ or_else_none (given o before))
+      ];
 }
 
 -- the rule that is broken, or the known fields with one more
@@ -390,9 +390,11 @@ added k before f t = by_zero (eqb f.code 0) refl
   where
     behind_zero : Option FrameRule
     behind_zero = cond (ltb 9 f.code) None (cond (is_some (given f.code before)) (Some Double) (cond (not (is_kind f.code f.content)) (Some Kind) (cond (not (is_good f.code f.content)) (Some Value) None)))
+
     by_above : (b : Bool) → ltb 9 f.code ≡ b → 1 ≤ f.code → Added k before f (cond b None (cond (is_some (given f.code before)) (Some Double) (cond (not (is_kind f.code f.content)) (Some Kind) (cond (not (is_good f.code f.content)) (Some Value) None))))
     by_above true e low = let lt = ltb-true 9 f.code e in (k, above k f lt, tied_above k before f t lt)
     by_above false e low = added_known k before f t low (ltb-false 9 f.code e)
+
     by_zero : (b : Bool) → eqb f.code 0 ≡ b → Added k before f (cond b (Some Code) (cond (ltb 9 f.code) None (cond (is_some (given f.code before)) (Some Double) (cond (not (is_kind f.code f.content)) (Some Kind) (cond (not (is_good f.code f.content)) (Some Value) None)))))
     by_zero true e = rw e refl
     by_zero false e = let ne = eqb-false f.code 0 e in by_above (ltb 9 f.code) refl (omega arith)

@@ -1,7 +1,7 @@
 -- A message that is read is one, and one is read; the rule that is named is the first one broken.
 use Rattle.std.proofs.Common.{◌≡◌, ℕ, zero, suc, ◌+◌, ◌-◌, ◌<◌, ◌≤◌, Bool, true, false, not, cond, eqb, ltb, List, [], ◌∷◌, ◌++◌, length, take, drop, Option, Some, None, Result, Ok, Err, refl, sym, ap, subst, ◌∙◌, append_assoc, inl, inr, arith, length-drop, drop-drop}
 use Rattle.std.specs.Prelude.{◌||◌, ◌⊎◌, ◌≢◌, is_some}
-use Rattle.std.proofs.lemmas.Bool.{ltb-false, le-ltb, not-false, false≢true}
+use Rattle.std.proofs.lemmas.Bool.{ltb-true, ltb-false, le-ltb, lt-ltb, not-false, false≢true}
 use Rattle.std.proofs.lemmas.List.{length-append, length-take-le, take-append-drop, take_at, drop_at, append-nil}
 use Rattle.bus_frame.specs.declared.rule.FrameRule.{FrameRule}
 use Rattle.bus_frame.specs.declared.rule.FrameRule.TheVariants.{Fields, Padding, Required, Body}
@@ -10,7 +10,13 @@ use Rattle.bus_frame.specs.declared.header.Header.{Header}
 use Rattle.bus_frame.specs.Numbers.{padding, are_zero}
 use Rattle.bus_frame.specs.Places.{Place}
 use Rattle.bus_frame.specs.Fields.{Known, none_known, Field, ◌>=>◌, fields_at}
-use Rattle.bus_frame.specs.Reading.{is_little, fixed_of, array_end, body_start, message_len, fixed_fault, end_fault, unless_broken, known_in, header_of, Read, need, bad, whole, frame_of}
+use Rattle.bus_frame.specs.Reading.{is_little, fixed_of, array_end, body_start, message_len, fixed_fault, end_fault, unless_broken, known_in, header_of, Read, need, bad, whole, read_known, read_fixed, frame_of}
+use Rattle.bus_frame.specs.declared.rule.FrameError.{FrameError}
+use Rattle.bus_frame.specs.declared.rule.FrameError.TheVariants as errors
+use Rattle.bus_frame.specs.declared.header.ReadFrame.{ReadFrame}
+use Rattle.bus_frame.specs.declared.header.ReadFrame.TheVariants as answer
+use Rattle.bus_frame.specs.Answers.{AnswersFrame, IfFrame, IfNeed, IfBad, BeginsBroken, Lacks}
+use Rattle.bus_frame.proofs.TypeLaws.{chosen}
 use Rattle.bus_frame.specs.Grammar.{IsField, AreFields}
 use Rattle.bus_frame.specs.Frame.{given, field_fault, AreFine, has_needed, is_typing, HasParts, IsHeader, Frame, FineUpTo, rest_fault, Breaks, fixed_part, no_field, broken_field, broken_rest}
 use Rattle.bus_frame.proofs.Taking.{place}
@@ -18,7 +24,7 @@ use Rattle.bus_frame.proofs.Spelled.{IsBytes, IsBytes-left, IsBytes-right}
 use Rattle.bus_frame.proofs.KnownLaws.{Tied, tied_none}
 use Rattle.bus_frame.proofs.ArrayLaws.{AllFine, Why, Stops, Outcome, fields_take, fields_again, fields_stop}
 use Rattle.bus_frame.proofs.EndLaws.{end-rest, header_is, header_same}
-use Rattle.bus_frame.proofs.Frames.{IsRead, reads_whole, IsBroken, reads_bad, makes_whole, makes_bad}
+use Rattle.bus_frame.proofs.Frames.{IsRead, reads_whole, IsBroken, reads_bad, makes_whole, makes_bad, stays_whole, stays_bad}
 use Rattle.bus_frame.proofs.ValueAgain.{at_yes, at_no}
 use Rattle.bus_frame.proofs.StableLaws.{fixed_front, same_front}
 
@@ -49,8 +55,8 @@ cut f m len =
       gap = gap;
       body = body;
       spelled =
-        first ∙ ap (λ (l : List ℕ). take 16 m ++ l) (second ∙ ap (λ (l : List ℕ). array ++ l) third)
-        ∙ sym (append_assoc (take 16 m) array (gap ++ body)) ∙ sym (append_assoc (take 16 m ++ array) gap body);
+          first ∙ ap (λ (l : List ℕ). take 16 m ++ l) (second ∙ ap (λ (l : List ℕ). array ++ l) third)
+          ∙ sym (append_assoc (take 16 m) array (gap ++ body)) ∙ sym (append_assoc (take 16 m ++ array) gap body);
       array_is = refl;
       gap_is = refl;
       array_len = length-take-le f.array_len (drop 16 m) (omega (arith, len, length-drop 16 m));
@@ -67,10 +73,11 @@ parts_read m array gap body p =
     let whole_is : m ≡ t ++ (array ++ (gap ++ body)) = p.spelled ∙ append_assoc (t ++ array) gap body ∙ append_assoc t array (gap ++ body) in
     let behind_head : drop 16 m ≡ array ++ (gap ++ body) = ap (drop 16) whole_is ∙ drop_at t (array ++ (gap ++ body)) 16 t_len in
     let behind_array : drop (array_end f) m ≡ gap ++ body = sym (drop-drop f.array_len 16 m) ∙ ap (drop f.array_len) behind_head ∙ drop_at array (gap ++ body) f.array_len p.array_len in
-    let gap_count : body_start f - array_end f ≡ padding 8 (array_end f) = omega arith in
-    (ap (take f.array_len) behind_head ∙ take_at array (gap ++ body) f.array_len p.array_len,
-    ap (take (body_start f - array_end f)) behind_array ∙ take_at gap body (body_start f - array_end f) (p.gap_len ∙ sym gap_count),
-    ap (λ (l : List ℕ). length l) whole_is ∙ length-append t (array ++ (gap ++ body)) ∙ omega (arith, t_len, length-append array (gap ++ body), length-append gap body, p.array_len, p.gap_len, p.body_len))
+    let gap_count : body_start f - array_end f ≡ padding 8 (array_end f) = omega arith in (
+      ap (take f.array_len) behind_head ∙ take_at array (gap ++ body) f.array_len p.array_len,
+      ap (take (body_start f - array_end f)) behind_array ∙ take_at gap body (body_start f - array_end f) (p.gap_len ∙ sym gap_count),
+      ap (λ (l : List ℕ). length l) whole_is ∙ length-append t (array ++ (gap ++ body)) ∙ omega (arith, t_len, length-append array (gap ++ body), length-append gap body, p.array_len, p.gap_len, p.body_len),
+    )
 
 -- ---- what is read is a message
 
@@ -154,10 +161,10 @@ frame_whole m h is =
     let k = all.0 in
     let ends : end_fault f k is.gap ≡ None = end-rest f k is.fields is.gap is.body all.2 is.parts.body_len ∙ rest_none f.kind is.fields is.gap is.body (record { padded = is.padded; needed = is.needed; typed = is.typed }) in
     let known : known_in f m ≡ Ok k =
-      ap (λ (a : List ℕ). fields_at little f.array_len none_known (place 16 a) >=> λ x. unless_broken (end_fault f x (take (body_start f - array_end f) (drop (array_end f) m))) x) parts.0
-      ∙ ap (λ (o : Result Known FrameRule). o >=> λ x. unless_broken (end_fault f x (take (body_start f - array_end f) (drop (array_end f) m))) x) all.1
-      ∙ ap (λ (g : List ℕ). unless_broken (end_fault f k g) k) parts.1
-      ∙ ap (λ (o : Option FrameRule). unless_broken o k) ends in
+    ap (λ (a : List ℕ). fields_at little f.array_len none_known (place 16 a) >=> λ x. unless_broken (end_fault f x (take (body_start f - array_end f) (drop (array_end f) m))) x) parts.0
+    ∙ ap (λ (o : Result Known FrameRule). o >=> λ x. unless_broken (end_fault f x (take (body_start f - array_end f) (drop (array_end f) m))) x) all.1
+    ∙ ap (λ (g : List ℕ). unless_broken (end_fault f k g) k) parts.1
+    ∙ ap (λ (o : Option FrameRule). unless_broken o k) ends in
     makes_whole m k is.parts.head is.parts.sound (omega (arith, parts.2)) known
     ∙ ap (λ (x : Header). whole x (message_len f)) (sym (header_same f k is.fields h all.2 is.header))
     ∙ ap (λ (n : ℕ). whole h n) (sym parts.2)
@@ -213,7 +220,7 @@ rest_breaks m rule fits head sound len known =
       | inr e ↦
           let all = fine_outcome little p e.0 (fields_at little f.array_len none_known p) e.1 outcome in
           let fault : rest_fault f.kind all.fields c.gap c.body ≡ Some rule =
-            sym (end-rest f e.0 all.fields c.gap c.body all.tied c.body_len) ∙ ap (λ (g : List ℕ). end_fault f e.0 g) c.gap_is ∙ broken_is (end_fault f e.0 zeros_read) e.0 rule e.2 in
+          sym (end-rest f e.0 all.fields c.gap c.body all.tied c.body_len) ∙ ap (λ (g : List ℕ). end_fault f e.0 g) c.gap_is ∙ broken_is (end_fault f e.0 zeros_read) e.0 rule e.2 in
           broken_rest c.array c.gap c.body all.fields parts (subst (λ (l : List ℕ). AreFields little 16 all.fields l) (sym c.array_is) all.spelled) all.fine fault
     ]
 
@@ -235,8 +242,8 @@ stop_bad m before at rest rule fits up_to why =
     let why_here : Why little ([] ++ before) (p.at + length up_to.front) rest rule = subst (λ (n : ℕ). Why little before n rest rule) up_to.at_is why in
     let read = fields_stop little before f.array_len none_known [] p up_to.front rest rule array_fits up_to.array_is up_to.spelled up_to.fine tied_none (omega (arith, up_to.parts.array_len)) why_here in
     let known : known_in f m ≡ Err rule =
-      ap (λ (a : List ℕ). fields_at little f.array_len none_known (place 16 a) >=> λ x. unless_broken (end_fault f x (take (body_start f - array_end f) (drop (array_end f) m))) x) parts.0
-      ∙ ap (λ (o : Result Known FrameRule). o >=> λ x. unless_broken (end_fault f x (take (body_start f - array_end f) (drop (array_end f) m))) x) read in
+    ap (λ (a : List ℕ). fields_at little f.array_len none_known (place 16 a) >=> λ x. unless_broken (end_fault f x (take (body_start f - array_end f) (drop (array_end f) m))) x) parts.0
+    ∙ ap (λ (o : Result Known FrameRule). o >=> λ x. unless_broken (end_fault f x (take (body_start f - array_end f) (drop (array_end f) m))) x) read in
     makes_bad m rule (record { head = up_to.parts.head; why = inr (up_to.parts.sound, omega (arith, parts.2), known) })
 
 rest_bad : (m array gap body : List ℕ) (fields : List Field) (rule : FrameRule) → HasParts m array gap body → AreFields (is_little (fixed_of m)) 16 fields array → AreFine [] fields → rest_fault (fixed_of m).kind fields gap body ≡ Some rule → frame_of m ≡ bad rule
@@ -249,10 +256,10 @@ rest_bad m array gap body fields rule has spelled fine fault =
     let all = fields_again little fields f.array_len none_known [] p spelled fine tied_none (omega (arith, has.array_len)) in
     let ends : end_fault f all.0 gap ≡ Some rule = end-rest f all.0 fields gap body all.2 has.body_len ∙ fault in
     let known : known_in f m ≡ Err rule =
-      ap (λ (a : List ℕ). fields_at little f.array_len none_known (place 16 a) >=> λ x. unless_broken (end_fault f x (take (body_start f - array_end f) (drop (array_end f) m))) x) parts.0
-      ∙ ap (λ (o : Result Known FrameRule). o >=> λ x. unless_broken (end_fault f x (take (body_start f - array_end f) (drop (array_end f) m))) x) all.1
-      ∙ ap (λ (g : List ℕ). unless_broken (end_fault f all.0 g) all.0) parts.1
-      ∙ ap (λ (o : Option FrameRule). unless_broken o all.0) ends in
+    ap (λ (a : List ℕ). fields_at little f.array_len none_known (place 16 a) >=> λ x. unless_broken (end_fault f x (take (body_start f - array_end f) (drop (array_end f) m))) x) parts.0
+    ∙ ap (λ (o : Result Known FrameRule). o >=> λ x. unless_broken (end_fault f x (take (body_start f - array_end f) (drop (array_end f) m))) x) all.1
+    ∙ ap (λ (g : List ℕ). unless_broken (end_fault f all.0 g) all.0) parts.1
+    ∙ ap (λ (o : Option FrameRule). unless_broken o all.0) ends in
     makes_bad m rule (record { head = has.head; why = inr (has.sound, omega (arith, parts.2), known) })
 
 pub breaks_bad : (m : List ℕ) (rule : FrameRule) → IsBytes m → Breaks m rule → frame_of m ≡ bad rule
@@ -307,3 +314,73 @@ found_broken bytes rule fits e =
     by_why : (m : List ℕ) → IsBytes m → 16 ≤ length m → fixed_fault (fixed_of m) ≡ None → length m ≡ message_len (fixed_of m) → (fixed_fault (fixed_of m) ≡ Some rule) ⊎ ((fixed_fault (fixed_of m) ≡ None) × (message_len (fixed_of m) ≤ length m) × (known_in (fixed_of m) m ≡ Err rule)) → Breaks m rule
     by_why m fits_m head sound len (inl fault) = absurd (none_some rule (sym sound ∙ fault))
     by_why m fits_m head sound len (inr w) = rest_breaks m rule fits_m head sound len w.2
+
+-- ---- what lacks
+
+-- cond at a want of bytes
+needed_fixed : (f : Fixed) (o : Option FrameRule) (bytes : List ℕ) (n : ℕ) → read_fixed f o bytes ≡ need n → (o ≡ None) × (length bytes < message_len f) × (n ≡ message_len f - length bytes)
+needed_fixed f (Some rule) bytes n e = absurd cc
+needed_fixed f None bytes n e =
+    elim (chosen (ltb (length bytes) (message_len f)) (need (message_len f - length bytes)) (read_known f (known_in f bytes)) (need n) e) [
+      | inl g ↦ (refl, ltb-true _ _ g.0, cc (g.1))
+      | inr g ↦ absurd (never (known_in f bytes) g.1)
+    ]
+  where
+    never : (r : Result Known FrameRule) → read_known f r ≡ need n → ⊥
+    never (Ok k) h = cc
+    never (Err rule) h = cc
+
+pub lacking : (bytes : List ℕ) (n : ℕ) → frame_of bytes ≡ need n → Lacks bytes n
+unfolding frame_of
+lacking bytes n e =
+    let f = fixed_of bytes in
+    elim (chosen (ltb (length bytes) 16) (need (16 - length bytes)) (read_fixed f (fixed_fault f) bytes) (need n) e) [
+      | inl g ↦
+          let lt = ltb-true _ _ g.0 in
+          let n_is : 16 - length bytes ≡ n = cc (g.1) in
+          inl (lt, omega (arith, n_is))
+      | inr g ↦
+          let head = ltb-false _ _ g.0 in
+          let w = needed_fixed f (fixed_fault f) bytes n g.1 in
+          inr (head, w.0, w.1, omega (arith, w.1, w.2))
+    ]
+
+pub lacks_read : (bytes : List ℕ) (n : ℕ) → Lacks bytes n → frame_of bytes ≡ need n
+unfolding frame_of
+lacks_read bytes n (inl w) =
+    let f = fixed_of bytes in
+    at_yes (ltb (length bytes) 16) (need (16 - length bytes)) (read_fixed f (fixed_fault f) bytes) (lt-ltb _ _ w.0) ∙ ap need (omega (arith, w.1))
+lacks_read bytes n (inr w) =
+    let f = fixed_of bytes in
+    at_no (ltb (length bytes) 16) (need (16 - length bytes)) (read_fixed f (fixed_fault f) bytes) (le-ltb _ _ w.0)
+    ∙ ap (λ (o : Option FrameRule). read_fixed f o bytes) w.1
+    ∙ at_yes (ltb (length bytes) (message_len f)) (need (message_len f - length bytes)) (read_known f (known_in f bytes)) (lt-ltb _ _ w.2)
+    ∙ ap need (omega (arith, w.3))
+
+-- ---- what an answer says
+
+pub says_message : (r : Result ReadFrame FrameError) (bytes : List ℕ) → IsBytes bytes → AnswersFrame r (frame_of bytes) → IfFrame r (λ h n. (n ≤ length bytes) × Frame (take n bytes) h)
+says_message (Ok (answer.Frame h n)) bytes fits e = found bytes h n fits e
+says_message (Ok (answer.Need n)) bytes fits e = tt
+says_message (Err error) bytes fits e = tt
+
+pub says_broken : (r : Result ReadFrame FrameError) (bytes : List ℕ) → IsBytes bytes → AnswersFrame r (frame_of bytes) → IfBad r (BeginsBroken bytes)
+says_broken (Ok a) bytes fits e = tt
+says_broken (Err (errors.Bad rule)) bytes fits e = found_broken bytes rule fits e
+says_broken (Err errors.NoMemory) bytes fits e = tt
+
+pub says_lacking : (r : Result ReadFrame FrameError) (bytes : List ℕ) → AnswersFrame r (frame_of bytes) → IfNeed r (Lacks bytes)
+says_lacking (Ok (answer.Frame h n)) bytes e = tt
+says_lacking (Ok (answer.Need n)) bytes e = lacking bytes n e
+says_lacking (Err error) bytes e = tt
+
+pub every_message : (r : Result ReadFrame FrameError) (bytes m rest : List ℕ) (h : Header) → AnswersFrame r (frame_of bytes) → bytes ≡ m ++ rest → Frame m h → AnswersFrame r (whole h (length m))
+every_message r bytes m rest h e parts is =
+    subst (λ (x : Read). AnswersFrame r x) (ap frame_of parts ∙ stays_whole m rest h (length m) (frame_whole m h is)) e
+
+pub every_broken : (r : Result ReadFrame FrameError) (bytes m rest : List ℕ) (rule : FrameRule) → IsBytes bytes → AnswersFrame r (frame_of bytes) → bytes ≡ m ++ rest → Breaks m rule → AnswersFrame r (bad rule)
+every_broken r bytes m rest rule fits e parts is =
+    subst (λ (x : Read). AnswersFrame r x) (ap frame_of parts ∙ stays_bad m rest rule (breaks_bad m rule (IsBytes-left m rest (subst IsBytes parts fits)) is)) e
+
+pub every_lacking : (r : Result ReadFrame FrameError) (bytes : List ℕ) (n : ℕ) → AnswersFrame r (frame_of bytes) → Lacks bytes n → AnswersFrame r (need n)
+every_lacking r bytes n e is = subst (λ (x : Read). AnswersFrame r x) (lacks_read bytes n is) e

@@ -157,8 +157,8 @@ rest_fault kind fields gap body =
 pub data Breaks (bytes : List ℕ) (rule : FrameRule) : Type 0 where
   fixed_part : 16 ≤ length bytes → fixed_fault (fixed_of bytes) ≡ Some rule → Breaks bytes rule
   no_field : (before : List Field) (at : ℕ) (rest : List ℕ) → FineUpTo bytes before at rest → rest ≢ []
-    → ((f : Field) (x y : List ℕ) → rest ≡ x ++ y → IsField (is_little (fixed_of bytes)) at f x → ⊥) → rule ≡ Fields → Breaks bytes rule
+      → ((f : Field) (x y : List ℕ) → rest ≡ x ++ y → IsField (is_little (fixed_of bytes)) at f x → ⊥) → rule ≡ Fields → Breaks bytes rule
   broken_field : (before : List Field) (at : ℕ) (x y : List ℕ) (f : Field) → FineUpTo bytes before at (x ++ y) → IsField (is_little (fixed_of bytes)) at f x
-    → field_fault before f ≡ Some rule → Breaks bytes rule
+      → field_fault before f ≡ Some rule → Breaks bytes rule
   broken_rest : (array gap body : List ℕ) (fields : List Field) → HasParts bytes array gap body → AreFields (is_little (fixed_of bytes)) 16 fields array → AreFine [] fields
-    → rest_fault (fixed_of bytes).kind fields gap body ≡ Some rule → Breaks bytes rule
+      → rest_fault (fixed_of bytes).kind fields gap body ≡ Some rule → Breaks bytes rule

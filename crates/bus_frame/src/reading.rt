@@ -1,10 +1,13 @@
 //! Reading a message, after the D-Bus specification's "Message Protocol".
 
-ghost use Rattle.std.specs.Prelude.{◌≡◌, ◌+◌, ◌-◌, ◌≤◌, IfOk, take, drop, length, option_map};
+ghost use Rattle.std.specs.Prelude.{◌≡◌, ℕ, ◌≤◌, List, ◌++◌, IfOk, take, length, option_map};
+ghost use Rattle.bus_frame.specs.declared.header.Header.{Header};
+ghost use Rattle.bus_frame.specs.declared.rule.FrameRule.{FrameRule};
+ghost use Rattle.bus_frame.specs.Frame.{Frame, Breaks};
 ghost use Rattle.bus_frame.specs.Results.{Reads};
 ghost use Rattle.bus_frame.specs.Fields.{known_of};
-ghost use Rattle.bus_frame.specs.Reading.{message_len, array_end, body_start, lacks_field, end_fault, known_in, header_of, frame_of};
-ghost use Rattle.bus_frame.specs.Answers.{AnswersFrame};
+ghost use Rattle.bus_frame.specs.Reading.{message_len, lacks_field, end_fault, known_in, header_of, frame_of, need, bad, whole};
+ghost use Rattle.bus_frame.specs.Answers.{AnswersFrame, IfFrame, IfNeed, IfBad, BeginsBroken, Lacks};
 
 use crate::cursor::{Cursor, all_zero};
 use crate::fixed::Fixed;
@@ -95,13 +98,9 @@ fn header(alloc: Global, fixed: &Fixed, known: &RawKnown<'_>) -> Result<Header, 
     })
 }
 
-/// Reads the message at the front of some bytes.
-///
-/// With fewer than 16 bytes it answers how many lack to 16. Then come the rules of the fixed part; then how many bytes
-/// lack to the message's length; then the other rules. Only a message that breaks none of them takes memory.
 #[tactic(auto, unfolding(crate::specs::Reading::frame_of))]
-pub fn read_frame(alloc: Global, bytes: &[u8]) -> Result<ReadFrame, FrameError>
-    ensures exact { AnswersFrame result (frame_of bytes.now) }
+fn frame_at_front(alloc: Global, bytes: &[u8]) -> Result<ReadFrame, FrameError>
+    ensures { AnswersFrame result (frame_of bytes.now) }
 {
     let count = bytes.len() as u64;
     if count < 16 {
@@ -117,4 +116,28 @@ pub fn read_frame(alloc: Global, bytes: &[u8]) -> Result<ReadFrame, FrameError>
     }
     let known = known_of_message(&fixed, bytes)?;
     Ok(ReadFrame::Frame(header(alloc, &fixed, &known)?, total))
+}
+
+/// Reads the message at the front of some bytes.
+///
+/// With fewer than 16 bytes it answers how many lack to 16. Then come the rules of the fixed part; then how many bytes
+/// lack to the message's length; then the other rules. Only a message that breaks none of them takes memory.
+pub fn read_frame(alloc: Global, bytes: &[u8]) -> Result<ReadFrame, FrameError>
+    ensures exact { AnswersFrame result (frame_of bytes.now) }
+
+    // What is read is a message with its header, and a message is read, whatever follows it.
+    ensures message { IfFrame result (λ header len. (len ≤ length bytes.now) × Frame (take len bytes.now) header) }
+    ensures every_message { (message rest : List ℕ) (header : Header) → bytes.now ≡ message ++ rest → Frame message header
+        → AnswersFrame result (whole header (length message)) }
+
+    // The rule is the first one that is broken, and each broken rule is named.
+    ensures broken { IfBad result (BeginsBroken bytes.now) }
+    ensures every_broken { (message rest : List ℕ) (rule : FrameRule) → bytes.now ≡ message ++ rest → Breaks message rule
+        → AnswersFrame result (bad rule) }
+
+    // So many bytes lack, exactly where some do.
+    ensures lacking { IfNeed result (Lacks bytes.now) }
+    ensures every_lacking { (n : ℕ) → Lacks bytes.now n → AnswersFrame result (need n) }
+{
+    frame_at_front(alloc, bytes)
 }
