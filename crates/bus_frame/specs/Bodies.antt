@@ -1,0 +1,61 @@
+-- The bodies that a filter reads and writes: texts, and lists of names.
+use Rattle.std.specs.Prelude.{ℕ, zero, suc, ◌+◌, ◌-◌, Bool, ◌==◌, nat_lt, if◌then◌else◌, List, [], ◌∷◌, ◌++◌, length, take, drop, codes, Option, Some, None, option_map, unwrap_or}
+use Rattle.std.specs.Str.{bytes_eq}
+use Rattle.bus_frame.specs.declared.header.Header.{Header}
+use Rattle.bus_frame.specs.Steps.{◌>>=◌, first_of, behind_byte}
+use Rattle.bus_frame.specs.Places.{Place, bytes_at, long_text_at}
+use Rattle.bus_frame.specs.Values.{array_head_at}
+use Rattle.bus_frame.specs.Writing.{number_bytes, zeros, text_bytes}
+
+-- the body of a message
+abbrev pub body_place : Header → List ℕ → Place
+body_place h message = record { at = h.body_at; rest = take h.body_len (drop h.body_at message) }
+
+abbrev pub signature_text : Header → List ℕ
+signature_text h = unwrap_or h.signature []
+
+abbrev pub has_signature : Header → List ℕ → Bool
+has_signature h types = bytes_eq (signature_text h) types
+
+-- the text at the start of a body whose signature begins with `s`
+unfoldable pub first_text : Header → List ℕ → Option (List ℕ)
+first_text h message = do
+  types ← behind_byte 115 (signature_text h)
+  text ← long_text_at h.little (body_place h message)
+  Some text.0
+
+-- three texts, and nothing behind them
+unfoldable pub three_texts_at : Bool → Place → Option (List ℕ × List ℕ × List ℕ)
+three_texts_at little p = do
+  first ← long_text_at little p
+  second ← long_text_at little first.1
+  third ← long_text_at little second.1
+  if length third.1.rest == 0 then Some (first.0, second.0, third.0) else None
+
+-- the texts of a body of the signature `sss`
+unfoldable pub three_texts : Header → List ℕ → Option (List ℕ × List ℕ × List ℕ)
+three_texts h message = if has_signature h (codes "sss") then three_texts_at h.little (body_place h message) else None
+
+-- texts one after another, up to the last byte; each has at least one byte
+unfoldable pub texts_at : Bool → ℕ → Place → Option (List (List ℕ))
+texts_at little zero p = if length p.rest == 0 then Some [] else None
+texts_at little (suc n) p =
+    if length p.rest == 0 then Some []
+    else (long_text_at little p >>= λ text. option_map (λ more. text.0 ∷ more) (texts_at little n text.1))
+
+-- the elements of an array of texts, behind which nothing stands
+unfoldable pub elements_place : Bool → Place → Option Place
+elements_place little p = do
+  head ← array_head_at little (codes "s") p
+  body ← bytes_at head.0 head.1
+  if length body.1.rest == 0 then Some (record { at = head.1.at; rest = body.0 }) else None
+
+-- the elements of a body of the signature `as` that is one array
+unfoldable pub names_place : Header → List ℕ → Option Place
+names_place h message = if has_signature h (codes "as") then elements_place h.little (body_place h message) else None
+
+-- the texts of such a body
+unfoldable pub names_in : Header → List ℕ → Option (List (List ℕ))
+names_in h message = do
+  p ← names_place h message
+  texts_at h.little (length p.rest) p

@@ -1,0 +1,14 @@
+pub mod Answers
+pub mod Fields
+pub mod Frame
+pub mod Grammar
+pub mod Names
+pub mod Numbers
+pub mod Places
+pub mod Reading
+pub mod Results
+pub mod Steps
+pub mod Types
+pub mod Values
+pub mod Writing
+pub mod Bodies

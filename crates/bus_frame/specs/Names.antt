@@ -1,0 +1,65 @@
+-- Valid names, after the D-Bus specification: "Valid Object Paths" and "Valid Names".
+use Rattle.std.specs.Prelude.{ℕ, Bool, true, false, not, ◌&&◌, ◌||◌, ◌==◌, nat_lt, nat_le, List, [], ◌∷◌, length}
+use Rattle.std.specs.List.{list_all, list_any, slice_split}
+use Rattle.bus_frame.specs.declared.names.Alphabet.{Alphabet}
+use Rattle.bus_frame.specs.declared.names.Alphabet.TheVariants.{Interface, WellKnown, Unique, Path}
+
+abbrev pub is_digit : ℕ → Bool
+is_digit c = nat_le 48 c && nat_le c 57
+
+abbrev pub is_letter : ℕ → Bool
+is_letter c = (nat_le 65 c && nat_le c 90) || (nat_le 97 c && nat_le c 122)
+
+-- a letter, a digit or `_`; in bus names `-` too
+abbrev pub has_dash : Alphabet → Bool
+has_dash Interface = false
+has_dash WellKnown = true
+has_dash Unique = true
+has_dash Path = false
+
+abbrev pub continues_element : Alphabet → ℕ → Bool
+continues_element alphabet c = is_letter c || is_digit c || c == 95 || (has_dash alphabet && c == 45)
+
+-- a digit begins an element of unique names and of paths alone
+abbrev pub has_first_digit : Alphabet → Bool
+has_first_digit Interface = false
+has_first_digit WellKnown = false
+has_first_digit Unique = true
+has_first_digit Path = true
+
+abbrev pub begins_element : Alphabet → ℕ → Bool
+begins_element alphabet c = continues_element alphabet c && (has_first_digit alphabet || not (is_digit c))
+
+abbrev pub is_element : Alphabet → List ℕ → Bool
+is_element alphabet [] = false
+is_element alphabet (c ∷ cs) = begins_element alphabet c && list_all (continues_element alphabet) cs
+
+-- what stands between the separators is elements
+abbrev pub are_elements : Alphabet → ℕ → List ℕ → Bool
+are_elements alphabet separator bytes = list_all (is_element alphabet) (slice_split (λ c. c == separator) bytes)
+
+-- at least one dot, and so two elements or more
+abbrev pub is_dotted : Alphabet → List ℕ → Bool
+is_dotted alphabet bytes = list_any (λ c. c == 46) bytes && are_elements alphabet 46 bytes
+
+unfoldable pub is_interface : List ℕ → Bool
+is_interface bytes = nat_le (length bytes) 255 && is_dotted Interface bytes
+
+unfoldable pub is_member : List ℕ → Bool
+is_member bytes = nat_le (length bytes) 255 && is_element Interface bytes
+
+-- `:`, and then elements
+unfoldable pub is_unique : List ℕ → Bool
+is_unique [] = false
+is_unique (c ∷ name) = c == 58 && nat_le (length (c ∷ name)) 255 && is_dotted Unique name
+
+unfoldable pub is_well_known : List ℕ → Bool
+is_well_known bytes = nat_le (length bytes) 255 && is_dotted WellKnown bytes
+
+unfoldable pub is_bus : List ℕ → Bool
+is_bus bytes = is_unique bytes || is_well_known bytes
+
+-- the root `/`, or `/` before each element
+unfoldable pub is_path : List ℕ → Bool
+is_path [] = false
+is_path (c ∷ rest) = c == 47 && (length rest == 0 || are_elements Path 47 rest)

@@ -1,0 +1,20 @@
+-- Padding, numbers and texts, after the D-Bus specification's "Marshaling".
+use Rattle.std.specs.Prelude.{ℕ, ◌-◌, ◌%◌, Bool, ◌&&◌, ◌==◌, not, if◌then◌else◌, List}
+use Rattle.std.specs.List.{list_all, list_any}
+use Rattle.std.specs.Int.{w32, from_le_bytes, from_be_bytes}
+use Rattle.std.specs.Str.{is_utf8}
+
+-- how many bytes lead to the next multiple of n
+abbrev pub padding : ℕ → ℕ → ℕ
+padding n at = (n - at % n) % n
+
+abbrev pub are_zero : List ℕ → Bool
+are_zero = list_all (λ b. b == 0)
+
+-- the number of 32 bits that four bytes stand for
+abbrev pub number_from : Bool → List ℕ → ℕ
+number_from little bytes = if little then from_le_bytes w32 bytes else from_be_bytes w32 bytes
+
+-- UTF-8 without a zero byte
+abbrev pub is_text : List ℕ → Bool
+is_text bytes = is_utf8 bytes && not (list_any (λ b. b == 0) bytes)

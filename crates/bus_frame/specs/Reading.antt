@@ -1,0 +1,112 @@
+-- Reading a message, after the D-Bus specification's "Message Protocol": what stands at the front of some bytes.
+use Rattle.std.specs.Prelude.{◌≡◌, ℕ, ◌+◌, ◌-◌, Bool, true, false, ◌||◌, ◌&&◌, ◌==◌, not, nat_lt, if◌then◌else◌, List, [], length, take, drop, slice_index, Option, Some, None, is_none, option_map, unwrap_or, Result, Ok, Err}
+use Rattle.bus_frame.specs.declared.rule.FrameRule.{FrameRule}
+use Rattle.bus_frame.specs.declared.rule.FrameRule.TheVariants.{Order, ZeroType, Version, Serial, Length, Padding, Required, Body}
+use Rattle.bus_frame.specs.declared.fixed.Fixed.{Fixed}
+use Rattle.bus_frame.specs.declared.header.Header.{Header}
+use Rattle.bus_frame.specs.Numbers.{padding, are_zero, number_from}
+use Rattle.bus_frame.specs.Places.{Place}
+use Rattle.bus_frame.specs.Fields.{Known, none_known, ◌>=>◌, fields_at}
+
+-- the first byte is `l` where numbers are little endian
+abbrev pub is_little : Fixed → Bool
+is_little f = f.order == 108
+
+-- the fixed part, the first 16 bytes
+unfoldable pub fixed_of : List ℕ → Fixed
+fixed_of bytes =
+    let little = slice_index bytes 0 == 108 in
+    record {
+      order = slice_index bytes 0;
+      kind = slice_index bytes 1;
+      flags = slice_index bytes 2;
+      version = slice_index bytes 3;
+      body_len = number_from little (take 4 (drop 4 bytes));
+      serial = number_from little (take 4 (drop 8 bytes));
+      array_len = number_from little (take 4 (drop 12 bytes));
+    }
+
+-- where the field array ends, where the body begins, and the length of the message
+abbrev pub array_end : Fixed → ℕ
+array_end f = 16 + f.array_len
+
+abbrev pub body_start : Fixed → ℕ
+body_start f = array_end f + padding 8 (array_end f)
+
+abbrev pub message_len : Fixed → ℕ
+message_len f = body_start f + f.body_len
+
+-- the first rule of the fixed part that is broken: at most 2^26 bytes of fields, and 2^24 in all
+unfoldable pub fixed_fault : Fixed → Option FrameRule
+fixed_fault f =
+    if not (f.order == 108 || f.order == 66) then Some Order
+    else (if f.kind == 0 then Some ZeroType
+    else (if not (f.version == 1) then Some Version
+    else (if f.serial == 0 then Some Serial
+    else (if nat_lt 67108864 f.array_len || nat_lt 16777216 (message_len f) then Some Length
+    else None))))
+
+-- whether a field that messages of this type need isn't there: of a call, a return, an error and a signal
+unfoldable pub lacks_field : ℕ → Known → Bool
+lacks_field kind k =
+    if kind == 1 then is_none k.path || is_none k.member
+    else (if kind == 2 then is_none k.reply_serial
+    else (if kind == 3 then is_none k.error_name || is_none k.reply_serial
+    else (if kind == 4 then is_none k.path || is_none k.interface || is_none k.member
+    else false)))
+
+-- the first rule that is broken behind the fields
+unfoldable pub end_fault : Fixed → Known → List ℕ → Option FrameRule
+end_fault f k zeros =
+    if not (are_zero zeros) then Some Padding
+    else (if lacks_field f.kind k then Some Required
+    else (if nat_lt 0 f.body_len && length (unwrap_or k.signature []) == 0 then Some Body
+    else None))
+
+abbrev pub unless_broken : {A : Type 0} → Option FrameRule → A → Result A FrameRule
+unless_broken None x = Ok x
+unless_broken (Some rule) x = Err rule
+
+-- the known fields of a whole message, or the first rule behind the fixed part that is broken
+unfoldable pub known_in : Fixed → List ℕ → Result Known FrameRule
+known_in f bytes =
+    fields_at (is_little f) f.array_len none_known (record { at = 16; rest = take f.array_len (drop 16 bytes) })
+    >=> λ k. unless_broken (end_fault f k (take (body_start f - array_end f) (drop (array_end f) bytes))) k
+
+abbrev pub header_of : Fixed → Known → Header
+header_of f k = record {
+  little = is_little f;
+  kind = f.kind;
+  flags = f.flags;
+  serial = f.serial;
+  path = k.path;
+  interface = k.interface;
+  member = k.member;
+  error_name = k.error_name;
+  reply_serial = k.reply_serial;
+  destination = k.destination;
+  sender = k.sender;
+  signature = k.signature;
+  body_at = body_start f;
+  body_len = f.body_len;
+}
+
+-- what stands at the front of some bytes: less than a message, of which so many bytes lack at least; a broken rule; or
+-- a message with this header and of this many bytes
+pub data Read : Type 0 where
+  need : ℕ → Read
+  bad : FrameRule → Read
+  whole : Header → ℕ → Read
+
+abbrev pub read_known : Fixed → Result Known FrameRule → Read
+read_known f (Ok k) = whole (header_of f k) (message_len f)
+read_known f (Err rule) = bad rule
+
+abbrev pub read_fixed : Fixed → Option FrameRule → List ℕ → Read
+read_fixed f (Some rule) bytes = bad rule
+read_fixed f None bytes = if nat_lt (length bytes) (message_len f) then need (message_len f - length bytes) else read_known f (known_in f bytes)
+
+unfoldable pub frame_of : List ℕ → Read
+frame_of bytes =
+    if nat_lt (length bytes) 16 then need (16 - length bytes)
+    else read_fixed (fixed_of bytes) (fixed_fault (fixed_of bytes)) bytes

@@ -1,0 +1,164 @@
+//! The bodies that a filter reads: texts, and lists of names.
+
+ghost use Rattle.std.specs.Prelude.{◌≡◌, ◌==◌, ◌+◌, length, map, is_some, IfOk, List, ℕ};
+ghost use Rattle.bus_frame.specs.Steps.{Gives};
+ghost use Rattle.bus_frame.specs.Places.{place_of};
+ghost use Rattle.bus_frame.specs.Bodies.{body_place, signature_text, has_signature, first_text, three_texts_at, three_texts, texts_at, elements_place, names_place, names_in};
+
+use crate::cursor::Cursor;
+use crate::header::Header;
+use crate::items::Items;
+use crate::steps::after_byte;
+use crate::text::Text;
+use crate::value::array_head;
+use std::alloc::{AllocError, Global};
+
+/// The body of a message.
+fn body<'m>(header: &Header, message: &'m [u8]) -> Cursor<'m>
+    ensures { place_of result ≡ body_place header.now message.now }
+{
+    let at = header.body_at as usize;
+    let rest = if at <= message.len() {
+        &message[at..]
+    } else {
+        &message[..0]
+    };
+    let count = rest.len().min(header.body_len as usize);
+    Cursor {
+        at,
+        rest: &rest[..count],
+    }
+}
+
+fn signature(header: &Header) -> &str
+    ensures { result.now ≡ signature_text header.now }
+{
+    match &header.signature {
+        Some(signature) => signature.as_str(),
+        None => "",
+    }
+}
+
+/// The text at the start of the body. There is none exactly where the signature doesn't begin with `s`, or no text
+/// stands there. It takes no memory.
+#[tactic(auto, unfolding(crate::specs::Bodies::first_text))]
+pub fn first_string<'m>(header: &Header, message: &'m [u8]) -> Option<&'m str>
+    ensures { Gives (λ t. t.now) result (first_text header.now message.now) }
+{
+    after_byte(b's', signature(header).as_bytes())?;
+    let (text, _) = body(header, message).long_text(header.little)?;
+    Some(text)
+}
+
+#[tactic(auto, unfolding(crate::specs::Bodies::three_texts_at))]
+fn three<'m>(little: bool, place: Cursor<'m>) -> Option<(&'m str, &'m str, &'m str)>
+    ensures { Gives (λ t. (t.0.now, t.1.now, t.2.now)) result (three_texts_at little (place_of place.entry)) }
+{
+    let (first, behind) = place.long_text(little)?;
+    let (second, behind) = behind.long_text(little)?;
+    let (third, behind) = behind.long_text(little)?;
+    if !behind.rest.is_empty() {
+        return None;
+    }
+    Some((first, second, third))
+}
+
+/// The three texts of the body. There are none exactly where the signature isn't `sss`, or the body isn't exactly
+/// three texts. It takes no memory.
+#[tactic(auto, unfolding(crate::specs::Bodies::three_texts))]
+pub fn three_strings<'m>(header: &Header, message: &'m [u8]) -> Option<(&'m str, &'m str, &'m str)>
+    ensures { Gives (λ t. (t.0.now, t.1.now, t.2.now)) result (three_texts header.now message.now) }
+{
+    if signature(header) != "sss" {
+        return None;
+    }
+    three(header.little, body(header, message))
+}
+
+#[tactic(auto, unfolding(crate::specs::Bodies::elements_place))]
+fn elements<'m>(little: bool, place: Cursor<'m>) -> Option<Cursor<'m>>
+    ensures { Gives place_of result (elements_place little (place_of place.entry)) }
+{
+    let (count, first) = array_head(little, b"s", place)?;
+    let (rest, behind) = first.bytes(count)?;
+    if !behind.rest.is_empty() {
+        return None;
+    }
+    Some(Cursor { at: first.at, rest })
+}
+
+#[tactic(auto, unfolding(crate::specs::Bodies::names_place))]
+fn names<'m>(header: &Header, message: &'m [u8]) -> Option<Cursor<'m>>
+    ensures { Gives place_of result (names_place header.now message.now) }
+{
+    if signature(header) != "as" {
+        return None;
+    }
+    elements(header.little, body(header, message))
+}
+
+fn are_texts(little: bool, place: Cursor<'_>) -> bool
+    ensures { result ≡ is_some (texts_at little (length place.entry.rest.now) (place_of place.entry)) }
+{
+    let mut next = place;
+    for _ in 0..place.rest.len() {
+        if next.rest.is_empty() {
+            return true;
+        }
+        let Some((_, behind)) = next.long_text(little) else {
+            return false;
+        };
+        next = behind;
+    }
+    next.rest.is_empty()
+}
+
+fn texts(alloc: Global, little: bool, place: Cursor<'_>) -> Result<Option<Vec<Text>>, AllocError>
+    ensures { IfOk result (λ found. Gives (λ v. v.items) found (texts_at little (length place.entry.rest.now) (place_of place.entry))) }
+{
+    let mut texts = Vec::new(alloc);
+    let mut next = place;
+    for _ in 0..place.rest.len() {
+        if next.rest.is_empty() {
+            return Ok(Some(texts));
+        }
+        let Some((text, behind)) = next.long_text(little) else {
+            return Ok(None);
+        };
+        texts.push(Text::copy_of(alloc, text)?)?;
+        next = behind;
+    }
+    if !next.rest.is_empty() {
+        return Ok(None);
+    }
+    Ok(Some(texts))
+}
+
+/// Whether the signature is `as` and the body is exactly one such array. It takes no memory.
+#[tactic(auto, unfolding(crate::specs::Bodies::names_in))]
+pub fn is_names(header: &Header, message: &[u8]) -> bool
+    ensures { result ≡ is_some (names_in header.now message.now) }
+{
+    match names(header, message) {
+        Some(place) => are_texts(header.little, place),
+        None => false,
+    }
+}
+
+/// The texts of a body that is one array of them, in order; there are none exactly where `is_names` is false.
+#[tactic(auto, unfolding(crate::specs::Bodies::names_in))]
+pub fn names_body(
+    alloc: Global,
+    header: &Header,
+    message: &[u8],
+) -> Result<Option<Items<Text>>, AllocError>
+    ensures { IfOk result (λ found. found ≡ names_in header.now message.now) }
+{
+    match names(header, message) {
+        Some(place) => match texts(alloc, header.little, place)? {
+            Some(texts) => Ok(Some(Items::from_vec(texts))),
+            None => Ok(None),
+        },
+        None => Ok(None),
+    }
+}

@@ -1,0 +1,73 @@
+//! A field of a header: its code and what it says.
+
+ghost use Rattle.bus_frame.specs.Steps.{Gives};
+ghost use Rattle.bus_frame.specs.Places.{place_of};
+ghost use Rattle.bus_frame.specs.Fields.{content_of, field_of, content_at, field_at};
+
+use crate::cursor::Cursor;
+use crate::room::Room;
+use crate::steps::first_byte;
+use crate::value::{value, variant_type};
+
+/// What a field says.
+#[derive(Clone, Copy)]
+pub enum RawContent<'a> {
+    /// A text of the type `s`, `o` or `g`, with the type's code.
+    Word(u8, &'a str),
+    /// A number of the type `u`.
+    Number(u32),
+    /// A value of another type.
+    Other,
+}
+
+/// A field, whatever its code.
+#[derive(Clone, Copy)]
+pub struct RawField<'a> {
+    pub code: u8,
+    pub content: RawContent<'a>,
+}
+
+#[tactic(auto, unfolding(crate::specs::Fields::content_at))]
+fn content<'a>(
+    little: bool,
+    types: &[u8],
+    place: Cursor<'a>,
+) -> Option<(RawContent<'a>, Cursor<'a>)>
+    ensures { Gives (λ x. (content_of x.0, place_of x.1)) result (content_at little types.now (place_of place.entry)) }
+{
+    let (code, _) = first_byte(types)?;
+    match code {
+        b's' | b'o' => {
+            let (text, behind) = place.long_text(little)?;
+            Some((RawContent::Word(code, text), behind))
+        }
+        b'g' => {
+            let (text, behind) = place.short_text()?;
+            Some((RawContent::Word(code, text), behind))
+        }
+        b'u' => {
+            let (number, behind) = place.number(little)?;
+            Some((RawContent::Number(number), behind))
+        }
+        _ => {
+            let room = Room {
+                containers: 63,
+                arrays: 32,
+                structs: 32,
+            };
+            let (_, behind) = value(room, little, types, place)?;
+            Some((RawContent::Other, behind))
+        }
+    }
+}
+
+/// The field that stands at the next multiple of 8, and the place behind it.
+#[tactic(auto, unfolding(crate::specs::Fields::field_at))]
+pub fn field<'a>(little: bool, place: Cursor<'a>) -> Option<(RawField<'a>, Cursor<'a>)>
+    ensures { Gives (λ x. (field_of x.0, place_of x.1)) result (field_at little (place_of place.entry)) }
+{
+    let (code, behind) = place.aligned(8)?.byte()?;
+    let (types, behind) = variant_type(behind)?;
+    let (content, behind) = content(little, types, behind)?;
+    Some((RawField { code, content }, behind))
+}

@@ -1,0 +1,143 @@
+//! Reading a message, after the D-Bus specification's "Message Protocol".
+
+ghost use Rattle.std.specs.Prelude.{◌≡◌, ℕ, ◌≤◌, List, ◌++◌, IfOk, take, length, option_map};
+ghost use Rattle.bus_frame.specs.declared.header.Header.{Header};
+ghost use Rattle.bus_frame.specs.declared.rule.FrameRule.{FrameRule};
+ghost use Rattle.bus_frame.specs.Frame.{Frame, Breaks};
+ghost use Rattle.bus_frame.specs.Results.{Reads};
+ghost use Rattle.bus_frame.specs.Fields.{known_of};
+ghost use Rattle.bus_frame.specs.Reading.{message_len, lacks_field, end_fault, known_in, header_of, frame_of, need, bad, whole};
+ghost use Rattle.bus_frame.specs.Answers.{AnswersFrame, IfFrame, IfNeed, IfBad, BeginsBroken, Lacks};
+
+use crate::cursor::{Cursor, all_zero};
+use crate::fixed::Fixed;
+use crate::header::{Header, ReadFrame};
+use crate::known::{RawKnown, known_fields};
+use crate::rule::{FrameError, FrameRule};
+use crate::text::Text;
+use std::alloc::{AllocError, Global};
+
+/// Whether a field that messages of this type need isn't there.
+#[tactic(auto, unfolding(crate::specs::Reading::lacks_field))]
+fn lacks(kind: u8, known: &RawKnown<'_>) -> bool
+    ensures { result ≡ lacks_field kind (known_of known.now) }
+{
+    match kind {
+        1 => known.path.is_none() || known.member.is_none(),
+        2 => known.reply_serial.is_none(),
+        3 => known.error_name.is_none() || known.reply_serial.is_none(),
+        4 => known.path.is_none() || known.interface.is_none() || known.member.is_none(),
+        _ => false,
+    }
+}
+
+/// The first rule that is broken behind the fields.
+#[tactic(auto, unfolding(crate::specs::Reading::end_fault))]
+fn rule_behind_fields(fixed: &Fixed, known: &RawKnown<'_>, zeros: &[u8]) -> Option<FrameRule>
+    ensures { result ≡ end_fault fixed.now (known_of known.now) zeros.now }
+{
+    if !all_zero(zeros) {
+        return Some(FrameRule::Padding);
+    }
+    if lacks(fixed.kind, known) {
+        return Some(FrameRule::Required);
+    }
+    if fixed.body_len > 0 && known.signature.unwrap_or("").is_empty() {
+        return Some(FrameRule::Body);
+    }
+    None
+}
+
+/// The known fields of a whole message, or the first rule behind the fixed part that is broken.
+#[tactic(auto, unfolding(crate::specs::Reading::known_in))]
+fn known_of_message<'a>(fixed: &Fixed, bytes: &'a [u8]) -> Result<RawKnown<'a>, FrameRule>
+    requires { message_len fixed.now ≤ length bytes.now }
+    ensures { Reads known_of result (known_in fixed.now bytes.now) }
+{
+    let array_end = fixed.end_of_array() as usize;
+    let body_start = fixed.start_of_body() as usize;
+    let array = Cursor {
+        at: 16,
+        rest: &bytes[16..array_end],
+    };
+    let known = known_fields(fixed.is_little_endian(), array)?;
+    match rule_behind_fields(fixed, &known, &bytes[array_end..body_start]) {
+        Some(rule) => Err(rule),
+        None => Ok(known),
+    }
+}
+
+fn copied(alloc: Global, text: Option<&str>) -> Result<Option<Text>, AllocError>
+    ensures { IfOk result (λ copy. copy ≡ option_map (λ t. t.now) text.entry) }
+{
+    match text {
+        Some(text) => Ok(Some(Text::copy_of(alloc, text)?)),
+        None => Ok(None),
+    }
+}
+
+/// The header of a message with texts of its own.
+fn header(alloc: Global, fixed: &Fixed, known: &RawKnown<'_>) -> Result<Header, AllocError>
+    ensures { IfOk result (λ h. h ≡ header_of fixed.now (known_of known.now)) }
+{
+    Ok(Header {
+        little: fixed.is_little_endian(),
+        kind: fixed.kind,
+        flags: fixed.flags,
+        serial: fixed.serial,
+        path: copied(alloc, known.path)?,
+        interface: copied(alloc, known.interface)?,
+        member: copied(alloc, known.member)?,
+        error_name: copied(alloc, known.error_name)?,
+        reply_serial: known.reply_serial,
+        destination: copied(alloc, known.destination)?,
+        sender: copied(alloc, known.sender)?,
+        signature: copied(alloc, known.signature)?,
+        body_at: fixed.start_of_body(),
+        body_len: u64::from(fixed.body_len),
+    })
+}
+
+#[tactic(auto, unfolding(crate::specs::Reading::frame_of))]
+fn frame_at_front(alloc: Global, bytes: &[u8]) -> Result<ReadFrame, FrameError>
+    ensures { AnswersFrame result (frame_of bytes.now) }
+{
+    let count = bytes.len() as u64;
+    if count < 16 {
+        return Ok(ReadFrame::Need(16 - count));
+    }
+    let fixed = Fixed::read(bytes);
+    if let Some(rule) = fixed.broken_rule() {
+        return Err(FrameError::Bad(rule));
+    }
+    let total = fixed.len();
+    if count < total {
+        return Ok(ReadFrame::Need(total - count));
+    }
+    let known = known_of_message(&fixed, bytes)?;
+    Ok(ReadFrame::Frame(header(alloc, &fixed, &known)?, total))
+}
+
+/// Reads the message at the front of some bytes.
+///
+/// With fewer than 16 bytes it answers how many lack to 16. Then come the rules of the fixed part; then how many bytes
+/// lack to the message's length; then the other rules. Only a message that breaks none of them takes memory.
+pub fn read_frame(alloc: Global, bytes: &[u8]) -> Result<ReadFrame, FrameError>
+    ensures exact { AnswersFrame result (frame_of bytes.now) }
+
+    // What is read is a message with its header, and a message is read, whatever follows it.
+    ensures message { IfFrame result (λ header len. (len ≤ length bytes.now) × Frame (take len bytes.now) header) }
+    ensures every_message { (message rest : List ℕ) (header : Header) → bytes.now ≡ message ++ rest → Frame message header
+        → AnswersFrame result (whole header (length message)) }
+
+    // The rule is the first one that is broken, and each broken rule is named.
+    ensures broken { IfBad result (BeginsBroken bytes.now) }
+    ensures every_broken { (message rest : List ℕ) (rule : FrameRule) → bytes.now ≡ message ++ rest → Breaks message rule
+        → AnswersFrame result (bad rule) }
+
+    // So many bytes lack, exactly where some do.
+    ensures lacking { IfNeed result (Lacks bytes.now) }
+    ensures every_lacking { (n : ℕ) → Lacks bytes.now n → AnswersFrame result (need n) }
+{
+    frame_at_front(alloc, bytes)
+}

@@ -1,0 +1,24 @@
+//! The smallest steps of reading.
+
+ghost use Rattle.bus_frame.specs.Steps.{Gives, first_of, behind_byte};
+
+/// The first byte and those behind it.
+pub fn first_byte(bytes: &[u8]) -> Option<(u8, &[u8])>
+    ensures { Gives (λ b. (b.0, b.1.now)) result (first_of bytes.now) }
+{
+    match bytes {
+        [first, rest @ ..] => Some((*first, rest)),
+        [] => None,
+    }
+}
+
+/// What follows this byte, where it stands first.
+pub fn after_byte(byte: u8, bytes: &[u8]) -> Option<&[u8]>
+    ensures { Gives (λ rest. rest.now) result (behind_byte byte bytes.now) }
+{
+    let (first, rest) = first_byte(bytes)?;
+    if first != byte {
+        return None;
+    }
+    Some(rest)
+}

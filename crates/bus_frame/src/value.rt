@@ -1,0 +1,238 @@
+//! Values of a type, after the D-Bus specification's "Marshaling".
+
+ghost use Rattle.std.specs.Prelude.{◌≡◌, ◌<◌, length};
+ghost use Rattle.bus_frame.specs.Steps.{Gives, first_of};
+ghost use Rattle.bus_frame.specs.Types.{is_one_type};
+ghost use Rattle.bus_frame.specs.Places.{place_of};
+ghost use Rattle.bus_frame.specs.Values.{fixed_size, alignment, fixed_at, truth_at, basic_at, closed, members_at, elements_at, array_type_after, array_head_at, array_at, variant_type_at, variant_at, struct_at, value_at};
+
+use crate::cursor::Cursor;
+use crate::room::Room;
+use crate::steps::first_byte;
+use crate::types::{behind_element, is_complete_type};
+
+const MAX_ARRAY: u32 = 67_108_864;
+
+fn size_of_fixed(code: u8) -> usize
+    ensures { result ≡ fixed_size code }
+{
+    match code {
+        b'y' => 1,
+        b'n' | b'q' => 2,
+        b'i' | b'u' | b'h' | b'b' => 4,
+        b'x' | b't' | b'd' => 8,
+        _ => 0,
+    }
+}
+
+fn alignment_of(code: u8) -> usize
+    ensures { result ≡ alignment code }
+{
+    match code {
+        b'y' | b'g' | b'v' => 1,
+        b'n' | b'q' => 2,
+        b'x' | b't' | b'd' | b'(' | b'{' => 8,
+        _ => 4,
+    }
+}
+
+#[tactic(auto, unfolding(crate::specs::Values::fixed_at))]
+fn fixed(size: usize, place: Cursor<'_>) -> Option<Cursor<'_>>
+    requires { 0 < size }
+    ensures { Gives place_of result (fixed_at size (place_of place.entry)) }
+{
+    let (_, behind) = place.aligned(size)?.bytes(size)?;
+    Some(behind)
+}
+
+#[tactic(auto, unfolding(crate::specs::Values::truth_at))]
+fn truth(little: bool, place: Cursor<'_>) -> Option<Cursor<'_>>
+    ensures { Gives place_of result (truth_at little (place_of place.entry)) }
+{
+    let (number, behind) = place.number(little)?;
+    if number > 1 {
+        return None;
+    }
+    Some(behind)
+}
+
+/// Where a value of a basic type ends.
+#[tactic(auto, unfolding(crate::specs::Values::basic_at))]
+fn basic(little: bool, code: u8, place: Cursor<'_>) -> Option<Cursor<'_>>
+    ensures { Gives place_of result (basic_at little code (place_of place.entry)) }
+{
+    match code {
+        b's' | b'o' => {
+            let (_, behind) = place.long_text(little)?;
+            Some(behind)
+        }
+        b'g' => {
+            let (_, behind) = place.short_text()?;
+            Some(behind)
+        }
+        b'b' => truth(little, place),
+        _ => {
+            let size = size_of_fixed(code);
+            if size == 0 {
+                return None;
+            }
+            fixed(size, place)
+        }
+    }
+}
+
+/// How many bytes the elements of an array have, and the place of the first.
+#[tactic(auto, unfolding(crate::specs::Values::array_head_at))]
+pub fn array_head<'m>(little: bool, types: &[u8], place: Cursor<'m>) -> Option<(usize, Cursor<'m>)>
+    ensures { Gives (λ x. (x.0, place_of x.1)) result (array_head_at little types.now (place_of place.entry)) }
+{
+    let (count, behind) = place.number(little)?;
+    let (code, _) = first_byte(types)?;
+    let first = behind.aligned(alignment_of(code))?;
+    if count > MAX_ARRAY {
+        return None;
+    }
+    Some((count as usize, first))
+}
+
+/// The type of a variant, and the place of its value.
+#[tactic(auto, unfolding(crate::specs::Values::variant_type_at))]
+pub fn variant_type<'m>(place: Cursor<'m>) -> Option<(&'m [u8], Cursor<'m>)>
+    ensures { Gives (λ x. (x.0.now, place_of x.1)) result (variant_type_at (place_of place.entry)) }
+{
+    let (count, behind) = place.byte()?;
+    let (types, behind) = behind.bytes(usize::from(count))?;
+    let (end, behind) = behind.byte()?;
+    if end != 0 || !is_complete_type(types) {
+        return None;
+    }
+    Some((types, behind))
+}
+
+/// What follows the bracket that closes a struct or a dictionary entry.
+fn behind_closing(types: &[u8]) -> Option<&[u8]>
+    ensures { Gives (λ rest. rest.now) result (closed types.now) }
+{
+    let (code, rest) = first_byte(types)?;
+    if code != b')' && code != b'}' {
+        return None;
+    }
+    Some(rest)
+}
+
+/// What follows the first type, and where the value of this type ends. The types are well formed.
+#[cycle(values)]
+#[tactic(auto, using(crate::proofs::ValueSteps::step))]
+pub fn value<'t, 'm>(
+    room: Room,
+    little: bool,
+    types: &'t [u8],
+    place: Cursor<'m>,
+) -> Option<(&'t [u8], Cursor<'m>)>
+    ensures { Gives (λ x. (x.0.now, place_of x.1)) result
+        (value_at little room.containers room.arrays room.structs types.now (place_of place.entry)) }
+{
+    let (code, rest) = first_byte(types)?;
+    match code {
+        b'a' => array(room.in_array()?, little, rest, place),
+        b'(' => structure(room.in_struct()?, little, rest, place),
+        b'{' => structure(room.in_other()?, little, rest, place),
+        b'v' => Some((rest, variant(room.in_other()?, little, place)?)),
+        _ => Some((rest, basic(little, code, place)?)),
+    }
+}
+
+#[cycle(values)]
+#[tactic(auto, unfolding(crate::specs::Values::variant_at))]
+fn variant(room: Room, little: bool, place: Cursor<'_>) -> Option<Cursor<'_>>
+    ensures { Gives place_of result
+        (variant_at (value_at little room.containers room.arrays room.structs) (place_of place.entry)) }
+{
+    let (types, first) = variant_type(place)?;
+    let (_, behind) = value(room, little, types, first)?;
+    Some(behind)
+}
+
+#[cycle(values)]
+#[tactic(auto, unfolding(crate::specs::Values::struct_at))]
+fn structure<'t, 'm>(
+    room: Room,
+    little: bool,
+    types: &'t [u8],
+    place: Cursor<'m>,
+) -> Option<(&'t [u8], Cursor<'m>)>
+    ensures { Gives (λ x. (x.0.now, place_of x.1)) result
+        (struct_at (value_at little room.containers room.arrays room.structs) types.now (place_of place.entry)) }
+{
+    let first = place.aligned(8)?;
+    members(room, little, types, first)
+}
+
+#[cycle(values)]
+fn members<'t, 'm>(
+    room: Room,
+    little: bool,
+    types: &'t [u8],
+    place: Cursor<'m>,
+) -> Option<(&'t [u8], Cursor<'m>)>
+    ensures { Gives (λ x. (x.0.now, place_of x.1)) result
+        (members_at (value_at little room.containers room.arrays room.structs) (length types.now) types.now (place_of place.entry)) }
+{
+    let mut left = types;
+    let mut next = place;
+    for _ in 0..types.len() {
+        let (rest, behind) = value(room, little, left, next)?;
+        if let Some(after) = behind_closing(rest) {
+            return Some((after, behind));
+        }
+        left = rest;
+        next = behind;
+    }
+    None
+}
+
+#[cycle(values)]
+#[tactic(auto, unfolding(crate::specs::Values::array_at))]
+fn array<'t, 'm>(
+    room: Room,
+    little: bool,
+    types: &'t [u8],
+    place: Cursor<'m>,
+) -> Option<(&'t [u8], Cursor<'m>)>
+    ensures { Gives (λ x. (x.0.now, place_of x.1)) result
+        (array_at little (value_at little room.containers room.arrays room.structs) types.now (place_of place.entry)) }
+{
+    let (count, first) = array_head(little, types, place)?;
+    let (body, behind) = first.bytes(count)?;
+    let elements = Cursor {
+        at: first.at,
+        rest: body,
+    };
+    let rest = if count == 0 {
+        behind_element(Room::WHOLE, types)?
+    } else {
+        behind_elements(room, little, types, elements)?
+    };
+    Some((rest, behind))
+}
+
+#[cycle(values)]
+fn behind_elements<'t>(
+    room: Room,
+    little: bool,
+    types: &'t [u8],
+    place: Cursor<'_>,
+) -> Option<&'t [u8]>
+    ensures { Gives (λ rest. rest.now) result
+        (elements_at (value_at little room.containers room.arrays room.structs) (length place.entry.rest.now) types.now (place_of place.entry)) }
+{
+    let mut next = place;
+    for _ in 0..place.rest.len() {
+        let (rest, behind) = value(room, little, types, next)?;
+        if behind.rest.is_empty() {
+            return Some(rest);
+        }
+        next = behind;
+    }
+    None
+}

@@ -1,0 +1,137 @@
+//! Writing messages, after the D-Bus specification's "Marshaling" and "Message Protocol".
+
+ghost use Rattle.std.specs.Prelude.{◌≡◌, ℕ, ◌+◌, ◌≤◌, ◌<◌, ◌^◌, ◌++◌, ◌∷◌, [], List, length, vec_len, false, None, OnOk, IfOk, IfSome, replicate, option_map, take, drop};
+ghost use Rattle.bus_frame.specs.Fields.{Field, word as word_content, number as number_content};
+ghost use Rattle.std.specs.List.{list_any};
+ghost use Rattle.std.specs.Option.{ForSome};
+ghost use Rattle.std.specs.Prelude.{◌==◌};
+ghost use Rattle.bus_frame.specs.Numbers.{padding};
+ghost use Rattle.bus_frame.specs.Writing.{number_bytes, zeros, text_bytes, field_bytes, fields_bytes, fixed_bytes, error_fields, error_bytes};
+
+use crate::blob::Blob;
+use std::alloc::{AllocError, Global};
+
+/// The four bytes of a number.
+pub fn number_bytes_of(little: bool, number: u32) -> [u8; 4]
+    ensures { result ≡ number_bytes little number }
+{
+    if little {
+        number.to_le_bytes()
+    } else {
+        number.to_be_bytes()
+    }
+}
+
+/// Adds the zero bytes that lead from a place to the next multiple of `alignment`.
+pub fn put_zeros(out: &mut Vec<u8>, alignment: usize, at: usize) -> Result<(), AllocError>
+    requires { 0 < alignment }
+    ensures { OnOk result (out.new.items ≡ out.old.items ++ zeros alignment at) }
+{
+    for _ in 0..(alignment - at % alignment) % alignment {
+        out.push(0)?;
+    }
+    Ok(())
+}
+
+/// Adds a text with its length before it and a zero byte behind it.
+pub fn put_text(out: &mut Vec<u8>, little: bool, text: &str) -> Result<(), AllocError>
+    requires { length text.now < 2 ^ 32 }
+    ensures { OnOk result (out.new.items ≡ out.old.items ++ text_bytes little text.now) }
+{
+    out.extend_from_slice(&number_bytes_of(little, text.len() as u32))?;
+    out.extend_from_slice(text.as_bytes())?;
+    out.push(0)?;
+    Ok(())
+}
+
+/// Adds a field of the type `s` to a field array, which begins at byte 16 of its message.
+fn put_word(fields: &mut Vec<u8>, little: bool, code: u8, text: &str) -> Result<(), AllocError>
+    requires room { length fields.old.items < 2 ^ 32 }
+    requires text_len { length text.now ≤ 255 }
+    ensures { OnOk result (fields.new.items ≡ fields.old.items
+        ++ field_bytes little (16 + length fields.old.items) (record { code = code; content = word_content 115 text.now })) }
+{
+    let at = 16 + fields.len();
+    put_zeros(fields, 8, at)?;
+    fields.extend_from_slice(&[code, 1, b's', 0])?;
+    put_text(fields, little, text)
+}
+
+/// Adds a field of the type `u` to a field array, which begins at byte 16 of its message.
+fn put_number(fields: &mut Vec<u8>, little: bool, code: u8, number: u32) -> Result<(), AllocError>
+    requires { length fields.old.items < 2 ^ 32 }
+    ensures { OnOk result (fields.new.items ≡ fields.old.items
+        ++ field_bytes little (16 + length fields.old.items) (record { code = code; content = number_content number })) }
+{
+    let at = 16 + fields.len();
+    put_zeros(fields, 8, at)?;
+    fields.extend_from_slice(&[code, 1, b'u', 0])?;
+    fields.extend_from_slice(&number_bytes_of(little, number))?;
+    Ok(())
+}
+
+const BUS: &str = "org.freedesktop.DBus";
+
+/// The field array of the answer to a refused call.
+fn error_array(
+    alloc: Global,
+    little: bool,
+    name: &str,
+    reply: u32,
+    to: Option<&str>,
+) -> Result<Vec<u8>, AllocError>
+    requires name_len { length name.now ≤ 255 }
+    requires to_len { ForSome to (λ t. length t.now ≤ 255) }
+    ensures bound { IfOk result (λ v. vec_len v < 2 ^ 32) }
+    ensures fields { IfOk result (λ v. v.items ≡ fields_bytes little 16 (error_fields name.now reply (option_map (λ t. t.now) to.entry))) }
+{
+    let mut fields = Vec::new(alloc);
+    put_word(&mut fields, little, 4, name)?;
+    put_number(&mut fields, little, 5, reply)?;
+    if let Some(peer) = to {
+        put_word(&mut fields, little, 6, peer)?;
+    }
+    put_word(&mut fields, little, 7, BUS)?;
+    Ok(fields)
+}
+
+/// The fixed part of a message without a body.
+fn put_fixed(
+    out: &mut Vec<u8>,
+    little: bool,
+    kind: u8,
+    flags: u8,
+    serial: u32,
+    array_len: u32,
+) -> Result<(), AllocError>
+    ensures { OnOk result (out.new.items ≡ out.old.items ++ fixed_bytes little kind flags 0 serial array_len) }
+{
+    let order = if little { b'l' } else { b'B' };
+    out.extend_from_slice(&[order, kind, flags, 1])?;
+    out.extend_from_slice(&number_bytes_of(little, 0))?;
+    out.extend_from_slice(&number_bytes_of(little, serial))?;
+    out.extend_from_slice(&number_bytes_of(little, array_len))?;
+    Ok(())
+}
+
+/// The answer to a refused call: an error with this name, for the call with the serial `reply`, to the caller where
+/// its name is known, from the bus. It wants no reply and has no body; its serial is the greatest.
+#[tactic(auto, unfolding(crate::specs::Writing::error_bytes))]
+pub fn error_frame(
+    alloc: Global,
+    little: bool,
+    name: &str,
+    reply: u32,
+    to: Option<&str>,
+) -> Result<Blob, AllocError>
+    requires name_len { length name.now ≤ 255 }
+    requires to_len { ForSome to (λ t. length t.now ≤ 255) }
+    ensures bytes { IfOk result (λ b. b ≡ error_bytes little name.now reply (option_map (λ t. t.now) to.entry)) }
+{
+    let fields = error_array(alloc, little, name, reply, to)?;
+    let mut out = Vec::new(alloc);
+    put_fixed(&mut out, little, 3, 1, u32::MAX, fields.len() as u32)?;
+    out.extend_from_slice(&fields)?;
+    put_zeros(&mut out, 8, 16 + fields.len())?;
+    Ok(Blob::from_vec(out))
+}

@@ -1,0 +1,8 @@
+use Rattle.std.proofs.Common.{ap, ◌∙◌}
+use Rattle.bus_frame.specs.Reading.{frame_of}
+use Rattle.bus_stream.proofs.Streams.{still_broken}
+use Rattle.bus_stream.proofs.cutter.Cutter.feed.Goals as goal
+
+pub returns-clause-broken : goal.returns-clause-broken
+returns-clause-broken c = λ rule e.
+    still_broken c.extend_from_slice.result c.self.inside.bytes.items _ c.args.piece.now rule c.extend_from_slice.ensures.ok c.extend_from_slice.ensures.err (ap frame_of c.self.view_is ∙ e)

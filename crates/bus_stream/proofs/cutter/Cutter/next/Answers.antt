@@ -1,0 +1,11 @@
+use Rattle.bus_stream.proofs.Streams.{not_yet, still_at, all_given}
+use Rattle.bus_stream.proofs.cutter.Cutter.next.Goals as goal
+
+pub returns-clause-not_yet : goal.returns-clause-not_yet
+returns-clause-not_yet c = not_yet c.take_message.result _ _ c.take_message.ensures.bytes c.take_message.ensures.exact
+
+pub returns-clause-at : goal.returns-clause-at
+returns-clause-at c = λ fed given at. still_at c.take_message.result _ _ fed given c.take_message.ensures.bytes c.take_message.ensures.exact at
+
+pub returns-clause-all : goal.returns-clause-all
+returns-clause-all c = λ fed given at. all_given c.take_message.result _ _ fed given c.take_message.ensures.exact at

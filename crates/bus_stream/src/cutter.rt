@@ -1,0 +1,114 @@
+//! A stream of messages that comes in pieces.
+
+ghost use Rattle.std.specs.Prelude.{◌≡◌, ◌↔◌, ℕ, List, [], ◌++◌, ◌<◌, slice_index, length, IfOk, OnOk, OnErr};
+ghost use Rattle.bus_frame.specs.declared.rule.FrameRule.{FrameRule};
+ghost use Rattle.bus_frame.specs.Reading.{frame_of, bad};
+ghost use Rattle.bus_stream.specs.Fronts.{AnswersFront};
+ghost use Rattle.bus_stream.specs.Stream.{Message, CutterAt, NothingYet};
+
+use bus_frame::{Blob, FrameError, Header, ReadFrame, read_frame};
+use bytes::BytesMut;
+use std::alloc::{AllocError, Global};
+use std::marker::Model;
+
+const FIRST_ROOM: usize = 4_096;
+
+/// What the next bytes of a stream are.
+#[derive(Debug, Drop)]
+pub enum Cut {
+    /// A whole message with its header.
+    Message(Header, Blob),
+    /// Less than a whole message, and no rule broken yet.
+    NotYet,
+}
+
+/// The whole message at the front of some bytes, where there is one.
+fn message_at_front(alloc: Global, bytes: &[u8]) -> Result<Option<(Header, Blob)>, FrameError>
+    ensures exact { AnswersFront result bytes.now }
+    ensures bytes { (i : ℕ) → slice_index bytes.now i < 256 }
+{
+    match read_frame(alloc, bytes)? {
+        ReadFrame::Need(_) => Ok(None),
+        ReadFrame::Frame(header, len) => {
+            let message = Blob::copy_of(alloc, &bytes[..len as usize])?;
+            Ok(Some((header, message)))
+        }
+    }
+}
+
+/// A stream of messages that comes in pieces. It keeps the bytes that aren't taken yet, and no history.
+#[derive(Drop)]
+pub struct Cutter {
+    bytes: BytesMut,
+}
+
+impl Model for Cutter {
+    ghost use Rattle.std.specs.Prelude.{List, ℕ};
+
+    ghost Value = { List ℕ };
+
+    ghost view = { λ c. c.bytes.items };
+}
+
+impl Cutter {
+    ghost use Rattle.bus_stream.specs.Cuts.{AnswersCut, with_given, AreAll, IsNotYet};
+
+    /// A stream to which nothing was fed.
+    pub fn new(alloc: Global) -> Result<Self, AllocError>
+        ensures nothing { IfOk result (λ c. c ≡ []) }
+        ensures at { IfOk result (λ c. CutterAt c [] []) }
+    {
+        Ok(Cutter {
+            bytes: BytesMut::with_capacity(alloc, FIRST_ROOM)?,
+        })
+    }
+
+    /// Adds a piece. Without memory nothing changes.
+    pub fn feed(&mut self, piece: &[u8]) -> Result<(), AllocError>
+        ensures ok { OnOk result (self.new ≡ self.old ++ piece.now) }
+        ensures err { OnErr result (self.new ≡ self.old) }
+
+        // What was given stays given, and a broken rule stays broken.
+        ensures at { (fed : List ℕ) (given : List Message) → CutterAt self.old fed given
+            → OnOk result (CutterAt self.new (fed ++ piece.now) given) }
+        ensures broken { (rule : FrameRule) → frame_of self.old ≡ bad rule → frame_of self.new ≡ bad rule }
+    {
+        self.bytes.extend_from_slice(piece)
+    }
+
+    /// Takes the next whole message. Only a whole message takes memory, and without it nothing changes.
+    ///
+    /// After a broken rule each later call names the same rule.
+    pub fn next(&mut self) -> Result<Cut, FrameError>
+        ensures exact { AnswersCut result self.old self.new }
+        ensures not_yet { IsNotYet result ↔ NothingYet self.old }
+
+        // The messages given are whole messages of what was fed, and in the end all of them, however it was fed.
+        ensures at { (fed : List ℕ) (given : List Message) → CutterAt self.old fed given
+            → CutterAt self.new fed (with_given result given) }
+        ensures all { (fed : List ℕ) (given : List Message) → CutterAt self.old fed given → AreAll result fed given }
+    {
+        self.take_message()
+    }
+
+    fn take_message(&mut self) -> Result<Cut, FrameError>
+        ensures exact { AnswersCut result self.old self.new }
+        ensures bytes { (i : ℕ) → slice_index self.old i < 256 }
+    {
+        let alloc = *self.bytes.allocator();
+        match message_at_front(alloc, self.bytes.as_slice())? {
+            None => Ok(Cut::NotYet),
+            Some((header, message)) => {
+                self.bytes.advance(message.as_slice().len());
+                Ok(Cut::Message(header, message))
+            }
+        }
+    }
+
+    /// How many bytes aren't taken.
+    pub fn pending(&self) -> u64
+        ensures { result ≡ length self.now }
+    {
+        self.bytes.len() as u64
+    }
+}
