@@ -1,0 +1,15 @@
+pub mod Calling
+pub mod Children
+pub mod Creating
+pub mod Editing
+pub mod Filing
+pub mod Finding
+pub mod Forgetting
+pub mod Judging
+pub mod Logging
+pub mod Ordered
+pub mod Putting
+pub mod Quiet
+pub mod Results
+pub mod Viewing
+pub mod Taking

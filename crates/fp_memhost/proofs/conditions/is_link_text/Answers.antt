@@ -1,0 +1,14 @@
+use Rattle.std.proofs.Common.{◌≡◌, ◌≤◌, ◌∙◌, List, ℕ, ap, subst, length, arith, true, not}
+use Rattle.std.specs.Prelude.{◌==◌}
+use Rattle.std.specs.List.{list_all}
+use Rattle.std.proofs.lemmas.Bool.{eqb-false}
+use Rattle.std.proofs.lemmas.Str.{is_utf8-from_IsUtf8}
+use Rattle.fp_memhost.proofs.Judging.{link_text_is, not_short}
+use Rattle.fp_memhost.proofs.conditions.is_link_text.Goals as goal
+
+pub returns : goal.returns
+returns c =
+    let text = c.args.text.now in
+    let is = c.as_bytes-bytes.ensures.value in
+    let n = c.as_bytes-bytes.ensures.len in
+    link_text_is text c.has_no_zero.result (subst (λ k. 1 ≤ k) n (not_short _ c.if-is_empty.ensures)) (subst (λ k. k ≤ 4095) n c.if-bytes-gt4095.false) (is_utf8-from_IsUtf8 text c.utf8.text) (c.has_no_zero.ensures ∙ ap (λ (t : List ℕ). list_all (λ b. not (b == 0)) t) is)

@@ -1,0 +1,27 @@
+-- What stands in a folder.
+use Rattle.std.specs.Prelude.{ℕ, Bool, true, false, ◌&&◌, ◌||◌, List, [], ◌∷◌, is_some, if◌then◌else◌}
+use Rattle.fp_host.specs.Paths.{Elements, path_eq}
+use Rattle.fp_memhost.specs.declared.names.Name.{Name}
+
+-- the path stands directly in the folder
+abbrev pub child_in : Elements → Elements → Bool
+child_in p [] = false
+child_in p (x ∷ up) = path_eq up p
+
+-- the first path is a folder above the second
+abbrev pub is_above : Elements → Elements → Bool
+is_above p [] = false
+is_above p (x ∷ up) = path_eq up p || is_above p up
+
+-- its last element
+abbrev pub last_of : Elements → List ℕ
+last_of [] = []
+last_of (x ∷ up) = x
+
+-- something stands there
+abbrev pub is_child : Elements → Name → Bool
+is_child p name = is_some name.entry && child_in p name.path
+
+abbrev pub children_of : List Name → Elements → List (List ℕ)
+children_of [] p = []
+children_of (name ∷ names) p = if is_child p name then last_of name.path ∷ children_of names p else children_of names p

@@ -1,0 +1,16 @@
+pub mod Files
+pub mod Folders
+pub mod Holding
+pub mod Keepings
+pub mod Names
+pub mod Plays
+pub mod RemoteRows
+pub mod Replay
+pub mod Scenes
+pub mod Sources
+pub mod Start
+pub mod Stats
+pub mod Stories
+pub mod Story
+pub mod Supply
+pub mod Told

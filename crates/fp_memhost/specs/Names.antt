@@ -1,0 +1,94 @@
+-- The names of a host as they are kept.
+use Rattle.std.specs.Prelude.{◌≡◌, ◌+◌, ◌≤◌, ◌<◌, ◌&&◌, ℕ, Bool, true, List, [], ◌∷◌, ◌++◌, length, take, Option, Some, None, map, vec_len, vec_capacity, slice_index_or}
+use Rattle.std.specs.List.{list_all, find, AllByRecursion}
+use Rattle.std.specs.Ordering.{nat_cmp, is_lt}
+use Rattle.std.specs.declared.cmp.Ordering.{Ordering}
+use Rattle.std.specs.declared.cmp.Ordering.TheVariants.{Less, Equal, Greater}
+use Rattle.std.specs.Cmp.Lexicographic.{slice_cmp}
+use Rattle.fp_host.specs.Paths.{Elements, Slot, absent, dir, file, link, path_eq, path_text, set_at}
+use Rattle.fp_memhost.specs.declared.entry.Entry.{Entry}
+use Rattle.fp_memhost.specs.declared.entry.Entry.TheVariants.{Dir, File, Link}
+use Rattle.fp_memhost.specs.declared.names.Name.{Name}
+
+abbrev pub slot_of : Option Entry → Slot
+slot_of None = absent
+slot_of (Some Dir) = dir
+slot_of (Some (File id)) = file id
+slot_of (Some (Link text)) = link text
+
+-- the texts ascend
+abbrev pub comes_before : Name → Name → Bool
+comes_before a b = is_lt (slice_cmp nat_cmp (path_text a.path) (path_text b.path))
+
+abbrev pub ascends : List Name → Bool
+ascends [] = true
+ascends (x ∷ xs) = list_all (comes_before x) xs && ascends xs
+
+pub record IsAscending (names : List Name) : Type 0 where
+  pub each : ascends names ≡ true
+
+-- the name at a path
+abbrev pub is_at : Elements → Name → Bool
+is_at q name = path_eq q name.path
+
+abbrev pub name_at : List Name → Elements → Option Name
+name_at names q = find (is_at q) names
+
+abbrev pub slot_in : Option Name → Slot
+slot_in None = absent
+slot_in (Some name) = slot_of name.entry
+
+abbrev pub held_in : Option Name → List Slot
+held_in None = []
+held_in (Some name) = map slot_of name.earlier.items
+
+-- what each name holds, and what it held
+abbrev pub names_of : List Name → Elements → Slot
+names_of names q = slot_in (name_at names q)
+
+abbrev pub earlier_of : List Name → Elements → List Slot
+earlier_of names q = held_in (name_at names q)
+
+-- the name at this place is the one of the path
+pub record IsAt (names : List Name) (p : Elements) (i : ℕ) : Type 0 where
+  pub low : i < length names
+  pub before : name_at (take i names) p ≡ None
+  pub here : (d : Name) → (slice_index_or names i d).path ≡ p
+
+-- no name has this text, and one that has it would stand here
+pub record IsPlace (names : List Name) (text : List ℕ) (i : ℕ) : Type 0 where
+  pub low : i ≤ length names
+  pub before : (k : ℕ) (d : Name) → k < i → slice_cmp nat_cmp (path_text (slice_index_or names k d).path) text ≡ Less
+  pub behind : (k : ℕ) (d : Name) → i ≤ k → k < length names → slice_cmp nat_cmp (path_text (slice_index_or names k d).path) text ≡ Greater
+
+abbrev pub room_in : Option Name → ℕ → Type 0
+room_in None n = ⊥
+room_in (Some name) n = vec_len name.earlier + n ≤ vec_capacity name.earlier
+
+-- the name is there, with room for so many earlier entries more
+pub record HasRoom (names : List Name) (p : Elements) (n : ℕ) : Type 0 where
+  pub room : room_in (name_at names p) n
+
+-- no name changed
+pub record SameNames (old new : List Name) : Type 0 where
+  pub names : (q : Elements) → names_of new q ≡ names_of old q
+  pub earlier : (q : Elements) → earlier_of new q ≡ earlier_of old q
+
+-- the name holds this now, and held what it did
+pub record PutsName (p : Elements) (e : Slot) (old new : List Name) : Type 0 where
+  pub names : (q : Elements) → names_of new q ≡ set_at (names_of old) p e q
+  pub earlier : (q : Elements) → earlier_of new q ≡ set_at (earlier_of old) p (earlier_of old p ++ names_of old p ∷ []) q
+
+-- a stop may leave this at the name
+pub record MayPutName (p : Elements) (e : Slot) (old new : List Name) : Type 0 where
+  pub names : (q : Elements) → names_of new q ≡ names_of old q
+  pub earlier : (q : Elements) → earlier_of new q ≡ set_at (earlier_of old) p (earlier_of old p ++ e ∷ []) q
+
+-- no name held anything
+pub record ForgetsNames (old new : List Name) : Type 0 where
+  pub names : (q : Elements) → names_of new q ≡ names_of old q
+  pub earlier : (q : Elements) → earlier_of new q ≡ []
+
+-- each name has as much room as before, but for so many entries
+pub record KeepsRoom (used : ℕ) (old new : List Name) : Type 0 where
+  pub room : (q : Elements) (n : ℕ) → HasRoom old q (n + used) → HasRoom new q n

@@ -1,0 +1,29 @@
+-- How a fake host begins.
+use Rattle.std.specs.Prelude.{◌≡◌, ℕ, List, [], ◌∷◌, Bool, false, Option, Some, None}
+use Rattle.fp_host.specs.Paths.{Elements, Slot, absent, dir}
+use Rattle.fp_host.specs.View.{View}
+use Rattle.fp_host.specs.Moments.{Moments}
+use Rattle.fp_memhost.specs.Story.{Story}
+
+-- the root alone
+abbrev pub root_alone : Elements → Slot
+root_alone [] = dir
+root_alone (x ∷ up) = absent
+
+-- The empty view: it names the root alone, there are no files, nothing stood earlier, and nothing was printed.
+abbrev pub empty_view : View
+empty_view = record { names = root_alone; files = λ id. None; earlier = λ q. []; dirty = λ id. false; printed = [] }
+
+-- The host tells this view, and no call was made.
+pub record Begins (v : View) (story : Story) (moments : Option Moments) (count : ℕ) : Type 0 where
+  pub told : moments ≡ Some (record { now = v; past = [] })
+  pub faults : count ≡ 0
+  pub calls : story.calls ≡ 0
+  pub after : story.after 0 ≡ Some v
+  pub fails : (n : ℕ) → story.fails n ≡ None
+  pub starved : story.starved ≡ 0
+  pub made : story.made ≡ []
+
+-- these bytes were printed
+pub record TellsPrinted (told : Option Moments) (bytes : List ℕ) : Type 0 where
+  pub printed : (m : Moments) → told ≡ Some m → bytes ≡ m.now.printed

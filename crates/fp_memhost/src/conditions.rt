@@ -1,0 +1,134 @@
+// The conditions of the calls that change something.
+ghost use Rattle.std.specs.Prelude.{◌≡◌, ◌≢◌, ◌↔◌, ◌≤◌, ◌==◌, [], true, not, IsTrue};
+ghost use Rattle.std.specs.List.{list_all};
+ghost use Rattle.std.specs.Option.{option_copied};
+ghost use Rattle.fp_host.specs.Paths.{dir, is_link_text};
+ghost use Rattle.fp_host.specs.View.{IsTree};
+ghost use Rattle.fp_host.specs.Calls.{HasFolder, IsFile, Can, CanCreate, makes_dir, appends, links, makes_link, renames, unlinks, removes_dir};
+ghost use Rattle.fp_memhost.specs.Names.{slot_of};
+ghost use Rattle.fp_memhost.specs.Scenes.{seen};
+
+use crate::Entry;
+use crate::files::is_new;
+use crate::folders::{above, has_child};
+use crate::names::entry;
+use crate::scene::Scene;
+use fp_host::Path;
+
+/// Whether the entry is a folder.
+pub fn is_dir(entry: Option<&Entry>) -> bool
+    ensures { IsTrue result ↔ (slot_of (option_copied entry.entry) ≡ dir) }
+{
+    matches!(entry, Some(Entry::Dir))
+}
+
+/// Whether the folder above the path is there.
+pub fn has_folder(scene: &Scene, path: &Path) -> bool
+    ensures { IsTrue result ↔ HasFolder (seen scene.now) path.now }
+{
+    match above(path.text()) {
+        Some(up) => is_dir(entry(&scene.names, up)),
+        None => false,
+    }
+}
+
+pub fn can_make_dir(scene: &Scene, path: &Path) -> bool
+    ensures { IsTrue result ↔ Can (makes_dir path.now) (seen scene.now) }
+{
+    has_folder(scene, path) && entry(&scene.names, path.text()).is_none()
+}
+
+pub fn can_create(scene: &Scene, path: &Path, mode: u32) -> bool
+    ensures { IsTrue result ↔ CanCreate path.now mode (seen scene.now) }
+{
+    can_make_dir(scene, path) && mode <= 0o7777
+}
+
+pub fn can_append(scene: &Scene, path: &Path) -> bool
+    ensures { IsTrue result ↔ Can (appends path.now []) (seen scene.now) }
+{
+    match entry(&scene.names, path.text()) {
+        Some(Entry::File(id)) => is_new(&scene.files, *id),
+        _ => false,
+    }
+}
+
+pub fn can_link(scene: &Scene, from: &Path, to: &Path) -> bool
+    ensures { IsTrue result ↔ Can (links from.now to.now) (seen scene.now) }
+{
+    matches!(entry(&scene.names, from.text()), Some(Entry::File(_))) && can_make_dir(scene, to)
+}
+
+// Whether no byte is zero.
+fn has_no_zero(bytes: &[u8]) -> bool
+    ensures { result ≡ list_all (λ b. not (b == 0)) bytes.now }
+{
+    bytes.iter().all(|b| *b != 0)
+}
+
+/// Whether the text may be a symlink's.
+pub fn is_link_text(text: &str) -> bool
+    ensures { result ≡ is_link_text text.now }
+{
+    let bytes = text.as_bytes();
+    if bytes.is_empty() || bytes.len() > 4095 {
+        return false;
+    }
+    has_no_zero(bytes)
+}
+
+pub fn can_symlink(scene: &Scene, text: &str, path: &Path) -> bool
+    ensures { IsTrue result ↔ Can (makes_link text.now path.now) (seen scene.now) }
+{
+    is_link_text(text) && can_make_dir(scene, path)
+}
+
+pub fn can_unlink(scene: &Scene, path: &Path) -> bool
+    ensures { IsTrue result ↔ Can (unlinks path.now) (seen scene.now) }
+{
+    matches!(entry(&scene.names, path.text()), Some(Entry::File(_) | Entry::Link(_)))
+}
+
+// Whether the two hold different entries, or the first is no file.
+fn are_apart(from: Option<&Entry>, to: Option<&Entry>) -> bool
+    ensures { IsTrue result
+        ↔ (IsFile (slot_of (option_copied from.entry)) → slot_of (option_copied from.entry) ≢ slot_of (option_copied to.entry)) }
+{
+    match (from, to) {
+        (Some(Entry::File(one)), Some(Entry::File(other))) => one != other,
+        _ => true,
+    }
+}
+
+pub fn can_rename(scene: &Scene, from: &Path, to: &Path) -> bool
+    ensures { IsTrue result ↔ Can (renames from.now to.now) (seen scene.now) }
+{
+    if !can_unlink(scene, from) {
+        return false;
+    }
+    if !has_folder(scene, to) {
+        return false;
+    }
+    if from.is(to) {
+        return false;
+    }
+    let target = entry(&scene.names, to.text());
+    if is_dir(target) {
+        return false;
+    }
+    are_apart(entry(&scene.names, from.text()), target)
+}
+
+/// In a tree nothing is below a folder where nothing stands directly in it.
+pub fn can_remove_dir(scene: &Scene, path: &Path) -> bool
+    requires { IsTree (seen scene.now) }
+    ensures { IsTrue result ↔ Can (removes_dir path.now) (seen scene.now) }
+{
+    if path.is_root() {
+        return false;
+    }
+    if !is_dir(entry(&scene.names, path.text())) {
+        return false;
+    }
+    !has_child(&scene.names, path.text())
+}

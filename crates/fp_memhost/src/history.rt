@@ -1,0 +1,87 @@
+// What was done since the start.
+ghost use Rattle.std.specs.Prelude.{◌≡◌, ◌≤◌, ◌+◌, ◌-◌, ◌^◌, ◌++◌, ◌∷◌, [], false, IsTrue, min};
+ghost use Rattle.fp_host.specs.View.{IsTree};
+ghost use Rattle.fp_host.specs.Calls.{Can};
+ghost use Rattle.fp_memhost.specs.Scenes.{seen};
+ghost use Rattle.fp_memhost.specs.Replay.{change_of, stepped, view_now, IsNumbered, AreTrees};
+
+use crate::event::{Event, Noted};
+use crate::scene::Scene;
+
+/// What stood at the start, what was done since then, in order, and what stands now.
+#[derive(Drop)]
+pub struct History {
+    pub start: Scene,
+    pub scene: Scene,
+    pub log: Vec<Noted>,
+    pub calls: u64,
+    ghost agrees: { seen scene ≡ view_now (seen start) log.items },
+    ghost numbered: { IsNumbered calls log.items },
+    ghost trees: { ∥ AreTrees (seen start) log.items ∥₁ },
+}
+
+// Whether there was memory for the step and for its note. Without it nothing that is told changes.
+fn keep(scene: &mut Scene, log: &mut Vec<Noted>, noted: Noted) -> bool
+    ensures yes_scene { IsTrue result → seen scene.new ≡ stepped noted (seen scene.old) }
+    ensures yes_log { IsTrue result → log.new.items ≡ log.old.items ++ noted ∷ [] }
+    ensures no_scene { result ≡ false → seen scene.new ≡ seen scene.old }
+    ensures no_log { result ≡ false → log.new.items ≡ log.old.items }
+{
+    if log.try_reserve(1).is_err() {
+        return false;
+    }
+    if scene.play(&noted).is_err() {
+        return false;
+    }
+    log.push(noted).unwrap();
+    true
+}
+
+impl History {
+    /// Nothing was done yet. Both show the same, which is a tree and has nothing earlier.
+    pub fn new(start: Scene, scene: Scene) -> Self
+        requires same { seen scene ≡ seen start }
+        requires tree { IsTree (seen start) }
+        ensures start { result.start ≡ start }
+        ensures log { result.log.items ≡ [] }
+        ensures calls { result.calls ≡ 0 }
+    {
+        let log = Vec::new(*scene.names.allocator());
+        History {
+            start,
+            scene,
+            log,
+            calls: 0,
+        }
+    }
+
+    /// A call that changes nothing.
+    pub fn skip(&mut self)
+        ensures start { self.new.start ≡ self.old.start }
+        ensures log { self.new.log.items ≡ self.old.log.items }
+        ensures calls { self.new.calls ≡ min (self.old.calls + 1) (2 ^ 64 - 1) }
+        ensures later { self.old.calls ≤ self.new.calls }
+    {
+        self.calls = self.calls.saturating_add(1);
+    }
+
+    /// A call that makes this change, or leaves it for a stop to bring about. Whether there was memory to keep it;
+    /// without it nothing that is told changes.
+    pub fn note(&mut self, event: Event, is_done: bool) -> bool
+        requires { Can (change_of event) (seen self.old.scene) }
+        ensures start { self.new.start ≡ self.old.start }
+        ensures yes { IsTrue result
+            → self.new.log.items ≡ self.old.log.items ++ record { call = self.old.calls; is_done = is_done; event = event } ∷ [] }
+        ensures no { result ≡ false → self.new.log.items ≡ self.old.log.items }
+        ensures calls { self.new.calls ≡ min (self.old.calls + 1) (2 ^ 64 - 1) }
+        ensures later { self.old.calls ≤ self.new.calls }
+    {
+        let noted = Noted {
+            call: self.calls,
+            is_done,
+            event,
+        };
+        self.calls = self.calls.saturating_add(1);
+        keep(&mut self.scene, &mut self.log, noted)
+    }
+}

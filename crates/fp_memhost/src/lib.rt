@@ -1,0 +1,24 @@
+//! Fakes in memory: a host that keeps what was done and tells what a stop would leave, remotes and a source.
+#![tactic(auto)]
+
+mod conditions;
+mod copying;
+mod entry;
+mod event;
+mod files;
+mod folders;
+mod history;
+mod hosting;
+mod mem;
+mod names;
+mod reads;
+mod remotes;
+mod scene;
+mod source;
+mod story;
+
+pub use entry::Entry;
+pub use mem::MemHost;
+pub use remotes::{MemNode, MemRemotes};
+pub use source::MemSource;
+pub use story::{Keeper, Recorder, Supplier};

@@ -1,0 +1,160 @@
+// The host in memory.
+ghost use Rattle.std.specs.Prelude.{◌≡◌, ◌≤◌, ◌+◌, ◌-◌, ◌^◌, ℕ, List, Option, Some, Ok, Err, IsTrue, IfOk, IfSome, OnOk, OnErr, min, length};
+ghost use Rattle.fp_host.specs.Calls.{Can};
+ghost use Rattle.fp_memhost.specs.Scenes.{seen};
+ghost use Rattle.fp_memhost.specs.Replay.{change_of};
+ghost use Rattle.fp_memhost.specs.Start.{Begins, TellsPrinted, empty_view};
+ghost use Rattle.fp_memhost.specs.Story.{fails_at, ListsOnce};
+ghost use Rattle.fp_memhost.specs.Plays.{done_by, Played, Looked, IsStarved};
+
+use crate::event::Event;
+use crate::history::History;
+use crate::scene::Scene;
+use crate::story::Recorder;
+use fp_host::{Host, HostError};
+use std::alloc::{AllocError, Global};
+
+/// A host in memory. It keeps what was done, and tells what a stop after any number of calls would leave.
+#[derive(Drop)]
+pub struct MemHost {
+    history: History,
+    failing: Vec<(u64, bool)>,
+    pub(crate) faults: u64,
+    starved: u64,
+}
+
+// Whether the change of a call is made; a failing sync changes nothing.
+fn is_to_be_done(verdict: Option<bool>, event: &Event) -> bool
+    ensures { result ≡ done_by verdict event.now }
+{
+    match verdict {
+        None => true,
+        Some(is_late) => is_late && !event.is_sync(),
+    }
+}
+
+impl MemHost {
+    /// The empty host: the root alone, nothing printed, and no call made.
+    pub fn new(alloc: Global) -> Result<Self, AllocError>
+        ensures { IfOk result (λ m. Begins empty_view (⟦<MemHost as Recorder>⟧.story m) (⟦<MemHost as Host>⟧.moments m) (⟦<MemHost as Host>⟧.faults m)) }
+    {
+        let history = History::new(Scene::empty(alloc)?, Scene::empty(alloc)?);
+        Ok(MemHost {
+            history,
+            failing: Vec::new(alloc),
+            faults: 0,
+            starved: 0,
+        })
+    }
+
+    /// What was printed, which takes no memory.
+    pub fn printed(&self) -> &[u8]
+        ensures { TellsPrinted (⟦<MemHost as Host>⟧.moments self.now) result.now }
+    {
+        &self.history.scene.printed
+    }
+
+    /// How many calls were made; the count stands still at 2^64 - 1.
+    pub fn calls(&self) -> u64
+        ensures { result ≡ (⟦<MemHost as Recorder>⟧.story self.now).calls }
+    {
+        self.history.calls
+    }
+
+    /// How many calls failed because there was no memory to keep them; the count stands still at 2^64 - 1.
+    pub fn starved(&self) -> u64
+        ensures { result ≡ (⟦<MemHost as Recorder>⟧.story self.now).starved }
+    {
+        self.starved
+    }
+
+    /// Makes the calls with these numbers, counted from 0 over all calls, fail. The truth value says whether what the call
+    /// asks for is done; a stop may leave either. A failing sync, and a failing call whose condition doesn't hold, changes
+    /// nothing. The list takes the place of an earlier one.
+    pub fn fail_calls(&mut self, list: &[(u64, bool)]) -> Result<(), AllocError>
+        requires { ListsOnce list.now }
+        ensures ok { OnOk result (⟦<MemHost as Recorder>⟧.story self.new ≡ record (⟦<MemHost as Recorder>⟧.story self.old) { fails = fails_at list.now }) }
+        ensures err { OnErr result (⟦<MemHost as Recorder>⟧.story self.new ≡ ⟦<MemHost as Recorder>⟧.story self.old) }
+        ensures moments { ⟦<MemHost as Host>⟧.moments self.new ≡ ⟦<MemHost as Host>⟧.moments self.old }
+        ensures faults { ⟦<MemHost as Host>⟧.faults self.new ≡ ⟦<MemHost as Host>⟧.faults self.old }
+    {
+        self.failing = list.to_vec(self.alloc())?;
+        Ok(())
+    }
+
+    // Whether the next call is to fail, and then whether what it asks for is done.
+    fn verdict(&self) -> Option<bool>
+        ensures { result ≡ fails_at self.now.failing.items self.now.history.calls }
+    {
+        let call = self.history.calls;
+        for (number, is_late) in &self.failing {
+            if *number == call {
+                return Some(*is_late);
+            }
+        }
+        None
+    }
+
+    // A call that changes nothing, with this answer where it isn't to fail.
+    pub(crate) fn look<T: Drop>(&mut self, answer: Result<T, HostError>) -> Result<T, HostError>
+        ensures { Looked answer self.old self.new result }
+    {
+        let verdict = self.verdict();
+        self.history.skip();
+        match verdict {
+            None => answer,
+            Some(_) => {
+                self.faults = self.faults.saturating_add(1);
+                Err(HostError::Failed)
+            }
+        }
+    }
+
+    // A call for whose own note there is no memory.
+    fn starve(&mut self) -> Result<(), HostError>
+        ensures { IsStarved self.old self.new result }
+    {
+        self.history.skip();
+        self.faults = self.faults.saturating_add(1);
+        self.starved = self.starved.saturating_add(1);
+        Err(HostError::Failed)
+    }
+
+    // A call that changes something, where its condition holds and there was memory for its note.
+    pub(crate) fn play(&mut self, can: bool, event: Option<Event>) -> Result<(), HostError>
+        requires { IsTrue can → IfSome event (λ e. Can (change_of e) (seen self.old.history.scene)) }
+        ensures { Played can event self.old self.new result }
+    {
+        let verdict = self.verdict();
+        if !can {
+            return self.look(Err(HostError::Clash));
+        }
+        let Some(event) = event else {
+            return self.starve();
+        };
+        let is_done = is_to_be_done(verdict, &event);
+        if !self.history.note(event, is_done) {
+            self.faults = self.faults.saturating_add(1);
+            self.starved = self.starved.saturating_add(1);
+            return Err(HostError::Failed);
+        }
+        match verdict {
+            None => Ok(()),
+            Some(_) => {
+                self.faults = self.faults.saturating_add(1);
+                Err(HostError::Failed)
+            }
+        }
+    }
+
+    pub(crate) fn alloc(&self) -> Global {
+        *self.failing.allocator()
+    }
+
+    // What stands now.
+    pub(crate) fn scene(&self) -> &Scene
+        ensures { result.now ≡ self.now.history.scene }
+    {
+        &self.history.scene
+    }
+}

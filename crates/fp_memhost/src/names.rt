@@ -1,0 +1,113 @@
+// The names of a host, ascending by their texts.
+ghost use Rattle.std.specs.Prelude.{◌≡◌, ◌↔◌, ℕ, ◌+◌, ◌≤◌, ◌<◌, ◌++◌, ◌∷◌, [], List, true, IsTrue, IsNone, IsErr, OnOk, OnErr, IfOk, IfSome, MatchResult, length, take, drop};
+ghost use Rattle.std.specs.List.{list_all};
+ghost use Rattle.std.specs.Option.{option_copied};
+ghost use Rattle.fp_host.specs.Paths.{Slot, elements_of, is_element, set_at};
+ghost use Rattle.fp_memhost.specs.Names.{IsAscending, IsAt, IsPlace, HasRoom, SameNames, PutsName, MayPutName, ForgetsNames, KeepsRoom, slot_of, names_of, earlier_of};
+
+use crate::Entry;
+use fp_host::Path;
+use std::alloc::AllocError;
+use std::cmp::Ordering;
+use std::mem;
+
+/// A name: what it holds, and what it held since the last sync, the oldest first.
+#[derive(Drop)]
+pub struct Name {
+    pub path: Path,
+    pub entry: Option<Entry>,
+    pub earlier: Vec<Option<Entry>>,
+}
+
+/// The place of the name with this text, or the place where it would stand.
+pub fn find(names: &[Name], text: &str) -> Result<usize, usize>
+    requires { IsAscending names.now }
+    ensures { MatchResult result (IsAt names.now (elements_of text.now)) (IsPlace names.now text.now) }
+{
+    let mut low = 0;
+    let mut high = names.len();
+    while low < high {
+        let middle = low + (high - low) / 2;
+        match names[middle].path.text().cmp(&text) {
+            Ordering::Less => low = middle + 1,
+            Ordering::Greater => high = middle,
+            Ordering::Equal => return Ok(middle),
+        }
+    }
+    Err(low)
+}
+
+/// What stands at the name with this text.
+pub fn entry<'a>(names: &'a [Name], text: &str) -> Option<&'a Entry>
+    requires { IsAscending names.now }
+    ensures { slot_of (option_copied result) ≡ names_of names.now (elements_of text.now) }
+{
+    match find(names, text) {
+        Ok(at) => names[at].entry.as_ref(),
+        Err(_) => None,
+    }
+}
+
+/// Makes room for two entries that the name held, and the name itself where it has no row. Nothing that is told changes.
+pub fn ready(names: &mut Vec<Name>, path: &Path) -> Result<(), AllocError>
+    requires { IsAscending names.old.items }
+    ensures ascending { IsAscending names.new.items }
+    ensures same { SameNames names.old.items names.new.items }
+    ensures keeps { KeepsRoom 0 names.old.items names.new.items }
+    ensures room { OnOk result (HasRoom names.new.items path.now 2) }
+{
+    match find(names, path.text()) {
+        Ok(at) => {
+            let name = &mut names[at];
+            name.earlier.try_reserve(2)
+        }
+        Err(at) => {
+            let earlier = Vec::with_capacity(*names.allocator(), 2)?;
+            let path = path.copy()?;
+            names.insert(at, Name { path, entry: None, earlier })?;
+            Ok(())
+        }
+    }
+}
+
+/// The name holds this now. There is room for what it held.
+pub fn put(names: &mut Vec<Name>, path: &Path, entry: Option<Entry>)
+    requires ascending { IsAscending names.old.items }
+    requires room { HasRoom names.old.items path.now 1 }
+    ensures ascending { IsAscending names.new.items }
+    ensures puts { PutsName path.now (slot_of entry) names.old.items names.new.items }
+    ensures keeps { KeepsRoom 1 names.old.items names.new.items }
+{
+    let Ok(at) = find(names, path.text()) else {
+        unreachable!()
+    };
+    let name = &mut names[at];
+    let held = mem::replace(&mut name.entry, entry);
+    name.earlier.push(held).unwrap();
+}
+
+/// A stop may leave this at the name. There is room for it.
+pub fn may_put(names: &mut Vec<Name>, path: &Path, entry: Option<Entry>)
+    requires ascending { IsAscending names.old.items }
+    requires room { HasRoom names.old.items path.now 1 }
+    ensures ascending { IsAscending names.new.items }
+    ensures puts { MayPutName path.now (slot_of entry) names.old.items names.new.items }
+    ensures keeps { KeepsRoom 1 names.old.items names.new.items }
+{
+    let Ok(at) = find(names, path.text()) else {
+        unreachable!()
+    };
+    let name = &mut names[at];
+    name.earlier.push(entry).unwrap();
+}
+
+/// Each name held nothing but what it holds.
+pub fn forget(names: &mut Vec<Name>)
+    requires { IsAscending names.old.items }
+    ensures ascending { IsAscending names.new.items }
+    ensures forgets { ForgetsNames names.old.items names.new.items }
+{
+    for name in names.iter_mut() {
+        name.earlier.clear();
+    }
+}

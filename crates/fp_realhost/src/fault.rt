@@ -1,0 +1,136 @@
+// What the system refused, and how often.
+ghost use Rattle.std.specs.Prelude.{◌≡◌, ◌≤◌};
+ghost use Rattle.fp_realhost.specs.Counts.{one_more};
+
+use fp_host::Text;
+use std::alloc::Global;
+use std::marker::Model;
+use std::{fmt, io};
+
+/// What an adapter asked of the system.
+#[derive(Clone, Copy, Debug, PartialEq, Eq)]
+pub enum Call {
+    Stat,
+    List,
+    Read,
+    ReadLink,
+    MakeDir,
+    Create,
+    Append,
+    Link,
+    Symlink,
+    Rename,
+    Unlink,
+    RemoveDir,
+    /// Opening a file or folder that is to be synced.
+    Open,
+    Sync,
+    Say,
+    /// Finding the folder that the url of a remote names.
+    Locate,
+    /// Reading the standard input.
+    Take,
+}
+
+impl fmt::Display for Call {
+    fn fmt<W: fmt::Write>(&self, f: &mut fmt::Formatter<W>) -> fmt::Result {
+        let words = match self {
+            Call::Stat => "look at",
+            Call::List => "list",
+            Call::Read => "read",
+            Call::ReadLink => "read the link",
+            Call::MakeDir => "make the folder",
+            Call::Create => "create",
+            Call::Append => "write to",
+            Call::Link | Call::Symlink => "make the link",
+            Call::Rename => "rename to",
+            Call::Unlink => "remove",
+            Call::RemoveDir => "remove the folder",
+            Call::Open => "open",
+            Call::Sync => "sync",
+            Call::Say => "print",
+            Call::Locate => "find the remote",
+            Call::Take => "read the standard input",
+        };
+        f.write_str(words)
+    }
+}
+
+/// What the system refused, as in `cannot sync installation/config: No space left on device (os error 28)`.
+#[derive(Debug, Drop)]
+pub struct SystemError {
+    pub call: Call,
+    /// The path, where the call has one and there was memory to keep it.
+    pub path: Option<Text>,
+    pub error: io::Error,
+}
+
+impl SystemError {
+    // On a path, which is kept where there is memory.
+    pub(crate) fn on(alloc: Global, call: Call, at: &str, error: io::Error) -> Self {
+        SystemError {
+            call,
+            path: at.to_string(alloc).ok().map(Text::from_string),
+            error,
+        }
+    }
+}
+
+impl fmt::Display for SystemError {
+    fn fmt<W: fmt::Write>(&self, f: &mut fmt::Formatter<W>) -> fmt::Result {
+        let call = self.call;
+        let error = self.error;
+        match &self.path {
+            Some(path) => {
+                let path = path.as_str().escape_debug();
+                write!(f, "cannot {call} {path}: {error}")
+            }
+            None => write!(f, "cannot {call}: {error}"),
+        }
+    }
+}
+
+/// How often the system refused, and the last refusal. Contracts see the number.
+#[derive(Drop)]
+pub(crate) struct Faults {
+    count: u64,
+    last: Option<SystemError>,
+}
+
+impl Model for Faults {
+    ghost use Rattle.std.specs.Prelude.{ℕ};
+
+    ghost Value = { ℕ };
+
+    ghost view = { λ f. f.count };
+}
+
+impl Faults {
+    pub(crate) fn none() -> Self
+        ensures { result ≡ 0 }
+    {
+        Faults {
+            count: 0,
+            last: None,
+        }
+    }
+
+    pub(crate) fn count(&self) -> u64
+        ensures { result ≡ self.now }
+    {
+        self.count
+    }
+
+    pub(crate) fn last(&self) -> Option<&SystemError> {
+        self.last.as_ref()
+    }
+
+    // Counts a refusal and keeps it.
+    pub(crate) fn note(&mut self, error: SystemError)
+        ensures more { self.new ≡ one_more self.old }
+        ensures later { self.old ≤ self.new }
+    {
+        self.count = self.count.saturating_add(1);
+        self.last = Some(error);
+    }
+}

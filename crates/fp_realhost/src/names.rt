@@ -1,0 +1,63 @@
+// The names in a folder.
+ghost use Rattle.std.specs.Prelude.{◌≡◌, ◌↔◌, IfOk, IsTrue};
+ghost use Rattle.std.specs.List.{list_all};
+ghost use Rattle.std.specs.Ordering.{is_lt, nat_cmp};
+ghost use Rattle.std.specs.Cmp.Lexicographic.{slice_cmp};
+ghost use Rattle.fp_host.specs.Paths.{is_element};
+ghost use Rattle.fp_host.specs.Reads.{AreNames, is_ascending};
+
+use fp_host::{Text, is_element};
+use std::alloc::Global;
+use std::rt::Files;
+use std::{fs, io};
+
+// The names in the folder, ascending by their bytes. A name that no path may have is an error.
+pub fn list_names<R: Files + AllocGlobal>(rt: &R, alloc: Global, at: &str) -> io::Result<Vec<Text>>
+    ensures { IfOk result (λ names. AreNames names.items) }
+{
+    let mut names = read_names(rt, alloc, at)?;
+    names.sort_unstable_by(|a, b| a.as_str().cmp(b.as_str()));
+    if !are_names(&names) {
+        return Err(io::Error::other("a name in it can stand in no path"));
+    }
+    Ok(names)
+}
+
+fn read_names<R: Files + AllocGlobal>(rt: &R, alloc: Global, at: &str) -> io::Result<Vec<Text>> {
+    let mut names = Vec::new(alloc);
+    for entry in fs::read_dir(&rt, at)? {
+        let name = entry?.file_name().to_string(alloc)?;
+        names.push(Text::from_string(name))?;
+    }
+    Ok(names)
+}
+
+// Whether each may be an element of a path, and each comes before the next.
+fn are_names(names: &[Text]) -> bool
+    ensures { IsTrue result → AreNames names.now }
+{
+    are_elements(names) && are_ascending(names)
+}
+
+fn are_elements(names: &[Text]) -> bool
+    ensures { result ≡ list_all is_element names.now }
+{
+    names.iter().all(|name| is_element(name.as_str()))
+}
+
+fn are_ascending(names: &[Text]) -> bool
+    ensures { result ≡ is_ascending names.now }
+{
+    for i in 1..names.len() {
+        if !is_before(&names[i - 1], &names[i]) {
+            return false;
+        }
+    }
+    true
+}
+
+fn is_before(a: &Text, b: &Text) -> bool
+    ensures { result ≡ is_lt (slice_cmp nat_cmp a.now b.now) }
+{
+    a.as_str() < b.as_str()
+}
