@@ -3,4 +3,7 @@ pub mod NamingLemmas
 pub mod Replacement
 pub mod Staging
 pub mod Whole
+pub mod Ordered
+pub mod Pinning
+pub mod ConfigReads
 mod SmallFiles

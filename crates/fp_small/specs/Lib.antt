@@ -5,3 +5,6 @@ pub mod Folders
 pub mod Stage
 pub mod Move
 pub mod Replace
+pub mod Order
+pub mod Config
+pub mod ConfigFaults

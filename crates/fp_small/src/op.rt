@@ -1,0 +1,9 @@
+// One operation on an installation.
+use fp_name::PinPattern;
+
+/// One operation on an installation: the step that is done wholly or not at all, and that one line acknowledges.
+#[derive(Drop)]
+pub enum Op {
+    AddPin(PinPattern),
+    DropPin(PinPattern),
+}

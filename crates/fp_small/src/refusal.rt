@@ -1,0 +1,24 @@
+// Why a command is refused.
+use fp_host::Path;
+use fp_name::PinPattern;
+
+/// What has a limit.
+#[derive(Clone, Copy, Debug, PartialEq, Eq)]
+pub enum What {
+    Pins,
+}
+
+/// Why a command is refused.
+#[derive(Drop)]
+pub enum Refusal {
+    /// The words are no command. The index is that of the first word with which they can't go on to be one.
+    BadWords { index: u64 },
+    /// The pattern is pinned already.
+    PinExists { pin: PinPattern },
+    /// The pattern isn't pinned.
+    NoSuchPin { pin: PinPattern },
+    /// There would be so many of something, beyond its limit.
+    Limit { what: What, number: u64 },
+    /// The installation doesn't read at this path.
+    Damaged { path: Path },
+}
