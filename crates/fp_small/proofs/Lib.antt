@@ -6,4 +6,5 @@ pub mod Whole
 pub mod Ordered
 pub mod Pinning
 pub mod ConfigReads
+pub mod ConfigTexts
 mod SmallFiles

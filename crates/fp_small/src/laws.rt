@@ -4,8 +4,13 @@
 ghost use Rattle.std.specs.Prelude.{◌≡◌, ◌≢◌, ◌↔◌, ◌⊎◌, ◌<◌, ℕ, List, length, true, Some, Contains};
 ghost use Rattle.fp_name.specs.Pins.{is_pin};
 ghost use Rattle.fp_small.specs.Order.{inserted, removed};
-ghost use Rattle.fp_small.specs.Config.{IsSettings, config_of};
+ghost use Rattle.fp_small.specs.Config.{IsSettings, config_of, config_text};
 ghost use Rattle.fp_small.specs.declared.config.Settings.{Settings};
+
+/// A `config` that is written reads back as it was.
+pub fn written_config_reads_back()
+    ensures { (s : Settings) → IsSettings s → config_of (config_text s) ≡ Some s }
+{}
 
 /// What a `config` says can be written.
 pub fn read_config_is_good()
