@@ -3,4 +3,8 @@ pub mod NamingLemmas
 pub mod Replacement
 pub mod Staging
 pub mod Whole
+pub mod Ordered
+pub mod Pinning
+pub mod ConfigReads
+pub mod ConfigTexts
 mod SmallFiles

@@ -7,3 +7,4 @@ pub mod Move
 pub mod Replace
 pub mod Order
 pub mod Config
+pub mod ConfigFaults

@@ -2,15 +2,23 @@
 #![tactic(auto)]
 
 mod config;
+mod config_reading;
+mod config_writing;
+pub mod laws;
 mod loading;
 mod op;
+mod ordering;
 mod refusal;
 mod replacing;
 mod state;
 
-pub use config::Settings;
+pub use config::{ConfigFault, Settings};
+pub use config_reading::read_config;
+pub use config_writing::write_config;
 pub use loading::{Loaded, load};
 pub use op::Op;
+pub use ordering::{has_pin, insert_pin, remove_pin};
 pub use refusal::{Refusal, What};
 pub use replacing::replace;
 pub use state::{Layout, OverrideRow, Previous, RefRow, RemoteRow, State};
+

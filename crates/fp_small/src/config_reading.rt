@@ -1,0 +1,241 @@
+// The file `config`, as it is read.
+ghost use Rattle.std.specs.Prelude.{◌≡◌, ◌∷◌, [], codes, length, true, Some, None, IfOk, IsErrOf};
+ghost use Rattle.std.specs.List.{list_all, list_any};
+ghost use Rattle.std.specs.Option.{option_map, option_copied, is_some};
+ghost use Rattle.fp_name.specs.Grammar as grammar;
+ghost use Rattle.fp_keyfile.specs.KeyFile.{group_at, keys_of};
+ghost use Rattle.fp_small.specs.Order.{sorted_by};
+ghost use Rattle.fp_small.specs.Config as spec;
+ghost use Rattle.fp_small.specs.Config.{IsSettings, config_of, settings_of, remotes_in, pins_in};
+
+use crate::config::{ConfigFault, Settings};
+use crate::ordering::insert_by_name;
+use crate::state::RemoteRow;
+use fp_host::Items;
+use fp_keyfile::{Group, KeyFile, Pair};
+use fp_name::{PinPattern, RemoteName, RemoteUrl, is_pin, is_remote_name, is_url};
+use std::alloc::Global;
+use std::str;
+
+/// The most remotes and the most pins that there may be.
+const MOST_REMOTES: usize = 256;
+const MOST_PINS: usize = 1024;
+
+/// Whether the pairs are this one.
+fn is_pair(pairs: &[Pair], key: &str, value: &str) -> bool
+    ensures { result ≡ spec.is_pair pairs.now key.now value.now }
+{
+    match pairs {
+        [pair] => pair.key.as_str() == key && pair.value.as_str() == value,
+        _ => false,
+    }
+}
+
+/// Whether the group says the layout.
+fn is_layout(group: &Group) -> bool
+    ensures { result ≡ spec.is_layout group.now }
+{
+    group.name.as_str() == "installation" && is_pair(group.pairs.as_slice(), "layout", "2")
+}
+
+/// Whether the pair says a pin.
+fn is_pin_pair(pair: &Pair) -> bool
+    ensures { result ≡ spec.is_pin_pair pair.now }
+{
+    is_pin(pair.key.as_str()) && pair.value.as_str() == "true"
+}
+
+/// Whether each pair says a pin.
+fn are_pin_pairs(pairs: &[Pair]) -> bool
+    ensures { result ≡ list_all spec.is_pin_pair pairs.now }
+{
+    pairs.iter().all(|pair| is_pin_pair(pair))
+}
+
+/// Whether the group says the pins.
+fn is_pins(group: &Group) -> bool
+    ensures { result ≡ spec.is_pins group.now }
+{
+    group.name.as_str() == "pins" && are_pin_pairs(group.pairs.as_slice())
+}
+
+/// The NAME of `remote "NAME"`.
+fn quoted_name(header: &[u8]) -> Option<&[u8]>
+    ensures { option_copied result ≡ spec.quoted_name header.now }
+{
+    header.strip_prefix(b"remote \"")?.strip_suffix(b"\"")
+}
+
+/// The name and the url of a remote that a group says.
+#[derive(Clone, Copy)]
+struct Said<'a> {
+    name: &'a str,
+    url: &'a str,
+}
+
+/// What the pairs say of the remote of a name.
+#[tactic(auto, using(crate::proofs::ConfigReads::no_row))]
+fn said_of<'a>(name: &'a [u8], pairs: &'a [Pair]) -> Option<Said<'a>>
+    ensures { option_map (λ s. record { name = s.name.now; url = s.url.now }) result ≡ spec.row_of name.now pairs.now }
+{
+    let [pair] = pairs else {
+        return None;
+    };
+    let Ok(name) = str::from_utf8(name) else {
+        return None;
+    };
+    let url = pair.value.as_str();
+    if pair.key.as_str() == "url" && is_remote_name(name) && is_url(url) {
+        Some(Said { name, url })
+    } else {
+        None
+    }
+}
+
+/// The remote that a group says.
+#[tactic(auto, unfolding(crate::specs::Config::remote_of))]
+fn said_by(group: &Group) -> Option<Said<'_>>
+    ensures { option_map (λ s. record { name = s.name.now; url = s.url.now }) result ≡ spec.remote_of group.now }
+{
+    let name = quoted_name(group.name.as_str().as_bytes())?;
+    said_of(name, group.pairs.as_slice())
+}
+
+/// Whether the group says a remote.
+fn is_remote(group: &Group) -> bool
+    ensures { result ≡ is_some (spec.remote_of group.now) }
+{
+    said_by(group).is_some()
+}
+
+/// Whether the group may stand in a `config`.
+fn is_part(group: &Group) -> bool
+    ensures { result ≡ spec.is_part group.now }
+{
+    is_layout(group) || is_pins(group) || is_remote(group)
+}
+
+fn has_layout(groups: &[Group]) -> bool
+    ensures { result ≡ list_any spec.is_layout groups.now }
+{
+    groups.iter().any(|group| is_layout(group))
+}
+
+fn are_parts(groups: &[Group]) -> bool
+    ensures { result ≡ list_all spec.is_part groups.now }
+{
+    groups.iter().all(|group| is_part(group))
+}
+
+fn count_remotes(groups: &[Group]) -> usize
+    ensures { result ≡ length (remotes_in groups.now) }
+{
+    groups.iter().filter(|group| is_remote(group)).count()
+}
+
+/// The group of the pins.
+fn pins_group(groups: &[Group]) -> Option<&Group>
+    ensures { option_copied result ≡ group_at groups.now (codes "pins") }
+{
+    groups.iter().find(|group| group.name.as_str() == "pins")
+}
+
+fn count_pins(groups: &[Group]) -> usize
+    ensures { result ≡ length (pins_in groups.now) }
+{
+    match pins_group(groups) {
+        Some(group) => group.pairs.len(),
+        None => 0,
+    }
+}
+
+/// Whether the groups are those of a `config`.
+#[tactic(auto, unfolding(crate::specs::Config::is_config))]
+fn is_config(groups: &[Group]) -> bool
+    ensures { result ≡ spec.is_config groups.now }
+{
+    has_layout(groups)
+        && are_parts(groups)
+        && count_remotes(groups) <= MOST_REMOTES
+        && count_pins(groups) <= MOST_PINS
+}
+
+/// The row of a remote.
+fn row_of(alloc: Global, name: &str, url: &str) -> Result<RemoteRow, ConfigFault>
+    requires name { grammar.is_remote_name name.now ≡ true }
+    requires url { grammar.is_url url.now ≡ true }
+    ensures ok { IfOk result (λ row. row ≡ record { name = name.now; url = url.now }) }
+    ensures memory { IsErrOf result ConfigFault.Bad → ⊥ }
+{
+    Ok(RemoteRow {
+        name: RemoteName::parse(alloc, name.as_bytes())?,
+        url: RemoteUrl::parse(alloc, url.as_bytes())?,
+    })
+}
+
+/// The remotes that the groups say, ascending.
+fn read_remotes(alloc: Global, groups: &[Group]) -> Result<Vec<RemoteRow>, ConfigFault>
+    ensures ok { IfOk result (λ rows. rows.items ≡ sorted_by spec.name_of (remotes_in groups.now)) }
+    ensures memory { IsErrOf result ConfigFault.Bad → ⊥ }
+{
+    let mut rows = Vec::new(alloc);
+    for group in groups {
+        if let Some(said) = said_by(group) {
+            let row = row_of(alloc, said.name, said.url)?;
+            insert_by_name(&mut rows, row)?;
+        }
+    }
+    Ok(rows)
+}
+
+/// The pins that the pairs say, ascending.
+fn read_pins(alloc: Global, pairs: &[Pair]) -> Result<Vec<PinPattern>, ConfigFault>
+    requires { list_all spec.is_pin_pair pairs.now ≡ true }
+    ensures ok { IfOk result (λ pins. pins.items ≡ sorted_by (λ pin. pin) (keys_of pairs.now)) }
+    ensures memory { IsErrOf result ConfigFault.Bad → ⊥ }
+{
+    let mut pins = Vec::new(alloc);
+    for pair in pairs {
+        let pin = PinPattern::parse(alloc, pair.key.as_str().as_bytes())?;
+        insert_by_name(&mut pins, pin)?;
+    }
+    Ok(pins)
+}
+
+/// The pins that the groups say, ascending.
+fn pins_of(alloc: Global, groups: &[Group]) -> Result<Vec<PinPattern>, ConfigFault>
+    requires { list_all spec.is_part groups.now ≡ true }
+    ensures ok { IfOk result (λ pins. pins.items ≡ sorted_by (λ pin. pin) (pins_in groups.now)) }
+    ensures memory { IsErrOf result ConfigFault.Bad → ⊥ }
+{
+    match pins_group(groups) {
+        Some(group) => read_pins(alloc, group.pairs.as_slice()),
+        None => Ok(Vec::new(alloc)),
+    }
+}
+
+/// The settings that the groups say.
+fn settings_of(alloc: Global, groups: &[Group]) -> Result<Settings, ConfigFault>
+    ensures ok { IfOk result (λ s. settings_of groups.now ≡ Some s) }
+    ensures bad { IsErrOf result ConfigFault.Bad → settings_of groups.now ≡ None }
+{
+    if !is_config(groups) {
+        return Err(ConfigFault::Bad);
+    }
+    Ok(Settings {
+        remotes: Items::from_vec(read_remotes(alloc, groups)?),
+        pins: Items::from_vec(pins_of(alloc, groups)?),
+    })
+}
+
+/// Reads a `config`: the group `installation` with the one key `layout=2`, the groups `remote "NAME"` with the one key
+/// `url`, and the group `pins`, whose keys are patterns with the value `true`. There are at most 256 remotes and at most
+/// 1,024 pins. The bytes are Bad where they are anything else.
+pub fn read_config(alloc: Global, bytes: &[u8]) -> Result<Settings, ConfigFault>
+    ensures ok { IfOk result (λ s. config_of bytes.now ≡ Some s) }
+    ensures good { IfOk result (λ s. IsSettings s) }
+    ensures bad { IsErrOf result ConfigFault.Bad → config_of bytes.now ≡ None }
+{
+    let file = KeyFile::parse(alloc, bytes)?;
+    settings_of(alloc, file.groups().as_slice())
+}

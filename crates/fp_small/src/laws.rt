@@ -1,0 +1,31 @@
+//! Laws of the words that the contracts use, for crates that build on them. Each is the contract of a function that
+//! does nothing.
+
+ghost use Rattle.std.specs.Prelude.{◌≡◌, ◌≢◌, ◌↔◌, ◌⊎◌, ◌<◌, ℕ, List, length, true, Some, Contains};
+ghost use Rattle.fp_name.specs.Pins.{is_pin};
+ghost use Rattle.fp_small.specs.Order.{inserted, removed};
+ghost use Rattle.fp_small.specs.Config.{IsSettings, config_of, config_text};
+ghost use Rattle.fp_small.specs.declared.config.Settings.{Settings};
+
+/// A `config` that is written reads back as it was.
+pub fn written_config_reads_back()
+    ensures { (s : Settings) → IsSettings s → config_of (config_text s) ≡ Some s }
+{}
+
+/// What a `config` says can be written.
+pub fn read_config_is_good()
+    ensures { (bytes : List ℕ) (s : Settings) → config_of bytes ≡ Some s → IsSettings s }
+{}
+
+/// With one more pin the settings can be written, and have this pin besides those that they had.
+pub fn added_pin()
+    ensures good { (s : Settings) (p : List ℕ) → IsSettings s → is_pin p ≡ true → (Contains s.pins p → ⊥) → length s.pins < 1024
+        → IsSettings (record s { pins = inserted (λ q. q) s.pins p }) }
+    ensures has { (pins : List (List ℕ)) (p q : List ℕ) → Contains (inserted (λ x. x) pins p) q ↔ ((q ≡ p) ⊎ Contains pins q) }
+{}
+
+/// Without a pin the settings can be written, and have all pins but this.
+pub fn dropped_pin()
+    ensures good { (s : Settings) (p : List ℕ) → IsSettings s → IsSettings (record s { pins = removed (λ q. q) s.pins p }) }
+    ensures has { (pins : List (List ℕ)) (p q : List ℕ) → Contains (removed (λ x. x) pins p) q ↔ (Contains pins q × (q ≢ p)) }
+{}
