@@ -2,3 +2,4 @@ pub mod Names
 pub mod Shown
 pub mod Zones
 pub mod Sound
+pub mod After

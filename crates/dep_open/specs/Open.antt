@@ -1,0 +1,44 @@
+-- An installation that is opened.
+use Rattle.std.specs.Prelude.{◌≡◌, Result, Ok, Err, Option, None}
+use Rattle.fp_host.specs.Paths.{Elements, Slot}
+use Rattle.fp_host.specs.View.{View}
+use Rattle.fp_host.specs.Outcome.{Disk, shows, IsSettled}
+use Rattle.fp_small.specs.Config.{IsSettings}
+use Rattle.fp_small.specs.declared.state.State.{State}
+use Rattle.dep_states.specs.Names.{config}
+use Rattle.dep_states.specs.Shown.{Shows, settings_of}
+use Rattle.dep_states.specs.Sound.{IsSound, Opens}
+use Rattle.dep_open.specs.declared.open_end.OpenEnd.{OpenEnd}
+use Rattle.dep_open.specs.declared.open_end.OpenEnd.TheVariants.{Damaged, Fault, NoMemory}
+
+-- it shows no state
+abbrev pub NotShown : Disk → Type 0
+NotShown disk = (s : State) → Shows disk s → ⊥
+
+-- no name
+abbrev pub NoName : Elements → Slot → Type 0
+NoName q e = ⊥
+
+-- `config` is the path that doesn't read
+abbrev pub IsDamagedAt : View → Elements → Type 0
+IsDamagedAt v p = (p ≡ config) × NotShown (shows v)
+
+-- what is read of the present view
+abbrev pub Reads : View → Result State OpenEnd → Type 0
+Reads v (Ok s) = Shows (shows v) s × IsSettings (settings_of s)
+Reads v (Err (Damaged p)) = IsDamagedAt v p
+Reads v (Err Fault) = Unit {0}
+Reads v (Err NoMemory) = Unit {0}
+
+-- All that stands is settled; where each stop before would have left a sound installation, each stop leaves this state.
+pub record IsOpened (s : State) (u w : View) : Type 0 where
+  pub shown : Shows (shows u) s
+  pub good : IsSettings (settings_of s)
+  pub settled : IsSettled w
+  pub opens : IsSound u → Opens s w
+
+abbrev pub Opened : Result State OpenEnd → View → View → Type 0
+Opened (Ok s) u w = IsOpened s u w
+Opened (Err (Damaged p)) u w = IsDamagedAt u p
+Opened (Err Fault) u w = Unit {0}
+Opened (Err NoMemory) u w = Unit {0}

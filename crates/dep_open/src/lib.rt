@@ -1,0 +1,10 @@
+//! Opening an installation.
+#![tactic(auto)]
+
+mod open_end;
+mod opening;
+mod reading;
+
+pub use open_end::OpenEnd;
+pub use opening::open;
+pub use reading::read_state;

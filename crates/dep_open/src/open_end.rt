@@ -1,0 +1,52 @@
+// How opening ends where there is nothing to go on with.
+ghost use Rattle.std.specs.Prelude.{◌≡◌};
+
+use fp_host::{HostEnd, HostError, Path};
+use std::alloc::AllocError;
+
+/// Why an installation isn't opened.
+#[derive(Drop)]
+pub enum OpenEnd {
+    /// What stands at this path doesn't read.
+    Damaged(Path),
+    /// A call of the host failed.
+    Fault,
+    NoMemory,
+}
+
+impl From<HostEnd> for OpenEnd {
+    ghost use Rattle.std.specs.Prelude.{◌≡◌};
+    ghost use Rattle.dep_open.specs.Ends.{open_end};
+
+    ghost from_gives = { λ e end. end ≡ open_end e };
+
+    fn from(end: HostEnd) -> OpenEnd {
+        match end {
+            HostEnd::Fault => OpenEnd::Fault,
+            HostEnd::NoMemory => OpenEnd::NoMemory,
+        }
+    }
+}
+
+impl From<HostError> for OpenEnd {
+    ghost use Rattle.std.specs.Prelude.{◌≡◌};
+    ghost use Rattle.fp_host.specs.Causes.{end_of};
+    ghost use Rattle.dep_open.specs.Ends.{open_end};
+
+    ghost from_gives = { λ e end. end ≡ open_end (end_of e) };
+
+    fn from(error: HostError) -> OpenEnd {
+        OpenEnd::from(HostEnd::from(error))
+    }
+}
+
+impl From<AllocError> for OpenEnd {
+    ghost use Rattle.std.specs.Prelude.{◌≡◌};
+    ghost use Rattle.dep_open.specs.declared.open_end.OpenEnd.TheVariants.{NoMemory};
+
+    ghost from_gives = { λ _ end. end ≡ NoMemory };
+
+    fn from(_: AllocError) -> OpenEnd {
+        OpenEnd::NoMemory
+    }
+}

@@ -1,0 +1,24 @@
+// Opening an installation.
+ghost use Rattle.std.specs.Prelude.{◌≡◌, IfOk, IsErrOf};
+ghost use Rattle.fp_host.specs.Causes.{IsCaused};
+ghost use Rattle.fp_host.specs.Frame.{Ends, Frame, NoPath};
+ghost use Rattle.fp_host.specs.Outcome.{Nothing};
+ghost use Rattle.dep_open.specs.Open.{Opened as HasOpened, NoName};
+
+use crate::open_end::OpenEnd;
+use crate::reading::read_state;
+use dep_states::Opened;
+use fp_host::Host;
+use std::alloc::Global;
+
+/// Reads the state and syncs, so that every stop from here on leaves this state. It changes no name, no file and no printed
+/// byte.
+pub fn open<H: Host>(alloc: Global, host: &mut H) -> Result<Opened, OpenEnd>
+    ensures frame { Frame Nothing NoName NoPath (H.moments host.old) (H.moments host.new) }
+    ensures tells { Ends (HasOpened result) (H.moments host.old) (H.moments host.new) }
+    ensures cause { IsCaused (IsErrOf result OpenEnd.Fault) (H.moments host.old) (λ v. Unit {0}) (H.faults host.old) (H.faults host.new) }
+{
+    let state = read_state(alloc, host)?;
+    host.sync()?;
+    Ok(Opened::of(state))
+}

@@ -1,0 +1,44 @@
+use Rattle.std.proofs.Common.{◌≡◌, ◌∙◌, ap, sym, subst, arith, IsErrOf}
+use Rattle.fp_host.proofs.Cause.{passed_on, same_fault}
+use Rattle.fp_host.proofs.Ending.{ends_start}
+use Rattle.fp_host.specs.declared.host.HostEnd.{HostEnd}
+use Rattle.fp_host.specs.declared.host.HostEnd.TheVariants.{Fault}
+use Rattle.fp_small.specs.Replace.{CanReplace}
+use Rattle.fp_small.specs.declared.state.State.{State}
+use Rattle.dep_states.specs.After.{after, IsGood}
+use Rattle.dep_states.specs.Shown.{settings_of}
+use Rattle.dep_states.specs.Names.{config}
+use Rattle.dep_states.specs.Sound.{Opens}
+use Rattle.fp_small.proofs.ConfigTexts.{written_back}
+use Rattle.op_change.proofs.Either.{good_after, moments_applied, ends_applied, can_replace}
+use Rattle.op_change.proofs.applying.apply.Goals as goal
+
+pub write_state-requires : goal.write_state-requires
+write_state-requires g c =
+    let is : c.in_ok-state.state ≡ after c.args.opened c.args.op.now = c.in_ok-state.ensures ∙ ap (λ (s : State). after s c.args.op.now) c.take.ensures in
+    (subst IsGood (sym is) (good_after c.args.opened c.args.op.now c.requires.may c.requires.good)).settings
+
+pub returns-in_err-write_state-clause-moments : goal.returns-in_err-write_state-clause-moments
+returns-in_err-write_state-clause-moments g c =
+    let is : c.in_ok-state.state ≡ after c.args.opened c.args.op.now = c.in_ok-state.ensures ∙ ap (λ (s : State). after s c.args.op.now) c.take.ensures in
+    let good = subst IsGood (sym is) (good_after c.args.opened c.args.op.now c.requires.may c.requires.good) in
+    moments_applied (g.met.H.Host.is_tree c.args.host.now) is good (written_back (settings_of c.in_ok-state.state) good.settings) c.write_state.ensures.moments
+
+pub returns-in_err-write_state-clause-cause : goal.returns-in_err-write_state-clause-cause
+returns-in_err-write_state-clause-cause g c =
+    let t = g.met.H.Host.is_tree c.args.host.now in
+    passed_on _ (IsErrOf c.write_state.result Fault) (Opens c.args.opened) (CanReplace config) _ _ _ t (omega arith) (ends_start t) c.write_state.ensures.cause
+        (same_fault c.write_state.result _ c.in_err-write_state.field-0.0 c.in_err-write_state.was c.from_residual-in_err-write_state.ensures.1)
+        (λ u v tree q opens. subst (CanReplace config) (sym q) (can_replace u tree opens))
+
+pub returns-clause-moments : goal.returns-clause-moments
+returns-clause-moments g c =
+    let is : c.in_ok-state.state ≡ after c.args.opened c.args.op.now = c.in_ok-state.ensures ∙ ap (λ (s : State). after s c.args.op.now) c.take.ensures in
+    let good = subst IsGood (sym is) (good_after c.args.opened c.args.op.now c.requires.may c.requires.good) in
+    moments_applied (g.met.H.Host.is_tree c.args.host.now) is good (written_back (settings_of c.in_ok-state.state) good.settings) c.write_state.ensures.moments
+
+pub returns-clause-done : goal.returns-clause-done
+returns-clause-done g c =
+    let is : c.in_ok-state.state ≡ after c.args.opened c.args.op.now = c.in_ok-state.ensures ∙ ap (λ (s : State). after s c.args.op.now) c.take.ensures in
+    let good = subst IsGood (sym is) (good_after c.args.opened c.args.op.now c.requires.may c.requires.good) in
+    ends_applied (g.met.H.Host.is_tree c.args.host.now) is good (written_back (settings_of c.in_ok-state.state) good.settings) c.write_state.ensures.moments c.in_ok-write_state.ensures.done

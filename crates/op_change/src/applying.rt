@@ -1,0 +1,70 @@
+// One operation on an installation.
+ghost use Rattle.std.specs.Prelude.{◌≡◌, IfOk, OnOk, IsErrOf};
+ghost use Rattle.fp_host.specs.Causes.{IsCaused};
+ghost use Rattle.fp_host.specs.Frame.{Ends};
+ghost use Rattle.fp_host.specs.Moments.{Goes};
+ghost use Rattle.fp_small.specs.Config.{config_text, IsSettings};
+ghost use Rattle.fp_small.specs.Replace.{Replaces, WasReplaced, CanReplace};
+ghost use Rattle.dep_states.specs.Names.{config};
+ghost use Rattle.dep_states.specs.Shown.{settings_of};
+ghost use Rattle.dep_states.specs.Sound.{Opens};
+ghost use Rattle.dep_states.specs.After.{after, May, IsGood};
+ghost use Rattle.op_change.specs.Applied.{Applies, WasApplied};
+
+use dep_states::Opened;
+use fp_host::{Host, HostEnd, Items, Path};
+use fp_small::{Op, State, insert_pin, remove_pin, replace, write_config};
+use std::alloc::{AllocError, Global};
+
+/// Does one operation on an opened installation: every stop leaves the state of before or the one after, and once it is
+/// done, the one after. Whatever the end but Ok, the installation is opened again before anything else is done with it.
+pub fn apply<H: Host>(
+    alloc: Global,
+    host: &mut H,
+    opened: Opened,
+    op: &Op,
+) -> Result<Opened, HostEnd>
+    requires may { May opened op.now }
+    requires good { IsGood opened }
+    ensures state { IfOk result (λ o. o ≡ after opened op.now) }
+    // A stop at any moment leaves the one state or the other.
+    ensures moments { Goes (H.moments host.old) (H.moments host.new) (Applies opened op.now) (Applies opened op.now) }
+    ensures done { OnOk result (Ends (WasApplied opened op.now) (H.moments host.old) (H.moments host.new)) }
+    ensures cause { IsCaused (IsErrOf result HostEnd.Fault) (H.moments host.old) (Opens opened) (H.faults host.old) (H.faults host.new) }
+    ensures memory { IsErrOf result HostEnd.NoMemory → Ends (λ u w. w ≡ u) (H.moments host.old) (H.moments host.new) }
+{
+    let state = changed(opened.take(), op)?;
+    write_state(alloc, host, &state)?;
+    Ok(Opened::of(state))
+}
+
+/// The state after the operation.
+fn changed(state: State, op: &Op) -> Result<State, AllocError>
+    ensures { IfOk result (λ s. s ≡ after state op.now) }
+{
+    let mut pins = state.pins.into_vec();
+    match op {
+        Op::AddPin(pin) => insert_pin(&mut pins, pin.copy()?)?,
+        Op::DropPin(pin) => remove_pin(&mut pins, pin),
+    }
+    Ok(State {
+        layout: state.layout,
+        refs: state.refs,
+        remotes: state.remotes,
+        pins: Items::from_vec(pins),
+        overrides: state.overrides,
+    })
+}
+
+/// Writes `config` anew.
+fn write_state<H: Host>(alloc: Global, host: &mut H, state: &State) -> Result<(), HostEnd>
+    requires { IsSettings (settings_of state.now) }
+    ensures moments { Goes (H.moments host.old) (H.moments host.new) (Replaces config (config_text (settings_of state.now))) (Replaces config (config_text (settings_of state.now))) }
+    ensures done { OnOk result (Ends (WasReplaced config (config_text (settings_of state.now))) (H.moments host.old) (H.moments host.new)) }
+    ensures cause { IsCaused (IsErrOf result HostEnd.Fault) (H.moments host.old) (CanReplace config) (H.faults host.old) (H.faults host.new) }
+    ensures memory { IsErrOf result HostEnd.NoMemory → Ends (λ u w. w ≡ u) (H.moments host.old) (H.moments host.new) }
+{
+    let path = Path::root(alloc).child("config")?;
+    let text = write_config(alloc, state.remotes.as_slice(), state.pins.as_slice())?;
+    replace(alloc, host, &path, text.as_str().as_bytes())
+}

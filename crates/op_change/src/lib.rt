@@ -1,0 +1,7 @@
+//! One operation on an installation, done wholly or not at all.
+#![tactic(auto)]
+
+mod applying;
+
+pub use applying::apply;
+pub use fp_small::Op;
