@@ -42,11 +42,13 @@ not_shown : (v : View) → settings_at (shows v config) ≡ None → NotShown (s
 not_shown v none s shown = cc (none, shown.settings)
 
 pub said_reads : {v : View} {loaded : Loaded} (p : Elements) (r : Result State OpenEnd) → p ≡ config → Loads p config_most v loaded → IsSaid loaded p r → Reads v r
-said_reads {v = v} {loaded = loaded} p (Ok s) at loads said =
-    (record {
-       settings = says_spot (shows v config) (settings_of s) (subst (λ l. Says l (settings_of s)) (loads.is ∙ ap (λ q. loaded_of config_most (shows v q)) at) said.0);
-       rest = said.2;
-     }, said.1)
+said_reads {v = v} {loaded = loaded} p (Ok s) at loads said = (
+  record {
+    settings = says_spot (shows v config) (settings_of s) (subst (λ l. Says l (settings_of s)) (loads.is ∙ ap (λ q. loaded_of config_most (shows v q)) at) said.0);
+    rest = said.2;
+  },
+  said.1,
+)
 said_reads {v = v} {loaded = loaded} p (Err (Damaged q)) at loads said =
     (said.0 ∙ at, not_shown v (none_spot (shows v config) (subst SaysNothing (loads.is ∙ ap (λ q. loaded_of config_most (shows v q)) at) said.1)))
 said_reads p (Err Fault) at loads said = tt

@@ -39,10 +39,13 @@ fn read_loaded(alloc: Global, loaded: Loaded, path: Path) -> Result<State, OpenE
     ensures { IsSaid loaded path result }
 {
     match loaded {
-        Loaded::Absent => Ok(state_with(alloc, Settings {
-            remotes: Items::from_vec(Vec::new(alloc)),
-            pins: Items::from_vec(Vec::new(alloc)),
-        })),
+        Loaded::Absent => Ok(state_with(
+            alloc,
+            Settings {
+                remotes: Items::from_vec(Vec::new(alloc)),
+                pins: Items::from_vec(Vec::new(alloc)),
+            },
+        )),
         Loaded::TooLong(_) | Loaded::NotFile => Err(OpenEnd::Damaged(path)),
         Loaded::Bytes(bytes) => match read_config(alloc, bytes.as_slice()) {
             Ok(settings) => Ok(state_with(alloc, settings)),

@@ -78,8 +78,8 @@ later_none [] x all = refl
 later_none (y ∷ ys) x all =
     let parts = and_parts (comes_before x y) (list_all (comes_before x) ys) all in
     cond-false (is_at x.path y) _ _ (false_from_ne_true (is_at x.path y) (λ t.
-        let same = (path_decides x.path y.path).0 t in
-        less_no _ (less_from _ parts.0) (ap (λ (p : Elements). compare (path_text x.path) (path_text p)) (sym same) ∙ tied_itself nat_list_cmp_total (path_text x.path))))
+    let same = (path_decides x.path y.path).0 t in
+    less_no _ (less_from _ parts.0) (ap (λ (p : Elements). compare (path_text x.path) (path_text p)) (sym same) ∙ tied_itself nat_list_cmp_total (path_text x.path))))
     ∙ later_none ys x parts.1
 
 pub entry_present : (e : Option Entry) → is_some e ≡ true → slot_of e ≢ absent

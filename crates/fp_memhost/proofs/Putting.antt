@@ -177,8 +177,8 @@ open_at [] url p q none above = refl
 open_at (x ∷ xs) url p q none above =
     let parts = or_parts (stands_over url p x) (list_any (stands_over url p) xs) none in
     cond-false (is_row url q x) _ _ (false_from_ne_true (is_row url q x) (λ t.
-        let both = and_parts (bytes_eq url (string_bytes x.url)) (path_eq q x.path) t in
-        both_ways (stands_over url p x) parts.0 (and_from (bytes_eq url (string_bytes x.url)) (is_above x.path p) both.0 (subst (λ (r : Elements). is_above r p ≡ true) ((path_decides q x.path).0 both.1) above))))
+    let both = and_parts (bytes_eq url (string_bytes x.url)) (path_eq q x.path) t in
+    both_ways (stands_over url p x) parts.0 (and_from (bytes_eq url (string_bytes x.url)) (is_above x.path p) both.0 (subst (λ (r : Elements). is_above r p ≡ true) ((path_decides q x.path).0 both.1) above))))
     ∙ open_at xs url p q parts.1 above
 
 is_open : (b : Bool) → IsOpen (held_in None b)

@@ -86,7 +86,10 @@ pub fn can_symlink(scene: &Scene, text: &str, path: &Path) -> bool
 pub fn can_unlink(scene: &Scene, path: &Path) -> bool
     ensures { IsTrue result ↔ Can (unlinks path.now) (seen scene.now) }
 {
-    matches!(entry(&scene.names, path.text()), Some(Entry::File(_) | Entry::Link(_)))
+    matches!(
+        entry(&scene.names, path.text()),
+        Some(Entry::File(_) | Entry::Link(_))
+    )
 }
 
 // Whether the two hold different entries, or the first is no file.

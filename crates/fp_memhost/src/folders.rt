@@ -53,7 +53,9 @@ pub fn is_below(path: &Path, folder: &str) -> bool
 pub fn has_child(names: &[Name], folder: &str) -> bool
     ensures { result ≡ list_any (is_child (elements_of folder.now)) names.now }
 {
-    names.iter().any(|name| name.entry.is_some() && is_in(&name.path, folder))
+    names
+        .iter()
+        .any(|name| name.entry.is_some() && is_in(&name.path, folder))
 }
 
 // The last element of the name, where something stands there and it is in the folder with this text.

@@ -8,7 +8,8 @@ ghost use Rattle.fp_memhost.specs.Stories.{told_of, story_of};
 ghost use Rattle.fp_memhost.specs.Told.{law};
 
 use crate::conditions::{
-    can_append, can_create, can_link, can_make_dir, can_remove_dir, can_rename, can_symlink, can_unlink,
+    can_append, can_create, can_link, can_make_dir, can_remove_dir, can_rename, can_symlink,
+    can_unlink,
 };
 use crate::event::Event;
 use crate::files::fresh_id;

@@ -64,7 +64,14 @@ pub fn ready(names: &mut Vec<Name>, path: &Path) -> Result<(), AllocError>
         Err(at) => {
             let earlier = Vec::with_capacity(*names.allocator(), 2)?;
             let path = path.copy()?;
-            names.insert(at, Name { path, entry: None, earlier })?;
+            names.insert(
+                at,
+                Name {
+                    path,
+                    entry: None,
+                    earlier,
+                },
+            )?;
             Ok(())
         }
     }

@@ -26,7 +26,7 @@ table-back w (suc k) table h len =
     let front : length (take w table) ≡ w = omega (arith, length-take w table) in
     let rest : length (drop w table) ≡ k * w = omega (arith, length-drop w table) in
     let here : le_bytes w (le_value (take w table)) ≡ take w table =
-        ap (λ (x : ℕ). le_bytes x (le_value (take w table))) (sym front) ∙ le_bytes-value (take w table) (AllBelow-take w table h) in
+    ap (λ (x : ℕ). le_bytes x (le_value (take w table))) (sym front) ∙ le_bytes-value (take w table) (AllBelow-take w table h) in
     ap (λ (xs : List ℕ). xs ++ flat_map (le_bytes w) (numbers w k (drop w table))) here
     ∙ ap (λ (xs : List ℕ). take w table ++ xs) (table-back w k (drop w table) (AllBelow-drop w table h) rest) ∙ take-append-drop w table
 

@@ -8,7 +8,7 @@ ghost use Rattle.gv_decode.specs.Decoded.{Gives};
 
 use crate::error::DecodeError;
 use crate::numbers::number;
-use gv_value::{has_zero, is_object_path, is_signature, Basic, GvValue, Text};
+use gv_value::{Basic, GvValue, Text, has_zero, is_object_path, is_signature};
 use std::alloc::Global;
 
 /// The number that so many bytes are.

@@ -6,7 +6,7 @@ ghost use Rattle.gv_decode.specs.Decoded.{Gives, IsFrame};
 
 use crate::error::DecodeError;
 use crate::numbers::{all_zero, number, width};
-use gv_value::{padding, Plan};
+use gv_value::{Plan, padding};
 
 /// The bytes of a child that stands behind a position and ends at another, where what is padding before it is zero.
 pub fn child_at(body: &[u8], at: usize, align: u64, end: usize) -> Result<&[u8], DecodeError>

@@ -77,8 +77,8 @@ last_offset : (body front : List ℕ) (n w : ℕ) (bytes : List ℕ) → n < 256
 last_offset body front n w bytes lt e =
     let before = body ++ flat_map (le_bytes w) front in
     let split : bytes ≡ before ++ le_bytes w n =
-        e ∙ ap (λ (xs : List ℕ). body ++ xs) (flat_map-append (le_bytes w) front (n ∷ []) ∙ ap (λ (xs : List ℕ). flat_map (le_bytes w) front ++ xs) (append-nil (le_bytes w n)))
-        ∙ sym (append_assoc body (flat_map (le_bytes w) front) (le_bytes w n)) in
+    e ∙ ap (λ (xs : List ℕ). body ++ xs) (flat_map-append (le_bytes w) front (n ∷ []) ∙ ap (λ (xs : List ℕ). flat_map (le_bytes w) front ++ xs) (append-nil (le_bytes w n)))
+    ∙ sym (append_assoc body (flat_map (le_bytes w) front) (le_bytes w n)) in
     let len : length before ≡ length bytes - w = omega (arith, ap length split, length-append before (le_bytes w n), length-le_bytes w n) in
     ap (λ (xs : List ℕ). le_value (drop (length bytes - w) xs)) split ∙ ap le_value (drop_at before (le_bytes w n) (length bytes - w) len) ∙ le_value-le_bytes w n lt
 
@@ -105,14 +105,14 @@ framed_children-spelled a (c ∷ cs) bytes h =
     let last = ends_last [] (a, c) (same_parts a cs) in
     let lt : n < 256 ^ w = below_last (256 ^ w) last.0 n (subst (AllBelow (256 ^ w)) last.1 h.0) in
     let found : le_value (drop (length bytes - width_in (length bytes)) bytes) ≡ n =
-        ap (λ (m : ℕ). le_value (drop (length bytes - m) bytes)) wide
-        ∙ last_offset body last.0 n w bytes lt (h.1 ∙ ap (λ (ns : List ℕ). body ++ flat_map (le_bytes w) ns) last.1) in
+    ap (λ (m : ℕ). le_value (drop (length bytes - m) bytes)) wide
+    ∙ last_offset body last.0 n w bytes lt (h.1 ∙ ap (λ (ns : List ℕ). body ++ flat_map (le_bytes w) ns) last.1) in
     let count : (length bytes - n) / width_in (length bytes) ≡ k =
-        ap (λ (m : ℕ). (length bytes - n) / m) wide ∙ ap (λ (m : ℕ). m / w) (omega arith) ∙ mul-div_cancel k pos in
+    ap (λ (m : ℕ). (length bytes - n) / m) wide ∙ ap (λ (m : ℕ). m / w) (omega arith) ∙ mul-div_cancel k pos in
     let front : take n bytes ≡ body = ap (take n) h.1 ∙ take_at body (flat_map (le_bytes w) es) n refl in
     let again : cut (take n bytes) 0 (map (λ e. (a, e)) es) ≡ Some (c ∷ cs) =
-        ap (λ (xs : List ℕ). cut xs 0 (map (λ e. (a, e)) es)) front ∙ ap (cut body 0) (sym (marked-same a [] (c ∷ cs))) ∙ cut-laid parts
-        ∙ ap (λ (xs : List (List ℕ)). Some xs) (children-same a (c ∷ cs)) in
+    ap (λ (xs : List ℕ). cut xs 0 (map (λ e. (a, e)) es)) front ∙ ap (cut body 0) (sym (marked-same a [] (c ∷ cs))) ∙ cut-laid parts
+    ∙ ap (λ (xs : List (List ℕ)). Some xs) (children-same a (c ∷ cs)) in
     framed_children-at a bytes (omega arith) ∙ ap (λ (m : ℕ). elements_before a m bytes) found
     ∙ ap (λ (m : ℕ). option_and_then (λ ns. cut (take n bytes) 0 (map (λ e. (a, e)) ns)) (offsets_behind n m bytes)) count
     ∙ ap (option_and_then (λ ns. cut (take n bytes) 0 (map (λ e. (a, e)) ns))) (offsets_behind-framed body es bytes h)
@@ -204,7 +204,7 @@ array_children-spelled a (Some s) children bytes fixed h =
     let sized = fixed s refl in
     let joined : laid [] (same_parts 1 children) ≡ bytes = laid-joined [] children ∙ sym h in
     let count : length bytes / s ≡ length children =
-        ap (λ (n : ℕ). n / s) (ap length h ∙ length-joined s children sized.1) ∙ mul-div_cancel (length children) sized.0 in
+    ap (λ (n : ℕ). n / s) (ap length h ∙ length-joined s children sized.1) ∙ mul-div_cancel (length children) sized.0 in
     ap (λ (n : ℕ). cut bytes 0 (steps s 0 n)) count ∙ ap (cut bytes 0) (sym (marked-steps s [] children sized.1))
     ∙ ap (λ (xs : List ℕ). cut xs 0 (marked [] (same_parts 1 children))) (sym joined) ∙ cut-laid (same_parts 1 children)
     ∙ ap (λ (xs : List (List ℕ)). Some xs) (children-same 1 children)

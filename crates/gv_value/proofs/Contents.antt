@@ -209,5 +209,5 @@ pub same_basic : (b c : Basic) → eqb (basic_letter b) (basic_letter c) ≡ tru
 same_basic b c e =
     let letters = eqb-true (basic_letter b) (basic_letter c) e in
     let found : Some (signs.Basic b) ≡ Some (signs.Basic c) =
-        sym (sign_of-letter (signs.Basic b)) ∙ ap sign_of letters ∙ sign_of-letter (signs.Basic c) in
+    sym (sign_of-letter (signs.Basic b)) ∙ ap sign_of letters ∙ sign_of-letter (signs.Basic c) in
     cc

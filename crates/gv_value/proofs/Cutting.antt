@@ -23,11 +23,11 @@ child_at-placed before pad child rest body e =
     let parts : body ≡ before ++ (zeros pad ++ (child ++ rest)) = e ∙ simp append_assoc in
     let behind : drop at body ≡ zeros pad ++ (child ++ rest) = ap (drop at) parts ∙ drop_at before (zeros pad ++ (child ++ rest)) at refl in
     let gap : slice_range body at start ≡ zeros pad =
-        ap (take (start - at)) behind ∙ take_at (zeros pad) (child ++ rest) (start - at) (omega (arith, length-zeros pad)) in
+    ap (take (start - at)) behind ∙ take_at (zeros pad) (child ++ rest) (start - at) (omega (arith, length-zeros pad)) in
     let later : drop start body ≡ child ++ rest =
-        sym (drop-drop pad at body) ∙ ap (drop pad) behind ∙ drop_at (zeros pad) (child ++ rest) pad (length-zeros pad) in
+    sym (drop-drop pad at body) ∙ ap (drop pad) behind ∙ drop_at (zeros pad) (child ++ rest) pad (length-zeros pad) in
     let found : slice_range body start end ≡ child =
-        ap (take (end - start)) later ∙ take_at child rest (end - start) (omega arith) in
+    ap (take (end - start)) later ∙ take_at child rest (end - start) (omega arith) in
     let ordered : leb start end ≡ true = le-leb start end (omega arith) in
     let inside : leb end (length body) ≡ true = le-leb end (length body) (omega arith) in
     let zero_gap : all_zero (slice_range body at start) ≡ true = ap all_zero gap ∙ all_zero-zeros pad in
@@ -59,10 +59,10 @@ child_at-found body at start end child le e =
     let gap_len : length (slice_range body at start) ≡ start - at = omega (arith, length-take (start - at) (drop at body), length-drop at body) in
     let gap : slice_range body at start ≡ zeros (start - at) = zeros-from (slice_range body at start) p.1 ∙ ap zeros gap_len in
     let through = take_through body start end ordered
-        ∙ ap (λ (xs : List ℕ). xs ++ slice_range body start end) (take_through body at start le)
-        ∙ append_assoc (take at body) (slice_range body at start) (slice_range body start end)
-        ∙ ap (λ (xs : List ℕ). take at body ++ (xs ++ slice_range body start end)) gap
-        ∙ ap (λ (xs : List ℕ). take at body ++ (zeros (start - at) ++ xs)) is in
+    ∙ ap (λ (xs : List ℕ). xs ++ slice_range body start end) (take_through body at start le)
+    ∙ append_assoc (take at body) (slice_range body at start) (slice_range body start end)
+    ∙ ap (λ (xs : List ℕ). take at body ++ (xs ++ slice_range body start end)) gap
+    ∙ ap (λ (xs : List ℕ). take at body ++ (zeros (start - at) ++ xs)) is in
     record {
       ordered = ordered;
       inside = inside;
@@ -97,7 +97,7 @@ cut_from : (whole body : List ℕ) (parts : List Part) → whole ≡ laid body p
 cut_from whole body [] e = rw (eq-eqb (length body) (length whole) (ap length (sym e))) refl
 cut_from whole body (part ∷ parts) e =
     let child = child_at-placed body (padding (length body) part.0) part.1 (behind (placed body part) parts) whole
-        (e ∙ laid-behind (placed body part) parts) in
+    (e ∙ laid-behind (placed body part) parts) in
     let rest = cut_from whole (placed body part) parts e in
     rw (child, rest) refl
 
@@ -138,7 +138,7 @@ cut-found whole at (mark ∷ marks) children le e =
     let at_is : length (take at whole) ≡ at = omega (arith, length-take at whole) in
     let gap : start - at ≡ padding at mark.0 = omega arith in
     let here : placed (take at whole) (mark.0, child) ≡ take mark.1 whole =
-        ap (λ (n : ℕ). take at whole ++ (zeros (padding n mark.0) ++ child)) at_is ∙ ap (λ (n : ℕ). take at whole ++ (zeros n ++ child)) (sym gap) ∙ sym is.is in
+    ap (λ (n : ℕ). take at whole ++ (zeros (padding n mark.0) ++ child)) at_is ∙ ap (λ (n : ℕ). take at whole ++ (zeros n ++ child)) (sym gap) ∙ sym is.is in
     let len : length (take mark.1 whole) ≡ mark.1 = omega (arith, length-take mark.1 whole, is.inside) in
     rw (← b.2) (record {
       count = ap suc rest.count;

@@ -39,30 +39,40 @@ pub bounds_depth : BoundsDepth
 bounds_depth n m (Shape.basic b) (Tree.leaf c content) bytes h = (omega arith, λ le. h)
 bounds_depth (suc n) m Shape.variant (Tree.variant t v) bytes h =
     let bounds : Bounds n = λ k u w xs. bounds_depth n k u w xs in
-    let one = bounds m t v h.0 h.1 in
-    (omega (arith, one.0), with_room (λ k. SpelledWithin k Shape.variant (Tree.variant t v) bytes) (depth v) m
-        (λ k le. (h.0, (bounds k t v h.0 h.1).1 le, h.2)))
+    let one = bounds m t v h.0 h.1 in (
+      omega (arith, one.0),
+      with_room (λ k. SpelledWithin k Shape.variant (Tree.variant t v) bytes) (depth v) m
+          (λ k le. (h.0, (bounds k t v h.0 h.1).1 le, h.2)),
+    )
 bounds_depth (suc n) m (Shape.array t) (Tree.array vs) bytes h =
     let bounds : Bounds n = λ k u w xs. bounds_depth n k u w xs in
-    let all = all_bounded n m bounds t vs h.0 h.1 in
-    (omega (arith, all.0), with_room (λ k. SpelledWithin k (Shape.array t) (Tree.array vs) bytes) (greatest_depth vs) m
-        (λ k le. (h.0, (all_bounded n k bounds t vs h.0 h.1).1 le, h.2)))
+    let all = all_bounded n m bounds t vs h.0 h.1 in (
+      omega (arith, all.0),
+      with_room (λ k. SpelledWithin k (Shape.array t) (Tree.array vs) bytes) (greatest_depth vs) m
+          (λ k le. (h.0, (all_bounded n k bounds t vs h.0 h.1).1 le, h.2)),
+    )
 bounds_depth (suc n) m (Shape.maybe t) Tree.nothing bytes h =
     (omega arith, with_room (λ k. SpelledWithin k (Shape.maybe t) Tree.nothing bytes) 0 m (λ k le. h))
 bounds_depth (suc n) m (Shape.maybe t) (Tree.just v) bytes h =
     let bounds : Bounds n = λ k u w xs. bounds_depth n k u w xs in
-    let one = bounds m t v h.0 h.1 in
-    (omega (arith, one.0), with_room (λ k. SpelledWithin k (Shape.maybe t) (Tree.just v) bytes) (depth v) m
-        (λ k le. (h.0, (bounds k t v h.0 h.1).1 le, h.2)))
+    let one = bounds m t v h.0 h.1 in (
+      omega (arith, one.0),
+      with_room (λ k. SpelledWithin k (Shape.maybe t) (Tree.just v) bytes) (depth v) m
+          (λ k le. (h.0, (bounds k t v h.0 h.1).1 le, h.2)),
+    )
 bounds_depth (suc n) m (Shape.tuple ts) (Tree.tuple vs) bytes h =
     let bounds : Bounds n = λ k u w xs. bounds_depth n k u w xs in
-    let each = each_bounded n m bounds ts vs h.0 h.1 in
-    (omega (arith, each.0), with_room (λ k. SpelledWithin k (Shape.tuple ts) (Tree.tuple vs) bytes) (greatest_depth vs) m
-        (λ k le. (h.0, (each_bounded n k bounds ts vs h.0 h.1).1 le, h.2)))
+    let each = each_bounded n m bounds ts vs h.0 h.1 in (
+      omega (arith, each.0),
+      with_room (λ k. SpelledWithin k (Shape.tuple ts) (Tree.tuple vs) bytes) (greatest_depth vs) m
+          (λ k le. (h.0, (each_bounded n k bounds ts vs h.0 h.1).1 le, h.2)),
+    )
 bounds_depth (suc n) m (Shape.entry k w) (Tree.entry a b) bytes h =
     let bounds : Bounds n = λ i u x xs. bounds_depth n i u x xs in
     let each = each_bounded n m bounds (two_shapes k w) (two_trees a b) h.0 h.1 in
-    let same : greatest_depth (two_trees a b) ≡ max (depth a) (depth b) = omega arith in
-    (omega (arith, each.0), with_room (λ i. SpelledWithin i (Shape.entry k w) (Tree.entry a b) bytes) (max (depth a) (depth b)) m
-        (λ i le. (h.0, (each_bounded n i bounds (two_shapes k w) (two_trees a b) h.0 h.1).1 (omega arith), h.2)))
+    let same : greatest_depth (two_trees a b) ≡ max (depth a) (depth b) = omega arith in (
+      omega (arith, each.0),
+      with_room (λ i. SpelledWithin i (Shape.entry k w) (Tree.entry a b) bytes) (max (depth a) (depth b)) m
+          (λ i le. (h.0, (each_bounded n i bounds (two_shapes k w) (two_trees a b) h.0 h.1).1 (omega arith), h.2)),
+    )
 bounds_depth _ m _ _ bytes h = absurd h

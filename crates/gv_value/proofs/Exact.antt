@@ -33,11 +33,12 @@ pub reads_values : ReadsValues
 reads_values t v bytes = (value_found t v bytes, value_read t v bytes)
 
 pub spells_values : SpellsValues
-spells_values t v bytes =
-    (λ h. let is = spelled_is max_depth t v bytes h.value in (and_from (is_type t) (fits_within max_depth t v) h.type is.fit, is.spell, h.short),
-    λ h. let p = and_parts (is_type t) (fits_within max_depth t v) h.0 in
-        let short : length (spelling v t) < limit = omega (arith, ap length h.1, h.2) in
-        record { type = p.0; value = subst (SpelledWithin max_depth t v) (sym h.1) (fits_spelled max_depth t v p.1 short); short = h.2 })
+spells_values t v bytes = (
+  λ h. let is = spelled_is max_depth t v bytes h.value in (and_from (is_type t) (fits_within max_depth t v) h.type is.fit, is.spell, h.short),
+  λ h. let p = and_parts (is_type t) (fits_within max_depth t v) h.0 in
+      let short : length (spelling v t) < limit = omega (arith, ap length h.1, h.2) in
+      record { type = p.0; value = subst (SpelledWithin max_depth t v) (sym h.1) (fits_spelled max_depth t v p.1 short); short = h.2 },
+)
 
 pub one_spelling_each : HasOneSpelling
 one_spelling_each t v a b p q = (spelled_is max_depth t v a p.value).spell ∙ sym (spelled_is max_depth t v b q.value).spell

@@ -5,4 +5,3 @@ use Rattle.gv_value.specs.Bytes.{AllBelow}
 pub AllBelow-fits : (bytes : List ℕ) → ((i : ℕ) → Fits w8 (get_or bytes i 0)) → AllBelow 256 bytes
 AllBelow-fits [] h = tt
 AllBelow-fits (b ∷ bytes) h = ((h 0).fits, AllBelow-fits bytes (λ i. h (suc i)))
-

@@ -243,7 +243,7 @@ value_at-spelled (suc n) Shape.variant (Tree.variant t v) bytes h =
     ∙ ap (option_map (Tree.variant t)) (value_at-spelled n t v child h.1)
 value_at-spelled (suc n) (Shape.array t) (Tree.array vs) bytes h =
     let cut_again = array_children-spelled (align_of t) (size_of t) h.0 bytes
-        (λ s e. (size-pos t s e, all_sized (SpelledWithin n) (sizes_within n) t vs h.0 s e h.1)) h.2 in
+    (λ s e. (size-pos t s e, all_sized (SpelledWithin n) (sizes_within n) t vs h.0 s e h.1)) h.2 in
     ap (λ (o : Option (List (List ℕ))). option_map Tree.array (option_and_then (read_all (value_at n t)) o)) cut_again
     ∙ ap (option_map Tree.array) (all_read (value_at n) (SpelledWithin n) (value_at-spelled n) t vs h.0 h.1)
 value_at-spelled (suc n) (Shape.maybe t) Tree.nothing bytes h = ap (maybe_at (value_at n t) (size_of t)) h

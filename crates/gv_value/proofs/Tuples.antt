@@ -77,7 +77,7 @@ marks-written whole body (shape t ts) (c ∷ cs) h e =
     let next = placed body (align_of t, c) in
     let rest = written ts (ends next (parts_of ts cs)) in
     let found = end-put (size_of t) (is_none_left ts) whole (length body) (align_of t) (length next) rest (end-placed body (align_of t) (size_of t) c h.0)
-        (λ last. e ∙ ap length (none_behind next ts cs h.1 last)) in
+    (λ last. e ∙ ap length (none_behind next ts cs h.1 last)) in
     ap (λ (p : ℕ × List ℕ). (align_of t, p.0) ∷ marks whole p.0 ts p.1) found
     ∙ ap (λ (ms : List Mark). (align_of t, length next) ∷ ms) (marks-written whole next ts cs h.1 e)
 marks-written whole body no_shapes (c ∷ cs) h e = absurd h
@@ -174,14 +174,14 @@ open-spelled ts cs bytes sized h =
     let len : length bytes ≡ n + length os * w = ap length h.1 ∙ length-append body (flat_map (le_bytes w) os) ∙ ap (λ (m : ℕ). n + m) (length-offsets w os) in
     let wide : width_in (length bytes) ≡ w = ap width_in len ∙ width_in-whole n (length os) in
     let before : length bytes - k * width_in (length bytes) ≡ n =
-        ap (λ (m : ℕ). length bytes - k * m) wide ∙ ap (λ (m : ℕ). length bytes - m * w) (sym count) ∙ omega arith in
+    ap (λ (m : ℕ). length bytes - k * m) wide ∙ ap (λ (m : ℕ). length bytes - m * w) (sym count) ∙ omega arith in
     let read : offsets_behind n k bytes ≡ Some os = ap (λ (m : ℕ). offsets_behind n m bytes) (sym count) ∙ offsets_behind-framed body os bytes h in
     let front : take n bytes ≡ body = ap (take n) h.1 ∙ take_at body (flat_map (le_bytes w) os) n refl in
     let again : cut (take n bytes) 0 (marks n 0 ts (reverse os)) ≡ Some cs =
-        ap (λ (xs : List ℕ). cut xs 0 (marks n 0 ts (reverse os))) front
-        ∙ ap (λ (xs : List ℕ). cut body 0 (marks n 0 ts xs)) (reverse-reverse found)
-        ∙ ap (cut body 0) (marks-written n [] ts cs sized refl)
-        ∙ cut-laid (parts_of ts cs) ∙ ap (λ (xs : List (List ℕ)). Some xs) (children-parts ts cs (same_count ts cs sized)) in
+    ap (λ (xs : List ℕ). cut xs 0 (marks n 0 ts (reverse os))) front
+    ∙ ap (λ (xs : List ℕ). cut body 0 (marks n 0 ts xs)) (reverse-reverse found)
+    ∙ ap (cut body 0) (marks-written n [] ts cs sized refl)
+    ∙ cut-laid (parts_of ts cs) ∙ ap (λ (xs : List (List ℕ)). Some xs) (children-parts ts cs (same_count ts cs sized)) in
     ap (λ (m : ℕ). open_children ts m bytes) before
     ∙ ap (option_and_then (λ xs. cut (take n bytes) 0 (marks n 0 ts (reverse xs)))) read ∙ again
 
@@ -200,10 +200,10 @@ filled-spelled ts s cs bytes fixed sized h =
     let full : eqb (length bytes) s ≡ true = eq-eqb (length bytes) s len in
     let blank : all_zero (drop e bytes) ≡ true = ap all_zero rest ∙ all_zero-zeros (s - length body) in
     let again : cut (take e bytes) 0 (marks e 0 ts []) ≡ Some cs =
-        ap (λ (xs : List ℕ). cut xs 0 (marks e 0 ts [])) front
-        ∙ ap (λ (xs : List ℕ). cut body 0 (marks e 0 ts xs)) (sym (written-fixed 0 ts e (ends [] (parts_of ts cs)) m.1))
-        ∙ ap (cut body 0) (marks-written e [] ts cs sized (sym ends_at))
-        ∙ cut-laid (parts_of ts cs) ∙ ap (λ (xs : List (List ℕ)). Some xs) (children-parts ts cs (same_count ts cs sized)) in
+    ap (λ (xs : List ℕ). cut xs 0 (marks e 0 ts [])) front
+    ∙ ap (λ (xs : List ℕ). cut body 0 (marks e 0 ts xs)) (sym (written-fixed 0 ts e (ends [] (parts_of ts cs)) m.1))
+    ∙ ap (cut body 0) (marks-written e [] ts cs sized (sym ends_at))
+    ∙ cut-laid (parts_of ts cs) ∙ ap (λ (xs : List (List ℕ)). Some xs) (children-parts ts cs (same_count ts cs sized)) in
     ap (λ (n : ℕ). filled_children ts s n bytes) whole ∙ rw (full, blank) again
 
 -- the members that are spelled are read again
@@ -223,8 +223,8 @@ open-found ts before bytes cs e =
     let parts = paired-marks before 0 ts (reverse os) cs is.count in
     let body : tuple_body ts cs ≡ take before bytes = ap (laid []) (sym parts.parts) ∙ is.laid_is in
     let found : written ts (ends [] (parts_of ts cs)) ≡ reverse os =
-        ap (λ (ps : List Part). written ts (ends [] ps)) (sym parts.parts) ∙ ap (written ts) is.ends_are
-        ∙ written-marks before 0 ts (reverse os) (length-reverse os ∙ behind.offsets.count) in
+    ap (λ (ps : List Part). written ts (ends [] ps)) (sym parts.parts) ∙ ap (written ts) is.ends_are
+    ∙ written-marks before 0 ts (reverse os) (length-reverse os ∙ behind.offsets.count) in
     let offsets : tuple_offsets ts cs ≡ os = ap reverse found ∙ reverse-reverse os in
     let len : length (tuple_body ts cs) ≡ before = ap length body ∙ omega (arith, length-take before bytes, behind.inside) in
     let many : length (tuple_offsets ts cs) ≡ offset_count ts = ap length offsets ∙ behind.offsets.count in
@@ -237,7 +237,7 @@ filled-found ts s bytes cs fixed h =
     let e = m.0 in
     let whole : unwrap_or (end_of 0 ts) 0 ≡ e = ap (λ (o : Option ℕ). unwrap_or o 0) m.1 in
     let g = guarded (eqb (length bytes) s && all_zero (drop e bytes)) (cut (take e bytes) 0 (marks e 0 ts [])) cs
-        (ap (λ (n : ℕ). filled_children ts s n bytes) (sym whole) ∙ h) in
+    (ap (λ (n : ℕ). filled_children ts s n bytes) (sym whole) ∙ h) in
     let p = and_parts (eqb (length bytes) s) (all_zero (drop e bytes)) g.0 in
     let len = eqb-true (length bytes) s p.0 in
     let ms = marks e 0 ts [] in
@@ -245,9 +245,11 @@ filled-found ts s bytes cs fixed h =
     let parts = paired-marks e 0 ts [] cs is.count in
     let body : tuple_body ts cs ≡ take e bytes = ap (laid []) (sym parts.parts) ∙ is.laid_is in
     let ends_at : length (tuple_body ts cs) ≡ e = ap length body ∙ omega (arith, length-take e bytes, m.2) in
-    let left : length (drop e bytes) ≡ s - length (tuple_body ts cs) = omega (arith, length-drop e bytes) in
-    (parts.count, sym (take-append-drop e bytes) ∙ ap (λ (xs : List ℕ). xs ++ drop e bytes) (sym body)
-    ∙ ap (λ (xs : List ℕ). tuple_body ts cs ++ xs) (zeros-from (drop e bytes) p.1 ∙ ap zeros left))
+    let left : length (drop e bytes) ≡ s - length (tuple_body ts cs) = omega (arith, length-drop e bytes) in (
+      parts.count,
+      sym (take-append-drop e bytes) ∙ ap (λ (xs : List ℕ). xs ++ drop e bytes) (sym body)
+          ∙ ap (λ (xs : List ℕ). tuple_body ts cs ++ xs) (zeros-from (drop e bytes) p.1 ∙ ap zeros left),
+    )
 
 -- the members that are read were spelled so
 pub tuple_children-found : (ts : Shapes) (size : Option ℕ) (bytes : List ℕ) (cs : List (List ℕ)) → size_of (tuple ts) ≡ size →

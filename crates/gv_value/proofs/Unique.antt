@@ -32,9 +32,10 @@ all_are : (n : ℕ) → AllAre n → (t : Shape) (vs : Trees) (cs : List (List �
 all_are n are t no_trees [] h = (refl, refl)
 all_are n are t (tree v vs) (c ∷ cs) h =
     let one = are t v c h.0 in
-    let more = all_are n are t vs cs h.1 in
-    (and_from (fits_within n t v) (all_fit (fits_within n t) vs) one.fit more.0,
-    ap (λ (x : List ℕ). x ∷ cs) one.spell ∙ ap (λ (xs : List (List ℕ)). spelling v t ∷ xs) more.1)
+    let more = all_are n are t vs cs h.1 in (
+      and_from (fits_within n t v) (all_fit (fits_within n t) vs) one.fit more.0,
+      ap (λ (x : List ℕ). x ∷ cs) one.spell ∙ ap (λ (xs : List (List ℕ)). spelling v t ∷ xs) more.1,
+    )
 all_are n are t no_trees (c ∷ cs) h = absurd h
 all_are n are t (tree v vs) [] h = absurd h
 
@@ -42,9 +43,10 @@ each_are : (n : ℕ) → AllAre n → (ts : Shapes) (vs : Trees) (cs : List (Lis
 each_are n are no_shapes no_trees [] h = (refl, refl)
 each_are n are (shape t ts) (tree v vs) (c ∷ cs) h =
     let one = are t v c h.0 in
-    let more = each_are n are ts vs cs h.1 in
-    (and_from (fits_within n t v) (each_fits (fits_within n) ts vs) one.fit more.0,
-    ap (λ (x : List ℕ). x ∷ cs) one.spell ∙ ap (λ (xs : List (List ℕ)). spelling v t ∷ xs) more.1)
+    let more = each_are n are ts vs cs h.1 in (
+      and_from (fits_within n t v) (each_fits (fits_within n) ts vs) one.fit more.0,
+      ap (λ (x : List ℕ). x ∷ cs) one.spell ∙ ap (λ (xs : List (List ℕ)). spelling v t ∷ xs) more.1,
+    )
 each_are n are no_shapes no_trees (c ∷ cs) h = absurd h
 each_are n are no_shapes (tree v vs) cs h = absurd h
 each_are n are (shape t ts) no_trees cs h = absurd h

@@ -8,5 +8,4 @@ pub fn one_spelling()
     ensures one_spelling { HasOneSpelling }
     ensures one_value { HasOneValue }
     ensures depth { BoundsDepth }
-{
-}
+{}

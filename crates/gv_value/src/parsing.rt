@@ -81,11 +81,7 @@ fn read_from(
 
 /// The members of a tuple, up to its closing bracket.
 #[cycle(parse)]
-fn read_members(
-    alloc: Global,
-    text: &[u8],
-    room: u32,
-) -> Result<(Vec<GvType>, &[u8]), TypeError>
+fn read_members(alloc: Global, text: &[u8], room: u32) -> Result<(Vec<GvType>, &[u8]), TypeError>
     ensures { Reads (λ x. (shapes_of x.0.items, x.1.now)) result
         (members_at (type_at room) (length text.now) text.now) }
 {

@@ -63,17 +63,38 @@ impl GvValue {
         match self {
             GvValue::Bool(truth) => Parts::Basic(Basic::Bool, Content::Truth(*truth)),
             GvValue::Byte(number) => Parts::Basic(Basic::Byte, Content::Number(u64::from(*number))),
-            GvValue::Int16(number) => Parts::Basic(Basic::Int16, Content::Integer(i64::from(*number))),
-            GvValue::Uint16(number) => Parts::Basic(Basic::Uint16, Content::Number(u64::from(*number))),
-            GvValue::Int32(number) => Parts::Basic(Basic::Int32, Content::Integer(i64::from(*number))),
-            GvValue::Uint32(number) => Parts::Basic(Basic::Uint32, Content::Number(u64::from(*number))),
+            GvValue::Int16(number) => Parts::Basic(
+                Basic::Int16,
+                Content::Integer(i64::from(*number)),
+            ),
+            GvValue::Uint16(number) => Parts::Basic(
+                Basic::Uint16,
+                Content::Number(u64::from(*number)),
+            ),
+            GvValue::Int32(number) => Parts::Basic(
+                Basic::Int32,
+                Content::Integer(i64::from(*number)),
+            ),
+            GvValue::Uint32(number) => Parts::Basic(
+                Basic::Uint32,
+                Content::Number(u64::from(*number)),
+            ),
             GvValue::Int64(number) => Parts::Basic(Basic::Int64, Content::Integer(*number)),
             GvValue::Uint64(number) => Parts::Basic(Basic::Uint64, Content::Number(*number)),
-            GvValue::Handle(number) => Parts::Basic(Basic::Handle, Content::Integer(i64::from(*number))),
+            GvValue::Handle(number) => Parts::Basic(
+                Basic::Handle,
+                Content::Integer(i64::from(*number)),
+            ),
             GvValue::Double(eight) => Parts::of_double(eight),
             GvValue::Str(text) => Parts::Basic(Basic::Str, Content::Text(text.as_str())),
-            GvValue::ObjectPath(text) => Parts::Basic(Basic::ObjectPath, Content::Text(text.as_str())),
-            GvValue::Signature(text) => Parts::Basic(Basic::Signature, Content::Text(text.as_str())),
+            GvValue::ObjectPath(text) => Parts::Basic(
+                Basic::ObjectPath,
+                Content::Text(text.as_str()),
+            ),
+            GvValue::Signature(text) => Parts::Basic(
+                Basic::Signature,
+                Content::Text(text.as_str()),
+            ),
             GvValue::Variant(of, child) => Parts::Variant(of, child),
             GvValue::Array(items) => Parts::Array(items),
             GvValue::Maybe(None) => Parts::Nothing,

@@ -56,7 +56,7 @@ no_tmp same = cc same
 -- repo or repo/tmp
 which : (q : Elements) → Contains (folders_of config) q → (repo ≡ q) ⊎ (tmp ≡ q)
 which q has = elim (Contains-push_cases (repo ∷ []) tmp q has) [
-    inl first ↦ elim (Contains-push_cases [] repo q first) [ inl none ↦ absurd (omega (arith, none.1)) | inr is ↦ inl is ]
+  | inl first ↦ elim (Contains-push_cases [] repo q first) [ inl none ↦ absurd (omega (arith, none.1)) | inr is ↦ inl is ]
   | inr is ↦ inr is
 ]
 
@@ -71,8 +71,8 @@ no_staging u staging = cc staging.is
 folder_allowed : (p : Elements) (spot : Spot) → Contains (folders_of config) p → spot ≡ folder → Allowed p spot
 folder_allowed p spot has is =
     subst (Allowed p) (sym is) (elim (which p has) [
-      inl here ↦ subst (λ q. Allowed q folder) here (record { fits = tt; short = inr (omega arith) })
-    | inr here ↦ subst (λ q. Allowed q folder) here (record { fits = tt; short = inr (omega arith) })
+      | inl here ↦ subst (λ q. Allowed q folder) here (record { fits = tt; short = inr (omega arith) })
+      | inr here ↦ subst (λ q. Allowed q folder) here (record { fits = tt; short = inr (omega arith) })
     ])
 
 work_allowed : (u : View) (p : Elements) (spot : Spot) → IsStaging u p → Allowed p spot
@@ -83,13 +83,13 @@ new_allowed p bytes spot here new = subst (λ q. Allowed q spot) (sym here) (sub
 
 pub replaces_allowed : (u : View) (bytes : List ℕ) (p : Elements) (spot : Spot) → ReplacesAt config bytes u p spot → Allowed p spot
 replaces_allowed u bytes p spot given = elim given [
-    inl new ↦ new_allowed p bytes spot new.0 new.1
+  | inl new ↦ new_allowed p bytes spot new.0 new.1
   | inr other ↦ elim other [ inl made ↦ folder_allowed p spot made.0 made.1 | inr work ↦ work_allowed u p spot work ]
 ]
 
 given_new : (u : View) (bytes : List ℕ) (spot : Spot) → ReplacesAt config bytes u config spot → IsNew bytes spot
 given_new u bytes spot given = elim given [
-    inl new ↦ new.1
+  | inl new ↦ new.1
   | inr other ↦ elim other [ inl made ↦ absurd (no_folder made.0) | inr work ↦ absurd (no_staging u work) ]
 ]
 
@@ -102,15 +102,17 @@ either {s = s} {t = t} {u = u} {w = w} good reads replaces opens =
       shown = λ disk left.
           let from = replaces.keeps.follows.from disk left in
           elim (from.2 config) [
-            inl same ↦ inl (same_shown same (opens.shown from.0 from.1))
-          | inr given ↦ inr (shows_new disk t good reads (given_new u bytes (disk config) given))
+            | inl same ↦ inl (same_shown same (opens.shown from.0 from.1))
+            | inr given ↦ inr (shows_new disk t good reads (given_new u bytes (disk config) given))
           ];
       sound = λ disk left.
           let from = replaces.keeps.follows.from disk left in
-          record { kinds = λ p. elim (from.2 p) [
-              inl same ↦ subst (Allowed p) (sym same) ((opens.sound from.0 from.1).kinds p)
-            | inr given ↦ replaces_allowed u bytes p (disk p) given
-          ] };
+          record {
+            kinds = λ p. elim (from.2 p) [
+              | inl same ↦ subst (Allowed p) (sym same) ((opens.sound from.0 from.1).kinds p)
+              | inr given ↦ replaces_allowed u bytes p (disk p) given
+            ];
+          };
     }
 
 pub opens_after : {s t : State} {u w : View} → IsGood t → config_of (config_text (settings_of t)) ≡ Some (settings_of t) → Replaces config (config_text (settings_of t)) u w → WasReplaced config (config_text (settings_of t)) u w → Opens s u → Opens t w
@@ -156,10 +158,12 @@ can_replace v tree opens =
     let slot : (q : Elements) → shows v q ≡ spot_of v.files (v.names q) = λ q. ap (spot_of v.files) (at_tree v tree q) in
     record {
       entry = file_slot v (v.names config) (subst IsFileOrGone (slot config) (sound.kinds config).fits);
-      folders = record { free = λ q has. elim (which q has) [
-          inl here ↦ subst (IsFree v) here (folder_slot v (v.names repo) tree repo refl (subst IsFolderOrGone (slot repo) (sound.kinds repo).fits))
-        | inr here ↦ subst (IsFree v) here (folder_slot v (v.names tmp) tree tmp refl (subst IsFolderOrGone (slot tmp) (sound.kinds tmp).fits))
-      ] };
+      folders = record {
+        free = λ q has. elim (which q has) [
+          | inl here ↦ subst (IsFree v) here (folder_slot v (v.names repo) tree repo refl (subst IsFolderOrGone (slot repo) (sound.kinds repo).fits))
+          | inr here ↦ subst (IsFree v) here (folder_slot v (v.names tmp) tree tmp refl (subst IsFolderOrGone (slot tmp) (sound.kinds tmp).fits))
+        ];
+      };
       no_root = λ same. cc same;
       no_repo = no_repo;
       no_tmp = no_tmp;

@@ -27,4 +27,4 @@ pub returns-clause-tells : goal.returns-clause-tells
 returns-clause-tells g c =
     let t = g.met.H.Host.is_tree in
     ends_on (ends_call (t c.read_state.new.host) c.in_ok-sync.ensures.step) (ends_both (ends_looks (t c.args.host.now) c.in_ok-state.ensures.still) c.in_ok-state.ensures.tells) (t c.read_state.new.host)
-        (λ u v w tree q step. opened_ok c.in_ok-state.state c.of.result u v w c.of.ensures tree q.0.0 q.1 step)
+    (λ u v w tree q step. opened_ok c.in_ok-state.state c.of.result u v w c.of.ensures tree q.0.0 q.1 step)

@@ -18,7 +18,10 @@ pub loop-id-smaller : goal.loop-id-smaller
 loop-id-smaller c = omega (arith, low c)
 
 pub loop-id-preserved : goal.loop-id-preserved
-loop-id-preserved c = (omega arith, λ k lt le. elim (cases_eq k c.loop-id.id) [
-  | inl e ↦ (λ none. here c (ap (λ j. file_at c.args.files.now j) (sym e) ∙ none))
-  | inr ne ↦ c.loop-id.invariant.1 k (omega arith) le
-])
+loop-id-preserved c = (
+  omega arith,
+  λ k lt le. elim (cases_eq k c.loop-id.id) [
+    | inl e ↦ (λ none. here c (ap (λ j. file_at c.args.files.now j) (sym e) ∙ none))
+    | inr ne ↦ c.loop-id.invariant.1 k (omega arith) le
+  ],
+)

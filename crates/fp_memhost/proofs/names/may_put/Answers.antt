@@ -7,7 +7,7 @@ pub unreachable-requires : goal.unreachable-requires
 unreachable-requires c = no_room _ _ _ _ _ 1 c.deref.ensures.value c.text.ensures.back c.in_default.ensures c.requires.room
 
 pub unwrap-requires : goal.unwrap-requires
-unwrap-requires c = 
+unwrap-requires c =
     let there = was_there _ _ _ _ _ c.index_mut-name.result.now c.index_mut-name.result.now c.in-Ok.ensures c.deref.ensures.value c.text.ensures.back c.index_mut-name.ensures.value refl in
     let room = room_here _ _ _ 1 there c.requires.room in
     c.push.ensures.succeeds (omega arith)

@@ -12,7 +12,7 @@ pub array_fits-returns-else-is_empty : goal.array_fits-returns-else-is_empty
 array_fits-returns-else-is_empty t c =
     subst (λ (p : Parts). c.is_byte.result ≡ fits_within (suc c.args.room) (Shape.array (shape_of c.args.element.now)) (part_tree p)) (sym c.in-Bytes.is)
     (array_of_bytes c.args.room (shape_of c.args.element.now) c.in-Bytes.bytes.now c.is_byte.result c.is_byte.ensures (subst IsHeld c.in-Bytes.is c.requires)
-        (eqb-false (length c.in-Bytes.bytes.now) 0 (sym c.if-is_empty.ensures)))
+    (eqb-false (length c.in-Bytes.bytes.now) 0 (sym c.if-is_empty.ensures)))
 
 pub each_fits-returns-then-members-items : goal.each_fits-returns-then-members-items
 each_fits-returns-then-members-items t c = counts_differ (fits_within c.args.room) c.args.members.now c.args.items.now c.if-members-items.true

@@ -18,7 +18,7 @@ read_members-returns-in_err-member t c =
     let p = err_from_is_err_and c.from_residual-in_err-member.result c.from_residual-in_err-member.ensures.1 in
     let l = c.members in
     rw (p.1, p.2) (type_stops c.in_err-member.field-0.0 c.args.room c.args.text.now l.members.items l.invariant.fuel l.left.now c.in_ok-sign.sign c.in_ok-sign.rest.now
-        l.invariant.so_far c.in_ok-sign.ensures (opens-not c.in_ok-sign.sign c.in_default.not-TupleClose) c.in_err-member.ensures)
+    l.invariant.so_far c.in_ok-sign.ensures (opens-not c.in_ok-sign.sign c.in_default.not-TupleClose) c.in_err-member.ensures)
 
 pub read_members-returns-in-TupleClose : goal.read_members-returns-in-TupleClose
 read_members-returns-in-TupleClose t c =

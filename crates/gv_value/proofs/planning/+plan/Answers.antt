@@ -18,7 +18,7 @@ plan_of-returns-in_ok-plans-in-Tuple t c =
     let are : ArePlansOf ps.items (shapes_of c.in-Tuple.members.now) = search rules in
     let e = c.extent_of_plans.result in
     let extent : IsRun e (greatest_align (plan_shapes ps.items)) (end_of 0 (plan_shapes ps.items)) =
-        subst (λ (xs : List Plan). IsRun e (greatest_align (plan_shapes xs)) (end_of 0 (plan_shapes xs))) c.deref.ensures.value c.extent_of_plans.ensures in
+    subst (λ (xs : List Plan). IsRun e (greatest_align (plan_shapes xs)) (end_of 0 (plan_shapes xs))) c.deref.ensures.value c.extent_of_plans.ensures in
     subst (IsPlanOf _) c.in-Tuple.ensures (tuple-plan e ps (shapes_of c.in-Tuple.members.now) are extent)
 
 pub plan_of-returns-in_ok-push-in-Entry-2 : goal.plan_of-returns-in_ok-push-in-Entry-2
@@ -31,7 +31,7 @@ plan_of-returns-in_ok-push-in-Entry-2 t c =
     let is_k : IsPlanOf k (shape_of c.in-Entry.key.now) = search rules in
     let is_v : IsPlanOf v (shape_of c.in-Entry.value.now) = search rules in
     let extent : IsRun e (greatest_align (plan_shapes ps.items)) (end_of 0 (plan_shapes ps.items)) =
-        subst (λ (xs : List Plan). IsRun e (greatest_align (plan_shapes xs)) (end_of 0 (plan_shapes xs))) c.deref-in-Entry.ensures.value c.extent_of_plans-in-Entry.ensures in
+    subst (λ (xs : List Plan). IsRun e (greatest_align (plan_shapes xs)) (end_of 0 (plan_shapes xs))) c.deref-in-Entry.ensures.value c.extent_of_plans-in-Entry.ensures in
     subst (IsPlanOf _) c.in-Entry.ensures (entry-plan e ps k v (shape_of c.in-Entry.key.now) (shape_of c.in-Entry.value.now) items is_k is_v extent)
 
 pub plans_of-plan_of-requires : goal.plans_of-plan_of-requires
@@ -39,7 +39,7 @@ plans_of-plan_of-requires t c =
     let i = c.loop-member.member-index in
     let ts = c.args.members.now in
     let smaller : nodes (shape_of c.member-item.result) < all_nodes (shapes_of ts) =
-        subst (λ (x : GvType). nodes (shape_of x) < all_nodes (shapes_of ts)) (sym c.member-item.is) (member_nodes ts i c.member-item.result c.loop-member-test.true) in
+    subst (λ (x : GvType). nodes (shape_of x) < all_nodes (shapes_of ts)) (sym c.member-item.is) (member_nodes ts i c.member-item.result c.loop-member-test.true) in
     search rules
 
 pub plans_of-loop-member-preserved : goal.plans_of-loop-member-preserved

@@ -18,7 +18,7 @@ loop-plan-preserved c =
     let ps = c.args.plans.now in
     let x = c.plan-item.result in
     let here : drop l.plan-index ps ≡ x ∷ drop (l.plan-index + 1) ps =
-        drop_more ps l.plan-index x c.loop-plan-test.true ∙ ap (λ (y : Plan). y ∷ drop (l.plan-index + 1) ps) (sym c.plan-item.is) in
+    drop_more ps l.plan-index x c.loop-plan-test.true ∙ ap (λ (y : Plan). y ∷ drop (l.plan-index + 1) ps) (sym c.plan-item.is) in
     so_far-more l.run c.extent.result c.with_member-run.result (plan_shape x) (plan_shapes (drop (l.plan-index + 1) ps)) (plan_shapes ps)
     (subst (λ (ys : List Plan). SoFar l.run (plan_shapes ys) (plan_shapes ps)) here l.invariant)
     c.extent.ensures c.with_member-run.ensures.align c.with_member-run.ensures.end

@@ -11,7 +11,7 @@ after_members-returns-in-TupleClose t c =
     let one = after_type (c.args.arrays + c.args.structs) c.args.arrays c.args.structs in
     let closing = ap (λ (x : Sign). Some (x, c.in_ok-sign.rest.now)) (sym c.in-TupleClose.is) ∙ c.in_ok-sign.ensures in
     sym (l.invariant.so_far ∙ member_closes one (type-shorter (c.args.arrays + c.args.structs) c.args.arrays c.args.structs) l.invariant.fuel l.left.now c.in_ok-left.left.now c.in_ok-sign.rest.now
-        l.invariant.enough (sym c.in_ok-left.ensures) (sym closing))
+    l.invariant.enough (sym c.in_ok-left.ensures) (sym closing))
 
 pub after_members-members-smaller : goal.after_members-members-smaller
 after_members-members-smaller t c =

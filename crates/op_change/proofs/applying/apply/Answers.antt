@@ -28,8 +28,8 @@ pub returns-in_err-write_state-clause-cause : goal.returns-in_err-write_state-cl
 returns-in_err-write_state-clause-cause g c =
     let t = g.met.H.Host.is_tree c.args.host.now in
     passed_on _ (IsErrOf c.write_state.result Fault) (Opens c.args.opened) (CanReplace config) _ _ _ t (omega arith) (ends_start t) c.write_state.ensures.cause
-        (same_fault c.write_state.result _ c.in_err-write_state.field-0.0 c.in_err-write_state.was c.from_residual-in_err-write_state.ensures.1)
-        (λ u v tree q opens. subst (CanReplace config) (sym q) (can_replace u tree opens))
+    (same_fault c.write_state.result _ c.in_err-write_state.field-0.0 c.in_err-write_state.was c.from_residual-in_err-write_state.ensures.1)
+    (λ u v tree q opens. subst (CanReplace config) (sym q) (can_replace u tree opens))
 
 pub returns-clause-moments : goal.returns-clause-moments
 returns-clause-moments g c =

@@ -9,4 +9,3 @@ returns-in-ObjectPath-clause-held c = is_utf8-from_IsUtf8 _ c.as_str-in-ObjectPa
 
 pub returns-in-Signature-clause-held : goal.returns-in-Signature-clause-held
 returns-in-Signature-clause-held c = is_utf8-from_IsUtf8 _ c.as_str-in-Signature.utf8
-
