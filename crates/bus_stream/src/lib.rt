@@ -2,5 +2,8 @@
 #![tactic(auto)]
 
 mod cutter;
+mod lines;
+mod recording;
 
 pub use cutter::{Cut, Cutter};
+pub use recording::{RecordError, Recording, Side, read_recording};

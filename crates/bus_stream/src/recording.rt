@@ -1,0 +1,167 @@
+//! Recordings of what a client and its bus sent to each other.
+
+ghost use Rattle.std.specs.Prelude.{◌≡◌, IfOk, OnOk};
+ghost use Rattle.bus_stream.specs.Recordings.{with_client, push_names, with_owner, with_piece, with_line, recording_of, said, Knows, Took, AnswersRecording};
+
+use crate::lines::{cut, decoded, unique_name, well_known_name};
+use bus_frame::{Blob, Items, Text};
+use std::alloc::{AllocError, Global};
+use std::collections::BTreeSet;
+
+/// Which side sent.
+#[derive(Clone, Copy, Debug, PartialEq, Eq)]
+pub enum Side {
+    /// The client.
+    Client,
+    /// The bus.
+    Bus,
+}
+
+/// What a client and its bus sent to each other, and what was known of names before.
+#[derive(Drop)]
+pub struct Recording {
+    /// The client's unique name, where it is known.
+    pub client: Option<Text>,
+    /// Names that aren't unique, each once, with the unique name that owns it.
+    pub owners: Items<(Text, Text)>,
+    /// What was sent, in order and in the pieces in which it came. Each has at least one byte.
+    pub pieces: Items<(Side, Blob)>,
+}
+
+/// Why bytes aren't a recording.
+#[derive(Debug, PartialEq, Eq, Drop)]
+pub enum RecordError {
+    /// The first line that is bad, counted from 1.
+    BadRecord(u64),
+    /// There is no memory.
+    NoMemory,
+}
+
+impl From<AllocError> for RecordError {
+    ghost use Rattle.std.specs.Prelude.{◌≡◌};
+    ghost use Rattle.bus_stream.specs.declared.recording.RecordError.TheVariants.{NoMemory};
+
+    ghost from_gives = { λ _ e. e ≡ NoMemory };
+
+    fn from(_error: AllocError) -> RecordError {
+        RecordError::NoMemory
+    }
+}
+
+/// What the lines so far say.
+#[derive(Drop)]
+pub struct Draft {
+    pub client: Option<Text>,
+    pub owned: BTreeSet<String>,
+    pub owners: Vec<(Text, Text)>,
+    pub pieces: Vec<(Side, Blob)>,
+}
+
+impl Draft {
+    #[tactic(auto, unfolding(crate::specs::Recordings::with_client))]
+    fn add_client(&mut self, alloc: Global, name: &[u8]) -> Result<bool, AllocError>
+        requires knows { Knows self.old }
+        ensures { IfOk result (λ good. Took good self.new (with_client (said self.old) name.now)) }
+    {
+        if !self.pieces.is_empty() || self.client.is_some() {
+            return Ok(false);
+        }
+        let Some(name) = unique_name(name) else {
+            return Ok(false);
+        };
+        self.client = Some(Text::copy_of(alloc, name)?);
+        Ok(true)
+    }
+
+    fn push_owner(&mut self, alloc: Global, name: &str, owner: &str) -> Result<(), AllocError>
+        requires knows { Knows self.old }
+        ensures said { OnOk result (said self.new ≡ push_names (said self.old) (name.now, owner.now)) }
+        ensures knows { OnOk result (Knows self.new) }
+    {
+        self.owned.insert(String::from_str(alloc, name)?)?;
+        let names = (Text::copy_of(alloc, name)?, Text::copy_of(alloc, owner)?);
+        self.owners.push(names)?;
+        Ok(())
+    }
+
+    #[tactic(auto, unfolding(crate::specs::Recordings::with_owner))]
+    fn add_owner(&mut self, alloc: Global, names: &[u8]) -> Result<bool, AllocError>
+        requires knows { Knows self.old }
+        ensures { IfOk result (λ good. Took good self.new (with_owner (said self.old) names.now)) }
+    {
+        let Some((name, owner)) = cut(b' ', names) else {
+            return Ok(false);
+        };
+        let (Some(name), Some(owner)) = (well_known_name(name), unique_name(owner)) else {
+            return Ok(false);
+        };
+        if !self.pieces.is_empty() || self.owned.contains(name) {
+            return Ok(false);
+        }
+        self.push_owner(alloc, name, owner)?;
+        Ok(true)
+    }
+
+    #[tactic(auto, unfolding(crate::specs::Recordings::with_piece))]
+    fn add_piece(&mut self, alloc: Global, side: Side, text: &[u8]) -> Result<bool, AllocError>
+        requires knows { Knows self.old }
+        ensures { IfOk result (λ good. Took good self.new (with_piece side (said self.old) text.now)) }
+    {
+        let Some(bytes) = decoded(alloc, text)? else {
+            return Ok(false);
+        };
+        self.pieces.push((side, Blob::from_vec(bytes)))?;
+        Ok(true)
+    }
+
+    #[tactic(auto, unfolding(crate::specs::Recordings::with_line))]
+    fn add_line(&mut self, alloc: Global, line: &[u8]) -> Result<bool, AllocError>
+        requires knows { Knows self.old }
+        ensures { IfOk result (λ good. Took good self.new (with_line (said self.old) line.now)) }
+    {
+        let Some((word, rest)) = cut(b' ', line) else {
+            return Ok(false);
+        };
+        let good = match word {
+            b"client" => self.add_client(alloc, rest)?,
+            b"owner" => self.add_owner(alloc, rest)?,
+            b"c" => self.add_piece(alloc, Side::Client, rest)?,
+            b"b" => self.add_piece(alloc, Side::Bus, rest)?,
+            _ => false,
+        };
+        Ok(good)
+    }
+}
+
+/// Reads a recording.
+///
+/// It is lines, each with a newline at its end. First come at most one `client UNIQUE` and any number of
+/// `owner NAME UNIQUE`, in any order, then lines `c HEX` and `b HEX`: what the client sent, and what the bus sent. A
+/// NAME isn't unique and comes once; HEX is one byte or more in lower-case hexadecimal.
+pub fn read_recording(alloc: Global, bytes: &[u8]) -> Result<Recording, RecordError>
+    ensures { AnswersRecording result (recording_of bytes.now) }
+{
+    let mut draft = Draft {
+        client: None,
+        owned: BTreeSet::new(alloc),
+        owners: Vec::new(alloc),
+        pieces: Vec::new(alloc),
+    };
+    let mut rest = bytes;
+    let mut number = 1;
+    while let Some((line, behind)) = cut(b'\n', rest) {
+        if !draft.add_line(alloc, line)? {
+            return Err(RecordError::BadRecord(number));
+        }
+        rest = behind;
+        number += 1;
+    }
+    if !rest.is_empty() {
+        return Err(RecordError::BadRecord(number));
+    }
+    Ok(Recording {
+        client: draft.client,
+        owners: Items::from_vec(draft.owners),
+        pieces: Items::from_vec(draft.pieces),
+    })
+}
