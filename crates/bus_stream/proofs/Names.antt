@@ -31,12 +31,12 @@ are_ascii a separator l [] h = IsAscii-nil
 are_ascii a separator l (c ∷ cs) h =
     let parts = slice_split (λ x. x == separator) cs in
     elim (cases_Bool (c == separator)) [
-      inl e ↦
-        IsAscii-cons c cs (subst (λ x. x < 128) (sym (eqb-true c separator e)) l)
-        (are_ascii a separator l cs (sym (ap (list_all (continue a)) (slice_split-cons_yes (λ x. x == separator) c cs e)) ∙ h))
-    | inr e ↦
-        let both = first_continues a c parts (sym (ap (list_all (continue a)) (slice_split-cons_no (λ x. x == separator) c cs e)) ∙ h) in
-        IsAscii-cons c cs (is_ascii a c both.0) (are_ascii a separator l cs both.1)
+      | inl e ↦
+          IsAscii-cons c cs (subst (λ x. x < 128) (sym (eqb-true c separator e)) l)
+          (are_ascii a separator l cs (sym (ap (list_all (continue a)) (slice_split-cons_yes (λ x. x == separator) c cs e)) ∙ h))
+      | inr e ↦
+          let both = first_continues a c parts (sym (ap (list_all (continue a)) (slice_split-cons_no (λ x. x == separator) c cs e)) ∙ h) in
+          IsAscii-cons c cs (is_ascii a c both.0) (are_ascii a separator l cs both.1)
     ]
 
 elements_continue : (a : Alphabet) (parts : List (List ℕ)) → list_all (is_element a) parts ≡ true → list_all (continue a) parts ≡ true

@@ -33,7 +33,7 @@ unfoldable pub with_owner : Recording → List ℕ → Option Recording
 with_owner r names = do
   parts ← parts_at 32 names
   where_it (length r.pieces == 0 && is_well_known parts.0 && is_unique parts.1 && not (is_owned r parts.0))
-    (push_names r parts)
+      (push_names r parts)
 
 unfoldable pub with_piece : Side → Recording → List ℕ → Option Recording
 with_piece side r text = do

@@ -7,6 +7,8 @@ mod files;
 mod host_dir;
 mod names;
 mod stdin_source;
+#[cfg(test)]
+mod tests;
 mod touched;
 mod tree;
 
