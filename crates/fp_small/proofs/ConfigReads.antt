@@ -86,6 +86,7 @@ quoted_name-is header name h =
   where
     named_by : {x y : List ℕ} → Some x ≡ Some y → x ≡ y
     named_by e = cc
+
     none_some : None ≡ Some name → ⊥
     none_some e = cc
 

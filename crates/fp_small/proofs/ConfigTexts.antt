@@ -206,9 +206,9 @@ quoted_back name =
     let long : length (header_of name) ≡ length name + 9 = omega (arith, length-append name (codes "\"")) in
     let less : length (header_of name) - 9 ≡ length name = omega (arith, long) in
     let last : drop (length (header_of name) - 1) (header_of name) ≡ codes "\"" =
-      ap (λ (k : ℕ). drop k (header_of name)) (let e : length (header_of name) - 1 ≡ 8 + length name = omega (arith, long) in e) ∙ sym (drop-drop (length name) 8 (header_of name)) ∙ drop-append-le (length name) name (codes "\"") (omega arith) ∙ ap (λ (y : List ℕ). y ++ codes "\"") (drop_all (length name) name (omega arith)) in
+    ap (λ (k : ℕ). drop k (header_of name)) (let e : length (header_of name) - 1 ≡ 8 + length name = omega (arith, long) in e) ∙ sym (drop-drop (length name) 8 (header_of name)) ∙ drop-append-le (length name) name (codes "\"") (omega arith) ∙ ap (λ (y : List ℕ). y ++ codes "\"") (drop_all (length name) name (omega arith)) in
     let front : take (length (header_of name) - 9) (drop 8 (header_of name)) ≡ name =
-      ap (λ (k : ℕ). take k (name ++ codes "\"")) less ∙ take-append-le (length name) name (codes "\"") (omega arith) ∙ take_all (length name) name (omega arith) in
+    ap (λ (k : ℕ). take k (name ++ codes "\"")) less ∙ take-append-le (length name) name (codes "\"") (omega arith) ∙ take_all (length name) name (omega arith) in
     let e : is_quoted (header_of name) ≡ true = and_from (leb 9 (length (header_of name)) && true) (bytes_eq (drop (length (header_of name) - 1) (header_of name)) (codes "\"")) (and_from (leb 9 (length (header_of name))) true (le-leb 9 (length (header_of name)) (omega (arith, long))) refl) (ap (λ (y : List ℕ). bytes_eq y (codes "\"")) last) in
     rw e (ap (λ (n : List ℕ). Some n) front)
 
@@ -397,7 +397,7 @@ layout_apart (row ∷ rows) pins = layout_apart rows pins
 pub good_written : (s : Settings) → IsSettings s → is_good (config_file s) ≡ true
 good_written s h = good_from (config_file s) (record {
   groups = and_from (is_good_group layout_group) (list_all is_good_group (map remote_group s.remotes ++ pins_groups s.pins)) layout_good
-    (list_all-append is_good_group (map remote_group s.remotes) (pins_groups s.pins) ∙ and_from (list_all is_good_group (map remote_group s.remotes)) (list_all is_good_group (pins_groups s.pins)) (remotes_good s.remotes h.rows) (pins_groups_good s.pins h.patterns h.pins_ascend));
+      (list_all-append is_good_group (map remote_group s.remotes) (pins_groups s.pins) ∙ and_from (list_all is_good_group (map remote_group s.remotes)) (list_all is_good_group (pins_groups s.pins)) (remotes_good s.remotes h.rows) (pins_groups_good s.pins h.patterns h.pins_ascend));
   names = and_from (not (list_any (bytes_eq (codes "installation")) (names_of (map remote_group s.remotes ++ pins_groups s.pins)))) (are_distinct (names_of (map remote_group s.remotes ++ pins_groups s.pins))) (not_from_false (list_any (bytes_eq (codes "installation")) (names_of (map remote_group s.remotes ++ pins_groups s.pins))) (layout_apart s.remotes s.pins)) (names_apart s.remotes s.pins (distinct-ascending (map name_of s.remotes) h.remotes_ascend));
 })
 

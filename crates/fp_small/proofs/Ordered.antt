@@ -295,9 +295,10 @@ or_from_right true b h = refl
 or_from_right false b h = h
 
 pub Contains-inserted : (xs : List (List ℕ)) (p q : List ℕ) → Contains (inserted (λ x. x) xs p) q ↔ ((q ≡ p) ⊎ Contains xs q)
-Contains-inserted xs p q =
-    (λ has. ⊎_elim (λ e. inl (bytes_eq-is q p e)) (λ t. inr (contains xs q t)) (or_true (bytes_eq q p) (list_any (bytes_eq q) xs) (sym (list_any-inserted (bytes_eq q) (λ x. x) xs p) ∙ is_contained (inserted (λ x. x) xs p) q has)),
-     λ either. contains (inserted (λ x. x) xs p) q (list_any-inserted (bytes_eq q) (λ x. x) xs p ∙ ⊎_elim (λ e. ap (λ (b : Bool). b || list_any (bytes_eq q) xs) ((bytes_eq-Decides q p).1 e)) (λ has. or_from_right (bytes_eq q p) (list_any (bytes_eq q) xs) (is_contained xs q has)) either))
+Contains-inserted xs p q = (
+  λ has. ⊎_elim (λ e. inl (bytes_eq-is q p e)) (λ t. inr (contains xs q t)) (or_true (bytes_eq q p) (list_any (bytes_eq q) xs) (sym (list_any-inserted (bytes_eq q) (λ x. x) xs p) ∙ is_contained (inserted (λ x. x) xs p) q has)),
+  λ either. contains (inserted (λ x. x) xs p) q (list_any-inserted (bytes_eq q) (λ x. x) xs p ∙ ⊎_elim (λ e. ap (λ (b : Bool). b || list_any (bytes_eq q) xs) ((bytes_eq-Decides q p).1 e)) (λ has. or_from_right (bytes_eq q p) (list_any (bytes_eq q) xs) (is_contained xs q has)) either),
+)
 
 list_any-removed : (xs : List (List ℕ)) (p q : List ℕ) → bytes_eq p q ≡ false → list_any (bytes_eq q) (removed (λ x. x) xs p) ≡ list_any (bytes_eq q) xs
 list_any-removed [] p q h = refl

@@ -19,6 +19,7 @@ use std::str;
 
 /// The most remotes and the most pins that there may be.
 const MOST_REMOTES: usize = 256;
+
 const MOST_PINS: usize = 1024;
 
 /// Whether the pairs are this one.

@@ -47,10 +47,7 @@ fn place_of<T: Named>(items: &[T], name: &str) -> usize
 }
 
 /// Puts an item where its name belongs. Want of memory changes nothing.
-pub(crate) fn insert_by_name<T: Named + Drop>(
-    items: &mut Vec<T>,
-    item: T,
-) -> Result<(), AllocError>
+pub(crate) fn insert_by_name<T: Named + Drop>(items: &mut Vec<T>, item: T) -> Result<(), AllocError>
     ensures ok { OnOk result (items.new.items ≡ inserted T.name_of items.old.items item) }
     ensures err { OnErr result (items.new.items ≡ items.old.items) }
 {
