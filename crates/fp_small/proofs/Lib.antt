@@ -7,4 +7,5 @@ pub mod Ordered
 pub mod Pinning
 pub mod ConfigReads
 pub mod ConfigTexts
+mod ConfigRows
 mod SmallFiles
