@@ -3,6 +3,7 @@ ghost use Rattle.std.specs.Prelude.{◌≡◌, IfOk, IsErrOf};
 ghost use Rattle.fp_host.specs.Causes.{IsCaused};
 ghost use Rattle.fp_host.specs.Frame.{Ends, Frame, NoPath};
 ghost use Rattle.fp_host.specs.Outcome.{Nothing};
+ghost use Rattle.dep_states.specs.After.{IsGood};
 ghost use Rattle.dep_open.specs.Open.{Opened as HasOpened, NoName};
 
 use crate::open_end::OpenEnd;
@@ -15,6 +16,7 @@ use std::alloc::Global;
 /// byte.
 pub fn open<H: Host>(alloc: Global, host: &mut H) -> Result<Opened, OpenEnd>
     ensures frame { Frame Nothing NoName NoPath (H.moments host.old) (H.moments host.new) }
+    ensures good { IfOk result IsGood }
     ensures tells { Ends (HasOpened result) (H.moments host.old) (H.moments host.new) }
     ensures cause { IsCaused (IsErrOf result OpenEnd.Fault) (H.moments host.old) (λ v. Unit {0}) (H.faults host.old) (H.faults host.new) }
 {

@@ -4,6 +4,7 @@ ghost use Rattle.fp_host.specs.Causes.{IsCaused};
 ghost use Rattle.fp_host.specs.Frame.{Ends, Still};
 ghost use Rattle.dep_states.specs.Names.{config};
 ghost use Rattle.dep_states.specs.Shown.{state_of};
+ghost use Rattle.dep_states.specs.After.{IsGood};
 ghost use Rattle.dep_open.specs.Open.{Reads};
 ghost use Rattle.dep_open.specs.Loads.{IsSaid};
 
@@ -19,6 +20,7 @@ const CONFIG_MOST: u64 = 2 * 1024 * 1024;
 /// first path that doesn't read.
 pub fn read_state<H: Host>(alloc: Global, host: &mut H) -> Result<State, OpenEnd>
     ensures still { Still (H.moments host.old) (H.moments host.new) }
+    ensures good { IfOk result IsGood }
     ensures tells { Ends (λ u w. Reads u result) (H.moments host.old) (H.moments host.new) }
     ensures cause { IsCaused (IsErrOf result OpenEnd.Fault) (H.moments host.old) (λ v. Unit {0}) (H.faults host.old) (H.faults host.new) }
 {

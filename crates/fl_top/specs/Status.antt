@@ -1,0 +1,23 @@
+-- How a run ends.
+use Rattle.std.specs.Prelude.{◌≡◌, ◌⊎◌, ℕ, true}
+use Rattle.fp_name.specs.Pins.{is_pin}
+use Rattle.fp_small.specs.declared.op.Op.{Op}
+use Rattle.fp_small.specs.declared.op.Op.TheVariants.{AddPin, DropPin}
+use Rattle.fp_small.specs.declared.refusal.Refusal.{Refusal}
+use Rattle.fp_small.specs.declared.refusal.Refusal.TheVariants.{BadWords, PinExists, NoSuchPin, Limit, Damaged}
+
+-- 0 done, 1 refused, 2 no command, 3 a fault of the host, 6 want of memory
+abbrev pub IsStatus : ℕ → Type 0
+IsStatus n = (n ≡ 0) ⊎ ((n ≡ 1) ⊎ ((n ≡ 2) ⊎ ((n ≡ 3) ⊎ (n ≡ 6))))
+
+abbrev pub status_of : Refusal → ℕ
+status_of (BadWords index) = 2
+status_of (PinExists pin) = 1
+status_of (NoSuchPin pin) = 1
+status_of (Limit what number) = 1
+status_of (Damaged path) = 1
+
+-- its pattern is one
+abbrev pub IsOp : Op → Type 0
+IsOp (AddPin pin) = is_pin pin ≡ true
+IsOp (DropPin pin) = is_pin pin ≡ true

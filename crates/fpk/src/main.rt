@@ -1,0 +1,117 @@
+//! fpk: the words of the command line, run on the installation's folder.
+#![tactic(auto)]
+
+ghost use Rattle.std.specs.Prelude.{◌≡◌};
+
+use fl_top::run;
+use fp_realhost::{DirRemotes, HostDir, StdinSource};
+use std::alloc::Global;
+use std::env::{self, VarError};
+use std::io::{self, ErrorKind, Input};
+use std::process::ExitCode;
+use std::rt::{Env, Files};
+use std::thread::Threads;
+
+/// What fpk takes.
+const HELP: &str = "\
+fpk pin PATTERN      pins the refs that the pattern matches
+fpk unpin PATTERN    takes the pin away
+fpk list --pins      prints the patterns that are pinned
+fpk --help           prints this
+fpk --version        prints the version
+
+A pattern is KIND/ID/ARCH/BRANCH, where KIND is app or runtime, and * may stand for each of the others.
+The installation is the folder that FPK_INSTALLATION names, else the folder `installation` here.
+";
+
+fn main(rt: HostRuntime) -> ExitCode {
+    ExitCode::from(start(&rt, rt.alloc()))
+}
+
+/// The words behind the program's name are run, but for `--help` and `--version`.
+fn start(
+    rt: &(impl Env + Files + Print + Eprint + Input + AllocGlobal + Threads + Sync),
+    alloc: Global,
+) -> u8 {
+    let words = match words_of(rt, alloc) {
+        Ok(words) => words,
+        Err(error) => {
+            return match error.kind() {
+                ErrorKind::OutOfMemory => wanting(rt),
+                _ => complain(rt, "fpk: a word is no UTF-8", 2),
+            };
+        }
+    };
+    let words = words.as_slice();
+    if let [word] = words {
+        if word.as_str() == "--help" {
+            return print(rt, HELP);
+        }
+        if word.as_str() == "--version" {
+            return print(rt, "fpk 0.1\n");
+        }
+    }
+    match env::var(rt, "FPK_INSTALLATION") {
+        Ok(folder) => run_on(rt, alloc, &folder, words),
+        Err(VarError::NotPresent) => run_on(rt, alloc, "installation", words),
+        Err(VarError::NotUnicode) => complain(rt, "fpk: FPK_INSTALLATION is no UTF-8", 3),
+        Err(VarError::OutOfMemory) => wanting(rt),
+    }
+}
+
+/// The words behind the program's name.
+fn words_of(rt: &(impl Env + AllocGlobal), alloc: Global) -> io::Result<Vec<String>> {
+    let mut words = Vec::new(alloc);
+    let mut args = env::args(rt)?;
+    let _name = args.next();
+    for word in args {
+        words.push(word)?;
+    }
+    Ok(words)
+}
+
+/// Runs the words on this folder.
+fn run_on(
+    rt: &(impl Files + Print + Eprint + Input + AllocGlobal + Threads + Sync),
+    alloc: Global,
+    folder: &str,
+    words: &[String],
+) -> u8 {
+    let Ok(mut host) = HostDir::new(rt, alloc, folder) else {
+        return wanting(rt);
+    };
+    let mut remotes = DirRemotes::new(rt, alloc);
+    let mut input = StdinSource::new(rt);
+    let status = run(rt, alloc, words, &mut input, &mut host, &mut remotes);
+    match status {
+        2 => complain(rt, HELP, 2),
+        3 => {
+            if let Some(error) = host.last_error() {
+                let _said = eprintln!(rt; "fpk: {error}");
+            }
+            3
+        }
+        6 => wanting(rt),
+        _ => status,
+    }
+}
+
+/// Prints what was asked for.
+fn print(rt: &impl Print, text: &str) -> u8 {
+    match print!(rt; "{text}") {
+        Ok(()) => 0,
+        Err(_) => 3,
+    }
+}
+
+/// Says on standard error why the status is this one.
+fn complain(rt: &impl Eprint, text: &str, status: u8) -> u8
+    ensures { result ≡ status }
+{
+    let _said = eprintln!(rt; "{text}");
+    status
+}
+
+fn wanting(rt: &impl Eprint) -> u8 {
+    complain(rt, "fpk: memory was wanting", 6)
+}
