@@ -1,10 +1,12 @@
 -- How a run ends.
-use Rattle.std.specs.Prelude.{◌≡◌, ◌⊎◌, ℕ, true}
+use Rattle.std.specs.Prelude.{◌≡◌, ◌⊎◌, ℕ, true, Option, Some, None}
 use Rattle.fp_name.specs.Pins.{is_pin}
 use Rattle.fp_small.specs.declared.op.Op.{Op}
 use Rattle.fp_small.specs.declared.op.Op.TheVariants.{AddPin, DropPin}
 use Rattle.fp_small.specs.declared.refusal.Refusal.{Refusal}
 use Rattle.fp_small.specs.declared.refusal.Refusal.TheVariants.{BadWords, PinExists, NoSuchPin, Limit, Damaged}
+use Rattle.fl_words.specs.declared.command.Command.{Command}
+use Rattle.fl_top.specs.Answer.{Answer}
 
 -- 0 done, 1 refused, 2 no command, 3 a fault of the host, 6 want of memory
 abbrev pub IsStatus : ℕ → Type 0
@@ -16,6 +18,19 @@ status_of (PinExists pin) = 1
 status_of (NoSuchPin pin) = 1
 status_of (Limit what number) = 1
 status_of (Damaged path) = 1
+
+abbrev pub status_by : Option Refusal → ℕ
+status_by None = 0
+status_by (Some refusal) = status_of refusal
+
+-- the status of an answer
+abbrev pub status_at : Answer → ℕ
+status_at a = status_by a.refusal
+
+-- Whatever the host: 2 comes only for words that are no command, and these end with nothing else but a fault or want of memory.
+abbrev pub IsOfWords : Option Command → ℕ → Type 0
+IsOfWords None status = (status ≡ 2) ⊎ ((status ≡ 3) ⊎ (status ≡ 6))
+IsOfWords (Some command) status = status ≡ 2 → ⊥
 
 -- its pattern is one
 abbrev pub IsOp : Op → Type 0

@@ -1,0 +1,14 @@
+use Rattle.std.proofs.Common.{sym, subst}
+use Rattle.fp_host.specs.Moments.{Goes}
+use Rattle.fl_words.specs.declared.command.Command.{Command}
+use Rattle.fl_top.specs.Answer.{answer_over}
+use Rattle.fl_top.specs.Performs.{RunsOver, EndedOver}
+use Rattle.fl_top.proofs.running.perform.Goals as goal
+
+pub returns-in-Pin-clause-moments : goal.returns-in-Pin-clause-moments
+returns-in-Pin-clause-moments g c =
+    subst (λ (k : Command). Goes (g.H.Host.moments c.args.host.now) (g.H.Host.moments c.change.new.host) (RunsOver (answer_over k)) (EndedOver (answer_over k) c.change.result)) (sym c.in-Pin.is) c.change.ensures.moments
+
+pub returns-in-Unpin-clause-moments : goal.returns-in-Unpin-clause-moments
+returns-in-Unpin-clause-moments g c =
+    subst (λ (k : Command). Goes (g.H.Host.moments c.args.host.now) (g.H.Host.moments c.change-in-Unpin.new.host) (RunsOver (answer_over k)) (EndedOver (answer_over k) c.change-in-Unpin.result)) (sym c.in-Unpin.is) c.change-in-Unpin.ensures.moments
