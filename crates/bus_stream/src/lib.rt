@@ -7,3 +7,6 @@ mod recording;
 
 pub use cutter::{Cut, Cutter};
 pub use recording::{RecordError, Recording, Side, read_recording};
+
+#[cfg(test)]
+mod tests;
