@@ -5,8 +5,8 @@ ghost use Rattle.gv_value.specs.Plans.{are_plans, plan_shapes};
 ghost use Rattle.gv_decode.specs.Decoded.{Gives, IsFrame};
 
 use crate::error::DecodeError;
-use crate::numbers::{all_zero, number, width};
-use gv_value::{Plan, padding};
+use crate::numbers::{all_zero, number};
+use gv_value::{Plan, padding, width};
 
 /// The bytes of a child that stands behind a position and ends at another, where what is padding before it is zero.
 pub fn child_at(body: &[u8], at: usize, align: u64, end: usize) -> Result<&[u8], DecodeError>
@@ -26,6 +26,7 @@ pub fn child_at(body: &[u8], at: usize, align: u64, end: usize) -> Result<&[u8],
 }
 
 /// A container's children, and its offsets.
+#[derive(Clone, Copy, Debug)]
 pub struct Frame<'a> {
     pub body: &'a [u8],
     /// The offsets, one after the other.

@@ -1,6 +1,5 @@
 ghost use Rattle.std.specs.Prelude.{◌≡◌, ◌≤◌, ◌<◌, ◌+◌, ◌*◌, ◌^◌, length};
 ghost use Rattle.gv_value.specs.Bytes.{le_value, all_zero as all_are_zero};
-ghost use Rattle.gv_value.specs.Framing.{width as width_of};
 
 /// The number of at most eight bytes, the lowest first.
 pub fn number(bytes: &[u8]) -> u64
@@ -15,22 +14,6 @@ pub fn number(bytes: &[u8]) -> u64
         value = value * 256 + u64::from(bytes[at]);
     }
     value
-}
-
-/// How many bytes an offset takes, with so many bytes before the offsets and so many offsets.
-pub fn width(before: usize, count: usize) -> usize
-    requires { before + 8 * count < 2 ^ 64 }
-    ensures { result ≡ width_of before count }
-{
-    if before + count <= 0xFF {
-        1
-    } else if before + 2 * count <= 0xFFFF {
-        2
-    } else if before + 4 * count <= 0xFFFF_FFFF {
-        4
-    } else {
-        8
-    }
 }
 
 /// Whether all bytes are zero.

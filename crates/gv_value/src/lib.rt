@@ -22,6 +22,7 @@ mod texts;
 mod type_strings;
 mod types;
 mod value;
+mod widths;
 
 pub use basic::Basic;
 pub use blob::Blob;
@@ -43,3 +44,4 @@ pub use texts::{has_zero, is_object_path};
 pub use type_strings::push_type;
 pub use types::{GvType, MAX_DEPTH};
 pub use value::GvValue;
+pub use widths::width;

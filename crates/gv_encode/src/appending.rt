@@ -1,0 +1,49 @@
+ghost use Rattle.std.specs.Prelude.{◌≡◌, ◌≤◌, ◌^◌, ◌+◌, vec_len};
+ghost use Rattle.gv_value.specs.Bytes.{le_bytes, zeros};
+ghost use Rattle.gv_encode.specs.Encoded.{Adds};
+
+use crate::error::EncodeError;
+use gv_value::MAX_BYTES;
+
+/// How many bytes may still be added.
+pub fn room_behind(out: &Vec<u8>) -> usize
+    requires { vec_len out.now ≤ 2 ^ 24 }
+    ensures { result + vec_len out.now ≡ 2 ^ 24 }
+{
+    MAX_BYTES as usize - out.len()
+}
+
+/// Adds bytes.
+pub fn append(out: &mut Vec<u8>, bytes: &[u8]) -> Result<(), EncodeError>
+    requires { vec_len out.old ≤ 2 ^ 24 }
+    ensures { Adds result out.old.items out.new.items bytes.now }
+{
+    if bytes.len() > room_behind(out) {
+        return Err(EncodeError::TooLong);
+    }
+    out.extend_from_slice(bytes)?;
+    Ok(())
+}
+
+/// Adds zero bytes.
+pub fn append_zeros(out: &mut Vec<u8>, count: usize) -> Result<(), EncodeError>
+    requires { vec_len out.old ≤ 2 ^ 24 }
+    ensures { Adds result out.old.items out.new.items (zeros count) }
+{
+    if count > room_behind(out) {
+        return Err(EncodeError::TooLong);
+    }
+    let end = out.len() + count;
+    out.resize(end, 0)?;
+    Ok(())
+}
+
+/// Adds the lowest bytes of a number, the lowest first.
+pub fn append_number(out: &mut Vec<u8>, number: u64, size: usize) -> Result<(), EncodeError>
+    requires room { vec_len out.old ≤ 2 ^ 24 }
+    requires small { size ≤ 8 }
+    ensures { Adds result out.old.items out.new.items (le_bytes size number) }
+{
+    let bytes = number.to_le_bytes();
+    append(out, &bytes[..size])
+}

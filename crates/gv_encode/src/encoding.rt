@@ -1,0 +1,32 @@
+ghost use Rattle.std.specs.Prelude.{◌≡◌, ◌<◌, ◌↔◌, ◌⊎◌, IsTrue, IfOk, Err, false, length};
+ghost use Rattle.gv_value.specs.Spelled.{Spelled, max_bytes};
+ghost use Rattle.gv_value.specs.Spelling.{fits as is_of_type, spelling};
+ghost use Rattle.gv_value.specs.Views.{shape_of, plain};
+
+use crate::error::EncodeError;
+use crate::writing::write;
+use gv_value::{Blob, GvType, GvValue, MAX_DEPTH, fits, plan_of};
+use std::alloc::Global;
+
+/// The bytes of a value of a type, in the normal form of the GVariant specification. A value has at most 16 MiB.
+pub fn encode(alloc: Global, of: &GvType, value: &GvValue) -> Result<Blob, EncodeError>
+    ensures spelled { IfOk result (λ bytes. Spelled (shape_of of.now) (plain value.now) bytes) }
+    ensures not_of_type { (result ≡ Err EncodeError.NotOfType)
+        ↔ (is_of_type (shape_of of.now) (plain value.now) ≡ false) }
+    ensures too_long { result ≡ Err EncodeError.TooLong
+        → IsTrue (is_of_type (shape_of of.now) (plain value.now))
+        × (max_bytes < length (spelling (plain value.now) (shape_of of.now))) }
+
+    // Before the bytes are seen to be too many, memory may run out.
+    ensures long { IsTrue (is_of_type (shape_of of.now) (plain value.now))
+        → max_bytes < length (spelling (plain value.now) (shape_of of.now))
+        → (result ≡ Err EncodeError.TooLong) ⊎ (result ≡ Err EncodeError.NoMemory) }
+{
+    if !fits(of, value) {
+        return Err(EncodeError::NotOfType);
+    }
+    let plan = plan_of(alloc, of)?;
+    let mut out = Vec::new(alloc);
+    write(alloc, &mut out, &plan, value, MAX_DEPTH)?;
+    Ok(Blob::from_vec(out))
+}
