@@ -1,0 +1,6 @@
+pub mod Names
+pub mod Patterns
+pub mod Entries
+pub mod Cuts
+pub mod Mentions
+pub mod Metadata
