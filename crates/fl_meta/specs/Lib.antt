@@ -1,4 +1,5 @@
 pub mod Names
+pub mod Order
 pub mod Patterns
 pub mod Entries
 pub mod Cuts

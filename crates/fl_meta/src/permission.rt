@@ -1,9 +1,14 @@
 //! Permissions, their values, and mentions of them.
 
-ghost use Rattle.std.specs.Prelude.{◌≡◌, IfOk};
+ghost use Rattle.std.specs.Prelude.{◌≡◌, ◌↔◌, IfOk, IsTrue};
+ghost use Rattle.std.specs.Cmp.{partial_order_from_own_ties};
+ghost use Rattle.std.specs.Cmp.Rules.{comparing};
+ghost use Rattle.std.proofs.Common.{rules};
+ghost use Rattle.fl_meta.specs.Order.{place_of, is_same, permission_cmp, same_ties};
 
 use fp_keyfile::{Items, Text};
 use std::alloc::{AllocError, Global};
+use std::cmp::Ordering;
 
 /// The list that a permission belongs to, in the order in which lists are written.
 #[derive(Clone, Copy, Debug, PartialEq, Eq)]
@@ -82,6 +87,31 @@ pub struct Mention {
 /// Mentions in order, as of one file.
 pub type Layer = Items<Mention>;
 
+impl PermList {
+    /// The place of the list in the order in which lists are written.
+    pub fn place(self) -> u8
+        ensures { result ≡ place_of self }
+    {
+        match self {
+            PermList::Shared => 0,
+            PermList::Sockets => 1,
+            PermList::Devices => 2,
+            PermList::Features => 3,
+            PermList::Filesystems => 4,
+            PermList::Persistent => 5,
+            PermList::Environment => 6,
+            PermList::SessionBus => 7,
+            PermList::SystemBus => 8,
+            PermList::UnknownShared => 9,
+            PermList::UnknownSockets => 10,
+            PermList::UnknownDevices => 11,
+            PermList::UnknownFeatures => 12,
+            PermList::UnknownSessionBus => 13,
+            PermList::UnknownSystemBus => 14,
+        }
+    }
+}
+
 impl Permission {
     /// A permission with a name of its own.
     pub fn new(alloc: Global, list: PermList, name: &str) -> Result<Self, AllocError>
@@ -143,5 +173,50 @@ impl Mention {
             permission: self.permission.copy()?,
             value: self.value.copy()?,
         })
+    }
+}
+
+// Permissions are ordered by their lists, and then by the bytes of their names.
+
+impl PartialEq for Permission {
+    ghost eq = { is_same };
+
+    ghost laws = { Prim.search (comparing, rules) };
+
+    fn eq(&self, other: &Self) -> bool {
+        self.list.place() == other.list.place() && self.name.as_str() == other.name.as_str()
+    }
+}
+
+impl Eq for Permission {
+    ghost laws = { Prim.search (comparing, rules) };
+}
+
+impl PartialOrd for Permission {
+    ghost use Rattle.std.specs.Ordering.{as_partial_cmp};
+
+    ghost partial_cmp = { as_partial_cmp permission_cmp };
+
+    ghost laws = { partial_order_from_own_ties (Prim.search (comparing, rules)) same_ties };
+
+    fn partial_cmp(&self, other: &Self) -> Option<Ordering> {
+        Some(self.cmp(other))
+    }
+}
+
+impl Ord for Permission {
+    ghost cmp = { permission_cmp };
+
+    ghost total = { Prim.search (comparing, rules) };
+
+    ghost matches_partial_cmp = { Prim.search (comparing, rules) };
+
+    ghost matches_eq = { same_ties };
+
+    fn cmp(&self, other: &Self) -> Ordering {
+        match self.list.place().cmp(&other.list.place()) {
+            Ordering::Equal => self.name.as_str().cmp(other.name.as_str()),
+            order => order,
+        }
     }
 }
