@@ -1,0 +1,1 @@
+-- Lists that grow by what each item adds.
