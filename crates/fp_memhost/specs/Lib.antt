@@ -1,8 +1,13 @@
+pub mod Appended
+pub mod Choosing
 pub mod Files
 pub mod Folders
 pub mod Holding
+pub mod Images
 pub mod Keepings
+pub mod Made
 pub mod Names
+pub mod Opening
 pub mod Plays
 pub mod RemoteRows
 pub mod Replay

@@ -1,8 +1,8 @@
 -- What a fake keeps of its calls.
-use Rattle.std.specs.Prelude.{◌≡◌, ◌⊎◌, ◌≤◌, ◌<◌, ◌+◌, ◌-◌, ◌^◌, ◌++◌, ◌==◌, ℕ, Bool, true, false, List, [], ◌∷◌, min, Option, Some, None, Result, Ok, IsErrOf, map, nat_eq, if◌then◌else◌}
+use Rattle.std.specs.Prelude.{◌≡◌, ◌⊎◌, ◌≤◌, ◌<◌, ◌+◌, ◌-◌, ◌^◌, ◌++◌, ◌==◌, ℕ, Bool, List, [], ◌∷◌, min, Option, Some, None, Result, IsErrOf, map, nat_eq, if◌then◌else◌}
 use Rattle.std.specs.List.{IsDistinct}
 use Rattle.fp_host.specs.Paths.{Elements}
-use Rattle.fp_host.specs.View.{View, Inode}
+use Rattle.fp_host.specs.View.{View}
 use Rattle.fp_host.specs.Calls.{Change, creates, syncs, Can, CanCreate, done, half}
 use Rattle.fp_host.specs.Moments.{Moments}
 use Rattle.fp_host.specs.declared.host.HostError.{HostError}
