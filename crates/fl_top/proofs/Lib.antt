@@ -5,4 +5,5 @@ pub mod Trying
 pub mod Composing
 pub mod Listing
 pub mod Finishing
+pub mod Joining
 pub mod Ending

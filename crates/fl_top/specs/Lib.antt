@@ -4,3 +4,4 @@ pub mod Runs
 pub mod Performs
 pub mod Ends
 pub mod Says
+pub mod History
