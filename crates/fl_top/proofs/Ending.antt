@@ -7,10 +7,12 @@ use Rattle.fp_host.specs.View.{View}
 use Rattle.fp_host.specs.Outcome.{Disk, Leaves, Follows, Nothing}
 use Rattle.fp_small.specs.declared.state.State.{State}
 use Rattle.fp_small.specs.declared.op.Op.{Op}
-use Rattle.fp_small.specs.declared.op.Op.TheVariants.{AddPin, DropPin}
+use Rattle.fp_small.specs.declared.op.Op.TheVariants.{AddPin, DropPin, AddRemote, ModifyRemote, DropRemote}
 use Rattle.fp_small.specs.declared.refusal.Refusal.{Refusal}
-use Rattle.fp_small.specs.declared.refusal.Refusal.TheVariants.{PinExists, NoSuchPin, Limit, Damaged}
-use Rattle.fp_small.specs.declared.refusal.What.TheVariants.{Pins}
+use Rattle.fp_small.specs.declared.refusal.Refusal.TheVariants.{NoSuchRemote, RemoteExists, PinExists, NoSuchPin, Limit, Damaged}
+use Rattle.fp_small.specs.declared.refusal.What.TheVariants.{Pins, Remotes}
+use Rattle.fp_small.specs.Config.{name_of}
+use Rattle.fp_small.specs.Order.{has_name}
 use Rattle.dep_states.specs.Names.{config}
 use Rattle.dep_states.specs.Shown.{IsShown}
 use Rattle.dep_states.specs.Sound.{IsSound}
@@ -18,7 +20,7 @@ use Rattle.dep_states.specs.After.{after_all}
 use Rattle.dep_states.proofs.Law.{same_shown, spared, spared_sound, spares_nothing}
 use Rattle.fl_words.specs.Lines.{refusal_text}
 use Rattle.fl_words.specs.declared.command.Command.{Command}
-use Rattle.fl_words.specs.declared.command.Command.TheVariants.{Pin, Unpin, ListPins}
+use Rattle.fl_words.specs.declared.command.Command.TheVariants.{Pin, Unpin, AddRemote as Adding, ModifyRemote as Modifying, DeleteRemote, ListPins, ListRemotes}
 use Rattle.fl_top.specs.Answer.{Answer, Piece, lines_of, last_of, joined, ops_in, ops_of, did, refusal_of, unless, act, answer_over, over, is_pinned}
 use Rattle.fl_top.specs.Runs.{ShowsAfter, IsPrefix, IsJust, Printed, Runs, Stands, Answers, Ran}
 use Rattle.fl_top.specs.Performs.{Completes, Ended}
@@ -161,18 +163,21 @@ ran_refused a r status result {u = u} {w = w} is status_is done runs refuses = e
 one_of_some : (r q : Refusal) → Some r ≡ Some q → 1 ≡ status_of r → 1 ≡ status_of q
 one_of_some r q is one = let same : r ≡ q = cc is in subst (λ (x : Refusal). 1 ≡ status_of x) same one
 
-add_plain : (b c : Bool) (pin : List ℕ) (q : Refusal) → (if b then Some (PinExists pin) else (if c then Some (Limit Pins 1025) else None)) ≡ Some q → 1 ≡ status_of q
-add_plain true c pin q is = one_of_some (PinExists pin) q is refl
-add_plain false true pin q is = one_of_some (Limit Pins 1025) q is refl
-add_plain false false pin q is = absurd (cc is)
+first_plain : (b c : Bool) (one two q : Refusal) → 1 ≡ status_of one → 1 ≡ status_of two → (if b then Some one else (if c then Some two else None)) ≡ Some q → 1 ≡ status_of q
+first_plain true c one two q f g is = one_of_some one q is f
+first_plain false true one two q f g is = one_of_some two q is g
+first_plain false false one two q f g is = absurd (cc is)
 
-drop_plain : (b : Bool) (pin : List ℕ) (q : Refusal) → (if b then None else Some (NoSuchPin pin)) ≡ Some q → 1 ≡ status_of q
-drop_plain true pin q is = absurd (cc is)
-drop_plain false pin q is = one_of_some (NoSuchPin pin) q is refl
+none_plain : (b : Bool) (one q : Refusal) → 1 ≡ status_of one → (if b then None else Some one) ≡ Some q → 1 ≡ status_of q
+none_plain true one q f is = absurd (cc is)
+none_plain false one q f is = one_of_some one q is f
 
 op_plain : (op : Op) (s : State) (q : Refusal) → refusal_of s op ≡ Some q → 1 ≡ status_of q
-op_plain (AddPin pin) s q is = add_plain (is_pinned s pin) (nat_le 1024 (length s.pins)) pin q is
-op_plain (DropPin pin) s q is = drop_plain (is_pinned s pin) pin q is
+op_plain (AddPin pin) s q is = first_plain (is_pinned s.pins pin) (nat_le 1024 (length s.pins)) (PinExists pin) (Limit Pins 1025) q refl refl is
+op_plain (DropPin pin) s q is = none_plain (is_pinned s.pins pin) (NoSuchPin pin) q refl is
+op_plain (AddRemote row) s q is = first_plain (has_name name_of s.remotes row.name) (nat_le 256 (length s.remotes)) (RemoteExists row.name) (Limit Remotes 257) q refl refl is
+op_plain (ModifyRemote row) s q is = none_plain (has_name name_of s.remotes row.name) (NoSuchRemote row.name) q refl is
+op_plain (DropRemote name) s q is = none_plain (has_name name_of s.remotes name) (NoSuchRemote name) q refl is
 
 unless_refusal : (op : Op) (o : Option Refusal) (r : Refusal) → (unless o (did op)).refusal ≡ Some r → o ≡ Some r
 unless_refusal op None r is = is
@@ -185,4 +190,8 @@ pub command_plain : (command : Command) (o : Option State) (r : Refusal) → (ov
 command_plain command None r is = one_of_some (Damaged config) r is refl
 command_plain (Pin pin) (Some s) r is = act_plain (AddPin pin) s r is
 command_plain (Unpin pin) (Some s) r is = act_plain (DropPin pin) s r is
+command_plain (Adding row) (Some s) r is = act_plain (AddRemote row) s r is
+command_plain (Modifying row) (Some s) r is = act_plain (ModifyRemote row) s r is
+command_plain (DeleteRemote name) (Some s) r is = act_plain (DropRemote name) s r is
 command_plain ListPins (Some s) r is = absurd (cc is)
+command_plain ListRemotes (Some s) r is = absurd (cc is)

@@ -1,20 +1,20 @@
 -- Runs one after another.
 use Rattle.std.proofs.Common.{◌≡◌, List, [], ◌∷◌, ◌++◌, ℕ, refl, sym, ◌∙◌, ap, subst}
 use Rattle.fp_host.specs.Paths.{Elements}
-use Rattle.fp_host.specs.View.{View, IsTree}
-use Rattle.fp_host.specs.Outcome.{Disk, Leaves, IsSettled, shows, spot_of}
+use Rattle.fp_host.specs.View.{View}
+use Rattle.fp_host.specs.Outcome.{Disk, Leaves, shows, spot_of}
 use Rattle.fp_host.proofs.Settled.{at_tree, settled_disk}
 use Rattle.fp_small.specs.declared.state.State.{State}
 use Rattle.fp_small.specs.declared.op.Op.{Op}
 use Rattle.dep_states.specs.Names.{config}
-use Rattle.dep_states.specs.Shown.{Shows, IsShown}
-use Rattle.dep_states.specs.Sound.{Sound, IsSound}
+use Rattle.dep_states.specs.Shown.{Shows}
+use Rattle.dep_states.specs.Sound.{IsSound}
 use Rattle.dep_states.specs.Zones.{Allowed}
 use Rattle.dep_states.specs.After.{after_all}
 use Rattle.dep_states.proofs.Law.{one_state, same_shown, now_left}
-use Rattle.fl_top.specs.Answer.{Answer, answer, ops_in, ops_of}
-use Rattle.fl_top.specs.Runs.{Runs, RunsBy, IsPrefix, ShowsAfter}
-use Rattle.fl_top.specs.History.{Stretch, Reopens, History, begins, runs, stops, Leads, LeadsAll, IsReached}
+use Rattle.fl_top.specs.Answer.{answer, ops_in, ops_of}
+use Rattle.fl_top.specs.Runs.{RunsBy, ShowsAfter}
+use Rattle.fl_top.specs.History.{Stretch, Reopens, History, begins, runs, stops, IsReached}
 use Rattle.fl_top.proofs.Ending.{runs_sound}
 
 -- a reopened view has one outcome: what the stop left

@@ -1,58 +1,73 @@
 -- What speaks against an operation.
-use Rattle.std.proofs.Common.{◌≡◌, ◌<◌, ◌≤◌, ℕ, List, Bool, true, false, nat_le, length, Some, None, if◌then◌else◌, Contains, IsTrue, ◌↔◌, sym, ◌∙◌, ap, subst, arith}
-use Rattle.fp_small.proofs.Ordered.{is_contained, lacks}
+use Rattle.std.proofs.Common.{◌≡◌, ◌<◌, ◌≤◌, ℕ, List, Bool, true, false, nat_le, length, Some, None, if◌then◌else◌, Contains, IsTrue, ◌↔◌, refl, arith}
+use Rattle.fp_small.proofs.Ordered.{contains, is_contained, lacks}
+use Rattle.fp_small.specs.Config.{name_of}
+use Rattle.fp_small.specs.Order.{has_name}
 use Rattle.fp_small.specs.declared.state.State.{State}
+use Rattle.fp_small.specs.declared.state.RemoteRow.{RemoteRow}
 use Rattle.fp_small.specs.declared.op.Op.{Op}
-use Rattle.fp_small.specs.declared.op.Op.TheVariants.{AddPin, DropPin}
-use Rattle.fp_small.specs.declared.refusal.Refusal.TheVariants.{PinExists, NoSuchPin, Limit}
-use Rattle.fp_small.specs.declared.refusal.What.TheVariants.{Pins}
-use Rattle.fl_top.specs.Answer.{refusal_of}
+use Rattle.fp_small.specs.declared.op.Op.TheVariants.{AddPin, DropPin, AddRemote, ModifyRemote, DropRemote}
+use Rattle.fp_small.specs.declared.refusal.Refusal.{Refusal}
+use Rattle.fp_small.specs.declared.refusal.Refusal.TheVariants.{PinExists, NoSuchPin, NoSuchRemote, RemoteExists, Limit}
+use Rattle.fp_small.specs.declared.refusal.What.TheVariants.{Pins, Remotes}
+use Rattle.dep_states.specs.After.{May}
+use Rattle.fl_top.specs.Answer.{refusal_of, is_pinned, add_pin_refusal, drop_pin_refusal, add_remote_refusal}
+use Rattle.fl_top.specs.Status.{IsOp}
 
-pub add_exists : (s : State) (pin copy : List ℕ) → Contains s.pins pin → copy ≡ pin → refusal_of s (AddPin pin) ≡ Some (PinExists copy)
-add_exists s pin copy has same =
-    ap (λ (b : Bool). if b then Some (PinExists pin) else (if nat_le 1024 (length s.pins) then Some (Limit Pins 1025) else None)) (is_contained s.pins pin has)
-    ∙ ap (λ (p : List ℕ). Some (PinExists p)) (sym same)
+-- ---- from the code's tests to the refusals
 
-add_new : (s : State) (pin : List ℕ) → (Contains s.pins pin → ⊥) → refusal_of s (AddPin pin) ≡ (if nat_le 1024 (length s.pins) then Some (Limit Pins 1025) else None)
-add_new s pin new = ap (λ (b : Bool). if b then Some (PinExists pin) else (if nat_le 1024 (length s.pins) then Some (Limit Pins 1025) else None)) (lacks s.pins pin new)
+full : (most n : ℕ) → most ≤ n → nat_le most n ≡ true
+full most n le = grind arith
 
-full : (n : ℕ) → 1024 ≤ n → nat_le 1024 n ≡ true
-full n le = grind arith
+not_full : (most n : ℕ) → n < most → nat_le most n ≡ false
+not_full most n lt = grind arith
 
-not_full : (n : ℕ) → n < 1024 → nat_le 1024 n ≡ false
-not_full n lt = grind arith
+pinned : (r : Bool) (pins : List (List ℕ)) (pin : List ℕ) → (IsTrue r ↔ Contains pins pin) → is_pinned pins pin ≡ r
+pinned true pins pin iff = is_contained pins pin (iff.0 refl)
+pinned false pins pin iff = lacks pins pin (λ has. let is : false ≡ true = iff.1 has in cc is)
 
-pub add_full : (s : State) (pin : List ℕ) → (Contains s.pins pin → ⊥) → 1024 ≤ length s.pins → refusal_of s (AddPin pin) ≡ Some (Limit Pins 1025)
-add_full s pin new le = add_new s pin new ∙ ap (λ (b : Bool). if b then Some (Limit Pins 1025) else None) (full (length s.pins) le)
+pub pin_exists : (r : Bool) (pins : List (List ℕ)) (pin copy : List ℕ) → (IsTrue r ↔ Contains pins pin) → r ≡ true → copy ≡ pin → add_pin_refusal pins pin ≡ Some (PinExists copy)
+pin_exists r pins pin copy iff is same = rw (pinned r pins pin iff, is, same) refl
 
-pub add_may : (s : State) (pin : List ℕ) → (Contains s.pins pin → ⊥) → length s.pins < 1024 → refusal_of s (AddPin pin) ≡ None
-add_may s pin new lt = add_new s pin new ∙ ap (λ (b : Bool). if b then Some (Limit Pins 1025) else None) (not_full (length s.pins) lt)
+pub pin_full : (r : Bool) (pins : List (List ℕ)) (pin : List ℕ) → (IsTrue r ↔ Contains pins pin) → r ≡ false → 1024 ≤ length pins → add_pin_refusal pins pin ≡ Some (Limit Pins 1025)
+pin_full r pins pin iff is le = rw (pinned r pins pin iff, is, full 1024 (length pins) le) refl
 
-pub drop_none : (s : State) (pin copy : List ℕ) → (Contains s.pins pin → ⊥) → copy ≡ pin → refusal_of s (DropPin pin) ≡ Some (NoSuchPin copy)
-drop_none s pin copy new same = ap (λ (b : Bool). if b then None else Some (NoSuchPin pin)) (lacks s.pins pin new) ∙ ap (λ (p : List ℕ). Some (NoSuchPin p)) (sym same)
+pub pin_new : (r : Bool) (pins : List (List ℕ)) (pin : List ℕ) → (IsTrue r ↔ Contains pins pin) → r ≡ false → length pins < 1024 → add_pin_refusal pins pin ≡ None
+pin_new r pins pin iff is lt = rw (pinned r pins pin iff, is, not_full 1024 (length pins) lt) refl
 
-pub drop_may : (s : State) (pin : List ℕ) → Contains s.pins pin → refusal_of s (DropPin pin) ≡ None
-drop_may s pin has = ap (λ (b : Bool). if b then None else Some (NoSuchPin pin)) (is_contained s.pins pin has)
+pub pin_lacking : (r : Bool) (pins : List (List ℕ)) (pin copy : List ℕ) → (IsTrue r ↔ Contains pins pin) → r ≡ false → copy ≡ pin → drop_pin_refusal pins pin ≡ Some (NoSuchPin copy)
+pin_lacking r pins pin copy iff is same = rw (pinned r pins pin iff, is, same) refl
 
--- ---- from the code's tests
+pub pin_there : (r : Bool) (pins : List (List ℕ)) (pin : List ℕ) → (IsTrue r ↔ Contains pins pin) → r ≡ true → drop_pin_refusal pins pin ≡ None
+pin_there r pins pin iff is = rw (pinned r pins pin iff, is) refl
 
-has : (r : Bool) (pins : List (List ℕ)) (s : State) (pin : List ℕ) → (IsTrue r ↔ Contains pins pin) → pins ≡ s.pins → r ≡ true → Contains s.pins pin
-has r pins s pin iff same is = subst (λ (l : List (List ℕ)). Contains l pin) same (iff.0 is)
+pub remote_full : (remotes : List RemoteRow) (name : List ℕ) → has_name name_of remotes name ≡ false → 256 ≤ length remotes → add_remote_refusal remotes name ≡ Some (Limit Remotes 257)
+remote_full remotes name is le = rw (is, full 256 (length remotes) le) refl
 
-has_not : (r : Bool) (pins : List (List ℕ)) (s : State) (pin : List ℕ) → (IsTrue r ↔ Contains pins pin) → pins ≡ s.pins → r ≡ false → Contains s.pins pin → ⊥
-has_not r pins s pin iff same is c = let yes_is : r ≡ true = iff.1 (subst (λ (l : List (List ℕ)). Contains l pin) (sym same) c) in cc (yes_is, is)
+pub remote_new : (remotes : List RemoteRow) (name : List ℕ) → has_name name_of remotes name ≡ false → length remotes < 256 → add_remote_refusal remotes name ≡ None
+remote_new remotes name is lt = rw (is, not_full 256 (length remotes) lt) refl
 
-pub tried_exists : (s : State) {op : Op} {pins : List (List ℕ)} {r : Bool} {pin copy : List ℕ} → op ≡ AddPin pin → pins ≡ s.pins → (IsTrue r ↔ Contains pins pin) → r ≡ true → copy ≡ pin → refusal_of s op ≡ Some (PinExists copy)
-tried_exists s {pins = pins} {r = r} {pin = pin} {copy = copy} is same iff found copied = ap (refusal_of s) is ∙ add_exists s pin copy (has r pins s pin iff same found) copied
+-- ---- what nothing speaks against may be done
 
-pub tried_full : (s : State) {op : Op} {pins : List (List ℕ)} {r : Bool} {pin : List ℕ} → op ≡ AddPin pin → pins ≡ s.pins → (IsTrue r ↔ Contains pins pin) → r ≡ false → 1024 ≤ length pins → refusal_of s op ≡ Some (Limit Pins 1025)
-tried_full s {pins = pins} {r = r} {pin = pin} is same iff not le = ap (refusal_of s) is ∙ add_full s pin (has_not r pins s pin iff same not) (subst (λ (l : List (List ℕ)). 1024 ≤ length l) same le)
+few : (most n : ℕ) → nat_le most n ≡ false → n < most
+few most n is = grind arith
 
-pub tried_add : (s : State) {op : Op} {pins : List (List ℕ)} {r : Bool} {pin : List ℕ} → op ≡ AddPin pin → pins ≡ s.pins → (IsTrue r ↔ Contains pins pin) → r ≡ false → length pins < 1024 → refusal_of s op ≡ None
-tried_add s {pins = pins} {r = r} {pin = pin} is same iff not lt = ap (refusal_of s) is ∙ add_may s pin (has_not r pins s pin iff same not) (subst (λ (l : List (List ℕ)). length l < 1024) same lt)
+none_of : (first second : Bool) (a b : Refusal) → (if first then Some a else (if second then Some b else None)) ≡ None → (first ≡ false) × (second ≡ false)
+none_of true second a b is = absurd (cc is)
+none_of false true a b is = absurd (cc is)
+none_of false false a b is = (refl, refl)
 
-pub tried_none : (s : State) {op : Op} {pins : List (List ℕ)} {r : Bool} {pin copy : List ℕ} → op ≡ DropPin pin → pins ≡ s.pins → (IsTrue r ↔ Contains pins pin) → r ≡ false → copy ≡ pin → refusal_of s op ≡ Some (NoSuchPin copy)
-tried_none s {pins = pins} {r = r} {pin = pin} {copy = copy} is same iff not copied = ap (refusal_of s) is ∙ drop_none s pin copy (has_not r pins s pin iff same not) copied
+found : (first : Bool) (a : Refusal) → (if first then None else Some a) ≡ None → first ≡ true
+found true a is = refl
+found false a is = absurd (cc is)
 
-pub tried_drop : (s : State) {op : Op} {pins : List (List ℕ)} {r : Bool} {pin : List ℕ} → op ≡ DropPin pin → pins ≡ s.pins → (IsTrue r ↔ Contains pins pin) → r ≡ true → refusal_of s op ≡ None
-tried_drop s {pins = pins} {r = r} {pin = pin} is same iff found = ap (refusal_of s) is ∙ drop_may s pin (has r pins s pin iff same found)
+pub may : (s : State) (op : Op) → IsOp op → refusal_of s op ≡ None → May s op
+may s (AddPin pin) good none =
+    let is = none_of (is_pinned s.pins pin) (nat_le 1024 (length s.pins)) (PinExists pin) (Limit Pins 1025) none in
+    (good, (λ has. let yes_is = is_contained s.pins pin has in cc (yes_is, is.0)), few 1024 (length s.pins) is.1)
+may s (DropPin pin) good none = contains s.pins pin (found (is_pinned s.pins pin) (NoSuchPin pin) none)
+may s (AddRemote row) good none =
+    let is = none_of (has_name name_of s.remotes row.name) (nat_le 256 (length s.remotes)) (RemoteExists row.name) (Limit Remotes 257) none in
+    (good, is.0, few 256 (length s.remotes) is.1)
+may s (ModifyRemote row) good none = (good, found (has_name name_of s.remotes row.name) (NoSuchRemote row.name) none)
+may s (DropRemote name) good none = found (has_name name_of s.remotes name) (NoSuchRemote name) none

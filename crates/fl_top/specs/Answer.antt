@@ -5,17 +5,20 @@ use Rattle.std.specs.Option.{option_map}
 use Rattle.std.specs.Str.{bytes_eq}
 use Rattle.fp_host.specs.Outcome.{Disk}
 use Rattle.fp_small.specs.declared.state.State.{State}
+use Rattle.fp_small.specs.declared.state.RemoteRow.{RemoteRow}
 use Rattle.fp_small.specs.declared.op.Op.{Op}
-use Rattle.fp_small.specs.declared.op.Op.TheVariants.{AddPin, DropPin}
+use Rattle.fp_small.specs.declared.op.Op.TheVariants.{AddPin, DropPin, AddRemote, ModifyRemote, DropRemote}
 use Rattle.fp_small.specs.declared.refusal.Refusal.{Refusal}
-use Rattle.fp_small.specs.declared.refusal.Refusal.TheVariants.{BadWords, PinExists, NoSuchPin, Limit, Damaged}
-use Rattle.fp_small.specs.declared.refusal.What.TheVariants.{Pins}
+use Rattle.fp_small.specs.declared.refusal.Refusal.TheVariants.{BadWords, NoSuchRemote, RemoteExists, PinExists, NoSuchPin, Limit, Damaged}
+use Rattle.fp_small.specs.declared.refusal.What.TheVariants.{Pins, Remotes}
+use Rattle.fp_small.specs.Config.{name_of}
+use Rattle.fp_small.specs.Order.{has_name}
 use Rattle.dep_states.specs.Names.{config}
 use Rattle.dep_states.specs.Shown.{settings_at, state_of}
 use Rattle.fl_words.specs.declared.command.Command.{Command}
-use Rattle.fl_words.specs.declared.command.Command.TheVariants.{Pin, Unpin, ListPins}
+use Rattle.fl_words.specs.declared.command.Command.TheVariants.{Pin, Unpin, AddRemote as Adding, ModifyRemote as Modifying, DeleteRemote, ListPins, ListRemotes}
 use Rattle.fl_words.specs.Words.{command_of, bad_index}
-use Rattle.fl_words.specs.Lines.{op_text, pins_text, refusal_text}
+use Rattle.fl_words.specs.Lines.{op_text, pins_text, remotes_text, refusal_text}
 
 -- what is printed at once, with the operation that it acknowledges, if it does
 pub record Piece : Type 0 where
@@ -61,13 +64,29 @@ told text = record { pieces = record { text = text; op = None } ∷ []; refusal 
 
 -- ---- what speaks against an operation
 
-abbrev pub is_pinned : State → List ℕ → Bool
-is_pinned s pin = list_any (bytes_eq pin) s.pins
+abbrev pub is_pinned : List (List ℕ) → List ℕ → Bool
+is_pinned pins pin = list_any (bytes_eq pin) pins
 
 -- there may be 1,024 pins
+abbrev pub add_pin_refusal : List (List ℕ) → List ℕ → Option Refusal
+add_pin_refusal pins pin = if is_pinned pins pin then Some (PinExists pin) else (if nat_le 1024 (length pins) then Some (Limit Pins 1025) else None)
+
+abbrev pub drop_pin_refusal : List (List ℕ) → List ℕ → Option Refusal
+drop_pin_refusal pins pin = if is_pinned pins pin then None else Some (NoSuchPin pin)
+
+-- there may be 256 remotes
+abbrev pub add_remote_refusal : List RemoteRow → List ℕ → Option Refusal
+add_remote_refusal remotes name = if has_name name_of remotes name then Some (RemoteExists name) else (if nat_le 256 (length remotes) then Some (Limit Remotes 257) else None)
+
+abbrev pub remote_refusal : List RemoteRow → List ℕ → Option Refusal
+remote_refusal remotes name = if has_name name_of remotes name then None else Some (NoSuchRemote name)
+
 abbrev pub refusal_of : State → Op → Option Refusal
-refusal_of s (AddPin pin) = if is_pinned s pin then Some (PinExists pin) else (if nat_le 1024 (length s.pins) then Some (Limit Pins 1025) else None)
-refusal_of s (DropPin pin) = if is_pinned s pin then None else Some (NoSuchPin pin)
+refusal_of s (AddPin pin) = add_pin_refusal s.pins pin
+refusal_of s (DropPin pin) = drop_pin_refusal s.pins pin
+refusal_of s (AddRemote row) = add_remote_refusal s.remotes row.name
+refusal_of s (ModifyRemote row) = remote_refusal s.remotes row.name
+refusal_of s (DropRemote name) = remote_refusal s.remotes name
 
 abbrev pub unless : Option Refusal → Answer → Answer
 unless None a = a
@@ -81,7 +100,11 @@ act op s = unless (refusal_of s op) (did op)
 abbrev pub answer_over : Command → State → Answer
 answer_over (Pin pin) s = act (AddPin pin) s
 answer_over (Unpin pin) s = act (DropPin pin) s
+answer_over (Adding row) s = act (AddRemote row) s
+answer_over (Modifying row) s = act (ModifyRemote row) s
+answer_over (DeleteRemote name) s = act (DropRemote name) s
 answer_over ListPins s = told (pins_text s.pins)
+answer_over ListRemotes s = told (remotes_text s.remotes)
 
 -- ---- what words answer over an image
 

@@ -8,7 +8,7 @@ use Rattle.fp_small.specs.declared.op.Op.{Op}
 use Rattle.dep_states.specs.Shown.{Shows}
 use Rattle.dep_states.specs.After.{after_all}
 use Rattle.fl_top.specs.Answer.{answer, ops_in, ops_of}
-use Rattle.fl_top.specs.Runs.{RunsBy, Runs}
+use Rattle.fl_top.specs.Runs.{RunsBy}
 
 -- the operations of a run, and those that it acknowledged
 pub record Stretch : Type 0 where

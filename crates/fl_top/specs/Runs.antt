@@ -10,7 +10,7 @@ use Rattle.dep_states.specs.Sound.{Sound, IsSound}
 use Rattle.dep_states.specs.After.{after_all}
 use Rattle.dep_open.specs.Open.{NotShown}
 use Rattle.fl_words.specs.declared.command.Command.{Command}
-use Rattle.fl_words.specs.declared.command.Command.TheVariants.{Pin, Unpin, ListPins}
+use Rattle.fl_words.specs.declared.command.Command.TheVariants.{Pin, Unpin, AddRemote, ModifyRemote, DeleteRemote, ListPins, ListRemotes}
 use Rattle.fl_top.specs.Answer.{Answer, Piece, lines_of, joined, ops_in, ops_of, answer}
 use Rattle.fl_top.specs.Status.{status_at}
 
@@ -73,7 +73,11 @@ abbrev pub Serves : Option Command → View → Type 0
 Serves None v = Unit {0}
 Serves (Some (Pin pin)) v = IsSound v ⊎ NotShown (shows v)
 Serves (Some (Unpin pin)) v = IsSound v ⊎ NotShown (shows v)
+Serves (Some (AddRemote row)) v = IsSound v ⊎ NotShown (shows v)
+Serves (Some (ModifyRemote row)) v = IsSound v ⊎ NotShown (shows v)
+Serves (Some (DeleteRemote name)) v = IsSound v ⊎ NotShown (shows v)
 Serves (Some ListPins) v = Unit {0}
+Serves (Some ListRemotes) v = Unit {0}
 
 -- ---- for these words
 

@@ -1,10 +1,12 @@
 -- How a run ends.
 use Rattle.std.specs.Prelude.{◌≡◌, ◌⊎◌, ℕ, true, Option, Some, None}
+use Rattle.fp_name.specs.Grammar.{is_remote_name}
 use Rattle.fp_name.specs.Pins.{is_pin}
+use Rattle.fp_small.specs.Config.{is_row}
 use Rattle.fp_small.specs.declared.op.Op.{Op}
-use Rattle.fp_small.specs.declared.op.Op.TheVariants.{AddPin, DropPin}
+use Rattle.fp_small.specs.declared.op.Op.TheVariants.{AddPin, DropPin, AddRemote, ModifyRemote, DropRemote}
 use Rattle.fp_small.specs.declared.refusal.Refusal.{Refusal}
-use Rattle.fp_small.specs.declared.refusal.Refusal.TheVariants.{BadWords, PinExists, NoSuchPin, Limit, Damaged}
+use Rattle.fp_small.specs.declared.refusal.Refusal.TheVariants.{BadWords, NoSuchRemote, RemoteExists, PinExists, NoSuchPin, Limit, Damaged}
 use Rattle.fl_words.specs.declared.command.Command.{Command}
 use Rattle.fl_top.specs.Answer.{Answer}
 
@@ -14,6 +16,8 @@ IsStatus n = (n ≡ 0) ⊎ ((n ≡ 1) ⊎ ((n ≡ 2) ⊎ ((n ≡ 3) ⊎ (n ≡ 6
 
 abbrev pub status_of : Refusal → ℕ
 status_of (BadWords index) = 2
+status_of (NoSuchRemote remote) = 1
+status_of (RemoteExists remote) = 1
 status_of (PinExists pin) = 1
 status_of (NoSuchPin pin) = 1
 status_of (Limit what number) = 1
@@ -32,7 +36,10 @@ abbrev pub IsOfWords : Option Command → ℕ → Type 0
 IsOfWords None status = (status ≡ 2) ⊎ ((status ≡ 3) ⊎ (status ≡ 6))
 IsOfWords (Some command) status = status ≡ 2 → ⊥
 
--- its pattern is one
+-- its patterns, names and URLs are such
 abbrev pub IsOp : Op → Type 0
 IsOp (AddPin pin) = is_pin pin ≡ true
 IsOp (DropPin pin) = is_pin pin ≡ true
+IsOp (AddRemote row) = is_row row ≡ true
+IsOp (ModifyRemote row) = is_row row ≡ true
+IsOp (DropRemote name) = is_remote_name name ≡ true

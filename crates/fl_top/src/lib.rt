@@ -2,8 +2,8 @@
 #![tactic(auto)]
 
 mod change;
-pub mod laws;
 mod end;
+pub mod laws;
 mod running;
 
 pub use running::run;

@@ -5,7 +5,7 @@ ghost use Rattle.fp_host.specs.Frame.{Ends};
 ghost use Rattle.fp_host.specs.Moments.{Goes};
 ghost use Rattle.fl_words.specs.Lines.{refusal_text};
 ghost use Rattle.fl_words.specs.Words.{command_of};
-ghost use Rattle.fl_words.specs.declared.command.Command.TheVariants.{ListPins};
+ghost use Rattle.fl_words.specs.declared.command.Command.TheVariants.{ListPins, ListRemotes};
 ghost use Rattle.fl_top.specs.Answer.{answer_over};
 ghost use Rattle.fl_top.specs.Performs.{RunsOver, EndedOver, RanOver};
 ghost use Rattle.fl_top.specs.Runs.{RunsBy, RanBy, Serves};
@@ -15,7 +15,7 @@ ghost use Rattle.fl_top.specs.Status.{IsStatus, IsOfWords};
 use crate::change::change;
 use crate::end::RunEnd;
 use dep_open::read_state;
-use fl_words::{Command, WordsError, pins_text, read_words, refusal_line};
+use fl_words::{Command, WordsError, pins_text, read_words, refusal_line, remotes_text};
 use fp_host::{Host, HostEnd, Remotes, Source};
 use fp_small::{Op, Refusal};
 use std::alloc::Global;
@@ -71,7 +71,11 @@ fn perform<H: Host>(alloc: Global, host: &mut H, command: Command) -> Result<(),
     match command {
         Command::Pin(pin) => change(alloc, host, &Op::AddPin(pin)),
         Command::Unpin(pin) => change(alloc, host, &Op::DropPin(pin)),
+        Command::AddRemote(row) => change(alloc, host, &Op::AddRemote(row)),
+        Command::ModifyRemote(row) => change(alloc, host, &Op::ModifyRemote(row)),
+        Command::DeleteRemote(name) => change(alloc, host, &Op::DropRemote(name)),
         Command::ListPins => list_pins(alloc, host),
+        Command::ListRemotes => list_remotes(alloc, host),
     }
 }
 
@@ -82,6 +86,17 @@ fn list_pins<H: Host>(alloc: Global, host: &mut H) -> Result<(), RunEnd>
 {
     let state = read_state(alloc, host)?;
     let text = pins_text(alloc, state.pins.as_slice())?;
+    host.say(text.as_str().as_bytes())?;
+    Ok(())
+}
+
+/// Prints each remote on a line.
+fn list_remotes<H: Host>(alloc: Global, host: &mut H) -> Result<(), RunEnd>
+    ensures moments { Goes (H.moments host.old) (H.moments host.new) (RunsOver (answer_over ListRemotes)) (EndedOver (answer_over ListRemotes) result) }
+    ensures cause { IsCaused (IsErrOf result RunEnd.Fault) (H.moments host.old) (λ v. Unit {0}) (H.faults host.old) (H.faults host.new) }
+{
+    let state = read_state(alloc, host)?;
+    let text = remotes_text(alloc, state.remotes.as_slice())?;
     host.say(text.as_str().as_bytes())?;
     Ok(())
 }

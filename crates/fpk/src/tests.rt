@@ -57,17 +57,33 @@ fn printed_from(host: &MemHost, start: usize) -> &[u8] {
 fn commands_print_their_lines(rt: HostRuntime) -> Result<(), Fail> {
     let table: [(&[&str], &str, u8); 15] = [
         (&["list", "--pins"], "", 0),
-        (&["unpin", PLATFORM], "error: no pin runtime/org.x.Platform/*/*\n", 1),
+        (
+            &["unpin", PLATFORM],
+            "error: no pin runtime/org.x.Platform/*/*\n",
+            1,
+        ),
         (&["pin", PLATFORM], "pinned runtime/org.x.Platform/*/*\n", 0),
         (&["list", "--pins"], "runtime/org.x.Platform/*/*\n", 0),
-        (&["pin", PLATFORM], "error: pin exists runtime/org.x.Platform/*/*\n", 1),
+        (
+            &["pin", PLATFORM],
+            "error: pin exists runtime/org.x.Platform/*/*\n",
+            1,
+        ),
         (&["pin", "app/*/*/*"], "pinned app/*/*/*\n", 0),
-        (&["list", "--pins"], "app/*/*/*\nruntime/org.x.Platform/*/*\n", 0),
+        (
+            &["list", "--pins"],
+            "app/*/*/*\nruntime/org.x.Platform/*/*\n",
+            0,
+        ),
         (&[], "error: words 0\n", 2),
         (&["pin"], "error: words 1\n", 2),
         (&["pim"], "error: words 0\n", 2),
         (&["pin", "x"], "error: words 1\n", 2),
-        (&["unpin", PLATFORM], "unpinned runtime/org.x.Platform/*/*\n", 0),
+        (
+            &["unpin", PLATFORM],
+            "unpinned runtime/org.x.Platform/*/*\n",
+            0,
+        ),
         (&["list", "--pins"], "app/*/*/*\n", 0),
         (&["unpin", "app/*/*/*"], "unpinned app/*/*/*\n", 0),
         (&["list", "--pins"], "", 0),
@@ -83,8 +99,69 @@ fn commands_print_their_lines(rt: HostRuntime) -> Result<(), Fail> {
 }
 
 #[test]
+fn commands_on_remotes_print_their_lines(rt: HostRuntime) -> Result<(), Fail> {
+    let table: [(&[&str], &str, u8); 15] = [
+        (&["list", "--remotes"], "", 0),
+        (
+            &["remote-modify", "lab", "file:///l"],
+            "error: no remote lab\n",
+            1,
+        ),
+        (&["remote-delete", "lab"], "error: no remote lab\n", 1),
+        (
+            &["remote-add", "lab", "file:///lab"],
+            "remote added lab\n",
+            0,
+        ),
+        (
+            &["remote-add", "lab", "file:///lab"],
+            "error: remote exists lab\n",
+            1,
+        ),
+        (
+            &["remote-modify", "lux", "file:///l"],
+            "error: no remote lux\n",
+            1,
+        ),
+        (
+            &["remote-add", "art", "file:///art"],
+            "remote added art\n",
+            0,
+        ),
+        (
+            &["list", "--remotes"],
+            "art file:///art\nlab file:///lab\n",
+            0,
+        ),
+        (
+            &["remote-modify", "lab", "file:///l"],
+            "remote modified lab\n",
+            0,
+        ),
+        (
+            &["list", "--remotes"],
+            "art file:///art\nlab file:///l\n",
+            0,
+        ),
+        (&["remote-delete", "art"], "remote deleted art\n", 0),
+        (&["remote-delete", "art"], "error: no remote art\n", 1),
+        (&["list", "--remotes"], "lab file:///l\n", 0),
+        (&["remote-add", "lab"], "error: words 2\n", 2),
+        (&["remote-add", "lab", "lab"], "error: words 2\n", 2),
+    ];
+    let mut host = MemHost::new(rt.alloc())?;
+    for (words, line, want) in table {
+        let start = host.printed().len();
+        let status = run_words(&rt, rt.alloc(), &mut host, words)?;
+        assert_eq!(rt; status, want, "{words:?}");
+        assert_eq!(rt; printed_from(&host, start), line.as_bytes(), "{words:?}");
+    }
+    Ok(())
+}
+
+#[test]
 fn commands_write_config(rt: HostRuntime) -> Result<(), Fail> {
-    let table: [(&[&str], &str); 5] = [
+    let table: [(&[&str], &str); 8] = [
         (
             &["pin", PLATFORM],
             "[installation]\nlayout=2\n[pins]\nruntime/org.x.Platform/*/*=true\n",
@@ -101,7 +178,19 @@ fn commands_write_config(rt: HostRuntime) -> Result<(), Fail> {
             &["unpin", PLATFORM],
             "[installation]\nlayout=2\n[pins]\napp/*/*/*=true\n",
         ),
-        (&["unpin", "app/*/*/*"], "[installation]\nlayout=2\n"),
+        (
+            &["remote-add", "lab", "file:///lab"],
+            "[installation]\nlayout=2\n[remote \"lab\"]\nurl=file:///lab\n[pins]\napp/*/*/*=true\n",
+        ),
+        (
+            &["remote-modify", "lab", "file:///l"],
+            "[installation]\nlayout=2\n[remote \"lab\"]\nurl=file:///l\n[pins]\napp/*/*/*=true\n",
+        ),
+        (
+            &["unpin", "app/*/*/*"],
+            "[installation]\nlayout=2\n[remote \"lab\"]\nurl=file:///l\n",
+        ),
+        (&["remote-delete", "lab"], "[installation]\nlayout=2\n"),
     ];
     let mut host = MemHost::new(rt.alloc())?;
     for (words, text) in table {
@@ -126,7 +215,11 @@ fn a_config_that_does_not_read_is_damaged(rt: HostRuntime) -> Result<(), Fail> {
         let mut host = with_config(rt.alloc(), text)?;
         let status = run_words(&rt, rt.alloc(), &mut host, &["pin", PLATFORM])?;
         assert_eq!(rt; status, 1, "{text:?}");
-        assert_eq!(rt; host.printed(), "error: damaged config\n".as_bytes(), "{text:?}");
+        assert_eq!(rt;
+            host.printed(),
+            "error: damaged config\n".as_bytes(),
+            "{text:?}"
+        );
         assert!(rt; has_config(rt.alloc(), &mut host, text)?, "{text:?}");
     }
     Ok(())
@@ -155,6 +248,34 @@ fn there_may_be_1024_pins(rt: HostRuntime) -> Result<(), Fail> {
         let status = run_words(&rt, rt.alloc(), &mut host, &["pin", PLATFORM])?;
         assert_eq!(rt; status, want, "{pins}");
         assert_eq!(rt; host.printed(), line.as_bytes(), "{pins}");
+    }
+    Ok(())
+}
+
+// A `config` with so many remotes.
+fn config_with_remotes(alloc: Global, remotes: u32) -> Result<String, AllocError> {
+    let mut text = String::from_str(alloc, "[installation]\nlayout=2\n")?;
+    for n in 0..remotes {
+        let lines = format!(in alloc; "[remote \"lab{n}\"]\nurl=file:///lab\n")?;
+        text.push_str(&lines)?;
+    }
+    Ok(text)
+}
+
+#[test]
+fn there_may_be_256_remotes(rt: HostRuntime) -> Result<(), Fail> {
+    let table: [(u32, &str, u8); 3] = [
+        (254, "remote added lab\n", 0),
+        (255, "remote added lab\n", 0),
+        (256, "error: limit remotes 257\n", 1),
+    ];
+    for (remotes, line, want) in table {
+        let text = config_with_remotes(rt.alloc(), remotes)?;
+        let mut host = with_config(rt.alloc(), text.as_str())?;
+        let words = ["remote-add", "lab", "file:///lab"];
+        let status = run_words(&rt, rt.alloc(), &mut host, &words)?;
+        assert_eq!(rt; status, want, "{remotes}");
+        assert_eq!(rt; host.printed(), line.as_bytes(), "{remotes}");
     }
     Ok(())
 }

@@ -6,12 +6,23 @@ use std::alloc::{AllocError, Global};
 use std::test::Fail;
 use std::thread::Threads;
 
-// The commands, and what `list --pins` prints before the first and behind each.
-const SCRIPT: [[&str; 2]; 3] = [["pin", PLATFORM], ["pin", "app/*/*/*"], ["unpin", PLATFORM]];
-const SHOWN: [&str; 4] = [
+// The commands, and what `list --pins` and `list --remotes` print before the first and behind each.
+const SCRIPT: [&[&str]; 6] = [
+    &["pin", PLATFORM],
+    &["remote-add", "lab", "file:///lab"],
+    &["pin", "app/*/*/*"],
+    &["remote-modify", "lab", "file:///l"],
+    &["unpin", PLATFORM],
+    &["remote-delete", "lab"],
+];
+
+const SHOWN: [&str; 7] = [
     "",
     "runtime/org.x.Platform/*/*\n",
-    "app/*/*/*\nruntime/org.x.Platform/*/*\n",
+    "runtime/org.x.Platform/*/*\nlab file:///lab\n",
+    "app/*/*/*\nruntime/org.x.Platform/*/*\nlab file:///lab\n",
+    "app/*/*/*\nruntime/org.x.Platform/*/*\nlab file:///l\n",
+    "app/*/*/*\nlab file:///l\n",
     "app/*/*/*\n",
 ];
 
@@ -47,7 +58,12 @@ fn shown(
     if run_words(rt, alloc, &mut host, &["list", "--pins"])? != 0 {
         return Ok(None);
     }
-    let place = SHOWN.iter().position(|text| text.as_bytes() == host.printed());
+    if run_words(rt, alloc, &mut host, &["list", "--remotes"])? != 0 {
+        return Ok(None);
+    }
+    let place = SHOWN
+        .iter()
+        .position(|text| text.as_bytes() == host.printed());
     if run_words(rt, alloc, &mut host, &["pin", "app/org.x.Next/*/*"])? != 0 {
         return Ok(None);
     }
@@ -182,7 +198,7 @@ fn all_hold(
 fn a_stop_at_any_moment_leaves_what_was_acknowledged(rt: HostRuntime) -> Result<(), Fail> {
     let mut host = MemHost::new(rt.alloc())?;
     let ends = run_script(&rt, rt.alloc(), &mut host)?;
-    assert_eq!(rt; ends.len(), 3);
+    assert_eq!(rt; ends.len(), SCRIPT.len());
     for calls in 0..=host.calls() {
         let least = acknowledged(&ends, calls);
         assert!(rt; all_hold(&rt, rt.alloc(), &host, calls, least)?, "{calls}");
@@ -213,7 +229,10 @@ fn a_failure_of_any_call_leaves_what_was_acknowledged(rt: HostRuntime) -> Result
             assert!(rt; host.calls() > call, "{call}");
             let lines = host.printed().iter().filter(|byte| **byte == b'\n').count();
             let calls = host.calls();
-            assert!(rt; all_hold(&rt, rt.alloc(), &host, calls, lines)?, "{call} {done}");
+            assert!(rt;
+                all_hold(&rt, rt.alloc(), &host, calls, lines)?,
+                "{call} {done}"
+            );
         }
     }
     Ok(())
@@ -222,7 +241,10 @@ fn a_failure_of_any_call_leaves_what_was_acknowledged(rt: HostRuntime) -> Result
 #[test]
 fn a_stop_behind_the_rename_leaves_both(rt: HostRuntime) -> Result<(), Fail> {
     let mut host = MemHost::new(rt.alloc())?;
-    assert_eq!(rt; run_words(&rt, rt.alloc(), &mut host, &["pin", PLATFORM])?, 0);
+    assert_eq!(rt;
+        run_words(&rt, rt.alloc(), &mut host, &["pin", PLATFORM])?,
+        0
+    );
     // Behind the rename come the sync and the line.
     let calls = host.calls().saturating_sub(2);
     let choices = host.choices(calls)?;
@@ -230,7 +252,10 @@ fn a_stop_behind_the_rename_leaves_both(rt: HostRuntime) -> Result<(), Fail> {
     for (path, entries) in choices.as_slice() {
         texts.push((path.text(), *entries))?;
     }
-    assert_eq!(rt; texts.as_slice(), [("config", 1), ("repo/tmp/new0", 1)].as_slice());
+    assert_eq!(rt;
+        texts.as_slice(),
+        [("config", 1), ("repo/tmp/new0", 1)].as_slice()
+    );
     let new = left(rt.alloc(), &host, calls, Vec::new(rt.alloc()))?;
     assert!(rt; holds(&rt, rt.alloc(), new, 1)?);
     let mut names = Vec::new(rt.alloc());

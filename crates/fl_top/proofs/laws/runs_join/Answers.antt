@@ -1,4 +1,3 @@
-use Rattle.std.proofs.Common.{◌≡◌}
 use Rattle.fl_top.proofs.Joining.{history_sound, history_reached}
 use Rattle.fl_top.proofs.laws.runs_join.Goals as goal
 

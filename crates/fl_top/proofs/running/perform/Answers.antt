@@ -12,3 +12,15 @@ returns-in-Pin-clause-moments g c =
 pub returns-in-Unpin-clause-moments : goal.returns-in-Unpin-clause-moments
 returns-in-Unpin-clause-moments g c =
     subst (λ (k : Command). Goes (g.H.Host.moments c.args.host.now) (g.H.Host.moments c.change-in-Unpin.new.host) (RunsOver (answer_over k)) (EndedOver (answer_over k) c.change-in-Unpin.result)) (sym c.in-Unpin.is) c.change-in-Unpin.ensures.moments
+
+pub returns-in-AddRemote-clause-moments : goal.returns-in-AddRemote-clause-moments
+returns-in-AddRemote-clause-moments g c =
+    subst (λ (k : Command). Goes (g.H.Host.moments c.args.host.now) (g.H.Host.moments c.change-in-AddRemote.new.host) (RunsOver (answer_over k)) (EndedOver (answer_over k) c.change-in-AddRemote.result)) (sym c.in-AddRemote.is) c.change-in-AddRemote.ensures.moments
+
+pub returns-in-ModifyRemote-clause-moments : goal.returns-in-ModifyRemote-clause-moments
+returns-in-ModifyRemote-clause-moments g c =
+    subst (λ (k : Command). Goes (g.H.Host.moments c.args.host.now) (g.H.Host.moments c.change-in-ModifyRemote.new.host) (RunsOver (answer_over k)) (EndedOver (answer_over k) c.change-in-ModifyRemote.result)) (sym c.in-ModifyRemote.is) c.change-in-ModifyRemote.ensures.moments
+
+pub returns-in-DeleteRemote-clause-moments : goal.returns-in-DeleteRemote-clause-moments
+returns-in-DeleteRemote-clause-moments g c =
+    subst (λ (k : Command). Goes (g.H.Host.moments c.args.host.now) (g.H.Host.moments c.change-in-DeleteRemote.new.host) (RunsOver (answer_over k)) (EndedOver (answer_over k) c.change-in-DeleteRemote.result)) (sym c.in-DeleteRemote.is) c.change-in-DeleteRemote.ensures.moments
