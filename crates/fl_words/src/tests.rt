@@ -1,7 +1,7 @@
 use crate::{Command, WordsError, op_line, pins_text, read_words, refusal_line};
 use fp_host::{Path, Text};
 use fp_name::PinPattern;
-use fp_small::{Op, Refusal, What};
+use fp_small::{Op, Refusal, RemoteRow, What};
 use std::alloc::{AllocError, Global};
 use std::test::Fail;
 
@@ -14,9 +14,51 @@ fn told(alloc: Global, words: &[&str]) -> Result<String, AllocError> {
     match read_words(alloc, &owned) {
         Ok(Command::Pin(pin)) => format!(in alloc; "Pin {}", pin.as_str()),
         Ok(Command::Unpin(pin)) => format!(in alloc; "Unpin {}", pin.as_str()),
+        Ok(Command::AddRemote(row)) => told_remote(alloc, "AddRemote", &row),
+        Ok(Command::ModifyRemote(row)) => told_remote(alloc, "ModifyRemote", &row),
+        Ok(Command::DeleteRemote(name)) => { format!(in alloc; "DeleteRemote {}", name.as_str()) }
         Ok(Command::ListPins) => "ListPins".to_string(alloc),
+        Ok(Command::ListRemotes) => "ListRemotes".to_string(alloc),
         Err(error) => format!(in alloc; "{error}"),
     }
+}
+
+fn told_remote(alloc: Global, what: &str, row: &RemoteRow) -> Result<String, AllocError> {
+    format!(in alloc; "{what} {} {}", row.name.as_str(), row.url.as_str())
+}
+
+#[test]
+fn words_on_remotes(rt: HostRuntime) -> Result<(), Fail> {
+    let table: [(&[&str], &str); 15] = [
+        (
+            &["remote-add", "lab", "file:///lab"],
+            "AddRemote lab file:///lab",
+        ),
+        (
+            &["remote-modify", "lab", "file:///l"],
+            "ModifyRemote lab file:///l",
+        ),
+        (&["remote-delete", "lab"], "DeleteRemote lab"),
+        (&["list", "--remotes"], "ListRemotes"),
+        (&["remote-add"], "bad words at 1"),
+        (&["remote-add", ""], "bad words at 1"),
+        (&["remote-add", "a/b", "file:///lab"], "bad words at 1"),
+        (&["remote-add", "lab"], "bad words at 2"),
+        (&["remote-modify", "lab", "lab"], "bad words at 2"),
+        (
+            &["remote-modify", "lab", "file:///l", "x"],
+            "bad words at 3",
+        ),
+        (&["remote-delete"], "bad words at 1"),
+        (&["remote-delete", "a b"], "bad words at 1"),
+        (&["remote-delete", "lab", "file:///lab"], "bad words at 2"),
+        (&["remote-remove", "lab"], "bad words at 0"),
+        (&["list", "--remote"], "bad words at 1"),
+    ];
+    for (words, want) in table {
+        assert_eq!(rt; told(rt.alloc(), words)?.as_str(), want, "{words:?}");
+    }
+    Ok(())
 }
 
 #[test]
