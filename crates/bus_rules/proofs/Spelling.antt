@@ -1,19 +1,18 @@
 -- A text is one rule at most, and what a reader finds of it.
-use Rattle.std.proofs.Common.{◌≡◌, ◌==◌, ◌≢◌, ℕ, zero, suc, ◌+◌, ◌<◌, ◌≤◌, Bool, true, false, List, [], ◌∷◌, ◌++◌, length, get_or, Option, Some, None, refl, sym, ap, subst, ◌∙◌, inl, inr, arith, eqb, append_assoc}
-use Rattle.std.specs.Prelude.{cond, not, ◌&&◌, ◌||◌, codes}
+use Rattle.std.proofs.Common.{◌≡◌, ◌≢◌, ℕ, zero, suc, ◌<◌, Bool, true, false, List, [], ◌∷◌, ◌++◌, length, get_or, Option, Some, None, refl, sym, ap, subst, ◌∙◌, arith, eqb, append_assoc}
+use Rattle.std.specs.Prelude.{◌||◌, codes}
 use Rattle.std.specs.Str.{bytes_eq}
 use Rattle.std.proofs.lemmas.Slice.Eq.{bytes_eq-Decides}
-use Rattle.std.proofs.lemmas.Bool.{and_parts, and_from, false≢true}
-use Rattle.std.proofs.lemmas.List.{append-nil, append_cancel_left, append_cancel_right, length-append}
-use Rattle.bus_frame.specs.declared.names.Alphabet.TheVariants.{Interface, Path}
-use Rattle.bus_frame.specs.Names.{is_interface, is_member, is_path, continues_element}
+use Rattle.std.proofs.lemmas.Bool.{and_parts, false≢true}
+use Rattle.std.proofs.lemmas.List.{append-nil, append_cancel_right, length-append}
+use Rattle.bus_frame.specs.Names.{is_interface, is_member, is_path}
 use Rattle.bus_rules.specs.declared.rule.Members.{Members}
 use Rattle.bus_rules.specs.declared.rule.Members.TheVariants.{All, Of, One}
 use Rattle.bus_rules.specs.declared.rule.Objects.{Objects}
 use Rattle.bus_rules.specs.declared.rule.Objects.TheVariants.{At, Below}
 use Rattle.bus_rules.specs.declared.rule.Rule.{Rule}
-use Rattle.bus_rules.specs.Rules.{members_text, objects_text, members_part, objects_part, rule_text, are_members, are_objects, are_parts, IsRule, IsNoRule, NamesMembers, NamesObjects}
-use Rattle.bus_rules.proofs.Splits.{Misses, Misses-nil, Misses-rest, Misses-seam, Misses-is, first_unique, last_unique, interface_misses, member_misses, path_misses}
+use Rattle.bus_rules.specs.Rules.{members_text, objects_text, members_part, objects_part, are_members, are_objects, are_parts, IsRule, NamesMembers, NamesObjects}
+use Rattle.bus_rules.proofs.Splits.{Misses, Misses-nil, Misses-rest, Misses-is, first_unique, last_unique, interface_misses, member_misses, path_misses}
 
 -- ---- members
 

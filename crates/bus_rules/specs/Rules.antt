@@ -77,14 +77,14 @@ has_member All header = true
 has_member (Of interface) header = says header.interface interface
 has_member (One interface member) header = says header.interface interface && says header.member member
 
--- a path is another one, or begins with it and a `/`
-abbrev pub is_at_or_below : List ℕ → List ℕ → Bool
-is_at_or_below path above = bytes_eq path above || starts_with nat_eq path (above ++ codes "/")
+-- a text is another one, or begins with it and a separator
+abbrev pub is_within : ℕ → List ℕ → List ℕ → Bool
+is_within separator text above = bytes_eq text above || starts_with nat_eq text (above ++ separator ∷ [])
 
 abbrev pub has_object : Objects → Option (List ℕ) → Bool
 has_object objects None = false
 has_object (At path) (Some found) = bytes_eq found path
-has_object (Below path) (Some found) = is_at_or_below found path
+has_object (Below path) (Some found) = is_within 47 found path
 
 abbrev pub members_match : Option Members → Header → Bool
 members_match None header = true

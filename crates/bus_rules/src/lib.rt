@@ -5,8 +5,10 @@ pub mod laws;
 mod matching;
 mod reading;
 mod rule;
+mod within;
 
 pub use rule::{Members, Objects, Rule, RuleError};
+pub use within::is_at_or_under;
 
 #[cfg(test)]
 mod tests;

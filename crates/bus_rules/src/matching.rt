@@ -1,9 +1,10 @@
 //! Which messages a rule matches.
 
 ghost use Rattle.std.specs.Prelude.{◌≡◌};
-ghost use Rattle.bus_rules.specs.Rules.{says, has_member, is_at_or_below, has_object, members_match, objects_match, rule_matches};
+ghost use Rattle.bus_rules.specs.Rules.{says, has_member, has_object, members_match, objects_match, rule_matches};
 
 use crate::rule::{Members, Objects, Rule};
+use crate::within::is_at_or_under;
 use bus_frame::{Header, Text};
 
 fn is_text(found: &Option<Text>, text: &Text) -> bool
@@ -27,18 +28,6 @@ fn is_member(members: &Members, header: &Header) -> bool
     }
 }
 
-fn is_at_or_under(path: &[u8], above: &[u8]) -> bool
-    ensures { result ≡ is_at_or_below path.now above.now }
-{
-    if !path.starts_with(above) {
-        return false;
-    }
-    match path.get(above.len()) {
-        Some(next) => *next == b'/',
-        None => true,
-    }
-}
-
 fn is_object(objects: &Objects, path: &Option<Text>) -> bool
     ensures { result ≡ has_object objects.now path.now }
 {
@@ -48,7 +37,7 @@ fn is_object(objects: &Objects, path: &Option<Text>) -> bool
     match objects {
         Objects::At(wanted) => path.as_str() == wanted.as_str(),
         Objects::Below(above) => {
-            is_at_or_under(path.as_str().as_bytes(), above.as_str().as_bytes())
+            is_at_or_under(b'/', path.as_str().as_bytes(), above.as_str().as_bytes())
         }
     }
 }

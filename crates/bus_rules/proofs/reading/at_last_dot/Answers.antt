@@ -1,4 +1,4 @@
-use Rattle.std.proofs.Common.{◌≡◌, ◌∷◌, ◌++◌, ◌+◌, ◌-◌, ◌<◌, ℕ, List, None, Some, take, drop, length, get_or, arith, ap, sym, subst, ◌∙◌}
+use Rattle.std.proofs.Common.{◌≡◌, ◌∷◌, ◌++◌, ◌+◌, ◌-◌, ℕ, List, None, Some, take, drop, arith, ap, sym, subst, ◌∙◌}
 use Rattle.std.proofs.lemmas.Str.Pattern.{rfind_char}
 use Rattle.bus_rules.proofs.Splits.{Misses, split_at, misses_behind}
 use Rattle.bus_rules.proofs.reading.at_last_dot.Goals as goal

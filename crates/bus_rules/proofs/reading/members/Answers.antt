@@ -1,5 +1,4 @@
-use Rattle.std.proofs.Common.{◌≡◌, ◌∙◌, List, ℕ, ap, sym, false}
-use Rattle.std.specs.Str.{bytes_eq}
+use Rattle.std.proofs.Common.{◌∙◌, ap, sym}
 use Rattle.bus_frame.specs.Names.{is_interface, is_member}
 use Rattle.bus_rules.proofs.Spelling.{differs, no_dot, no_interface, no_member}
 use Rattle.bus_rules.proofs.reading.members.Goals as goal

@@ -1,4 +1,4 @@
-use Rattle.std.proofs.Common.{rules, ◌≡◌, ◌∙◌, sym, length, false, eqb, None, Some, arith}
+use Rattle.std.proofs.Common.{rules, ◌≡◌, length, false, eqb, None, Some, arith}
 use Rattle.std.proofs.lemmas.Str.Pattern.{split_parts}
 use Rattle.bus_rules.proofs.Spelling.{plain, signed, no_front}
 use Rattle.bus_rules.proofs.reading.rule.Goals as goal

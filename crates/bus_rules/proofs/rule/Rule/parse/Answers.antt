@@ -1,5 +1,4 @@
 use Rattle.std.proofs.Common.{◌≡◌}
-use Rattle.bus_rules.specs.declared.rule.RuleError.{RuleError}
 use Rattle.bus_rules.specs.declared.rule.RuleError.TheVariants.{Bad, NoMemory}
 use Rattle.bus_rules.specs.Rules.{rule_of}
 use Rattle.bus_rules.proofs.rule.Rule.parse.Goals as goal
