@@ -2,8 +2,12 @@
 #![tactic(auto)]
 
 mod contents;
+mod decoding;
 mod error;
 mod framing;
 mod numbers;
+mod reading;
+mod variants;
 
+pub use decoding::decode;
 pub use error::DecodeError;
