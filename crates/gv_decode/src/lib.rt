@@ -7,6 +7,8 @@ mod error;
 mod framing;
 mod numbers;
 mod reading;
+#[cfg(test)]
+mod tests;
 mod variants;
 
 pub use decoding::decode;
