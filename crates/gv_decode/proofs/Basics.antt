@@ -1,13 +1,13 @@
 -- Values of basic types, from their bytes.
-use Rattle.std.proofs.Common.{◌≡◌, ℕ, zero, suc, ◌+◌, ◌-◌, ◌*◌, ◌/◌, ◌%◌, ◌^◌, ◌<◌, ◌≤◌, Bool, true, false, cond, ◌||◌, ◌&&◌, leb, eqb, not, List, [], ◌∷◌, length, take, drop, get_or, Option, Some, None, option_map, option_and_then, Result, Ok, Err, IsUtf8, IsAscii, refl, sym, ap, ◌∙◌, subst, arith, bytes_eq}
+use Rattle.std.proofs.Common.{◌≡◌, ℕ, zero, suc, ◌+◌, ◌-◌, ◌*◌, ◌/◌, ◌%◌, ◌<◌, Bool, true, false, cond, ◌||◌, ◌&&◌, leb, eqb, List, [], ◌∷◌, length, get_or, Option, Some, None, option_map, option_and_then, Result, Ok, Err, IsUtf8, IsAscii, refl, sym, ap, ◌∙◌, subst, arith, bytes_eq}
 use Rattle.std.specs.Str.{is_utf8}
 use Rattle.std.specs.Int.{is_in_range}
 use Rattle.std.proofs.lemmas.Str.{IsUtf8-from_ascii, is_utf8-from_IsUtf8, IsUtf8-from_is_utf8}
 use Rattle.std.proofs.lemmas.Bool.{and_parts, and_from, eq-eqb, eqb-true, leb-true}
-use Rattle.gv_value.specs.Basics.{TextKind, string, object_path, signature}
+use Rattle.gv_value.specs.Basics.{TextKind}
 use Rattle.gv_value.specs.Bytes.{le_bytes, le_value, AllBelow}
 use Rattle.gv_value.specs.Reading.{number_at, eight_at, before_zero, text_if, text_at}
-use Rattle.gv_value.specs.Texts.{is_path_char, are_elements, is_object_path, is_signature, is_text, has_zero}
+use Rattle.gv_value.specs.Texts.{is_path_char, are_elements, is_object_path, is_signature, is_text}
 use Rattle.gv_value.specs.Tree.{Content}
 use Rattle.gv_value.proofs.Contents.{are_bytes-below}
 use Rattle.gv_value.proofs.Lists.{same_bytes, bytes_eq-same}

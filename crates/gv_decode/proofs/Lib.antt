@@ -1,4 +1,10 @@
 pub mod Bounds
 pub mod Basics
+pub mod Exactly
+pub mod Items
+pub mod Marks
+pub mod Partings
+pub mod Rooms
+pub mod Rows
 pub mod Runs
 pub mod Tables

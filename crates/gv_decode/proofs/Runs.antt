@@ -1,16 +1,16 @@
 -- Children that are cut and read one by one.
-use Rattle.std.proofs.Common.{◌≡◌, ℕ, zero, suc, ◌+◌, ◌-◌, ◌*◌, ◌<◌, ◌≤◌, Bool, true, false, cond, eqb, List, [], ◌∷◌, ◌++◌, length, Option, Some, None, option_map, option_and_then, Result, Ok, Err, refl, sym, ap, ◌∙◌, subst, arith}
+use Rattle.std.proofs.Common.{◌≡◌, ℕ, ◌+◌, Bool, true, false, cond, eqb, List, [], ◌∷◌, ◌++◌, length, Option, Some, None, option_map, option_and_then, refl, sym, ap, ◌∙◌}
 use Rattle.std.proofs.lemmas.Bool.{eq-eqb, eqb-true}
 use Rattle.gv_value.specs.Shape.{Shape, Shapes, no_shapes, shape}
 use Rattle.gv_value.specs.Tree.{Tree, Trees, no_trees, tree}
-use Rattle.gv_value.specs.Layout.{padding, align_of}
+use Rattle.gv_value.specs.Layout.{padding}
 use Rattle.gv_value.specs.Framing.{Mark, child_at, cut}
 use Rattle.gv_value.specs.Reading.{Reader, read_all, read_each}
 use Rattle.gv_value.specs.Views.{plain, plains}
 use Rattle.gv_value.specs.declared.value.GvValue.{GvValue}
 use Rattle.gv_decode.specs.declared.error.DecodeError.{DecodeError}
 use Rattle.gv_decode.specs.declared.error.DecodeError.TheVariants as errors
-use Rattle.gv_decode.specs.Decoded.{Fails, Gives}
+use Rattle.gv_decode.specs.Decoded.{Fails}
 
 -- ---- values that are read, before others
 

@@ -1,15 +1,16 @@
 -- Tables of offsets.
-use Rattle.std.proofs.Common.{◌≡◌, ℕ, zero, suc, ◌+◌, ◌-◌, ◌*◌, ◌^◌, ◌<◌, ◌≤◌, Bool, true, false, cond, eqb, leb, ◌&&◌, List, [], ◌∷◌, ◌++◌, length, take, drop, reverse, Option, Some, None, refl, sym, ap, ap₂, ◌∙◌, subst, arith, bytes_eq, flat_map, length-take, length-drop, take-append-drop}
-use Rattle.std.proofs.lemmas.Bool.{and_parts, and_from, eq-eqb, eqb-true, le-leb}
+use Rattle.std.proofs.Common.{◌≡◌, ℕ, zero, suc, ◌+◌, ◌-◌, ◌*◌, ◌<◌, ◌≤◌, Bool, true, false, cond, eqb, leb, ◌&&◌, List, [], ◌∷◌, ◌++◌, length, take, drop, reverse, Option, Some, None, refl, sym, ap, ap₂, ◌∙◌, subst, arith, bytes_eq, flat_map, length-take, length-drop, take-append-drop, mul-le-mul_left}
+use Rattle.std.proofs.lemmas.Bool.{and_from, eq-eqb, le-leb}
+use Rattle.std.proofs.lemmas.List.{reverse-append, drop-drop}
 use Rattle.gv_value.specs.Bytes.{le_bytes, le_value, AllBelow}
-use Rattle.gv_value.specs.Framing.{width, width_in, numbers, offsets_at, offsets_behind, is_none_left, put_offset, offset_count}
+use Rattle.gv_value.specs.Framing.{width, width_in, numbers, offsets_at, offsets_behind, is_none_left, put_offset, offset_count, member_end}
 use Rattle.gv_value.specs.Capped.{capped_size, IsExtent}
 use Rattle.gv_value.specs.Layout.{size_of}
 use Rattle.gv_value.specs.Plans.{plan_shape, plan_shapes}
 use Rattle.gv_value.specs.declared.extent.Extent.{Extent}
 use Rattle.gv_value.specs.declared.plan.Plan.{Plan}
 use Rattle.gv_value.proofs.Lists.{same_bytes, bytes_eq-same}
-use Rattle.gv_value.proofs.Numbers.{length-le_bytes, length-offsets, length-numbers}
+use Rattle.gv_value.proofs.Numbers.{length-offsets, length-numbers, width_pos}
 use Rattle.gv_decode.proofs.Bounds.{AllBelow-drop}
 use Rattle.gv_decode.proofs.Basics.{le_bytes-value}
 
@@ -69,3 +70,33 @@ pub count-more : (e : Extent) (p : Plan) (ps : List Plan) → IsExtent e (plan_s
     offset_count (plan_shapes (p ∷ ps)) ≡ 1 + offset_count (plan_shapes ps)
 count-more e p ps is none more =
     ap₂ (λ (o : Option ℕ) (b : Bool). length (put_offset o b 0 []) + offset_count (plan_shapes ps)) (size-none (size_of (plan_shape p)) (sym is.size ∙ none)) (none_left-false ps more)
+
+-- ---- offsets, the last of them first
+
+numbers-last : (w k : ℕ) (table : List ℕ) → numbers w (suc k) table ≡ numbers w k table ++ le_value (take w (drop (k * w) table)) ∷ []
+numbers-last w zero table = let none : 0 * w ≡ 0 = omega arith in ap (λ (n : ℕ). le_value (take w (drop n table)) ∷ []) (sym none)
+numbers-last w (suc k) table =
+    let rest = numbers-last w k (drop w table) in
+    let there : drop (k * w) (drop w table) ≡ drop (suc k * w) table = drop-drop (k * w) w table ∙ ap (λ (n : ℕ). drop n table) (omega arith) in
+    ap (λ (ns : List ℕ). le_value (take w table) ∷ ns) (rest ∙ ap (λ (xs : List ℕ). numbers w k (drop w table) ++ le_value (take w xs) ∷ []) there)
+
+-- the last of some offsets, and the others
+pub left-last : (w k : ℕ) (table : List ℕ) → reverse (numbers w (suc k) table) ≡ le_value (take w (drop (k * w) table)) ∷ reverse (numbers w k table)
+left-last w k table = ap reverse (numbers-last w k table) ∙ reverse-append (numbers w k table) (le_value (take w (drop (k * w) table)) ∷ [])
+
+pub many-not : (before count : ℕ) (bytes : List ℕ) → length bytes < count → offsets_behind before count bytes ≡ None
+many-not before count bytes lt = offsets_behind-not before count bytes (λ e.
+    let least : count * 1 ≤ count * width before count = mul-le-mul_left count (width_pos before count) in
+    omega (arith, e, length-drop before bytes))
+
+-- the end of a member that an offset tells
+pub end-told : (size : Option ℕ) (last : Bool) (whole at a w left end : ℕ) (table : List ℕ) → size ≡ None → last ≡ false → (left ≡ 0 → ⊥) → end ≡ le_value (take w (drop ((left - 1) * w) table)) →
+    let told : ℕ × List ℕ = (end, reverse (numbers w (left - 1) table)) in told ≡ member_end size last whole at a (reverse (numbers w left table))
+end-told size last whole at a w zero end table none mid some is = absurd (some refl)
+end-told size last whole at a w (suc k) end table none mid some is = by (suc k - 1) (omega arith) is
+  where
+    by : (m : ℕ) → m ≡ k → end ≡ le_value (take w (drop (m * w) table)) →
+        let told : ℕ × List ℕ = (end, reverse (numbers w m table)) in told ≡ member_end size last whole at a (reverse (numbers w (suc k) table))
+    by m same told =
+        ap₂ (λ (x : ℕ) (xs : List ℕ). let p : ℕ × List ℕ = (x, xs) in p) (told ∙ ap (λ (n : ℕ). le_value (take w (drop (n * w) table))) same) (ap (λ (n : ℕ). reverse (numbers w n table)) same)
+        ∙ sym (ap₂ (λ (o : Option ℕ) (b : Bool). member_end o b whole at a (reverse (numbers w (suc k) table))) none mid ∙ ap (member_end None false whole at a) (left-last w k table))

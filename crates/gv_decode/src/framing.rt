@@ -1,12 +1,13 @@
-ghost use Rattle.std.specs.Prelude.{◌≡◌, ◌≤◌, ◌<◌, ◌+◌, ◌-◌, ◌*◌, ◌/◌, ◌^◌, IsTrue, length, drop, take, IfOk};
-ghost use Rattle.gv_value.specs.Framing.{child_at as child_from, offsets_behind, numbers, width_in, offset_count as offset_count_of};
+ghost use Rattle.std.specs.Prelude.{◌≡◌, ◌≤◌, ◌<◌, ◌+◌, ◌-◌, ◌*◌, ◌/◌, ◌^◌, ◌==◌, ◌&&◌, if◌then◌else◌, IsTrue, length, drop, take, Some, None, IfOk};
+ghost use Rattle.gv_value.specs.Bytes.{le_value, all_zero as all_are_zero};
+ghost use Rattle.gv_value.specs.Framing.{child_at as child_from, offsets_behind, width_in, offset_count as offset_count_of, member_end as member_end_of};
 ghost use Rattle.gv_value.specs.Layout.{padding as padding_of};
 ghost use Rattle.gv_value.specs.Plans.{are_plans, plan_shapes};
-ghost use Rattle.gv_decode.specs.Decoded.{Gives, IsFrame};
+ghost use Rattle.gv_decode.specs.Decoded.{Gives, IsFrame, IsWhole, offsets_of, offsets_left};
 
 use crate::error::DecodeError;
 use crate::numbers::{all_zero, number};
-use gv_value::{Plan, padding, width};
+use gv_value::{Extent, Plan, padding, width};
 
 /// The bytes of a child that stands behind a position and ends at another, where what is padding before it is zero.
 pub fn child_at(body: &[u8], at: usize, align: u64, end: usize) -> Result<&[u8], DecodeError>
@@ -33,6 +34,8 @@ pub struct Frame<'a> {
     pub table: &'a [u8],
     /// How many bytes each takes.
     pub width: usize,
+    /// How many there are.
+    pub count: usize,
 }
 
 /// How many bytes an offset takes in a container.
@@ -49,7 +52,7 @@ pub fn offset_width(bytes: &[u8]) -> usize
 pub fn take_apart(bytes: &[u8], before: usize, count: usize) -> Result<Frame<'_>, DecodeError>
     requires short { length bytes.now ≤ 2 ^ 24 }
     requires few { count ≤ length bytes.now }
-    ensures offsets { Gives (λ f. numbers f.width count f.table.now) result (offsets_behind before count bytes.now) }
+    ensures offsets { Gives offsets_of result (offsets_behind before count bytes.now) }
     ensures frame { IfOk result (λ f. IsFrame f bytes.now before count) }
 {
     let width_here = offset_width(bytes);
@@ -67,6 +70,7 @@ pub fn take_apart(bytes: &[u8], before: usize, count: usize) -> Result<Frame<'_>
         body,
         table,
         width: width_here,
+        count,
     })
 }
 
@@ -84,4 +88,85 @@ pub fn offset_count(plans: &[Plan]) -> usize
         left = others;
     }
     count
+}
+
+/// The number that an offset is.
+pub fn offset_at(frame: Frame<'_>, index: usize) -> usize
+    requires whole { IsWhole frame }
+    requires inside { index < frame.count }
+    ensures { result ≡ le_value (take frame.entry.width (drop (index * frame.entry.width) frame.entry.table.now)) }
+{
+    let start = index * frame.width;
+    number(&frame.table[start..start + frame.width]) as usize
+}
+
+/// The body of a tuple of fixed size, without the zero bytes behind its last member.
+pub fn filled_frame(whole: usize, size: usize, bytes: &[u8]) -> Result<Frame<'_>, DecodeError>
+    requires { whole ≤ size }
+    ensures body { Gives (λ f. f.body.now) result
+        (if length bytes.now == size && all_are_zero (drop whole bytes.now) then Some (take whole bytes.now) else None) }
+    ensures frame { IfOk result (λ f. IsWhole f × (f.count ≡ 0)) }
+{
+    if bytes.len() != size {
+        return Err(DecodeError::NotNormal);
+    }
+    let (body, fill) = bytes.split_at(whole);
+    if !all_zero(fill) {
+        return Err(DecodeError::NotNormal);
+    }
+    Ok(Frame {
+        body,
+        table: &[],
+        width: 1,
+        count: 0,
+    })
+}
+
+/// The body of a tuple of variable size, and its offsets.
+pub fn open_frame<'a>(plans: &[Plan], bytes: &'a [u8]) -> Result<Frame<'a>, DecodeError>
+    requires planned { IsTrue (are_plans plans.now) }
+    requires short { length bytes.now ≤ 2 ^ 24 }
+    ensures offsets { Gives offsets_of result
+        (offsets_behind (length bytes.now - offset_count_of (plan_shapes plans.now) * width_in (length bytes.now)) (offset_count_of (plan_shapes plans.now)) bytes.now) }
+    ensures frame { IfOk result (λ f. IsFrame f bytes.now
+        (length bytes.now - offset_count_of (plan_shapes plans.now) * width_in (length bytes.now)) (offset_count_of (plan_shapes plans.now))) }
+{
+    let count = offset_count(plans);
+    if count > bytes.len() {
+        return Err(DecodeError::NotNormal);
+    }
+    let before = bytes.len().saturating_sub(count * offset_width(bytes));
+    take_apart(bytes, before, count)
+}
+
+/// Where a member ends that stands behind a position: by its size, by its offset, or, for the last one, with the body.
+/// And how many offsets are left.
+pub fn member_end(
+    extent: Extent,
+    last: bool,
+    frame: Frame<'_>,
+    at: usize,
+    left: usize,
+) -> (usize, usize)
+    requires whole { IsWhole frame }
+    requires few { left ≤ frame.count }
+    requires within { at ≤ length frame.body.now }
+    requires short { length frame.body.now ≤ 2 ^ 24 }
+    ensures found { (result.0, offsets_left frame.entry result.1)
+        ≡ member_end_of extent.size last (length frame.entry.body.now) at extent.align (offsets_left frame.entry left) }
+    ensures fewer { result.1 ≤ left }
+{
+    match extent.size {
+        Some(size) => (
+            at + padding(at as u64, extent.align) as usize + size as usize,
+            left,
+        ),
+        None => {
+            if last || left == 0 {
+                (frame.body.len(), left)
+            } else {
+                (offset_at(frame, left - 1), left - 1)
+            }
+        }
+    }
 }

@@ -2,8 +2,14 @@
 #![tactic(auto)]
 
 mod contents;
+mod decoding;
 mod error;
 mod framing;
 mod numbers;
+mod reading;
+#[cfg(test)]
+mod tests;
+mod variants;
 
+pub use decoding::decode;
 pub use error::DecodeError;

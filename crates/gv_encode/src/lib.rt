@@ -6,6 +6,8 @@ mod contents;
 mod encoding;
 mod error;
 mod framing;
+#[cfg(test)]
+mod tests;
 mod writing;
 
 pub use encoding::encode;

@@ -1,4 +1,4 @@
-use Rattle.std.proofs.Common.{◌≡◌, ℕ, ◌+◌, ◌<◌, List, length, ◌∷◌, ap, ◌∙◌, subst, arith, IsTrue, rules}
+use Rattle.std.proofs.Common.{◌≡◌, ◌<◌, List, length, ◌∷◌, ap, ◌∙◌, subst, arith, IsTrue, rules}
 use Rattle.gv_value.specs.Framing.{offset_count}
 use Rattle.gv_value.specs.Plans.{plan_shapes, is_plan, are_plans}
 use Rattle.gv_value.specs.declared.plan.Plan.{Plan}

@@ -1,4 +1,4 @@
-use Rattle.std.proofs.Common.{◌≡◌, ℕ, ◌-◌, ◌<◌, ◌^◌, length, drop, sym, ap, ◌∙◌, subst, arith}
+use Rattle.std.proofs.Common.{◌≡◌, ℕ, ◌<◌, ◌^◌, length, drop, sym, ap, ◌∙◌, subst, arith}
 use Rattle.gv_value.specs.Bytes.{le_value}
 use Rattle.gv_value.proofs.Known.{AllBelow-fits}
 use Rattle.gv_decode.proofs.Bounds.{one-more, value-below}

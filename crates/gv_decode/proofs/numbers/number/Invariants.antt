@@ -1,4 +1,4 @@
-use Rattle.std.proofs.Common.{◌≡◌, ℕ, ◌≤◌, length, drop}
+use Rattle.std.proofs.Common.{◌≡◌, ◌≤◌, length, drop}
 use Rattle.gv_value.specs.Bytes.{le_value}
 use Rattle.gv_decode.proofs.numbers.number.Given as goal
 

@@ -1,0 +1,27 @@
+-- What is read is spelled so, and nothing else is.
+use Rattle.std.proofs.Common.{◌≡◌, ℕ, ◌≤◌, Bool, true, cond, leb, List, length, Some, None, Result, Ok, Err, IfOk, sym, ap, subst}
+use Rattle.std.proofs.lemmas.Bool.{and_from, le-leb}
+use Rattle.gv_value.specs.Reading.{value_at, value_of}
+use Rattle.gv_value.specs.Shape.{Shape, is_type}
+use Rattle.gv_value.specs.Spelled.{Spelled}
+use Rattle.gv_value.specs.Tree.{Tree}
+use Rattle.gv_value.specs.Views.{plain}
+use Rattle.gv_value.specs.declared.value.GvValue.{GvValue}
+use Rattle.gv_value.proofs.Exact.{reads_values}
+use Rattle.gv_decode.specs.declared.error.DecodeError.{DecodeError}
+use Rattle.gv_decode.specs.declared.error.DecodeError.TheVariants as errors
+use Rattle.gv_decode.specs.Decoded.{Gives}
+
+pub value_of-is : (t : Shape) (bytes : List ℕ) → is_type t ≡ true → length bytes ≤ 16777216 → value_at 64 t bytes ≡ value_of t bytes
+value_of-is t bytes is short =
+    sym (ap (λ (b : Bool). cond b (value_at 64 t bytes) None) (and_from (is_type t) (leb (length bytes) 16777216) is (le-leb (length bytes) 16777216 short)))
+
+pub exactly-spelled : (r : Result GvValue DecodeError) (t : Shape) (bytes : List ℕ) → Gives plain r (value_of t bytes) → IfOk r (λ v. Spelled t (plain v) bytes)
+exactly-spelled (Ok v) t bytes g = (reads_values t (plain v) bytes).0 g
+exactly-spelled (Err e) t bytes g = tt
+
+pub exactly-none : (r : Result GvValue DecodeError) (t : Shape) (bytes : List ℕ) → Gives plain r (value_of t bytes) → r ≡ Err errors.NotNormal → (v : Tree) → Spelled t v bytes → ⊥
+exactly-none r t bytes g is v spelled =
+    let none : value_of t bytes ≡ None = subst (λ (x : Result GvValue DecodeError). Gives plain x (value_of t bytes)) is g in
+    let some : value_of t bytes ≡ Some v = (reads_values t v bytes).1 spelled in
+    cc
