@@ -1,3 +1,3 @@
 pub mod Endings
 pub mod Searches
-pub mod Steps
+pub mod Same
