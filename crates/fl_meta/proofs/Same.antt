@@ -41,6 +41,12 @@ and_second : (a b : Bool) → (a && b) ≡ true → b ≡ true
 and_second true b h = h
 and_second false b h = absurd (false≢true h)
 
+pub place_exact : (l k : PermList) → (place_of l == place_of k) ≡ true → l ≡ k
+place_exact l k e = sym (list_at-place l) ∙ ap list_at (eqb-true (place_of l) (place_of k) e) ∙ list_at-place k
+
+pub same_places : (p q : Permission) → is_same p q ≡ true → (place_of p.list == place_of q.list) ≡ true
+same_places p q e = and_first (list_place p == list_place q) (bytes_eq (name_of p) (name_of q)) e
+
 pub same_exact : (p q : Permission) → is_same p q ≡ true → p ≡ q
 same_exact p q e =
     let places : place_of p.list ≡ place_of q.list = eqb-true _ _ (and_first (list_place p == list_place q) (bytes_eq (name_of p) (name_of q)) e) in
