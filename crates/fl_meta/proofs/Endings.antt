@@ -28,7 +28,7 @@ Parts-split p (b ∷ bs) = Parts-cond (p b) _ _ (record { first = []; others = s
 no_parts : (first : List ℕ) (others : List (List ℕ)) → [] ≡ first ∷ others → ⊥
 no_parts first others e = cc
 
-onto_first-append : (x : ℕ) (parts more : List (List ℕ)) → Parts parts → onto_first x (parts ++ more) ≡ onto_first x parts ++ more
+pub onto_first-append : (x : ℕ) (parts more : List (List ℕ)) → Parts parts → onto_first x (parts ++ more) ≡ onto_first x parts ++ more
 onto_first-append x [] more h = absurd (no_parts h.first h.others h.is)
 onto_first-append x (part ∷ parts) more h = refl
 
@@ -103,7 +103,7 @@ all_to_last v (w ∷ vs) h = all_to_last w vs (right_true (is_ending v) (list_al
     right_true true b h = h
     right_true false b h = absurd (false≢true h)
 
-is_empty-cons : (x : ℕ) (xs : List ℕ) → is_empty (x ∷ xs) ≡ false
+pub is_empty-cons : (x : ℕ) (xs : List ℕ) → is_empty (x ∷ xs) ≡ false
 is_empty-cons x xs = ne_eqb (length (x ∷ xs)) 0 (λ e. omega arith)
 
 -- a text that is nothing but endings has one at its end

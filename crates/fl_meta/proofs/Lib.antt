@@ -1,3 +1,4 @@
 pub mod Endings
+pub mod Bare
 pub mod Searches
-pub mod Steps
+pub mod Same

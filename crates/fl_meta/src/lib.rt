@@ -3,6 +3,7 @@
 
 mod entries;
 mod fault;
+pub mod laws;
 mod mentions;
 mod meta;
 mod names;

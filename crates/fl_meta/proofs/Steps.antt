@@ -1,1 +1,0 @@
--- Lists that grow by what each item adds.
