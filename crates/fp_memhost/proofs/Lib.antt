@@ -16,4 +16,5 @@ pub mod Putting
 pub mod Quiet
 pub mod Results
 pub mod Viewing
+pub mod Sound
 pub mod Taking

@@ -12,6 +12,7 @@ pub mod Plays
 pub mod RemoteRows
 pub mod Replay
 pub mod Scenes
+pub mod Soundness
 pub mod Sources
 pub mod Start
 pub mod Stats

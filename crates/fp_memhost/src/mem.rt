@@ -6,7 +6,7 @@ ghost use Rattle.fp_memhost.specs.Replay.{change_of};
 ghost use Rattle.fp_memhost.specs.Appended.{TellsAppended};
 ghost use Rattle.fp_memhost.specs.Images.{opened, IsImage, GivesImage, ChoicesOf};
 ghost use Rattle.fp_memhost.specs.Start.{Begins, TellsPrinted, empty_view};
-ghost use Rattle.fp_memhost.specs.Story.{fails_at, ListsOnce};
+ghost use Rattle.fp_memhost.specs.Story.{fails_at};
 ghost use Rattle.fp_memhost.specs.Plays.{done_by, Played, Looked, IsStarved};
 
 use crate::choosing::{can_choose, choices_of, choose};
@@ -130,9 +130,8 @@ impl MemHost {
 
     /// Makes the calls with these numbers, counted from 0 over all calls, fail. The truth value says whether what the call
     /// asks for is done; a stop may leave either. A failing sync, and a failing call whose condition doesn't hold, changes
-    /// nothing. The list takes the place of an earlier one.
+    /// nothing. Where a number is listed twice, the first counts. The list takes the place of an earlier one.
     pub fn fail_calls(&mut self, list: &[(u64, bool)]) -> Result<(), AllocError>
-        requires { ListsOnce list.now }
         ensures ok { OnOk result (⟦<MemHost as Recorder>⟧.story self.new ≡ record (⟦<MemHost as Recorder>⟧.story self.old) { fails = fails_at list.now }) }
         ensures err { OnErr result (⟦<MemHost as Recorder>⟧.story self.new ≡ ⟦<MemHost as Recorder>⟧.story self.old) }
         ensures moments { ⟦<MemHost as Host>⟧.moments self.new ≡ ⟦<MemHost as Host>⟧.moments self.old }
