@@ -6,6 +6,8 @@ use std::alloc::{AllocError, Global};
 use std::test::Fail;
 use std::thread::Threads;
 
+mod glib;
+mod gvariant;
 mod stops;
 
 const PLATFORM: &str = "runtime/org.x.Platform/*/*";

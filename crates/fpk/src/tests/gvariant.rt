@@ -1,4 +1,4 @@
-use crate::glib::VECTORS;
+use crate::tests::glib::VECTORS;
 use gv_decode::{DecodeError, decode};
 use gv_encode::encode;
 use gv_value::GvType;
