@@ -21,3 +21,6 @@ pub use ordering::{has_pin, insert_pin, remove_pin};
 pub use refusal::{Refusal, What};
 pub use replacing::replace;
 pub use state::{Layout, OverrideRow, Previous, RefRow, RemoteRow, State};
+
+#[cfg(test)]
+mod tests;
