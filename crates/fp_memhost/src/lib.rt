@@ -25,3 +25,6 @@ pub use mem::MemHost;
 pub use remotes::{MemNode, MemRemotes};
 pub use source::MemSource;
 pub use story::{Keeper, Recorder, Supplier};
+
+#[cfg(test)]
+mod tests;

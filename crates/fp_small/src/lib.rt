@@ -21,3 +21,6 @@ pub use ordering::{has_pin, has_remote, insert_pin, insert_remote, remove_pin, r
 pub use refusal::{Refusal, What};
 pub use replacing::replace;
 pub use state::{Layout, OverrideRow, Previous, RefRow, RemoteRow, State};
+
+#[cfg(test)]
+mod tests;
