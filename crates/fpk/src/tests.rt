@@ -8,6 +8,7 @@ use std::thread::Threads;
 
 mod glib;
 mod gvariant;
+mod specification;
 mod stops;
 
 const PLATFORM: &str = "runtime/org.x.Platform/*/*";
