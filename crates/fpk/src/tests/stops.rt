@@ -54,6 +54,9 @@ fn shown(
     alloc: Global,
     image: Image,
 ) -> Result<Option<usize>, AllocError> {
+    if !image.is_good() {
+        return Ok(None);
+    }
     let mut host = MemHost::from_image(alloc, image)?;
     if run_words(rt, alloc, &mut host, &["list", "--pins"])? != 0 {
         return Ok(None);
