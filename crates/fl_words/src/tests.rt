@@ -1,6 +1,6 @@
-use crate::{Command, WordsError, op_line, pins_text, read_words, refusal_line};
-use fp_host::{Path, Text};
-use fp_name::PinPattern;
+use crate::{Command, WordsError, op_line, pins_text, read_words, refusal_line, remotes_text};
+use fp_host::Path;
+use fp_name::{PinPattern, RemoteName, RemoteUrl};
 use fp_small::{Op, Refusal, RemoteRow, What};
 use std::alloc::{AllocError, Global};
 use std::test::Fail;
@@ -167,21 +167,42 @@ fn damaged_paths(rt: HostRuntime) -> Result<(), Fail> {
     Ok(())
 }
 
-fn is_text(text: &Text, want: &str) -> bool {
-    text.as_str() == want
+fn says(alloc: Global, op: &Op, want: &str) -> Result<bool, AllocError> {
+    Ok(op_line(alloc, op)?.as_str() == want)
 }
 
 #[test]
 fn operations(rt: HostRuntime) -> Result<(), Fail> {
-    let alloc = rt.alloc();
-    let added = Op::AddPin(pattern(alloc, "app/*/*/*")?);
-    let dropped = Op::DropPin(pattern(alloc, "app/org.x.Y/*/*")?);
-    assert!(rt; is_text(&op_line(alloc, &added)?, "pinned app/*/*/*\n"));
-    assert!(rt; is_text(&op_line(alloc, &dropped)?, "unpinned app/org.x.Y/*/*\n"));
-    let mut pins = Vec::new(alloc);
-    assert!(rt; is_text(&pins_text(alloc, &pins)?, ""));
-    pins.push(pattern(alloc, "runtime/*/*/*")?)?;
-    pins.push(pattern(alloc, "app/*/*/*")?)?;
-    assert!(rt; is_text(&pins_text(alloc, &pins)?, "runtime/*/*/*\napp/*/*/*\n"));
+    let added = Op::AddPin(pattern(rt.alloc(), "app/*/*/*")?);
+    assert!(rt; says(rt.alloc(), &added, "pinned app/*/*/*\n")?);
+    let dropped = Op::DropPin(pattern(rt.alloc(), "app/org.x.Y/*/*")?);
+    assert!(rt; says(rt.alloc(), &dropped, "unpinned app/org.x.Y/*/*\n")?);
+    Ok(())
+}
+
+fn remote(alloc: Global, name: &str, url: &str) -> Result<RemoteRow, Fail> {
+    Ok(RemoteRow {
+        name: RemoteName::parse(alloc, name.as_bytes())?,
+        url: RemoteUrl::parse(alloc, url.as_bytes())?,
+    })
+}
+
+#[test]
+fn printed_remotes(rt: HostRuntime) -> Result<(), Fail> {
+    let mut remotes = Vec::new(rt.alloc());
+    remotes.push(remote(rt.alloc(), "art", "file:///art")?)?;
+    remotes.push(remote(rt.alloc(), "lab", "file:///lab")?)?;
+    let text = remotes_text(rt.alloc(), &remotes)?;
+    assert_eq!(rt; text.as_str(), "art file:///art\nlab file:///lab\n");
+    Ok(())
+}
+
+#[test]
+fn printed_pins(rt: HostRuntime) -> Result<(), Fail> {
+    let mut pins = Vec::new(rt.alloc());
+    pins.push(pattern(rt.alloc(), "runtime/*/*/*")?)?;
+    pins.push(pattern(rt.alloc(), "app/*/*/*")?)?;
+    let text = pins_text(rt.alloc(), &pins)?;
+    assert_eq!(rt; text.as_str(), "runtime/*/*/*\napp/*/*/*\n");
     Ok(())
 }
