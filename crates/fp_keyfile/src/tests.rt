@@ -2,7 +2,6 @@
 
 use super::*;
 use std::alloc::{AllocError, Global};
-use std::test::*;
 
 /// Bytes that are a key file, and the text that is written for it.
 const FILES: [(&str, &str); 44] = [
@@ -153,10 +152,9 @@ fn first_changed<'a>(
 }
 
 #[test]
-fn reads_and_writes(rt: HostRuntime) -> Result<(), Fail> {
-    assert_eq!(rt; first_misread(rt.alloc(), &FILES)?, None);
-    assert_eq!(rt; first_changed(rt.alloc(), &FILES)?, None);
-    Ok(())
+fn reads_and_writes(rt: HostRuntime) {
+    assert_eq!(rt; first_misread(rt.alloc(), &FILES), Ok(None));
+    assert_eq!(rt; first_changed(rt.alloc(), &FILES), Ok(None));
 }
 
 /// The fault of these bytes.
@@ -263,9 +261,8 @@ fn first_other_change(
 }
 
 #[test]
-fn changes(rt: HostRuntime) -> Result<(), Fail> {
-    assert_eq!(rt; first_other_change(rt.alloc(), &CHANGES)?, None);
-    Ok(())
+fn changes(rt: HostRuntime) {
+    assert!(rt; matches!(first_other_change(rt.alloc(), &CHANGES), Ok(None)));
 }
 
 /// What is taken from a file.
@@ -308,16 +305,40 @@ fn key_length(alloc: Global, key: &str) -> Result<usize, AllocError> {
     Ok(length)
 }
 
+/// Whether this is taken from a file.
+fn takes(
+    alloc: Global,
+    bytes: &str,
+    group: &str,
+    key: &str,
+    want: Option<&str>,
+) -> Result<bool, KeyError> {
+    Ok(match taken(alloc, bytes, group, key)? {
+        Some(text) => Some(text.as_str()) == want,
+        None => want.is_none(),
+    })
+}
+
+/// The counts of a file's pairs.
+fn counted(alloc: Global, bytes: &str) -> Result<(usize, usize), KeyError> {
+    let file = KeyFile::parse(alloc, bytes.as_bytes())?;
+    Ok(pair_counts(file.groups().as_slice())?)
+}
+
+/// A file of two groups.
+const TWO: &str = "[a]\nx=1\ny=2\n[b]\n";
+
 #[test]
-fn plain_groups(rt: HostRuntime) -> Result<(), Fail> {
-    let text = "[a]\nx=1\ny=2\n[b]\n";
-    assert!(rt; taken(rt.alloc(), text, "b", "x")?.is_none());
-    assert!(rt; taken(rt.alloc(), text, "a", "y")?.is_some_and(|t| t.as_str() == "2"));
-    assert_eq!(rt; group_count(rt.alloc(), text)?, Some(2));
-    let file = KeyFile::parse(rt.alloc(), text.as_bytes())?;
-    assert_eq!(rt; pair_counts(file.groups().as_slice())?, (2, 2));
-    assert_eq!(rt; key_length(rt.alloc(), "key")?, 3);
-    Ok(())
+fn takes_away(rt: HostRuntime) {
+    assert!(rt; takes(rt.alloc(), TWO, "b", "x", None) == Ok(true));
+    assert!(rt; takes(rt.alloc(), TWO, "a", "y", Some("2")) == Ok(true));
+}
+
+#[test]
+fn plain_groups(rt: HostRuntime) {
+    assert!(rt; group_count(rt.alloc(), TWO) == Ok(Some(2)));
+    assert!(rt; counted(rt.alloc(), TWO) == Ok((2, 2)));
+    assert!(rt; matches!(key_length(rt.alloc(), "key"), Ok(3)));
 }
 
 /// Texts, and whether each is a group's name, a key and a value.
