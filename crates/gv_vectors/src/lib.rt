@@ -4,4 +4,6 @@
 #[cfg(test)]
 mod glib;
 #[cfg(test)]
+mod specification;
+#[cfg(test)]
 mod tests;
