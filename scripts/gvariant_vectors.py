@@ -1,7 +1,8 @@
 #!/usr/bin/python3
 """Prints vectors of GVariant, made by GLib: one a line, `yes` or `no`, a type string, and bytes in hexadecimal digits.
 
-`yes` says that the bytes are a value of the type in normal form, `no` that they are none, as GLib says itself.
+`yes` says that the bytes are a value of the type in normal form, `no` that they are none: GLib calls them so, and
+writes the value so.
 It needs Debian's package python3-gi. `gvariant_vectors.py COUNT SEED` prints that many vectors; the same seed gives the
 same vectors.
 """
@@ -96,8 +97,30 @@ def a_value(rng, of, room):
     return GLib.Variant.new_tuple(*items)
 
 
+def rebuilt(value):
+    """The value, made anew from its parts."""
+    of = value.get_type_string()
+    if of[0] in BASIC:
+        return value
+    parts = [rebuilt(value.get_child_value(i)) for i in range(value.n_children())]
+    if of[0] == "v":
+        return GLib.Variant.new_variant(parts[0])
+    if of[0] == "a":
+        return GLib.Variant.new_array(GLib.VariantType.new(of[1:]), parts)
+    if of[0] == "m":
+        return GLib.Variant.new_maybe(GLib.VariantType.new(of[1:]), parts[0] if parts else None)
+    if of[0] == "{":
+        return GLib.Variant.new_dict_entry(parts[0], parts[1])
+    return GLib.Variant.new_tuple(*parts)
+
+
 def is_normal(of, data):
-    return GLib.Variant.new_from_bytes(GLib.VariantType.new(of), GLib.Bytes.new(data), False).is_normal_form()
+    """Whether GLib calls the bytes normal and writes the value so itself.
+
+    Its check alone also takes no bytes at all for a tuple whose members have none, where it writes an offset.
+    """
+    value = GLib.Variant.new_from_bytes(GLib.VariantType.new(of), GLib.Bytes.new(data), False)
+    return value.is_normal_form() and (rebuilt(value).get_data_as_bytes().get_data() or b"") == data
 
 
 def changed(rng, data):
