@@ -16,7 +16,8 @@ use std::alloc::Global;
 pub fn decode(alloc: Global, of: &GvType, bytes: &[u8]) -> Result<GvValue, DecodeError>
     ensures too_long { (result ≡ Err DecodeError.TooLong) ↔ (max_bytes < length bytes.now) }
     ensures spelled { IfOk result (λ value. Spelled (shape_of of.now) (plain value) bytes.now) }
-    ensures not_normal { result ≡ Err DecodeError.NotNormal → (v : Tree) → ¬ (Spelled (shape_of of.now) v bytes.now) }
+    ensures not_normal { result ≡ Err DecodeError.NotNormal
+        → (v : Tree) → ¬ (Spelled (shape_of of.now) v bytes.now) }
     ensures read { length bytes.now ≤ max_bytes → Gives plain result (value_of (shape_of of.now) bytes.now) }
 {
     if bytes.len() > MAX_BYTES as usize {

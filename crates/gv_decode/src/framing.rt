@@ -126,10 +126,10 @@ pub fn filled_frame(whole: usize, size: usize, bytes: &[u8]) -> Result<Frame<'_>
 pub fn open_frame<'a>(plans: &[Plan], bytes: &'a [u8]) -> Result<Frame<'a>, DecodeError>
     requires planned { IsTrue (are_plans plans.now) }
     requires short { length bytes.now ≤ 2 ^ 24 }
-    ensures offsets { Gives offsets_of result
-        (offsets_behind (length bytes.now - offset_count_of (plan_shapes plans.now) * width_in (length bytes.now)) (offset_count_of (plan_shapes plans.now)) bytes.now) }
-    ensures frame { IfOk result (λ f. IsFrame f bytes.now
-        (length bytes.now - offset_count_of (plan_shapes plans.now) * width_in (length bytes.now)) (offset_count_of (plan_shapes plans.now))) }
+    ensures offsets { let count = offset_count_of (plan_shapes plans.now) in
+        Gives offsets_of result (offsets_behind (length bytes.now - count * width_in (length bytes.now)) count bytes.now) }
+    ensures frame { let count = offset_count_of (plan_shapes plans.now) in
+        IfOk result (λ f. IsFrame f bytes.now (length bytes.now - count * width_in (length bytes.now)) count) }
 {
     let count = offset_count(plans);
     if count > bytes.len() {

@@ -93,7 +93,8 @@ fn inside<'a>(child: &Plan, bytes: &'a [u8]) -> Result<&'a [u8], DecodeError>
 fn read_maybe(alloc: Global, child: &Plan, bytes: &[u8], room: u32) -> Result<GvValue, DecodeError>
     requires planned { IsTrue (is_plan child.now) }
     requires short { length bytes.now ≤ 2 ^ 24 }
-    ensures { Gives plain result (maybe_at (value_at room (plan_shape child.now)) (size_of (plan_shape child.now)) bytes.now) }
+    ensures { Gives plain result
+        (maybe_at (value_at room (plan_shape child.now)) (size_of (plan_shape child.now)) bytes.now) }
 {
     if bytes.is_empty() {
         return Ok(GvValue::Maybe(None));
@@ -168,7 +169,8 @@ fn read_row(
     requires short { length bytes.now ≤ 2 ^ 24 }
     requires some { 0 < size }
     ensures { Gives (λ values. plains values.items) result
-        (option_and_then (read_all (value_at room (plan_shape element.now))) (cut bytes.now 0 (steps size 0 (length bytes.now / size)))) }
+        (option_and_then (read_all (value_at room (plan_shape element.now)))
+        (cut bytes.now 0 (steps size 0 (length bytes.now / size)))) }
 {
     let mut values = Vec::new(alloc);
     let mut left = bytes;
@@ -195,7 +197,8 @@ fn read_framed(
     requires planned { IsTrue (is_plan element.now) }
     requires short { length bytes.now ≤ 2 ^ 24 }
     ensures { Gives (λ values. plains values.items) result
-        (option_and_then (read_all (value_at room (plan_shape element.now))) (framed_children (align_of (plan_shape element.now)) bytes.now)) }
+        (option_and_then (read_all (value_at room (plan_shape element.now)))
+        (framed_children (align_of (plan_shape element.now)) bytes.now)) }
 {
     if bytes.is_empty() {
         return Ok(Vec::new(alloc));
@@ -279,7 +282,8 @@ fn read_run(
     requires short { length frame.body.now ≤ 2 ^ 24 }
     ensures { Gives (λ values. plains values.items) result
         (option_and_then (read_each (value_at room) (plan_shapes plans.now))
-        (cut frame.entry.body.now 0 (marks (length frame.entry.body.now) 0 (plan_shapes plans.now) (offsets_left frame.entry frame.entry.count)))) }
+        (cut frame.entry.body.now 0
+        (marks (length frame.entry.body.now) 0 (plan_shapes plans.now) (offsets_left frame.entry frame.entry.count)))) }
 {
     let mut values = Vec::new(alloc);
     let mut at = 0;

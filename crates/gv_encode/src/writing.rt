@@ -89,7 +89,8 @@ fn write_array(
     requires planned { IsTrue (is_plan element.now) }
     requires held { IsHeld parts }
     requires fits { IsTrue (fits_within (suc room) (array (plan_shape element.now)) (part_tree parts)) }
-    ensures { Adds result out.old.items out.new.items (spelling (part_tree parts.entry) (array (plan_shape element.now))) }
+    ensures { Adds result out.old.items out.new.items
+        (spelling (part_tree parts.entry) (array (plan_shape element.now))) }
 {
     match parts {
         Parts::Bytes(bytes) => append(out, bytes),
@@ -113,7 +114,8 @@ fn write_row(
     requires room_left { vec_len out.old ≤ 2 ^ 24 }
     requires planned { IsTrue (is_plan element.now) }
     requires fits { IsTrue (all_fit (fits_within room (plan_shape element.now)) (plains items.now)) }
-    ensures { Adds result out.old.items out.new.items (concat (spelling_of_all (plains items.now) (plan_shape element.now))) }
+    ensures { Adds result out.old.items out.new.items
+        (concat (spelling_of_all (plains items.now) (plan_shape element.now))) }
 {
     for item in items {
         write(alloc, out, element, item, room)?;
@@ -134,7 +136,8 @@ fn write_framed(
     requires planned { IsTrue (is_plan element.now) }
     requires fits { IsTrue (all_fit (fits_within room (plan_shape element.now)) (plains items.now)) }
     ensures { Adds result out.old.items out.new.items
-        (array_bytes (align_of (plan_shape element.now)) None (spelling_of_all (plains items.now) (plan_shape element.now))) }
+        (array_bytes (align_of (plan_shape element.now)) None
+        (spelling_of_all (plains items.now) (plan_shape element.now))) }
 {
     let start = out.len();
     let mut ends = Vec::new(alloc);
@@ -160,7 +163,8 @@ fn write_placed(
     requires planned { IsTrue (is_plan plan.now) }
     requires fits { IsTrue (fits_within room (plan_shape plan.now) (plain item.now)) }
     ensures { Adds result out.old.items out.new.items
-        (zeros (padding_of (vec_len out.old - start) (align_of (plan_shape plan.now))) ++ spelling (plain item.now) (plan_shape plan.now)) }
+        (zeros (padding_of (vec_len out.old - start) (align_of (plan_shape plan.now)))
+        ++ spelling (plain item.now) (plan_shape plan.now)) }
 {
     let align = plan.extent().align;
     append_zeros(out, padding((out.len() - start) as u64, align) as usize)?;
@@ -179,7 +183,8 @@ fn write_maybe(
     requires room_left { vec_len out.old ≤ 2 ^ 24 }
     requires planned { IsTrue (is_plan child.now) }
     requires fits { IsTrue (fits_within (suc room) (maybe (plan_shape child.now)) (part_tree parts)) }
-    ensures { Adds result out.old.items out.new.items (spelling (part_tree parts.entry) (maybe (plan_shape child.now))) }
+    ensures { Adds result out.old.items out.new.items
+        (spelling (part_tree parts.entry) (maybe (plan_shape child.now))) }
 {
     match parts {
         Parts::Nothing => Ok(()),
@@ -208,7 +213,8 @@ fn write_tuple(
     requires planned { IsTrue (are_plans plans.now) }
     requires extent { IsRun run (greatest_align (plan_shapes plans.now)) (end_of 0 (plan_shapes plans.now)) }
     requires fits { IsTrue (fits_within (suc room) (tuple (plan_shapes plans.now)) (part_tree parts)) }
-    ensures { Adds result out.old.items out.new.items (spelling (part_tree parts.entry) (tuple (plan_shapes plans.now))) }
+    ensures { Adds result out.old.items out.new.items
+        (spelling (part_tree parts.entry) (tuple (plan_shapes plans.now))) }
 {
     let Parts::Tuple(items) = parts else {
         return Err(EncodeError::NotOfType);
@@ -266,9 +272,12 @@ fn write_entry(
     requires room_left { vec_len out.old ≤ 2 ^ 24 }
     requires key_planned { IsTrue (is_plan key_plan.now) }
     requires value_planned { IsTrue (is_plan value_plan.now) }
-    requires extent { IsRun run (greatest_align (two_shapes (plan_shape key_plan.now) (plan_shape value_plan.now))) (end_of 0 (two_shapes (plan_shape key_plan.now) (plan_shape value_plan.now))) }
-    requires fits { IsTrue (fits_within (suc room) (entry (plan_shape key_plan.now) (plan_shape value_plan.now)) (part_tree parts)) }
-    ensures { Adds result out.old.items out.new.items (spelling (part_tree parts.entry) (entry (plan_shape key_plan.now) (plan_shape value_plan.now))) }
+    requires extent { let both = two_shapes (plan_shape key_plan.now) (plan_shape value_plan.now) in
+        IsRun run (greatest_align both) (end_of 0 both) }
+    requires fits { IsTrue (fits_within (suc room)
+        (entry (plan_shape key_plan.now) (plan_shape value_plan.now)) (part_tree parts)) }
+    ensures { Adds result out.old.items out.new.items
+        (spelling (part_tree parts.entry) (entry (plan_shape key_plan.now) (plan_shape value_plan.now))) }
 {
     let Parts::Entry(key, value) = parts else {
         return Err(EncodeError::NotOfType);
