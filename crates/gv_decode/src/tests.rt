@@ -88,12 +88,3 @@ fn refuses_offsets_that_are_too_wide(rt: HostRuntime) -> Result<(), Fail> {
     assert!(rt; is_refused(alloc, "(ss)", &bytes)?);
     Ok(())
 }
-
-#[test]
-fn refuses_more_than_16_mib(rt: HostRuntime) -> Result<(), Fail> {
-    let alloc = rt.alloc();
-    let bytes = vec![in alloc; 0; 0x100_0001]?;
-    let read = read_as(alloc, "ay", &bytes)?;
-    assert!(rt; matches!(read, Err(DecodeError::TooLong)));
-    Ok(())
-}
