@@ -1,6 +1,7 @@
 -- Things written one after another.
 use Rattle.std.proofs.Common.{◌≡◌, ℕ, zero, suc, ◌+◌, ◌<◌, ◌≤◌, Bool, true, false, List, [], ◌∷◌, ◌++◌, length, take, get_or, refl, ap, sym, ◌∙◌, add_assoc, append_assoc, arith}
 use Rattle.std.proofs.lemmas.List.{append-nil, length-append, take_more}
+use Rattle.bus_frame.proofs.Taking.{length-zeros}
 use Rattle.bus_frame.specs.Writing.{in_row, number_bytes, zeros, text_bytes, element_bytes, elements_bytes, names_bytes}
 
 module _ {A : Type 0} (one : ℕ → A → List ℕ) where
@@ -44,3 +45,22 @@ unfolding names_bytes
 length-names_bytes little at names =
     let elements = elements_bytes little (at + 4) names in
     omega (arith, length-append (number_bytes little (length elements)) elements, length-number_bytes little (length elements))
+
+-- no names, and one
+pub length-no_name : (little : Bool) (at : ℕ) → length (names_bytes little at []) ≡ 4
+length-no_name little at = length-names_bytes little at []
+
+pub length-one_name : (little : Bool) (at : ℕ) (name : List ℕ) → length (names_bytes little at (name ∷ [])) ≤ 12 + length name
+length-one_name little at name =
+    let place = at + 4 in
+    let text = text_bytes little name in
+    omega (
+      arith,
+      length-names_bytes little at (name ∷ []),
+      length-append (element_bytes little place name) [],
+      length-append (zeros 4 place) text,
+      length-zeros 4 place,
+      length-append (number_bytes little (length name) ++ name) (0 ∷ []),
+      length-append (number_bytes little (length name)) name,
+      length-number_bytes little (length name),
+    )

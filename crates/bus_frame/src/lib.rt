@@ -14,6 +14,7 @@ mod reading;
 mod renaming;
 mod room;
 mod rule;
+mod side;
 mod steps;
 mod text;
 mod types;
@@ -25,12 +26,13 @@ pub use bodies::{first_string, is_names, names_body, three_strings};
 pub use header::{Header, ReadFrame};
 pub use items::Items;
 pub use names::{
-    is_bus_name, is_interface_name, is_member_name, is_object_path, is_unique_name,
-    is_well_known_name,
+    are_name_elements, is_bus_name, is_interface_name, is_member_name, is_object_path,
+    is_unique_name, is_well_known_name,
 };
 pub use reading::read_frame;
 pub use renaming::with_names;
 pub use rule::{FrameError, FrameRule};
+pub use side::Side;
 pub use text::Text;
 pub use writing::error_frame;
 

@@ -104,6 +104,13 @@ pub fn is_well_known_name(bytes: &[u8]) -> bool
     bytes.len() <= 255 && dotted(Alphabet::WellKnown, bytes)
 }
 
+/// Whether the bytes are elements of a bus name that isn't unique: one or more with dots between, and of any length.
+pub fn are_name_elements(bytes: &[u8]) -> bool
+    ensures { result ≡ are_elements Alphabet.WellKnown 46 bytes.now }
+{
+    elements(Alphabet::WellKnown, b'.', bytes)
+}
+
 /// Whether the bytes are a bus name.
 #[tactic(auto, unfolding(crate::specs::Names::is_bus))]
 pub fn is_bus_name(bytes: &[u8]) -> bool

@@ -1,6 +1,6 @@
 -- Names are ASCII, and so they are texts.
-use Rattle.std.proofs.Common.{◌≡◌, ◌==◌, ℕ, ◌+◌, ◌<◌, ◌≤◌, Bool, true, false, List, [], ◌∷◌, length, refl, sym, ap, subst, ◌∙◌, inl, inr, arith, eqb}
-use Rattle.std.specs.Prelude.{cond, not, ◌&&◌, ◌||◌, nat_le}
+use Rattle.std.proofs.Common.{◌≡◌, ◌==◌, ℕ, ◌<◌, Bool, true, List, [], ◌∷◌, length, refl, sym, ap, subst, ◌∙◌, inl, inr, arith}
+use Rattle.std.specs.Prelude.{not, ◌&&◌, ◌||◌, nat_le}
 use Rattle.std.specs.List.{list_all, list_any, slice_split, onto_first}
 use Rattle.std.specs.Str.{IsUtf8, IsAscii}
 use Rattle.std.proofs.lemmas.Bool.{eqb-true, and_parts, and_from, cases_Bool, false≢true}
@@ -8,7 +8,7 @@ use Rattle.std.proofs.lemmas.List.Splits.{slice_split-cons_yes, slice_split-cons
 use Rattle.std.proofs.lemmas.Str.{IsUtf8-from_ascii}
 use Rattle.std.proofs.lemmas.Str.Ascii.{IsAscii-nil, IsAscii-cons}
 use Rattle.bus_frame.specs.declared.names.Alphabet.{Alphabet}
-use Rattle.bus_frame.specs.declared.names.Alphabet.TheVariants.{Interface, WellKnown, Unique, Path}
+use Rattle.bus_frame.specs.declared.names.Alphabet.TheVariants.{WellKnown, Unique}
 use Rattle.bus_frame.specs.Names.{continues_element, begins_element, has_first_digit, is_digit, is_element, are_elements, is_dotted, is_unique, is_well_known}
 
 is_ascii : (a : Alphabet) (c : ℕ) → continues_element a c ≡ true → c < 128

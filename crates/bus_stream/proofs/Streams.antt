@@ -1,17 +1,17 @@
 -- However a stream is cut, its messages are those of the bytes.
-use Rattle.std.proofs.Common.{◌≡◌, ℕ, zero, suc, ◌+◌, ◌-◌, ◌<◌, ◌≤◌, List, [], ◌∷◌, ◌++◌, length, get_or, take, drop, Option, Some, None, Result, Ok, Err, refl, sym, ap, subst, ◌∙◌, append_assoc, inl, inr, arith}
+use Rattle.std.proofs.Common.{◌≡◌, ℕ, zero, suc, ◌<◌, ◌≤◌, List, [], ◌∷◌, ◌++◌, length, take, drop, Some, None, Result, Ok, Err, refl, sym, ap, subst, ◌∙◌, append_assoc, arith}
 use Rattle.std.specs.Prelude.{OnOk, OnErr}
-use Rattle.std.specs.List.{flat_map, AllByRecursion}
+use Rattle.std.specs.List.{AllByRecursion}
 use Rattle.std.proofs.lemmas.List.{length-append, append-nil, take_at, drop_at, take-append-drop}
 use Rattle.bus_frame.specs.declared.header.Header.{Header}
 use Rattle.bus_frame.specs.declared.rule.FrameRule.{FrameRule}
 use Rattle.bus_frame.specs.declared.rule.FrameError.{FrameError}
 use Rattle.bus_frame.specs.declared.rule.FrameError.TheVariants.{Bad, NoMemory}
 use Rattle.bus_frame.specs.Reading.{Read, need, bad, whole, frame_of}
-use Rattle.bus_frame.specs.Frame.{Frame, Breaks}
-use Rattle.bus_frame.specs.Answers.{IsWhole}
+use Rattle.bus_frame.specs.Frame.{Frame}
+use Rattle.bus_frame.specs.Answers.{IsWhole, BeginsBroken}
 use Rattle.bus_frame.proofs.Spelled.{IsBytes, IsBytes-left}
-use Rattle.bus_frame.proofs.Frames.{HasBody, has_body, reads_bad, stays_whole, stays_bad}
+use Rattle.bus_frame.proofs.Frames.{has_body, reads_bad, stays_whole, stays_bad}
 use Rattle.bus_frame.proofs.MessageLaws.{found, found_broken, frame_whole, breaks_bad}
 use Rattle.bus_stream.specs.declared.cutter.Cut.{Cut}
 use Rattle.bus_stream.specs.declared.cutter.Cut.TheVariants as cut
@@ -21,9 +21,13 @@ use Rattle.bus_stream.specs.Cuts.{AnswersCut, with_given, AreAll, IsNotYet}
 
 -- ---- feeding
 
-pub still_broken : {E : Type 0} (r : Result (Unit {0}) E) (old new piece : List ℕ) (rule : FrameRule) → OnOk r (new ≡ old ++ piece) → OnErr r (new ≡ old) → frame_of old ≡ bad rule → frame_of new ≡ bad rule
-still_broken (Ok u) old new piece rule ok err e = ap frame_of ok ∙ stays_bad old piece rule e
-still_broken (Err x) old new piece rule ok err e = ap frame_of err ∙ e
+-- bytes that are broken at the front stay so
+broken_front : (old piece : List ℕ) (rule : FrameRule) → BeginsBroken old rule → BeginsBroken (old ++ piece) rule
+broken_front old piece rule b = (b.0, b.1 ++ piece, ap (λ (l : List ℕ). l ++ piece) b.2 ∙ append_assoc b.0 b.1 piece, b.3)
+
+pub still_broken : {E : Type 0} (r : Result (Unit {0}) E) (old new piece : List ℕ) (rule : FrameRule) → OnOk r (new ≡ old ++ piece) → OnErr r (new ≡ old) → BeginsBroken old rule → BeginsBroken new rule
+still_broken (Ok u) old new piece rule ok err b = subst (λ (l : List ℕ). BeginsBroken l rule) (sym ok) (broken_front old piece rule b)
+still_broken (Err x) old new piece rule ok err b = subst (λ (l : List ℕ). BeginsBroken l rule) (sym err) b
 
 -- ---- nothing yet
 
@@ -64,6 +68,48 @@ not_yet (Ok (cut.Message h m)) old new fits is = (λ never. elim never [ ], λ n
 not_yet (Ok cut.NotYet) old new fits is = (λ _. nothing_if old fits (frame_of old) refl is.0, λ _. tt)
 not_yet (Err (Bad rule)) old new fits is = (λ never. elim never [ ], λ nothing. absurd (something_broken old rule fits is.0 nothing))
 not_yet (Err NoMemory) old new fits is = (λ never. elim never [ ], λ nothing. absurd (something_if old fits (frame_of old) refl is.0 nothing))
+
+-- ---- a broken rule
+
+broken_read : (bytes : List ℕ) (rule : FrameRule) → IsBytes bytes → BeginsBroken bytes rule → frame_of bytes ≡ bad rule
+broken_read bytes rule fits b =
+    ap frame_of b.2 ∙ stays_bad b.0 b.1 rule (breaks_bad b.0 rule (IsBytes-left b.0 b.1 (subst IsBytes b.2 fits)) b.3)
+
+not_whole : (r : Read) (rule : FrameRule) → r ≡ bad rule → IsWhole r → ⊥
+not_whole (need n) rule e is = elim is [ ]
+not_whole (bad other) rule e is = elim is [ ]
+not_whole (whole h n) rule e is = cc
+
+not_need : (r : Read) (rule : FrameRule) → r ≡ bad rule → IsNeed r → ⊥
+not_need (need n) rule e is = cc
+not_need (bad other) rule e is = elim is [ ]
+not_need (whole h n) rule e is = elim is [ ]
+
+named : (r : Result Cut FrameError) (old new : List ℕ) (rule : FrameRule) → AnswersCut r old new → frame_of old ≡ bad rule → r ≡ Err (Bad rule)
+named (Ok (cut.Message h m)) old new rule is e = absurd (bad_apart (length m) h rule (sym e ∙ is.0))
+  where
+    bad_apart : (n : ℕ) (k : Header) (x : FrameRule) → bad x ≡ whole k n → ⊥
+    bad_apart n k x d = cc
+named (Ok cut.NotYet) old new rule is e = absurd (not_need (frame_of old) rule e is.0)
+named (Err (Bad other)) old new rule is e = ap (λ (x : FrameRule). Err (Bad x)) (same_rule other rule (sym is.0 ∙ e))
+  where
+    same_rule : (x y : FrameRule) → bad x ≡ bad y → x ≡ y
+    same_rule x y d = cc
+named (Err NoMemory) old new rule is e = absurd (not_whole (frame_of old) rule e is.0)
+
+naming : (r : Result Cut FrameError) (old new : List ℕ) (rule : FrameRule) → AnswersCut r old new → r ≡ Err (Bad rule) → frame_of old ≡ bad rule
+naming r old new rule is e = (subst (λ (x : Result Cut FrameError). AnswersCut x old new) e is).0
+
+pub names_broken : (r : Result Cut FrameError) (old new : List ℕ) → IsBytes old → AnswersCut r old new → (rule : FrameRule) → (r ≡ Err (Bad rule) → BeginsBroken old rule) × (BeginsBroken old rule → r ≡ Err (Bad rule))
+names_broken r old new fits is rule = (
+  λ e. found_broken old rule fits (naming r old new rule is e),
+  λ b. named r old new rule is (broken_read old rule fits b),
+)
+
+pub err_stays : (r : Result Cut FrameError) (old new : List ℕ) → AnswersCut r old new → OnErr r (new ≡ old)
+err_stays (Ok c) old new is = tt
+err_stays (Err (Bad rule)) old new is = is.1
+err_stays (Err NoMemory) old new is = is.1
 
 -- ---- what was given
 

@@ -2,13 +2,12 @@
 use Rattle.std.specs.Prelude.{◌≡◌, ℕ, List, [], ◌∷◌, ◌++◌, length, Some, None, Result, Ok, Err}
 use Rattle.bus_frame.specs.declared.rule.FrameError.{FrameError}
 use Rattle.bus_frame.specs.declared.rule.FrameError.TheVariants.{Bad, NoMemory}
-use Rattle.bus_frame.specs.declared.rule.FrameRule.{FrameRule}
-use Rattle.bus_frame.specs.Reading.{Read, need, bad, whole, frame_of}
+use Rattle.bus_frame.specs.Reading.{bad, whole, frame_of}
 use Rattle.bus_frame.specs.Answers.{IsWhole}
 use Rattle.bus_stream.specs.declared.cutter.Cut.{Cut}
 use Rattle.bus_stream.specs.declared.cutter.Cut.TheVariants as cut
 use Rattle.bus_stream.specs.Fronts.{IsNeed}
-use Rattle.bus_stream.specs.Stream.{Message, CutterAt, messages_in, broken_in}
+use Rattle.bus_stream.specs.Stream.{Message, messages_in, broken_in}
 
 -- The answer is what stands at the front of the bytes that aren't taken. A message is taken off; nothing else changes.
 abbrev pub AnswersCut : Result Cut FrameError → (old new : List ℕ) → Type 0

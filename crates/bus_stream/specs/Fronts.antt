@@ -1,5 +1,5 @@
 -- What stands at the front of the bytes that aren't taken.
-use Rattle.std.specs.Prelude.{◌≡◌, ℕ, List, ◌++◌, length, take, ◌≤◌, Option, Some, None, Result, Ok, Err}
+use Rattle.std.specs.Prelude.{◌≡◌, ℕ, List, length, take, ◌≤◌, Option, Some, None, Result, Ok, Err}
 use Rattle.bus_frame.specs.declared.header.Header.{Header}
 use Rattle.bus_frame.specs.declared.rule.FrameError.{FrameError}
 use Rattle.bus_frame.specs.declared.rule.FrameError.TheVariants.{Bad, NoMemory}

@@ -5,8 +5,8 @@ use Rattle.std.specs.List.{list_any, slice_split}
 use Rattle.std.specs.Str.{bytes_eq}
 use Rattle.bus_frame.specs.Names.{is_unique, is_well_known}
 use Rattle.bus_frame.specs.Steps.{◌>>=◌}
-use Rattle.bus_stream.specs.declared.recording.Side.{Side}
-use Rattle.bus_stream.specs.declared.recording.Side.TheVariants as side
+use Rattle.bus_frame.specs.declared.side.Side.{Side}
+use Rattle.bus_frame.specs.declared.side.Side.TheVariants as side
 use Rattle.bus_stream.specs.declared.recording.Recording.{Recording}
 use Rattle.bus_stream.specs.declared.recording.RecordError.{RecordError}
 use Rattle.bus_stream.specs.declared.recording.RecordError.TheVariants.{BadRecord, NoMemory}

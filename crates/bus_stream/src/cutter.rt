@@ -1,8 +1,8 @@
 //! A stream of messages that comes in pieces.
 
-ghost use Rattle.std.specs.Prelude.{◌≡◌, ◌↔◌, ℕ, List, [], ◌++◌, ◌<◌, slice_index, length, IfOk, OnOk, OnErr};
+ghost use Rattle.std.specs.Prelude.{◌≡◌, ◌↔◌, ℕ, List, [], ◌++◌, ◌<◌, slice_index, length, IfOk, OnOk, OnErr, IsErrOf};
 ghost use Rattle.bus_frame.specs.declared.rule.FrameRule.{FrameRule};
-ghost use Rattle.bus_frame.specs.Reading.{frame_of, bad};
+ghost use Rattle.bus_frame.specs.Answers.{BeginsBroken};
 ghost use Rattle.bus_stream.specs.Fronts.{AnswersFront};
 ghost use Rattle.bus_stream.specs.Stream.{Message, CutterAt, NothingYet};
 
@@ -71,17 +71,19 @@ impl Cutter {
         // What was given stays given, and a broken rule stays broken.
         ensures at { (fed : List ℕ) (given : List Message) → CutterAt self.old fed given
             → OnOk result (CutterAt self.new (fed ++ piece.now) given) }
-        ensures broken { (rule : FrameRule) → frame_of self.old ≡ bad rule → frame_of self.new ≡ bad rule }
+        ensures broken { (rule : FrameRule) → BeginsBroken self.old rule → BeginsBroken self.new rule }
     {
         self.bytes.extend_from_slice(piece)
     }
 
     /// Takes the next whole message. Only a whole message takes memory, and without it nothing changes.
     ///
-    /// After a broken rule each later call names the same rule.
+    /// A rule that is broken stays broken, whatever is fed: each later call names it again.
     pub fn next(&mut self) -> Result<Cut, FrameError>
         ensures exact { AnswersCut result self.old self.new }
         ensures not_yet { IsNotYet result ↔ NothingYet self.old }
+        ensures broken { (rule : FrameRule) → IsErrOf result (FrameError.Bad rule) ↔ BeginsBroken self.old rule }
+        ensures err { OnErr result (self.new ≡ self.old) }
 
         // The messages given are whole messages of what was fed, and in the end all of them, however it was fed.
         ensures at { (fed : List ℕ) (given : List Message) → CutterAt self.old fed given

@@ -5,5 +5,9 @@ mod cutter;
 mod lines;
 mod recording;
 
+pub use bus_frame::Side;
 pub use cutter::{Cut, Cutter};
-pub use recording::{RecordError, Recording, Side, read_recording};
+pub use recording::{RecordError, Recording, read_recording};
+
+#[cfg(test)]
+mod tests;

@@ -4,18 +4,9 @@ ghost use Rattle.std.specs.Prelude.{◌≡◌, IfOk, OnOk};
 ghost use Rattle.bus_stream.specs.Recordings.{with_client, push_names, with_owner, with_piece, with_line, recording_of, said, Knows, Took, AnswersRecording};
 
 use crate::lines::{cut, decoded, unique_name, well_known_name};
-use bus_frame::{Blob, Items, Text};
+use bus_frame::{Blob, Items, Side, Text};
 use std::alloc::{AllocError, Global};
 use std::collections::BTreeSet;
-
-/// Which side sent.
-#[derive(Clone, Copy, Debug, PartialEq, Eq)]
-pub enum Side {
-    /// The client.
-    Client,
-    /// The bus.
-    Bus,
-}
 
 /// What a client and its bus sent to each other, and what was known of names before.
 #[derive(Drop)]

@@ -1,10 +1,10 @@
 -- What operations make of a state.
-use Rattle.std.specs.Prelude.{◌≡◌, ◌<◌, List, [], ◌∷◌, ℕ, length, Contains, true}
-use Rattle.fp_small.specs.Config.{IsSettings}
-use Rattle.fp_small.specs.Order.{inserted, removed}
+use Rattle.std.specs.Prelude.{◌≡◌, ◌<◌, List, [], ◌∷◌, length, Contains, true, false}
+use Rattle.fp_small.specs.Config.{IsSettings, is_row, name_of}
+use Rattle.fp_small.specs.Order.{inserted, removed, replaced, has_name}
 use Rattle.fp_small.specs.declared.state.State.{State}
 use Rattle.fp_small.specs.declared.op.Op.{Op}
-use Rattle.fp_small.specs.declared.op.Op.TheVariants.{AddPin, DropPin}
+use Rattle.fp_small.specs.declared.op.Op.TheVariants.{AddPin, DropPin, AddRemote, ModifyRemote, DropRemote}
 use Rattle.fp_name.specs.Pins.{is_pin}
 use Rattle.dep_states.specs.Shown.{settings_of, state_of}
 
@@ -12,16 +12,22 @@ use Rattle.dep_states.specs.Shown.{settings_of, state_of}
 abbrev pub after : State → Op → State
 after s (AddPin pin) = record s { pins = inserted (λ p. p) s.pins pin }
 after s (DropPin pin) = record s { pins = removed (λ p. p) s.pins pin }
+after s (AddRemote row) = record s { remotes = inserted name_of s.remotes row }
+after s (ModifyRemote row) = record s { remotes = replaced name_of s.remotes row }
+after s (DropRemote name) = record s { remotes = removed name_of s.remotes name }
 
 -- the state after operations in turn
 abbrev pub after_all : State → List Op → State
 after_all s [] = s
 after_all s (op ∷ ops) = after_all (after s op) ops
 
--- what the refusals leave: a pattern that isn't pinned, below the limit, and one that is
+-- what the refusals leave: a pattern or remote that isn't there, below the limit, and one that is
 abbrev pub May : State → Op → Type 0
 May s (AddPin pin) = (is_pin pin ≡ true) × (Contains s.pins pin → ⊥) × (length s.pins < 1024)
 May s (DropPin pin) = Contains s.pins pin
+May s (AddRemote row) = (is_row row ≡ true) × (has_name name_of s.remotes row.name ≡ false) × (length s.remotes < 256)
+May s (ModifyRemote row) = (is_row row ≡ true) × (has_name name_of s.remotes row.name ≡ true)
+May s (DropRemote name) = has_name name_of s.remotes name ≡ true
 
 -- a state whose settings can be written
 pub record IsGood (s : State) : Type 0 where

@@ -1,9 +1,7 @@
 // How a command ends where it isn't done.
 ghost use Rattle.std.specs.Prelude.{◌≡◌};
-ghost use Rattle.fl_top.specs.Status.{status_of};
 
 use dep_open::OpenEnd;
-use fl_words::WordsError;
 use fp_host::{HostEnd, HostError};
 use fp_small::Refusal;
 use std::alloc::AllocError;
@@ -16,16 +14,12 @@ pub(crate) enum RunEnd {
     NoMemory,
 }
 
-impl From<WordsError> for RunEnd {
-    fn from(error: WordsError) -> RunEnd {
-        match error {
-            WordsError::BadWords { index } => RunEnd::Refused(Refusal::BadWords { index }),
-            WordsError::NoMemory => RunEnd::NoMemory,
-        }
-    }
-}
-
 impl From<OpenEnd> for RunEnd {
+    ghost use Rattle.std.specs.Prelude.{◌≡◌};
+    ghost use Rattle.fl_top.specs.Ends.{end_of_open};
+
+    ghost from_gives = { λ opening end. end ≡ end_of_open opening };
+
     fn from(end: OpenEnd) -> RunEnd {
         match end {
             OpenEnd::Damaged(path) => RunEnd::Refused(Refusal::Damaged { path }),
@@ -36,6 +30,11 @@ impl From<OpenEnd> for RunEnd {
 }
 
 impl From<HostEnd> for RunEnd {
+    ghost use Rattle.std.specs.Prelude.{◌≡◌};
+    ghost use Rattle.fl_top.specs.Ends.{end_of_host};
+
+    ghost from_gives = { λ host end. end ≡ end_of_host host };
+
     fn from(end: HostEnd) -> RunEnd {
         match end {
             HostEnd::Fault => RunEnd::Fault,
@@ -45,26 +44,24 @@ impl From<HostEnd> for RunEnd {
 }
 
 impl From<HostError> for RunEnd {
+    ghost use Rattle.std.specs.Prelude.{◌≡◌};
+    ghost use Rattle.fp_host.specs.Causes.{end_of};
+    ghost use Rattle.fl_top.specs.Ends.{end_of_host};
+
+    ghost from_gives = { λ error end. end ≡ end_of_host (end_of error) };
+
     fn from(error: HostError) -> RunEnd {
         RunEnd::from(HostEnd::from(error))
     }
 }
 
 impl From<AllocError> for RunEnd {
+    ghost use Rattle.std.specs.Prelude.{◌≡◌};
+    ghost use Rattle.fl_top.specs.declared.end.RunEnd.TheVariants.{NoMemory};
+
+    ghost from_gives = { λ _ end. end ≡ NoMemory };
+
     fn from(_: AllocError) -> RunEnd {
         RunEnd::NoMemory
-    }
-}
-
-/// The status of a refusal: 2 for words that are no command, else 1.
-pub(crate) fn status_of(refusal: &Refusal) -> u8
-    ensures { result ≡ status_of refusal.now }
-{
-    match refusal {
-        Refusal::BadWords { .. } => 2,
-        Refusal::PinExists { .. }
-        | Refusal::NoSuchPin { .. }
-        | Refusal::Limit { .. }
-        | Refusal::Damaged { .. } => 1,
     }
 }

@@ -3,6 +3,7 @@
 
 mod change;
 mod end;
+pub mod laws;
 mod running;
 
 pub use running::run;

@@ -1,15 +1,18 @@
 -- Which words can go on to be a command, and where words go wrong.
-use Rattle.std.proofs.Common.{◌≡◌, ℕ, ◌+◌, ◌<◌, ◌≤◌, suc, zero, Bool, true, false, cond, List, [], ◌∷◌, ◌++◌, length, take, Option, Some, None, refl, ap, sym, rules, arith, add-one, ◌∙◌}
+use Rattle.std.proofs.Common.{◌≡◌, ℕ, ◌+◌, ◌<◌, ◌≤◌, suc, zero, Bool, true, false, cond, ◌&&◌, ◌||◌, List, [], ◌∷◌, ◌++◌, length, take, Option, Some, None, refl, ap, sym, rules, arith, add-one, ◌∙◌}
 use Rattle.std.proofs.lemmas.Bool.{false≢true}
 use Rattle.std.specs.Prelude.{IsSome, codes, option_and_then}
+use Rattle.fp_name.specs.Grammar.{is_remote_name, is_url}
 use Rattle.fp_name.specs.Pins.{is_pin}
 use Rattle.fl_words.specs.declared.verb.Verb.{Verb}
 use Rattle.fl_words.specs.declared.verb.Verb.TheVariants as verbs
 use Rattle.fl_words.specs.declared.command.Command.{Command}
-use Rattle.fl_words.specs.declared.command.Command.TheVariants.{Pin, Unpin}
+use Rattle.fl_words.specs.declared.command.Command.TheVariants.{Pin, Unpin, AddRemote, ModifyRemote, DeleteRemote, ListPins, ListRemotes}
+use Rattle.fp_small.specs.declared.state.RemoteRow.{RemoteRow}
+use Rattle.std.specs.Str.{bytes_eq}
 use Rattle.std.specs.Option.{option_map}
 use Rattle.fl_words.specs.Verbs.{verb_of}
-use Rattle.fl_words.specs.Words.{behind, begins, begins_behind, Begins, first_bad, bad_index}
+use Rattle.fl_words.specs.Words.{behind, remote_of, begins_remote, begins, begins_behind, Begins, first_bad, bad_index}
 
 -- some pattern
 any_pin : List ℕ
@@ -19,9 +22,30 @@ any_pin_is : is_pin (codes "app/*/*/*") ≡ true
 unfolding is_pin
 any_pin_is = refl
 
+-- some remote
+any_name_is : is_remote_name (codes "lab") ≡ true
+unfolding is_remote_name
+any_name_is = refl
+
+any_url_is : is_url (codes "file:///lab") ≡ true
+unfolding is_url
+any_url_is = refl
+
+both_is : (a b : Bool) → (a && b) ≡ true → (a ≡ true) × (b ≡ true)
+both_is true b h = (refl, h)
+both_is false b h = absurd (cc h)
+
+with_url : (n : List ℕ) → is_remote_name n ≡ true → (is_remote_name n && is_url (codes "file:///lab")) ≡ true
+with_url n h = rw (h, any_url_is) refl
+
 -- the command of a verb, where it is one, and the words behind it
 abbrev with_verb : Option Verb → List (List ℕ) → Option Command
 with_verb verb words = option_and_then (λ v. behind v words) verb
+
+listed : (a b : Bool) → (a || b) ≡ true → IsSome (cond a (Some ListPins) (cond b (Some ListRemotes) None))
+listed true b h = search rules
+listed false true h = search rules
+listed false false h = absurd (cc h)
 
 goes_on : (verb : Option Verb) (words : List (List ℕ)) → begins_behind verb words ≡ true → (more : List (List ℕ)) × IsSome (with_verb verb (words ++ more))
 goes_on None words h = absurd (cc)
@@ -31,18 +55,42 @@ goes_on (Some verbs.Pin) (p ∷ q ∷ more) h = absurd (cc)
 goes_on (Some verbs.Unpin) [] h = (codes "app/*/*/*" ∷ [], rw any_pin_is (search rules))
 goes_on (Some verbs.Unpin) (p ∷ []) h = ([], rw h (search rules))
 goes_on (Some verbs.Unpin) (p ∷ q ∷ more) h = absurd (cc)
+goes_on (Some verbs.RemoteAdd) [] h = (codes "lab" ∷ codes "file:///lab" ∷ [], rw (with_url (codes "lab") any_name_is) (search rules))
+goes_on (Some verbs.RemoteAdd) (n ∷ []) h = (codes "file:///lab" ∷ [], rw (with_url n h) (search rules))
+goes_on (Some verbs.RemoteAdd) (n ∷ u ∷ []) h = ([], rw h (search rules))
+goes_on (Some verbs.RemoteAdd) (n ∷ u ∷ v ∷ more) h = absurd (cc)
+goes_on (Some verbs.RemoteModify) [] h = (codes "lab" ∷ codes "file:///lab" ∷ [], rw (with_url (codes "lab") any_name_is) (search rules))
+goes_on (Some verbs.RemoteModify) (n ∷ []) h = (codes "file:///lab" ∷ [], rw (with_url n h) (search rules))
+goes_on (Some verbs.RemoteModify) (n ∷ u ∷ []) h = ([], rw h (search rules))
+goes_on (Some verbs.RemoteModify) (n ∷ u ∷ v ∷ more) h = absurd (cc)
+goes_on (Some verbs.RemoteDelete) [] h = (codes "lab" ∷ [], rw any_name_is (search rules))
+goes_on (Some verbs.RemoteDelete) (n ∷ []) h = ([], rw h (search rules))
+goes_on (Some verbs.RemoteDelete) (n ∷ u ∷ more) h = absurd (cc)
 goes_on (Some verbs.List) [] h = (codes "--pins" ∷ [], search rules)
-goes_on (Some verbs.List) (word ∷ []) h = ([], rw h (search rules))
+goes_on (Some verbs.List) (word ∷ []) h = ([], listed (bytes_eq word (codes "--pins")) (bytes_eq word (codes "--remotes")) h)
 goes_on (Some verbs.List) (word ∷ next ∷ more) h = absurd (cc)
 
--- a pattern that is looked for is there only if the test passed
-passed : {A : Type 0} (b : Bool) (x : A) → IsSome (cond b (Some x) None) → b ≡ true
-passed true x h = refl
-passed false x h = absurd (search rules)
-
+-- what is looked for is there only if the test passed
 passed_map : {A B : Type 0} (f : A → B) (b : Bool) (x : A) → IsSome (option_map f (cond b (Some x) None)) → b ≡ true
 passed_map f true x h = refl
 passed_map f false x h = absurd (search rules)
+
+was_listed : (a b : Bool) → IsSome (cond a (Some ListPins) (cond b (Some ListRemotes) None)) → (a || b) ≡ true
+was_listed true b h = refl
+was_listed false true h = refl
+was_listed false false h = absurd (search rules)
+
+named_first : (n u : List ℕ) → (is_remote_name n && is_url u) ≡ true → is_remote_name n ≡ true
+named_first n u h = (both_is (is_remote_name n) (is_url u) h).0
+
+began_remote : (f : RemoteRow → Command) (words more : List (List ℕ)) → IsSome (option_map f (remote_of (words ++ more))) → begins_remote words ≡ true
+began_remote f [] more h = refl
+began_remote f (n ∷ []) [] h = absurd (search rules)
+began_remote f (n ∷ []) (u ∷ []) h = named_first n u (passed_map f (is_remote_name n && is_url u) (record { name = n; url = u }) h)
+began_remote f (n ∷ []) (u ∷ v ∷ more) h = absurd (search rules)
+began_remote f (n ∷ u ∷ []) [] h = passed_map f (is_remote_name n && is_url u) (record { name = n; url = u }) h
+began_remote f (n ∷ u ∷ []) (v ∷ more) h = absurd (search rules)
+began_remote f (n ∷ u ∷ v ∷ words) more h = absurd (search rules)
 
 began : (verb : Option Verb) (words more : List (List ℕ)) → IsSome (with_verb verb (words ++ more)) → begins_behind verb words ≡ true
 began None words more h = absurd (search rules)
@@ -54,8 +102,14 @@ began (Some verbs.Unpin) [] more h = refl
 began (Some verbs.Unpin) (p ∷ []) [] h = passed_map Unpin (is_pin p) p h
 began (Some verbs.Unpin) (p ∷ []) (m ∷ more) h = absurd (search rules)
 began (Some verbs.Unpin) (p ∷ q ∷ words) more h = absurd (search rules)
+began (Some verbs.RemoteAdd) words more h = began_remote AddRemote words more h
+began (Some verbs.RemoteModify) words more h = began_remote ModifyRemote words more h
+began (Some verbs.RemoteDelete) [] more h = refl
+began (Some verbs.RemoteDelete) (n ∷ []) [] h = passed_map DeleteRemote (is_remote_name n) n h
+began (Some verbs.RemoteDelete) (n ∷ []) (m ∷ more) h = absurd (search rules)
+began (Some verbs.RemoteDelete) (n ∷ u ∷ words) more h = absurd (search rules)
 began (Some verbs.List) [] more h = refl
-began (Some verbs.List) (word ∷ []) [] h = passed _ _ h
+began (Some verbs.List) (word ∷ []) [] h = was_listed (bytes_eq word (codes "--pins")) (bytes_eq word (codes "--remotes")) h
 began (Some verbs.List) (word ∷ []) (m ∷ more) h = absurd (search rules)
 began (Some verbs.List) (word ∷ next ∷ words) more h = absurd (search rules)
 

@@ -3,11 +3,12 @@ use Rattle.std.specs.Prelude.{ℕ, ◌/◌, ◌%◌, ◌==◌, ◌||◌, List, [
 use Rattle.std.specs.Fmt.{digit_glyph}
 use Rattle.fp_host.specs.Paths.{path_text}
 use Rattle.fp_small.specs.declared.refusal.Refusal.{Refusal}
-use Rattle.fp_small.specs.declared.refusal.Refusal.TheVariants.{BadWords, PinExists, NoSuchPin, Limit, Damaged}
+use Rattle.fp_small.specs.declared.refusal.Refusal.TheVariants.{BadWords, NoSuchRemote, RemoteExists, PinExists, NoSuchPin, Limit, Damaged}
 use Rattle.fp_small.specs.declared.refusal.What.{What}
-use Rattle.fp_small.specs.declared.refusal.What.TheVariants.{Pins}
+use Rattle.fp_small.specs.declared.refusal.What.TheVariants.{Pins, Remotes}
 use Rattle.fp_small.specs.declared.op.Op.{Op}
-use Rattle.fp_small.specs.declared.op.Op.TheVariants.{AddPin, DropPin}
+use Rattle.fp_small.specs.declared.state.RemoteRow.{RemoteRow}
+use Rattle.fp_small.specs.declared.op.Op.TheVariants.{AddPin, DropPin, AddRemote, ModifyRemote, DropRemote}
 
 -- ---- a text that we didn't make
 
@@ -34,10 +35,13 @@ line text = text ++ 10 ∷ []
 -- the word for what has a limit
 abbrev pub what_word : What → List ℕ
 what_word Pins = codes "pins"
+what_word Remotes = codes "remotes"
 
 -- the line of a refusal
 abbrev pub refusal_text : Refusal → List ℕ
 refusal_text (BadWords index) = line (codes "error: words " ++ decimal index)
+refusal_text (NoSuchRemote remote) = line (codes "error: no remote " ++ remote)
+refusal_text (RemoteExists remote) = line (codes "error: remote exists " ++ remote)
 refusal_text (PinExists pin) = line (codes "error: pin exists " ++ pin)
 refusal_text (NoSuchPin pin) = line (codes "error: no pin " ++ pin)
 refusal_text (Limit what number) = line (codes "error: limit " ++ what_word what ++ codes " " ++ decimal number)
@@ -47,7 +51,18 @@ refusal_text (Damaged path) = line (codes "error: damaged " ++ escaped (path_tex
 abbrev pub op_text : Op → List ℕ
 op_text (AddPin pin) = line (codes "pinned " ++ pin)
 op_text (DropPin pin) = line (codes "unpinned " ++ pin)
+op_text (AddRemote row) = line (codes "remote added " ++ row.name)
+op_text (ModifyRemote row) = line (codes "remote modified " ++ row.name)
+op_text (DropRemote name) = line (codes "remote deleted " ++ name)
 
 -- a line for each pattern
 abbrev pub pins_text : List (List ℕ) → List ℕ
 pins_text pins = flat_map line pins
+
+-- the name, a space and the URL
+abbrev pub remote_line : RemoteRow → List ℕ
+remote_line row = line (row.name ++ 32 ∷ row.url)
+
+-- a line for each remote
+abbrev pub remotes_text : List RemoteRow → List ℕ
+remotes_text remotes = flat_map remote_line remotes

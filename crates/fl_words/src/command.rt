@@ -2,7 +2,8 @@
 ghost use Rattle.std.specs.Prelude.{◌≡◌};
 ghost use Rattle.fl_words.specs.declared.command.WordsError.TheVariants.{NoMemory};
 
-use fp_name::PinPattern;
+use fp_name::{PinPattern, RemoteName};
+use fp_small::RemoteRow;
 use std::alloc::AllocError;
 use std::error::Error;
 use std::fmt;
@@ -14,8 +15,16 @@ pub enum Command {
     Pin(PinPattern),
     /// `unpin P`: takes the pattern away.
     Unpin(PinPattern),
+    /// `remote-add N U`: adds a remote.
+    AddRemote(RemoteRow),
+    /// `remote-modify N U`: gives a remote another URL.
+    ModifyRemote(RemoteRow),
+    /// `remote-delete N`: takes the remote away.
+    DeleteRemote(RemoteName),
     /// `list --pins`: prints the patterns.
     ListPins,
+    /// `list --remotes`: prints the remotes.
+    ListRemotes,
 }
 
 /// Why words weren't read as a command.

@@ -10,7 +10,7 @@ mod verb;
 
 pub use command::{Command, WordsError};
 pub use laws::{bad_index_is_least, beginnings_go_on, escapes_tell_texts, words_read_back};
-pub use lines::{op_line, pins_text, refusal_line};
+pub use lines::{op_line, pins_text, refusal_line, remotes_text};
 pub use reading::read_words;
 
 #[cfg(test)]

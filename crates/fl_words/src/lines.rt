@@ -1,11 +1,11 @@
 // The lines that commands print.
 ghost use Rattle.std.specs.Prelude.{◌≡◌, IfOk};
-ghost use Rattle.fl_words.specs.Lines.{what_word, refusal_text, op_text, pins_text};
+ghost use Rattle.fl_words.specs.Lines.{what_word, refusal_text, op_text, pins_text, remotes_text};
 
 use crate::escaping::escape;
 use fp_host::Text;
 use fp_name::PinPattern;
-use fp_small::{Op, Refusal, What};
+use fp_small::{Op, Refusal, RemoteRow, What};
 use std::alloc::{AllocError, Global};
 
 /// The line of a refusal.
@@ -14,6 +14,14 @@ pub fn refusal_line(alloc: Global, refusal: &Refusal) -> Result<Text, AllocError
 {
     let line = match refusal {
         Refusal::BadWords { index } => format!(in alloc; "error: words {index}\n")?,
+        Refusal::NoSuchRemote { remote } => {
+            let remote = remote.as_str();
+            format!(in alloc; "error: no remote {remote}\n")?
+        }
+        Refusal::RemoteExists { remote } => {
+            let remote = remote.as_str();
+            format!(in alloc; "error: remote exists {remote}\n")?
+        }
         Refusal::PinExists { pin } => {
             let pin = pin.as_str();
             format!(in alloc; "error: pin exists {pin}\n")?
@@ -40,6 +48,7 @@ fn word_of(what: What) -> &'static str
 {
     match what {
         What::Pins => "pins",
+        What::Remotes => "remotes",
     }
 }
 
@@ -56,6 +65,18 @@ pub fn op_line(alloc: Global, op: &Op) -> Result<Text, AllocError>
             let pin = pin.as_str();
             format!(in alloc; "unpinned {pin}\n")?
         }
+        Op::AddRemote(row) => {
+            let name = row.name.as_str();
+            format!(in alloc; "remote added {name}\n")?
+        }
+        Op::ModifyRemote(row) => {
+            let name = row.name.as_str();
+            format!(in alloc; "remote modified {name}\n")?
+        }
+        Op::DropRemote(name) => {
+            let name = name.as_str();
+            format!(in alloc; "remote deleted {name}\n")?
+        }
     };
     Ok(Text::from_string(line))
 }
@@ -67,6 +88,20 @@ pub fn pins_text(alloc: Global, pins: &[PinPattern]) -> Result<Text, AllocError>
     let mut text = String::new(alloc);
     for pin in pins {
         text.push_str(pin.as_str())?;
+        text.push('\n')?;
+    }
+    Ok(Text::from_string(text))
+}
+
+/// A line for each remote, in the order given: its name, a space and its URL.
+pub fn remotes_text(alloc: Global, remotes: &[RemoteRow]) -> Result<Text, AllocError>
+    ensures { IfOk result (λ t. t ≡ remotes_text remotes.now) }
+{
+    let mut text = String::new(alloc);
+    for row in remotes {
+        text.push_str(row.name.as_str())?;
+        text.push(' ')?;
+        text.push_str(row.url.as_str())?;
         text.push('\n')?;
     }
     Ok(Text::from_string(text))

@@ -1,11 +1,12 @@
 // Reading the words of a command line.
 ghost use Rattle.std.specs.Prelude.{◌≡◌, Some, IfOk, IfErr, map, string_bytes};
-ghost use Rattle.fl_words.specs.Words.{command_of, pattern_of, begins_pattern, list_of, begins_list};
+ghost use Rattle.fl_words.specs.Words.{command_of, pattern_of, begins_pattern, remote_of, begins_remote, name_of, begins_name, list_of, begins_list};
 ghost use Rattle.fl_words.specs.Behind.{IsNoCommand, GoesWrong};
 
 use crate::command::{Command, WordsError};
 use crate::verb::Verb;
-use fp_name::{NameFault, PinPattern};
+use fp_name::{NameFault, PinPattern, RemoteName, RemoteUrl};
+use fp_small::RemoteRow;
 use std::alloc::Global;
 
 /// The command of the words of a command line. `BadWords` comes exactly where they are none.
@@ -19,6 +20,9 @@ pub fn read_words(alloc: Global, words: &[String]) -> Result<Command, WordsError
     match Verb::of_word(first) {
         Some(Verb::Pin) => Ok(Command::Pin(read_pattern(alloc, rest)?)),
         Some(Verb::Unpin) => Ok(Command::Unpin(read_pattern(alloc, rest)?)),
+        Some(Verb::RemoteAdd) => Ok(Command::AddRemote(read_remote(alloc, rest)?)),
+        Some(Verb::RemoteModify) => Ok(Command::ModifyRemote(read_remote(alloc, rest)?)),
+        Some(Verb::RemoteDelete) => Ok(Command::DeleteRemote(read_name(alloc, rest)?)),
         Some(Verb::List) => read_list(rest),
         None => Err(WordsError::BadWords { index: 0 }),
     }
@@ -51,11 +55,59 @@ fn read_list(words: &[String]) -> Result<Command, WordsError>
     let Some((word, rest)) = words.split_first() else {
         return Err(WordsError::BadWords { index: 1 });
     };
-    if word.as_str() != "--pins" {
-        return Err(WordsError::BadWords { index: 1 });
-    }
+    let command = match word.as_str() {
+        "--pins" => Command::ListPins,
+        "--remotes" => Command::ListRemotes,
+        _ => return Err(WordsError::BadWords { index: 1 }),
+    };
     if !rest.is_empty() {
         return Err(WordsError::BadWords { index: 2 });
     }
-    Ok(Command::ListPins)
+    Ok(command)
+}
+
+/// The remote that the words behind a verb are.
+fn read_remote(alloc: Global, words: &[String]) -> Result<RemoteRow, WordsError>
+    ensures ok { IfOk result (λ row. remote_of (map string_bytes words.now) ≡ Some row) }
+    ensures bad { IfErr result (GoesWrong remote_of begins_remote (map string_bytes words.now)) }
+{
+    let Some((word, more)) = words.split_first() else {
+        return Err(WordsError::BadWords { index: 1 });
+    };
+    let name = match RemoteName::parse(alloc, word.as_bytes()) {
+        Ok(name) => name,
+        Err(NameFault::Bad) => return Err(WordsError::BadWords { index: 1 }),
+        Err(NameFault::NoMemory) => return Err(WordsError::NoMemory),
+    };
+    let Some((next, rest)) = more.split_first() else {
+        return Err(WordsError::BadWords { index: 2 });
+    };
+    let url = match RemoteUrl::parse(alloc, next.as_bytes()) {
+        Ok(url) => url,
+        Err(NameFault::Bad) => return Err(WordsError::BadWords { index: 2 }),
+        Err(NameFault::NoMemory) => return Err(WordsError::NoMemory),
+    };
+    if !rest.is_empty() {
+        return Err(WordsError::BadWords { index: 3 });
+    }
+    Ok(RemoteRow { name, url })
+}
+
+/// The name of a remote that the words behind a verb are.
+fn read_name(alloc: Global, words: &[String]) -> Result<RemoteName, WordsError>
+    ensures ok { IfOk result (λ name. name_of (map string_bytes words.now) ≡ Some name) }
+    ensures bad { IfErr result (GoesWrong name_of begins_name (map string_bytes words.now)) }
+{
+    let Some((word, rest)) = words.split_first() else {
+        return Err(WordsError::BadWords { index: 1 });
+    };
+    let name = match RemoteName::parse(alloc, word.as_bytes()) {
+        Ok(name) => name,
+        Err(NameFault::Bad) => return Err(WordsError::BadWords { index: 1 }),
+        Err(NameFault::NoMemory) => return Err(WordsError::NoMemory),
+    };
+    if !rest.is_empty() {
+        return Err(WordsError::BadWords { index: 2 });
+    }
+    Ok(name)
 }

@@ -1,7 +1,7 @@
-use crate::{Command, WordsError, op_line, pins_text, read_words, refusal_line};
-use fp_host::{Path, Text};
-use fp_name::PinPattern;
-use fp_small::{Op, Refusal, What};
+use crate::{Command, WordsError, op_line, pins_text, read_words, refusal_line, remotes_text};
+use fp_host::Path;
+use fp_name::{PinPattern, RemoteName, RemoteUrl};
+use fp_small::{Op, Refusal, RemoteRow, What};
 use std::alloc::{AllocError, Global};
 use std::test::Fail;
 
@@ -14,9 +14,51 @@ fn told(alloc: Global, words: &[&str]) -> Result<String, AllocError> {
     match read_words(alloc, &owned) {
         Ok(Command::Pin(pin)) => format!(in alloc; "Pin {}", pin.as_str()),
         Ok(Command::Unpin(pin)) => format!(in alloc; "Unpin {}", pin.as_str()),
+        Ok(Command::AddRemote(row)) => told_remote(alloc, "AddRemote", &row),
+        Ok(Command::ModifyRemote(row)) => told_remote(alloc, "ModifyRemote", &row),
+        Ok(Command::DeleteRemote(name)) => { format!(in alloc; "DeleteRemote {}", name.as_str()) }
         Ok(Command::ListPins) => "ListPins".to_string(alloc),
+        Ok(Command::ListRemotes) => "ListRemotes".to_string(alloc),
         Err(error) => format!(in alloc; "{error}"),
     }
+}
+
+fn told_remote(alloc: Global, what: &str, row: &RemoteRow) -> Result<String, AllocError> {
+    format!(in alloc; "{what} {} {}", row.name.as_str(), row.url.as_str())
+}
+
+#[test]
+fn words_on_remotes(rt: HostRuntime) -> Result<(), Fail> {
+    let table: [(&[&str], &str); 15] = [
+        (
+            &["remote-add", "lab", "file:///lab"],
+            "AddRemote lab file:///lab",
+        ),
+        (
+            &["remote-modify", "lab", "file:///l"],
+            "ModifyRemote lab file:///l",
+        ),
+        (&["remote-delete", "lab"], "DeleteRemote lab"),
+        (&["list", "--remotes"], "ListRemotes"),
+        (&["remote-add"], "bad words at 1"),
+        (&["remote-add", ""], "bad words at 1"),
+        (&["remote-add", "a/b", "file:///lab"], "bad words at 1"),
+        (&["remote-add", "lab"], "bad words at 2"),
+        (&["remote-modify", "lab", "lab"], "bad words at 2"),
+        (
+            &["remote-modify", "lab", "file:///l", "x"],
+            "bad words at 3",
+        ),
+        (&["remote-delete"], "bad words at 1"),
+        (&["remote-delete", "a b"], "bad words at 1"),
+        (&["remote-delete", "lab", "file:///lab"], "bad words at 2"),
+        (&["remote-remove", "lab"], "bad words at 0"),
+        (&["list", "--remote"], "bad words at 1"),
+    ];
+    for (words, want) in table {
+        assert_eq!(rt; told(rt.alloc(), words)?.as_str(), want, "{words:?}");
+    }
+    Ok(())
 }
 
 #[test]
@@ -125,21 +167,42 @@ fn damaged_paths(rt: HostRuntime) -> Result<(), Fail> {
     Ok(())
 }
 
-fn is_text(text: &Text, want: &str) -> bool {
-    text.as_str() == want
+fn says(alloc: Global, op: &Op, want: &str) -> Result<bool, AllocError> {
+    Ok(op_line(alloc, op)?.as_str() == want)
 }
 
 #[test]
 fn operations(rt: HostRuntime) -> Result<(), Fail> {
-    let alloc = rt.alloc();
-    let added = Op::AddPin(pattern(alloc, "app/*/*/*")?);
-    let dropped = Op::DropPin(pattern(alloc, "app/org.x.Y/*/*")?);
-    assert!(rt; is_text(&op_line(alloc, &added)?, "pinned app/*/*/*\n"));
-    assert!(rt; is_text(&op_line(alloc, &dropped)?, "unpinned app/org.x.Y/*/*\n"));
-    let mut pins = Vec::new(alloc);
-    assert!(rt; is_text(&pins_text(alloc, &pins)?, ""));
-    pins.push(pattern(alloc, "runtime/*/*/*")?)?;
-    pins.push(pattern(alloc, "app/*/*/*")?)?;
-    assert!(rt; is_text(&pins_text(alloc, &pins)?, "runtime/*/*/*\napp/*/*/*\n"));
+    let added = Op::AddPin(pattern(rt.alloc(), "app/*/*/*")?);
+    assert!(rt; says(rt.alloc(), &added, "pinned app/*/*/*\n")?);
+    let dropped = Op::DropPin(pattern(rt.alloc(), "app/org.x.Y/*/*")?);
+    assert!(rt; says(rt.alloc(), &dropped, "unpinned app/org.x.Y/*/*\n")?);
+    Ok(())
+}
+
+fn remote(alloc: Global, name: &str, url: &str) -> Result<RemoteRow, Fail> {
+    Ok(RemoteRow {
+        name: RemoteName::parse(alloc, name.as_bytes())?,
+        url: RemoteUrl::parse(alloc, url.as_bytes())?,
+    })
+}
+
+#[test]
+fn printed_remotes(rt: HostRuntime) -> Result<(), Fail> {
+    let mut remotes = Vec::new(rt.alloc());
+    remotes.push(remote(rt.alloc(), "art", "file:///art")?)?;
+    remotes.push(remote(rt.alloc(), "lab", "file:///lab")?)?;
+    let text = remotes_text(rt.alloc(), &remotes)?;
+    assert_eq!(rt; text.as_str(), "art file:///art\nlab file:///lab\n");
+    Ok(())
+}
+
+#[test]
+fn printed_pins(rt: HostRuntime) -> Result<(), Fail> {
+    let mut pins = Vec::new(rt.alloc());
+    pins.push(pattern(rt.alloc(), "runtime/*/*/*")?)?;
+    pins.push(pattern(rt.alloc(), "app/*/*/*")?)?;
+    let text = pins_text(rt.alloc(), &pins)?;
+    assert_eq!(rt; text.as_str(), "runtime/*/*/*\napp/*/*/*\n");
     Ok(())
 }

@@ -7,6 +7,9 @@ ghost use Rattle.fl_words.specs.Verbs.{verb_of};
 pub enum Verb {
     Pin,
     Unpin,
+    RemoteAdd,
+    RemoteModify,
+    RemoteDelete,
     List,
 }
 
@@ -18,6 +21,9 @@ impl Verb {
         match word {
             "pin" => Some(Verb::Pin),
             "unpin" => Some(Verb::Unpin),
+            "remote-add" => Some(Verb::RemoteAdd),
+            "remote-modify" => Some(Verb::RemoteModify),
+            "remote-delete" => Some(Verb::RemoteDelete),
             "list" => Some(Verb::List),
             _ => None,
         }

@@ -50,8 +50,8 @@ fn without_returns(line: &[u8]) -> &[u8]
     &line[..end]
 }
 
-/// The text without spaces and tabs at its start.
-fn trim_front(text: &str) -> &str
+/// The text without the spaces and tabs at its start.
+pub fn trim_front(text: &str) -> &str
     ensures { result.now ≡ trimmed_front grammar.is_blank text.now }
 {
     let bytes = text.as_bytes();

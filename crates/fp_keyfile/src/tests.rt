@@ -1,7 +1,7 @@
 //! Key files with what they read as, worked out from the rules by hand.
 
 use super::*;
-use std::alloc::AllocError;
+use std::alloc::{AllocError, Global};
 use std::test::*;
 
 /// Bytes that are a key file, and the text that is written for it.
@@ -121,36 +121,84 @@ const NO_TEXTS: [([u8; 7], u64); 6] = [
     ([0x23, 0xf4, 0x90, 0x80, 0x80, 0x0a, 0x0a], 1),
 ];
 
-#[test]
-fn reads_and_writes(rt: HostRuntime) -> Result<(), Fail> {
-    for (bytes, want) in &FILES {
-        let file = KeyFile::parse(rt.alloc(), bytes.as_bytes())?;
-        let text = file.write()?;
-        assert_eq!(rt; text.as_str(), *want, "for {bytes:?}");
-        let again = KeyFile::parse(rt.alloc(), text.as_str().as_bytes())?.write()?;
-        assert_eq!(rt; again.as_str(), *want, "for what was written");
+/// The bytes read, and written.
+fn written(alloc: Global, bytes: &str) -> Result<Text, KeyError> {
+    Ok(KeyFile::parse(alloc, bytes.as_bytes())?.write()?)
+}
+
+/// The first of the files that isn't written as it should be.
+fn first_misread<'a>(
+    alloc: Global,
+    files: &'a [(&'a str, &'a str)],
+) -> Result<Option<&'a str>, KeyError> {
+    for (bytes, want) in files {
+        if written(alloc, bytes)?.as_str() != *want {
+            return Ok(Some(*bytes));
+        }
     }
-    Ok(())
+    Ok(None)
+}
+
+/// The first of the written texts that isn't written again as it is.
+fn first_changed<'a>(
+    alloc: Global,
+    files: &'a [(&'a str, &'a str)],
+) -> Result<Option<&'a str>, KeyError> {
+    for (_, text) in files {
+        if written(alloc, text)?.as_str() != *text {
+            return Ok(Some(*text));
+        }
+    }
+    Ok(None)
 }
 
 #[test]
-fn names_the_first_fault(rt: HostRuntime) {
-    for (bytes, line, rule) in &FAULTS {
+fn reads_and_writes(rt: HostRuntime) -> Result<(), Fail> {
+    assert_eq!(rt; first_misread(rt.alloc(), &FILES)?, None);
+    assert_eq!(rt; first_changed(rt.alloc(), &FILES)?, None);
+    Ok(())
+}
+
+/// The fault of these bytes.
+fn fault_of(alloc: Global, bytes: &[u8]) -> Option<KeyFault> {
+    match KeyFile::parse(alloc, bytes) {
+        Err(KeyError::Fault(fault)) => Some(fault),
+        _ => None,
+    }
+}
+
+/// The first of the texts that has another fault.
+fn first_other_fault<'a>(alloc: Global, texts: &'a [(&'a str, u64, KeyRule)]) -> Option<&'a str> {
+    for (bytes, line, rule) in texts {
         let fault = KeyFault {
             line: *line,
             rule: *rule,
         };
-        let read = KeyFile::parse(rt.alloc(), bytes.as_bytes()).err();
-        assert_eq!(rt; read, Some(KeyError::Fault(fault)), "for {bytes:?}");
+        if fault_of(alloc, bytes.as_bytes()) != Some(fault) {
+            return Some(*bytes);
+        }
     }
-    for (bytes, line) in &NO_TEXTS {
+    None
+}
+
+/// The place of the first bytes that have another fault than that of a text.
+fn first_text(alloc: Global, texts: &[([u8; 7], u64)]) -> Option<usize> {
+    for (at, (bytes, line)) in texts.iter().enumerate() {
         let fault = KeyFault {
             line: *line,
             rule: KeyRule::Text,
         };
-        let read = KeyFile::parse(rt.alloc(), bytes).err();
-        assert_eq!(rt; read, Some(KeyError::Fault(fault)), "for {bytes:?}");
+        if fault_of(alloc, bytes) != Some(fault) {
+            return Some(at);
+        }
     }
+    None
+}
+
+#[test]
+fn names_the_first_fault(rt: HostRuntime) {
+    assert_eq!(rt; first_other_fault(rt.alloc(), &FAULTS), None);
+    assert_eq!(rt; first_text(rt.alloc(), &NO_TEXTS), None);
 }
 
 /// A pair that is set, or taken away where there is no value, and the text of the file after it.
@@ -169,97 +217,145 @@ const CHANGES: [(&str, &str, Option<&str>, &str); 12] = [
     ("h", "a", None, "[g]\na=5\n"),
 ];
 
-/// Sets a pair that can be written.
-fn put(file: &mut KeyFile, group: &str, key: &str, value: &str) -> Result<(), AllocError> {
-    if is_group_name(group) && is_pair_key(key) && is_pair_value(value) {
-        file.set(group, key, value)?;
+/// Sets a pair that can be written, or takes it away.
+fn change(
+    file: &mut KeyFile,
+    group: &str,
+    key: &str,
+    value: Option<&str>,
+) -> Result<(), AllocError> {
+    match value {
+        None => {
+            let _ = file.remove(group, key);
+            Ok(())
+        }
+        Some(value) if is_group_name(group) && is_pair_key(key) && is_pair_value(value) => {
+            file.set(group, key, value)
+        }
+        Some(_) => Ok(()),
     }
-    Ok(())
+}
+
+/// Whether a copy of the file is written so, and has this value.
+fn is_now(
+    file: &KeyFile,
+    group: &str,
+    key: &str,
+    value: Option<&str>,
+    text: &str,
+) -> Result<bool, AllocError> {
+    Ok(file.copy()?.write()?.as_str() == text && file.get(group, key) == value)
+}
+
+/// The place of the first change that leaves another file.
+fn first_other_change(
+    alloc: Global,
+    changes: &[(&str, &str, Option<&str>, &str)],
+) -> Result<Option<usize>, AllocError> {
+    let mut file = KeyFile::new(alloc);
+    for (at, (group, key, value, text)) in changes.iter().enumerate() {
+        change(&mut file, group, key, *value)?;
+        if !is_now(&file, group, key, *value, text)? {
+            return Ok(Some(at));
+        }
+    }
+    Ok(None)
 }
 
 #[test]
 fn changes(rt: HostRuntime) -> Result<(), Fail> {
-    let mut file = KeyFile::new(rt.alloc());
-    for (group, key, value, want) in &CHANGES {
-        match value {
-            Some(value) => put(&mut file, group, key, value)?,
-            None => {
-                let _ = file.remove(group, key);
-            }
-        }
-        assert_eq!(rt; file.copy()?.write()?.as_str(), *want);
-        assert_eq!(rt; file.get(group, key), *value, "for {want:?}");
-    }
+    assert_eq!(rt; first_other_change(rt.alloc(), &CHANGES)?, None);
     Ok(())
 }
 
-#[test]
-fn takes_away(rt: HostRuntime) -> Result<(), Fail> {
-    let mut file = KeyFile::parse(rt.alloc(), b"[e]\n[f]\nk=v")?;
-    assert!(rt; file.remove("e", "k").is_none());
-    let taken = file.remove("f", "k").ok_or("the pair is there")?;
-    assert_eq!(rt; taken.as_str(), "v");
-    assert_eq!(rt; file.groups().len(), 1);
-    Ok(())
+/// What is taken from a file.
+fn taken(alloc: Global, bytes: &str, group: &str, key: &str) -> Result<Option<Text>, KeyError> {
+    let mut file = KeyFile::parse(alloc, bytes.as_bytes())?;
+    Ok(file.remove(group, key))
+}
+
+/// How many groups are read, copied, and made a file again, which is written so.
+fn group_count(alloc: Global, bytes: &str) -> Result<Option<usize>, KeyError> {
+    let groups = KeyFile::parse(alloc, bytes.as_bytes())?.into_groups();
+    let count = groups.len();
+    let text = KeyFile::from_groups(groups).write()?;
+    Ok(if text.as_str() == bytes {
+        Some(count)
+    } else {
+        None
+    })
+}
+
+/// How many pairs the groups have, and copies of them.
+fn pair_counts(groups: &[Group]) -> Result<(usize, usize), AllocError> {
+    let mut pairs = 0usize;
+    let mut copied = 0usize;
+    for group in groups {
+        pairs = pairs.wrapping_add(group.pairs.len());
+        copied = copied.wrapping_add(group.copy()?.pairs.len());
+    }
+    Ok((pairs, copied))
+}
+
+/// How long the key is that a list of one pair keeps.
+fn key_length(alloc: Global, key: &str) -> Result<usize, AllocError> {
+    let mut pairs = Items::new(alloc);
+    pairs.push(Pair::new(alloc, key, "v")?)?;
+    let mut length = 0;
+    for pair in Items::from_vec(pairs.into_vec()).as_slice() {
+        length = pair.copy()?.key.copy()?.into_string().len();
+    }
+    Ok(length)
 }
 
 #[test]
 fn plain_groups(rt: HostRuntime) -> Result<(), Fail> {
-    let file = KeyFile::parse(rt.alloc(), b"[a]\nx=1\ny=2\n[b]")?;
-    for (group, want) in file.groups().as_slice().iter().zip(["a", "b"]) {
-        assert_eq!(rt; group.name.as_str(), want);
-        assert_eq!(rt; group.copy()?.pairs.len(), group.pairs.len());
-    }
-    let groups = file.into_groups();
-    assert_eq!(rt; groups.len(), 2);
-    assert_eq!(rt;
-        KeyFile::from_groups(groups).write()?.as_str(),
-        "[a]\nx=1\ny=2\n[b]\n"
-    );
-    let mut pairs = Items::new(rt.alloc());
-    assert!(rt; pairs.is_empty());
-    pairs.push(Pair::new(rt.alloc(), "k", "v")?)?;
-    pairs.push(Pair::new(rt.alloc(), "l", "w")?)?;
-    for pair in pairs.as_slice() {
-        assert_eq!(rt; pair.copy()?.key.copy()?.into_string().len(), 1);
-    }
-    assert_eq!(rt; Items::from_vec(pairs.into_vec()).len(), 2);
+    let text = "[a]\nx=1\ny=2\n[b]\n";
+    assert!(rt; taken(rt.alloc(), text, "b", "x")?.is_none());
+    assert!(rt; taken(rt.alloc(), text, "a", "y")?.is_some_and(|t| t.as_str() == "2"));
+    assert_eq!(rt; group_count(rt.alloc(), text)?, Some(2));
+    let file = KeyFile::parse(rt.alloc(), text.as_bytes())?;
+    assert_eq!(rt; pair_counts(file.groups().as_slice())?, (2, 2));
+    assert_eq!(rt; key_length(rt.alloc(), "key")?, 3);
     Ok(())
+}
+
+/// Texts, and whether each is a group's name, a key and a value.
+const PARTS: [(&str, bool, bool, bool); 17] = [
+    ("a b", true, true, true),
+    ("", false, false, true),
+    ("a]", false, true, true),
+    ("[a", false, false, true),
+    ("a[#]", false, true, true),
+    ("#a", true, false, true),
+    ("a=", true, false, true),
+    (" a", true, false, false),
+    ("a ", true, false, true),
+    ("\ta", false, false, false),
+    ("a\tb", false, false, true),
+    ("a\u{7f}", false, false, true),
+    ("a\u{0}", false, false, false),
+    ("a\nb", false, false, false),
+    ("a\r", false, false, false),
+    ("a \r b\t", false, false, true),
+    ("\u{e9}", true, true, true),
+];
+
+/// The first of the texts that passes other tests.
+fn first_other_part<'a>(texts: &'a [(&'a str, bool, bool, bool)]) -> Option<&'a str> {
+    for (text, name, key, value) in texts {
+        if is_group_name(text) != *name
+            || is_pair_key(text) != *key
+            || is_pair_value(text) != *value
+        {
+            return Some(*text);
+        }
+    }
+    None
 }
 
 #[test]
 fn parts(rt: HostRuntime) {
-    for (text, want) in [
-        ("a b", true),
-        ("", false),
-        ("a]", false),
-        ("[a", false),
-        ("a\tb", false),
-    ] {
-        assert_eq!(rt; is_group_name(text), want, "for {text:?}");
-    }
-    for (text, want) in [
-        ("a b", true),
-        ("a[#]", true),
-        ("", false),
-        ("a=", false),
-        ("[a", false),
-        ("#a", false),
-        (" a", false),
-        ("a ", false),
-        ("a\tb", false),
-    ] {
-        assert_eq!(rt; is_pair_key(text), want, "for {text:?}");
-    }
-    for (text, want) in [
-        ("", true),
-        ("a \r b\t", true),
-        (" a", false),
-        ("\ta", false),
-        ("a\r", false),
-        ("a\nb", false),
-        ("a\u{0}", false),
-    ] {
-        assert_eq!(rt; is_pair_value(text), want, "for {text:?}");
-    }
+    assert_eq!(rt; first_other_part(&PARTS), None);
+    assert_eq!(rt; trim_front(" \t a "), "a ");
 }

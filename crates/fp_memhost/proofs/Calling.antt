@@ -1,5 +1,5 @@
 -- What the calls of the host in memory ensure.
-use Rattle.std.proofs.Common.{◌≡◌, ◌≢◌, ◌⊎◌, ◌↔◌, inl, inr, ℕ, ◌+◌, ◌-◌, ◌^◌, ◌<◌, ◌≤◌, ◌&&◌, List, [], ◌∷◌, ◌++◌, reverse, filter, Bool, true, false, not, leb, cond, min, Option, Some, None, Ok, Err, IsTrue, refl, sym, ◌∙◌, ap, subst, arith}
+use Rattle.std.proofs.Common.{◌≡◌, ◌≢◌, ◌↔◌, inl, inr, ℕ, ◌-◌, ◌^◌, ◌<◌, ◌≤◌, ◌&&◌, List, [], ◌∷◌, ◌++◌, Bool, true, false, not, leb, Option, Some, None, Ok, Err, IsTrue, refl, sym, ◌∙◌, ap, subst, arith}
 use Rattle.std.specs.Prelude.{Result, IsErrOf, IfSome}
 use Rattle.std.specs.List.{list_all}
 use Rattle.std.proofs.lemmas.Bool.{false≢true, le-leb, cond-true}
@@ -7,7 +7,7 @@ use Rattle.std.proofs.lemmas.List.{reverse-append, append-nil, append_assoc}
 use Rattle.fp_host.specs.Paths.{Elements}
 use Rattle.fp_host.specs.View.{View, IsTree}
 use Rattle.fp_memhost.specs.Told.{law}
-use Rattle.fp_host.specs.Calls.{Change, makes_dir, creates, appends, links, makes_link, renames, unlinks, removes_dir, syncs, says, Can, Step, StepOf, HalfDone, done, half}
+use Rattle.fp_host.specs.Calls.{Change, makes_dir, creates, appends, links, makes_link, renames, unlinks, removes_dir, syncs, says, Can, Step, StepOf, HalfDone, done}
 use Rattle.fp_host.specs.Moments.{Moments, views, Makes, Rose, HasCause}
 use Rattle.fp_host.specs.declared.host.HostError.{HostError}
 use Rattle.fp_host.specs.declared.host.HostError.TheVariants.{Failed, Clash, NoMemory}
@@ -17,13 +17,15 @@ use Rattle.fp_memhost.specs.declared.event.Event.TheVariants.{MakeDir, Create, A
 use Rattle.fp_memhost.specs.declared.event.Noted.{Noted}
 use Rattle.fp_memhost.specs.declared.mem.MemHost.{MemHost}
 use Rattle.fp_memhost.specs.declared.scene.Scene.{Scene}
+use Rattle.fp_memhost.specs.Images.{opened}
 use Rattle.fp_memhost.specs.Scenes.{seen}
-use Rattle.fp_memhost.specs.Replay.{change_of, is_sync, stepped, view_of, view_now, view_after, is_before, past_of, moments_of}
+use Rattle.fp_memhost.specs.Replay.{change_of, is_sync, stepped, view_of, view_after, is_before, past_of, moments_of}
 use Rattle.fp_memhost.specs.Story.{fails_at}
-use Rattle.fp_memhost.specs.Plays.{bumped, done_by, Counts, Answers, Looked, IsStarved, IsNoted, Played}
-use Rattle.fp_memhost.specs.Story.{Story, FailsAs, Obeys, Ends, Records, AddsNone}
-use Rattle.fp_memhost.specs.Stories.{told_of, story_of, made_of, made_by}
-use Rattle.fp_memhost.proofs.Logging.{now_more, after_old, after_all, all_more, all_later}
+use Rattle.fp_memhost.specs.Plays.{bumped, done_by, Counts, Answers, Looked, IsStarved, Played}
+use Rattle.fp_memhost.specs.Story.{FailsAs, Obeys, Ends, Records, AddsNone}
+use Rattle.fp_memhost.specs.Stories.{told_of, story_of}
+use Rattle.fp_memhost.specs.Made.{made_of, made_by}
+use Rattle.fp_memhost.proofs.Logging.{after_old, after_all, all_more, all_later}
 
 -- the event of a call
 abbrev pub note_of : MemHost → Event → Noted
@@ -31,12 +33,12 @@ note_of old e = record { call = old.history.calls; is_done = done_by (fails_at o
 
 -- the moments after a call
 told_same : (old new : MemHost) → Counts old new → new.history.log.items ≡ old.history.log.items → told_of new ≡ told_of old
-told_same old new counts log = λ i. moments_of (seen (counts.start i)) (log i)
+told_same old new counts log = λ i. moments_of (opened (counts.start i)) (log i)
 
 told_more : (old new : MemHost) (e : Noted) → Counts old new → new.history.log.items ≡ old.history.log.items ++ e ∷ [] → told_of new ≡ record { now = stepped e (told_of old).now; past = views (told_of old) }
 told_more old new e counts log =
-    (λ i. moments_of (seen (counts.start i)) (log i))
-    ∙ (λ i. record { now = view_of (seen old.history.start) (reverse-append old.history.log.items (e ∷ []) i); past = past_of (seen old.history.start) (reverse-append old.history.log.items (e ∷ []) i) })
+    (λ i. moments_of (opened (counts.start i)) (log i))
+    ∙ (λ i. record { now = view_of (opened old.history.start) (reverse-append old.history.log.items (e ∷ []) i); past = past_of (opened old.history.start) (reverse-append old.history.log.items (e ∷ []) i) })
 
 pub goes_same : {S : View → View → Type 0} (old new : MemHost) → Counts old new → new.history.log.items ≡ old.history.log.items → S (told_of old).now (told_of old).now → Makes S (Some (told_of old)) (Some (told_of new))
 goes_same {S = S} old new counts log s = subst (λ (m : Moments). Makes S (Some (told_of old)) (Some m)) (sym (told_same old new counts log)) (adds_none (told_of old) s)
@@ -178,20 +180,20 @@ now_same old new counts log = ap (λ (m : Moments). m.now) (told_same old new co
 pub now_after : (old new : MemHost) (e : Noted) → Counts old new → new.history.log.items ≡ old.history.log.items ++ e ∷ [] → (told_of new).now ≡ stepped e (told_of old).now
 now_after old new e counts log = ap (λ (m : Moments). m.now) (told_more old new e counts log)
 
-after_is : (m : MemHost) (n : ℕ) → n ≤ m.history.calls → (story_of m).after n ≡ Some (view_after (seen m.history.start) m.history.log.items n)
+after_is : (m : MemHost) (n : ℕ) → n ≤ m.history.calls → (story_of m).after n ≡ Some (view_after (opened m.history.start) m.history.log.items n)
 after_is m n le = cond-true (leb n m.history.calls) _ None (le-leb n m.history.calls le)
 
-kept_by : (old new : MemHost) (n : ℕ) → Counts old new → n ≤ old.history.calls → view_after (seen new.history.start) new.history.log.items n ≡ view_after (seen old.history.start) old.history.log.items n → (story_of new).after n ≡ (story_of old).after n
+kept_by : (old new : MemHost) (n : ℕ) → Counts old new → n ≤ old.history.calls → view_after (opened new.history.start) new.history.log.items n ≡ view_after (opened old.history.start) old.history.log.items n → (story_of new).after n ≡ (story_of old).after n
 kept_by old new n counts le same = after_is new n (omega (arith, counts.later)) ∙ ap (λ (x : View). Some x) same ∙ sym (after_is old n le)
 
 kept_same : (old new : MemHost) (n : ℕ) → Counts old new → new.history.log.items ≡ old.history.log.items → n ≤ old.history.calls → (story_of new).after n ≡ (story_of old).after n
-kept_same old new n counts log le = kept_by old new n counts le (λ i. view_after (seen (counts.start i)) (log i) n)
+kept_same old new n counts log le = kept_by old new n counts le (λ i. view_after (opened (counts.start i)) (log i) n)
 
 pub kept_more : (old new : MemHost) (e : Noted) (n : ℕ) → Counts old new → new.history.log.items ≡ old.history.log.items ++ e ∷ [] → e.call ≡ old.history.calls → n ≤ old.history.calls → (story_of new).after n ≡ (story_of old).after n
-kept_more old new e n counts log number le = kept_by old new n counts le ((λ i. view_after (seen (counts.start i)) (log i) n) ∙ after_old (seen old.history.start) old.history.log.items e n (omega arith))
+kept_more old new e n counts log number le = kept_by old new n counts le ((λ i. view_after (opened (counts.start i)) (log i) n) ∙ after_old (opened old.history.start) old.history.log.items e n (omega arith))
 
 pub last_by : (old new : MemHost) → list_all (is_before new.history.calls) new.history.log.items ≡ true → (story_of new).after new.history.calls ≡ Some (told_of new).now
-last_by old new all = after_is new new.history.calls (omega arith) ∙ ap (λ (x : View). Some x) (after_all (seen new.history.start) new.history.log.items new.history.calls all)
+last_by old new all = after_is new new.history.calls (omega arith) ∙ ap (λ (x : View). Some x) (after_all (opened new.history.start) new.history.log.items new.history.calls all)
 
 all_same : (old new : MemHost) → Counts old new → new.history.log.items ≡ old.history.log.items → old.history.calls < 2 ^ 64 - 1 → list_all (is_before new.history.calls) new.history.log.items ≡ true
 all_same old new counts log low = subst (λ (l : List Noted). list_all (is_before new.history.calls) l ≡ true) (sym log) (all_later old.history.log.items old.history.calls new.history.calls counts.later (old.history.numbered.below low))

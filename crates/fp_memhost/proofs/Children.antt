@@ -1,14 +1,13 @@
 -- The names that a folder lists.
-use Rattle.std.proofs.Common.{◌≡◌, ◌≢◌, ◌⊎◌, ◌↔◌, inl, inr, ℕ, zero, suc, ◌<◌, ◌&&◌, List, [], ◌∷◌, ◌++◌, length, get_or, Bool, true, false, cond, Option, Some, None, refl, sym, ◌∙◌, ap, subst, arith, append_assoc, Contains}
-use Rattle.std.specs.Prelude.{is_some, nat_eq}
+use Rattle.std.proofs.Common.{◌≡◌, ◌≢◌, ◌⊎◌, inl, inr, ℕ, zero, suc, ◌<◌, List, [], ◌∷◌, ◌++◌, length, get_or, true, Option, Some, None, refl, sym, ◌∙◌, ap, subst, arith, append_assoc, Contains}
+use Rattle.std.specs.Prelude.{is_some}
 use Rattle.std.specs.List.{list_all, join_with_byte}
-use Rattle.std.specs.Ordering.{is_lt, nat_cmp}
-use Rattle.std.specs.Cmp.Lexicographic.{slice_cmp}
-use Rattle.std.proofs.lemmas.Bool.{cases_Bool, cond-true, cond-false, and_parts, and_from, false≢true, both_ways, false_from_ne_true}
+use Rattle.std.specs.Ordering.{is_lt}
+use Rattle.std.proofs.lemmas.Bool.{cases_Bool, cond-true, cond-false, and_parts, and_from, false≢true}
 use Rattle.std.proofs.lemmas.Cmp.{nat_cmp_total, tied_itself}
 use Rattle.std.specs.Ordering.{ordering_then}
 use Rattle.std.specs.declared.cmp.Ordering.{Ordering}
-use Rattle.fp_host.specs.Paths.{Elements, Slot, absent, path_text, path_eq, turned, turned_onto}
+use Rattle.fp_host.specs.Paths.{Elements, absent, path_text, turned, turned_onto}
 use Rattle.fp_host.specs.Reads.{comes_first, is_ascending}
 use Rattle.fp_host.proofs.PathTexts.{turned_onto-append}
 use Rattle.fp_host.proofs.Separate.{path_decides}
@@ -16,7 +15,7 @@ use Rattle.fp_memhost.specs.declared.names.Name.{Name}
 use Rattle.fp_memhost.specs.Names.{comes_before, ascends, names_of, name_at, is_at, slot_in, slot_of}
 use Rattle.fp_memhost.specs.Folders.{child_in, is_child, last_of, children_of}
 use Rattle.fp_memhost.proofs.Ordered.{compare}
-use Rattle.fp_memhost.proofs.Judging.{entry_present, not_first, later_none}
+use Rattle.fp_memhost.proofs.Judging.{entry_present, not_first}
 
 -- two texts with one beginning are compared by the rest
 same_front : (a b c : List ℕ) → compare (a ++ b) (a ++ c) ≡ compare b c

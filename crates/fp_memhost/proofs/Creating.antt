@@ -1,10 +1,10 @@
 -- What `create` ensures, whose file has an id of the host's own choice.
-use Rattle.std.proofs.Common.{◌≡◌, ◌↔◌, inl, inr, ℕ, List, [], ◌∷◌, ◌++◌, Bool, true, false, cond, not, ◌&&◌, Option, Some, None, Ok, Err, IsTrue, refl, sym, ◌∙◌, ap, subst}
+use Rattle.std.proofs.Common.{◌≡◌, ◌↔◌, inl, inr, ℕ, List, [], ◌∷◌, ◌++◌, Bool, true, false, cond, Option, Some, None, Ok, Err, IsTrue, refl, sym, ◌∙◌, ap, subst}
 use Rattle.std.specs.Prelude.{Result, IfSome}
-use Rattle.std.proofs.lemmas.Bool.{false≢true, cases_Bool, cond-true, cond-false}
+use Rattle.std.proofs.lemmas.Bool.{false≢true}
 use Rattle.fp_host.specs.Paths.{Elements}
-use Rattle.fp_host.specs.View.{View, Inode}
-use Rattle.fp_host.specs.Calls.{Change, makes_dir, creates, appends, links, makes_link, renames, unlinks, removes_dir, syncs, says, Can, CanCreate, Step, StepOf, Creates, CreatesOf, done, half}
+use Rattle.fp_host.specs.View.{View}
+use Rattle.fp_host.specs.Calls.{Change, creates, Can, CanCreate, StepOf, Creates, CreatesOf, done, half}
 use Rattle.fp_host.specs.Moments.{Moments, Makes}
 use Rattle.fp_host.specs.declared.host.HostError.{HostError}
 use Rattle.fp_host.specs.declared.host.HostError.TheVariants.{Failed, Clash, NoMemory}
@@ -15,9 +15,10 @@ use Rattle.fp_memhost.specs.declared.mem.MemHost.{MemHost}
 use Rattle.fp_memhost.specs.Scenes.{seen}
 use Rattle.fp_memhost.specs.Replay.{change_of, stepped}
 use Rattle.fp_memhost.specs.Story.{fails_at}
-use Rattle.fp_memhost.specs.Plays.{Answers, Looked, IsStarved, IsNoted, Played}
-use Rattle.fp_memhost.specs.Story.{Story, FailsAs, FailsToCreate, Obeys, Ends, Records, AddsNone, AddsAt}
-use Rattle.fp_memhost.specs.Stories.{told_of, story_of, made_of, made_by}
+use Rattle.fp_memhost.specs.Plays.{Played}
+use Rattle.fp_memhost.specs.Story.{Story, FailsAs, FailsToCreate, Obeys, Records, AddsNone, AddsAt}
+use Rattle.fp_memhost.specs.Stories.{told_of, story_of}
+use Rattle.fp_memhost.specs.Made.{made_of, made_by}
 use Rattle.fp_memhost.proofs.Calling.{makes_known, step_of, note_of, now_same, now_after, kept_more, last_by, all_noted, made-append, obeys_noted, records_looked, records_starved, clash_no}
 
 creates_by : (p : Elements) (mode id : ℕ) (r : Result (Unit {0}) HostError) (v w : View) → v.files id ≡ None → StepOf (creates p mode id) r v w → CreatesOf p mode r v w

@@ -4,14 +4,14 @@ use Rattle.std.specs.Prelude.{insert}
 use Rattle.std.proofs.lemmas.List.{take-append-drop, map_push}
 use Rattle.std.specs.List.{list_all, find}
 use Rattle.std.specs.Ordering.{is_lt}
-use Rattle.std.specs.declared.cmp.Ordering.TheVariants.{Less, Equal, Greater}
-use Rattle.std.proofs.lemmas.Bool.{and_parts, and_from, cases_Bool, cond-true, cond-false, false_from_ne_true}
-use Rattle.fp_host.specs.Paths.{Elements, Slot, absent, path_text, path_eq, elements_of, set_at}
+use Rattle.std.specs.declared.cmp.Ordering.TheVariants.{Less, Greater}
+use Rattle.std.proofs.lemmas.Bool.{and_parts, and_from, false_from_ne_true}
+use Rattle.fp_host.specs.Paths.{Elements, Slot, absent, path_text, elements_of, set_at}
 use Rattle.fp_host.proofs.PathTexts.{text_back}
 use Rattle.fp_host.proofs.Separate.{path_decides, path_cases, set_same, set_other}
 use Rattle.fp_memhost.specs.Names.{comes_before, ascends, IsAscending, is_at, name_at, slot_in, held_in, room_in, slot_of, names_of, earlier_of, IsAt, IsPlace, HasRoom, SameNames, PutsName, MayPutName, KeepsRoom}
 use Rattle.fp_memhost.specs.declared.names.Name.{Name}
-use Rattle.fp_memhost.specs.declared.entry.Entry.{Entry}
+use Rattle.fp_host.specs.declared.host.Entry.{Entry}
 use Rattle.fp_memhost.proofs.Finding.{find_here, find_front, set_hit, set_miss, append_hit, append_miss}
 use Rattle.fp_memhost.proofs.Ordered.{compare, text_at, none_at, flip}
 

@@ -1,10 +1,9 @@
 -- Files after an edit of one of them.
-use Rattle.std.proofs.Common.{◌≡◌, ◌≢◌, ℕ, zero, suc, ◌+◌, ◌<◌, ◌≤◌, List, [], ◌∷◌, ◌++◌, length, get_or, set, take, drop, map, Bool, true, false, eqb, cond, Option, Some, None, MatchOption, is_some, refl, sym, ◌∙◌, ap, subst, arith, inl, inr}
+use Rattle.std.proofs.Common.{◌≡◌, ◌≢◌, ℕ, zero, suc, ◌+◌, ◌<◌, ◌≤◌, List, [], ◌∷◌, ◌++◌, length, get_or, set, map, Bool, true, false, eqb, cond, Option, Some, None, MatchOption, is_some, refl, sym, ◌∙◌, ap, subst, arith, inl, inr}
 use Rattle.std.specs.List.{find, list_any}
-use Rattle.std.proofs.lemmas.Bool.{cases_eq, cases_Bool, false_from_ne_true, eqb-true, eq-eqb, ne_eqb, cond-true, cond-false, or_left, or_right, false≢true}
+use Rattle.std.proofs.lemmas.Bool.{cases_eq, cases_Bool, eqb-true, eq-eqb, ne_eqb, cond-true, cond-false, or_left, or_right, false≢true}
 use Rattle.std.proofs.lemmas.List.{append-nil, length-map, length-set, get_or-set_same, get_or-set_other, get_or_default}
 use Rattle.std.proofs.lemmas.Map.Steps.{le-length_from_below}
-use Rattle.fp_host.specs.View.{Inode}
 use Rattle.fp_host.specs.Calls.{set_file, grown}
 use Rattle.fp_host.proofs.Separate.{file_same, file_other}
 use Rattle.fp_memhost.specs.Files.{has_id, file_at, inode_in, new_in, files_of, dirty_of, IsFileAt, SameFiles, AddsFile, GrowsFile, SettlesFiles}

@@ -1,13 +1,13 @@
 -- Names that held nothing but what they hold.
-use Rattle.std.proofs.Common.{◌≡◌, ℕ, zero, suc, ◌+◌, ◌<◌, ◌≤◌, ◌&&◌, List, [], ◌∷◌, ◌++◌, length, take, drop, get_or, set, map, inl, inr, subst, Bool, true, false, refl, sym, ◌∙◌, ap, arith, cond, Option, Some}
+use Rattle.std.proofs.Common.{◌≡◌, ℕ, suc, ◌+◌, ◌<◌, ◌≤◌, ◌&&◌, List, [], ◌∷◌, ◌++◌, length, take, drop, get_or, set, map, inl, inr, subst, Bool, true, false, refl, sym, ◌∙◌, ap, arith, cond, Option, Some}
 use Rattle.std.proofs.lemmas.Bool.{false≢true, cases_eq}
 use Rattle.std.proofs.lemmas.List.{drop_all, take_all, append-nil, length-set, get_or-set_same, get_or-set_other, get_or_default}
 use Rattle.std.specs.List.{list_all}
 use Rattle.std.specs.Ordering.{is_lt}
-use Rattle.fp_host.specs.Paths.{Elements, Slot, path_text, path_eq}
-use Rattle.fp_memhost.specs.Names.{comes_before, ascends, slot_in, held_in, slot_of, names_of, earlier_of, name_at, is_at, ForgetsNames}
+use Rattle.fp_host.specs.Paths.{Elements, path_text, path_eq}
+use Rattle.fp_memhost.specs.Names.{comes_before, ascends, slot_in, held_in, slot_of, names_of, earlier_of, name_at, ForgetsNames}
 use Rattle.fp_memhost.specs.declared.names.Name.{Name}
-use Rattle.fp_memhost.specs.declared.entry.Entry.{Entry}
+use Rattle.fp_host.specs.declared.host.Entry.{Entry}
 use Rattle.fp_memhost.proofs.Ordered.{compare}
 
 pub record Forgot (old new : Name) : Type 0 where

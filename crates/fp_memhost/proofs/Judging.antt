@@ -1,24 +1,24 @@
 -- The conditions of calls, from what was looked up.
-use Rattle.std.proofs.Common.{◌≡◌, ◌≢◌, ◌↔◌, ◌⊎◌, inl, inr, ℕ, zero, suc, ◌+◌, ◌<◌, ◌≤◌, ◌==◌, ◌&&◌, List, [], ◌∷◌, length, get_or, Bool, true, false, not, cond, Option, Some, None, IsTrue, refl, sym, ◌∙◌, ap, subst, arith, leb}
+use Rattle.std.proofs.Common.{◌≡◌, ◌≢◌, ◌↔◌, inl, inr, ℕ, ◌≤◌, ◌==◌, ◌&&◌, List, [], ◌∷◌, length, Bool, true, false, not, Option, Some, None, IsTrue, refl, sym, ◌∙◌, ap, subst, arith, leb}
 use Rattle.std.specs.Prelude.{is_some}
 use Rattle.std.specs.List.{list_all, list_any}
 use Rattle.std.specs.Str.{is_utf8}
-use Rattle.std.proofs.lemmas.Bool.{le-leb, false≢true, cases_Bool, cond-true, cond-false, or_parts, or_left, or_right, and_parts, or_cases, both_ways, false_from_ne_true, not_from_false, not-true}
-use Rattle.fp_host.specs.Paths.{Elements, Slot, absent, dir, file, link, elements_of, is_link_text, path_eq, path_text, IsAbove}
+use Rattle.std.proofs.lemmas.Bool.{le-leb, false≢true, cases_Bool, cond-true, cond-false, or_parts, and_parts, or_cases, both_ways, false_from_ne_true, not_from_false, not-true}
+use Rattle.fp_host.specs.Paths.{Elements, Slot, absent, dir, file, elements_of, is_link_text, path_text, IsAbove}
 use Rattle.fp_host.specs.View.{View, IsTree}
 use Rattle.fp_host.specs.Calls.{IsNoDir, IsFile, IsLeaf, HasFolder, Can, renames, removes_dir}
 use Rattle.fp_host.proofs.Separate.{path_decides, dir_cases}
-use Rattle.fp_memhost.specs.declared.entry.Entry.{Entry}
+use Rattle.fp_host.specs.declared.host.Entry.{Entry}
 use Rattle.fp_memhost.specs.declared.names.Name.{Name}
 use Rattle.fp_memhost.specs.declared.files.Content.{Content}
 use Rattle.fp_memhost.specs.Files.{inode_in}
 use Rattle.fp_host.specs.Reads.{IsStat}
 use Rattle.fp_host.specs.declared.host.Stat.{Stat}
 use Rattle.fp_host.specs.declared.host.Stat.TheVariants.{File as StatFile}
-use Rattle.fp_memhost.specs.Names.{slot_of, slot_in, names_of, name_at, is_at, ascends, comes_before, IsAscending}
+use Rattle.fp_memhost.specs.Names.{slot_of, slot_in, names_of, name_at, is_at, ascends, comes_before}
 use Rattle.fp_memhost.specs.Folders.{child_in, is_child}
 use Rattle.std.proofs.lemmas.Cmp.{nat_list_cmp_total, tied_itself}
-use Rattle.fp_memhost.specs.declared.entry.Entry.TheVariants.{Dir, File, Link}
+use Rattle.fp_host.specs.declared.host.Entry.TheVariants.{Dir, File, Link}
 use Rattle.fp_memhost.proofs.Ordered.{compare, less_no, less_from}
 
 pub link_text_is : (text : List ℕ) (b : Bool) → 1 ≤ length text → length text ≤ 4095 → is_utf8 text ≡ true → b ≡ list_all (λ b. not (b == 0)) text → b ≡ is_link_text text

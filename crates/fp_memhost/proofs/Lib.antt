@@ -1,5 +1,8 @@
+pub mod Beginning
 pub mod Calling
 pub mod Children
+pub mod Choices
+pub mod Chosen
 pub mod Creating
 pub mod Editing
 pub mod Filing
@@ -7,9 +10,11 @@ pub mod Finding
 pub mod Forgetting
 pub mod Judging
 pub mod Logging
+pub mod Opened
 pub mod Ordered
 pub mod Putting
 pub mod Quiet
 pub mod Results
 pub mod Viewing
+pub mod Sound
 pub mod Taking

@@ -1,5 +1,5 @@
 -- A log that grows.
-use Rattle.std.proofs.Common.{◌≡◌, ◌⊎◌, inl, inr, ℕ, ◌+◌, ◌-◌, ◌^◌, ◌<◌, ◌≤◌, ◌&&◌, List, [], ◌∷◌, ◌++◌, reverse, filter, Bool, true, false, ltb, cond, min, refl, sym, ◌∙◌, ap, subst, arith}
+use Rattle.std.proofs.Common.{◌≡◌, inl, inr, ℕ, ◌+◌, ◌-◌, ◌^◌, ◌<◌, ◌≤◌, List, [], ◌∷◌, ◌++◌, filter, Bool, true, ltb, min, refl, sym, ◌∙◌, ap, subst, arith}
 use Rattle.std.specs.List.{list_all}
 use Rattle.std.proofs.lemmas.List.{reverse-append, append-nil}
 use Rattle.std.proofs.lemmas.List.Elements.{filter-append}
@@ -7,7 +7,7 @@ use Rattle.std.proofs.lemmas.List.Folds.{list_all-append}
 use Rattle.std.proofs.lemmas.Bool.{cond-true, cond-false, and_parts, and_from, ltb-true, lt-ltb, le-ltb, cases_lt, cases_Bool}
 use Rattle.std.proofs.Math.Logic.{∥∥₁_map}
 use Rattle.fp_host.specs.View.{View, IsTree}
-use Rattle.fp_host.specs.Calls.{Change, Can, done, half}
+use Rattle.fp_host.specs.Calls.{Can}
 use Rattle.fp_host.proofs.Kept.{tree_done, tree_half}
 use Rattle.fp_memhost.specs.declared.event.Noted.{Noted}
 use Rattle.fp_memhost.specs.Replay.{change_of, stepped, view_of, view_now, is_before, view_after, IsNumbered, AreTrees}

@@ -1,5 +1,5 @@
 -- Views in which nothing stood earlier.
-use Rattle.std.proofs.Common.{◌≡◌, ◌≢◌, ◌⊎◌, ◌≤◌, inl, inr, ℕ, List, [], ◌∷◌, true, false, Option, Some, None, refl, sym, ◌∙◌, subst}
+use Rattle.std.proofs.Common.{◌≡◌, ◌≢◌, ◌⊎◌, ◌≤◌, inl, inr, ℕ, List, [], ◌∷◌, true, false, Some, None, refl, sym, ◌∙◌}
 use Rattle.std.proofs.lemmas.Bool.{false≢true}
 use Rattle.fp_host.specs.Paths.{Elements, Slot, absent, dir, file, link, is_link_text}
 use Rattle.fp_host.specs.View.{View, Inode, MayBe, IsTree}

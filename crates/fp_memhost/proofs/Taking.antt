@@ -1,5 +1,5 @@
 -- What is taken from a source.
-use Rattle.std.proofs.Common.{◌≡◌, ◌≢◌, ◌<◌, ◌≤◌, ℕ, List, [], ◌∷◌, length, take, drop, min, Option, Some, refl, sym, ◌∙◌, ap, subst, arith}
+use Rattle.std.proofs.Common.{◌≡◌, ◌≢◌, ◌<◌, ℕ, List, [], ◌∷◌, length, take, drop, min, Some, refl, sym, ◌∙◌, subst, arith}
 use Rattle.fp_host.specs.Remote.{Takes, TakesOf}
 use Rattle.fp_host.specs.declared.source.Taken.{Taken}
 use Rattle.fp_host.specs.declared.source.Taken.TheVariants.{Took, End, Failed}

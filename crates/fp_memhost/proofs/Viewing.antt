@@ -1,8 +1,7 @@
 -- A view after an edit of what is kept.
-use Rattle.std.proofs.Common.{◌≡◌, ℕ, List, [], ◌∷◌, ◌++◌, Option, Some, refl, sym, ◌∙◌, ap}
-use Rattle.fp_host.specs.Paths.{Elements, Slot, file, set_at}
-use Rattle.fp_host.specs.View.{View, Inode}
-use Rattle.fp_host.specs.Calls.{put, may_put, with_file, grow, set_file, grown, done, syncs}
+use Rattle.std.proofs.Common.{◌≡◌, ℕ, List, refl, ◌∙◌, ap}
+use Rattle.fp_host.specs.Paths.{Elements, Slot, file}
+use Rattle.fp_host.specs.Calls.{put, may_put, with_file, grow, done, syncs}
 use Rattle.fp_memhost.specs.declared.names.Name.{Name}
 use Rattle.fp_memhost.specs.declared.files.Content.{Content}
 use Rattle.fp_memhost.specs.Names.{names_of, earlier_of, SameNames, PutsName, MayPutName, ForgetsNames}

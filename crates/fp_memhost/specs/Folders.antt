@@ -1,5 +1,5 @@
 -- What stands in a folder.
-use Rattle.std.specs.Prelude.{ℕ, Bool, true, false, ◌&&◌, ◌||◌, List, [], ◌∷◌, is_some, if◌then◌else◌}
+use Rattle.std.specs.Prelude.{ℕ, Bool, false, ◌&&◌, ◌||◌, List, [], ◌∷◌, is_some, if◌then◌else◌}
 use Rattle.fp_host.specs.Paths.{Elements, path_eq}
 use Rattle.fp_memhost.specs.declared.names.Name.{Name}
 

@@ -1,5 +1,5 @@
 -- What remotes in memory tell.
-use Rattle.std.specs.Prelude.{◌≡◌, ◌≤◌, ◌+◌, ◌-◌, ◌^◌, ℕ, Bool, min, eqb, if◌then◌else◌}
+use Rattle.std.specs.Prelude.{◌≡◌, ◌≤◌, ◌+◌, ◌-◌, ◌^◌, Bool, min, eqb, if◌then◌else◌}
 use Rattle.std.specs.List.{list_any}
 use Rattle.fp_host.specs.Remote.{Holdings}
 use Rattle.fp_memhost.specs.declared.remotes.MemRemotes.{MemRemotes}

@@ -1,13 +1,12 @@
 -- The names of a host as they are kept.
 use Rattle.std.specs.Prelude.{◌≡◌, ◌+◌, ◌≤◌, ◌<◌, ◌&&◌, ℕ, Bool, true, List, [], ◌∷◌, ◌++◌, length, take, Option, Some, None, map, vec_len, vec_capacity, slice_index_or}
-use Rattle.std.specs.List.{list_all, find, AllByRecursion}
+use Rattle.std.specs.List.{list_all, find}
 use Rattle.std.specs.Ordering.{nat_cmp, is_lt}
-use Rattle.std.specs.declared.cmp.Ordering.{Ordering}
-use Rattle.std.specs.declared.cmp.Ordering.TheVariants.{Less, Equal, Greater}
+use Rattle.std.specs.declared.cmp.Ordering.TheVariants.{Less, Greater}
 use Rattle.std.specs.Cmp.Lexicographic.{slice_cmp}
 use Rattle.fp_host.specs.Paths.{Elements, Slot, absent, dir, file, link, path_eq, path_text, set_at}
-use Rattle.fp_memhost.specs.declared.entry.Entry.{Entry}
-use Rattle.fp_memhost.specs.declared.entry.Entry.TheVariants.{Dir, File, Link}
+use Rattle.fp_host.specs.declared.host.Entry.{Entry}
+use Rattle.fp_host.specs.declared.host.Entry.TheVariants.{Dir, File, Link}
 use Rattle.fp_memhost.specs.declared.names.Name.{Name}
 
 abbrev pub slot_of : Option Entry → Slot

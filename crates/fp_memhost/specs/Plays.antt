@@ -1,5 +1,5 @@
 -- What one call does to a host in memory.
-use Rattle.std.specs.Prelude.{◌≡◌, ◌⊎◌, ◌≤◌, ◌+◌, ◌-◌, ◌^◌, ◌==◌, ◌&&◌, ◌++◌, ℕ, Bool, true, false, not, List, [], ◌∷◌, min, Option, Some, None, Result, Ok, Err, if◌then◌else◌}
+use Rattle.std.specs.Prelude.{◌≡◌, ◌⊎◌, ◌≤◌, ◌+◌, ◌-◌, ◌^◌, ◌&&◌, ◌++◌, ℕ, Bool, true, false, not, [], ◌∷◌, min, Option, Some, None, Result, Ok, Err}
 use Rattle.fp_host.specs.declared.host.HostError.{HostError}
 use Rattle.fp_host.specs.declared.host.HostError.TheVariants.{Failed, Clash}
 use Rattle.fp_memhost.specs.declared.event.Event.{Event}

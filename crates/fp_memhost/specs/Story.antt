@@ -1,8 +1,7 @@
 -- What a fake keeps of its calls.
-use Rattle.std.specs.Prelude.{◌≡◌, ◌⊎◌, ◌≤◌, ◌<◌, ◌+◌, ◌-◌, ◌^◌, ◌++◌, ◌==◌, ℕ, Bool, true, false, List, [], ◌∷◌, min, Option, Some, None, Result, Ok, IsErrOf, map, nat_eq, if◌then◌else◌}
-use Rattle.std.specs.List.{IsDistinct}
+use Rattle.std.specs.Prelude.{◌≡◌, ◌⊎◌, ◌≤◌, ◌<◌, ◌+◌, ◌-◌, ◌^◌, ◌++◌, ◌==◌, ℕ, Bool, List, [], ◌∷◌, min, Option, Some, None, Result, IsErrOf, if◌then◌else◌}
 use Rattle.fp_host.specs.Paths.{Elements}
-use Rattle.fp_host.specs.View.{View, Inode}
+use Rattle.fp_host.specs.View.{View}
 use Rattle.fp_host.specs.Calls.{Change, creates, syncs, Can, CanCreate, done, half}
 use Rattle.fp_host.specs.Moments.{Moments}
 use Rattle.fp_host.specs.declared.host.HostError.{HostError}
@@ -20,14 +19,10 @@ pub record Story : Type 0 where
   -- where each file was created, with its id, in order
   pub made : List (Elements × ℕ)
 
--- how the call of a number is to fail, by a list of numbers
+-- how the call of a number is to fail, by a list of numbers; the first counts
 abbrev pub fails_at : List (ℕ × Bool) → ℕ → Option Bool
 fails_at [] n = None
 fails_at (x ∷ xs) n = if x.0 == n then Some x.1 else fails_at xs n
-
--- no number is listed twice
-abbrev pub ListsOnce : List (ℕ × Bool) → Type 0
-ListsOnce list = IsDistinct nat_eq (map (λ x. x.0) list)
 
 -- A call that is to fail leaves the view as before, or as after with both entries of each touched name possible. One
 -- whose condition doesn't hold, and a sync, changes nothing.

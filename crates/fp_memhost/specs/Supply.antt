@@ -1,5 +1,5 @@
 -- What a fake source gives.
-use Rattle.std.specs.Prelude.{◌≡◌, ◌==◌, ◌+◌, ◌-◌, ◌^◌, ℕ, Bool, true, false, List, [], ◌∷◌, length, drop, min, Option, Some, None, if◌then◌else◌}
+use Rattle.std.specs.Prelude.{◌≡◌, ◌==◌, ◌+◌, ◌-◌, ◌^◌, ℕ, Bool, false, List, [], ◌∷◌, length, drop, min, Option, Some, None, if◌then◌else◌}
 use Rattle.fp_host.specs.declared.source.Taken.{Taken}
 use Rattle.fp_host.specs.declared.source.Taken.TheVariants.{Took, End, Failed}
 

@@ -1,5 +1,5 @@
 -- That a view is a tree, taken out of a statement that it is one.
-use Rattle.std.proofs.Common.{◌≡◌, ◌≢◌, ◌⊎◌, ◌≤◌, ◌<◌, inl, inr, ℕ, zero, suc, List, [], ◌∷◌, length, Bool, true, Option, Some, None, refl, sym, ◌∙◌, ap, subst, Contains, arith}
+use Rattle.std.proofs.Common.{◌≡◌, ◌≢◌, ◌⊎◌, ◌<◌, inl, inr, ℕ, zero, suc, List, [], ◌∷◌, length, Some, refl, ap, subst, Contains, arith}
 use Rattle.std.proofs.Math.Logic.{∥∥₁_elim, ∥∥₁_map}
 use Rattle.std.proofs.Props.{props}
 use Rattle.std.proofs.lemmas.Bool.{cases_Bool, cases_eq, both_ways}
@@ -7,12 +7,12 @@ use Rattle.std.proofs.lemmas.Slice.Eq.{bytes_eq-Decides}
 use Rattle.std.specs.Str.{bytes_eq}
 use Rattle.std.specs.Prelude.{slice_index_or}
 use mathlib.Core.HLevel.{⊥_prop}
-use Rattle.fp_host.specs.Paths.{Elements, Slot, absent, dir, file, link, is_link_text}
-use Rattle.fp_host.specs.View.{View, Inode, MayBe, IsTree}
+use Rattle.fp_host.specs.Paths.{Elements, Slot, absent, dir, file, link}
+use Rattle.fp_host.specs.View.{View, MayBe, IsTree}
 use Rattle.fp_host.specs.Moments.{Moments}
 use Rattle.fp_host.proofs.Separate.{absent_cases}
 use Rattle.fp_memhost.specs.declared.mem.MemHost.{MemHost}
-use Rattle.fp_memhost.specs.Scenes.{seen}
+use Rattle.fp_memhost.specs.Images.{opened}
 use Rattle.fp_memhost.specs.Replay.{view_now}
 use Rattle.fp_memhost.specs.Stories.{told_of}
 
@@ -90,5 +90,5 @@ told_tree v t = record {
 pub law : (host : MemHost) (m : Moments) → Some (told_of host) ≡ Some m → IsTree m.now
 law host m is =
     let same : told_of host ≡ m = cc is in
-    let now : ∥ IsTree (view_now (seen host.history.start) host.history.log.items) ∥₁ = ∥∥₁_map host.history.trees (λ t. t.now) in
+    let now : ∥ IsTree (view_now (opened host.history.start) host.history.log.items) ∥₁ = ∥∥₁_map host.history.trees (λ t. t.now) in
     subst (λ (k : Moments). IsTree k.now) same (told_tree _ now)

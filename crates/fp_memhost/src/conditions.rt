@@ -8,12 +8,11 @@ ghost use Rattle.fp_host.specs.Calls.{HasFolder, IsFile, Can, CanCreate, makes_d
 ghost use Rattle.fp_memhost.specs.Names.{slot_of};
 ghost use Rattle.fp_memhost.specs.Scenes.{seen};
 
-use crate::Entry;
 use crate::files::is_new;
 use crate::folders::{above, has_child};
 use crate::names::entry;
 use crate::scene::Scene;
-use fp_host::Path;
+use fp_host::{Entry, Path};
 
 /// Whether the entry is a folder.
 pub fn is_dir(entry: Option<&Entry>) -> bool

@@ -1,31 +1,19 @@
-// What a name of an image holds.
+// What a name holds, once more.
 ghost use Rattle.std.specs.Prelude.{◌≡◌, IfOk};
 ghost use Rattle.std.specs.Option.{option_copied};
 
-use fp_host::Text;
+use fp_host::Entry;
 use std::alloc::AllocError;
 
-/// What a name holds; a name that is absent holds none.
-#[derive(Debug, Drop)]
-pub enum Entry {
-    Dir,
-    /// A file, by its id. Names with one id are hard links of one file.
-    File(u64),
-    /// A symlink, with its text.
-    Link(Text),
-}
-
-impl Entry {
-    /// The same entry once more.
-    pub fn copy(&self) -> Result<Self, AllocError>
-        ensures { IfOk result (λ e. e ≡ self.now) }
-    {
-        Ok(match self {
-            Entry::Dir => Entry::Dir,
-            Entry::File(id) => Entry::File(*id),
-            Entry::Link(text) => Entry::Link(text.copy()?),
-        })
-    }
+/// The same entry once more.
+pub fn copy_of(entry: &Entry) -> Result<Entry, AllocError>
+    ensures { IfOk result (λ e. e ≡ entry.now) }
+{
+    Ok(match entry {
+        Entry::Dir => Entry::Dir,
+        Entry::File(id) => Entry::File(*id),
+        Entry::Link(text) => Entry::Link(text.copy()?),
+    })
 }
 
 /// What is there, once more.
@@ -33,7 +21,7 @@ pub fn copy_entry(entry: Option<&Entry>) -> Result<Option<Entry>, AllocError>
     ensures { IfOk result (λ e. e ≡ option_copied entry.entry) }
 {
     match entry {
-        Some(entry) => Ok(Some(entry.copy()?)),
+        Some(entry) => Ok(Some(copy_of(entry)?)),
         None => Ok(None),
     }
 }

@@ -1,7 +1,8 @@
 // The files of a host.
 ghost use Rattle.std.specs.Prelude.{◌≡◌, None, OnOk, OnErr, MatchOption};
 ghost use Rattle.std.specs.Option.{option_copied};
-ghost use Rattle.fp_memhost.specs.Files.{IsFileAt, SameFiles, AddsFile, GrowsFile, SettlesFiles, file_at, dirty_of};
+ghost use Rattle.fp_memhost.specs.Files.{IsFileAt, SameFiles, AddsFile, GrowsFile, SettlesFiles, file_at, files_of, dirty_of};
+ghost use Rattle.fp_memhost.specs.Appended.{size_of};
 
 use std::alloc::AllocError;
 
@@ -96,4 +97,14 @@ pub fn fresh_id(files: &[Content]) -> u64
         id -= 1;
     }
     id
+}
+
+/// How many bytes the file with this id has.
+pub fn size_of(files: &[Content], id: u64) -> u64
+    ensures { result ≡ size_of (files_of files.now id) }
+{
+    match file(files, id) {
+        Some(file) => file.bytes.len() as u64,
+        None => 0,
+    }
 }

@@ -1,23 +1,32 @@
 // What was done since the start.
-ghost use Rattle.std.specs.Prelude.{◌≡◌, ◌≤◌, ◌+◌, ◌-◌, ◌^◌, ◌++◌, ◌∷◌, [], false, IsTrue, min};
+ghost use Rattle.std.specs.Prelude.{◌≡◌, ◌≤◌, ◌+◌, ◌-◌, ◌^◌, ◌++◌, ◌∷◌, [], false, IfOk, IsTrue, min};
 ghost use Rattle.fp_host.specs.View.{IsTree};
 ghost use Rattle.fp_host.specs.Calls.{Can};
 ghost use Rattle.fp_memhost.specs.Scenes.{seen};
-ghost use Rattle.fp_memhost.specs.Replay.{change_of, stepped, view_now, IsNumbered, AreTrees};
+ghost use Rattle.fp_memhost.specs.Appended.{appended_below};
+ghost use Rattle.fp_memhost.specs.Images.{opened};
+ghost use Rattle.fp_memhost.specs.Replay.{change_of, stepped, view_now, view_after, IsNumbered, AreTrees};
+ghost use Rattle.fp_memhost.specs.Made.{made_by, made_of};
 
 use crate::event::{Event, Noted};
+use crate::files::size_of;
+use crate::folders::is_below;
+use crate::image::Image;
+use crate::opening::open_image;
 use crate::scene::Scene;
+use fp_host::Path;
+use std::alloc::{AllocError, Global};
 
 /// What stood at the start, what was done since then, in order, and what stands now.
 #[derive(Drop)]
 pub struct History {
-    pub start: Scene,
+    pub start: Image,
     pub scene: Scene,
     pub log: Vec<Noted>,
     pub calls: u64,
-    ghost agrees: { seen scene ≡ view_now (seen start) log.items },
+    ghost agrees: { seen scene ≡ view_now (opened start) log.items },
     ghost numbered: { IsNumbered calls log.items },
-    ghost trees: { ∥ AreTrees (seen start) log.items ∥₁ },
+    ghost trees: { ∥ AreTrees (opened start) log.items ∥₁ },
 }
 
 // Whether there was memory for the step and for its note. Without it nothing that is told changes.
@@ -38,10 +47,10 @@ fn keep(scene: &mut Scene, log: &mut Vec<Noted>, noted: Noted) -> bool
 }
 
 impl History {
-    /// Nothing was done yet. Both show the same, which is a tree and has nothing earlier.
-    pub fn new(start: Scene, scene: Scene) -> Self
-        requires same { seen scene ≡ seen start }
-        requires tree { IsTree (seen start) }
+    /// Nothing was done yet. The scene shows the image, as it is found when it is opened again.
+    pub fn new(start: Image, scene: Scene) -> Self
+        requires same { seen scene ≡ opened start }
+        requires tree { IsTree (opened start) }
         ensures start { result.start ≡ start }
         ensures log { result.log.items ≡ [] }
         ensures calls { result.calls ≡ 0 }
@@ -83,5 +92,44 @@ impl History {
         };
         self.calls = self.calls.saturating_add(1);
         keep(&mut self.scene, &mut self.log, noted)
+    }
+    // The allocator of what is kept.
+    fn alloc(&self) -> Global {
+        *self.log.allocator()
+    }
+
+    /// What stood after so many calls.
+    pub fn scene_after(&self, calls: u64) -> Result<Scene, AllocError>
+        ensures { IfOk result (λ s. seen s ≡ view_after (opened self.now.start) self.now.log.items calls) }
+    {
+        let mut scene = open_image(self.alloc(), &self.start)?;
+        for noted in &self.log {
+            if noted.call < calls {
+                scene.play(noted)?;
+            }
+        }
+        Ok(scene)
+    }
+    /// How many bytes were appended to files that were created below this path.
+    pub fn appended(&self, front: &Path) -> u64
+        ensures { result ≡ min (appended_below front.now (seen self.now.scene).files (made_of self.now.log.items)) (2 ^ 64 - 1) }
+    {
+        let mut count: u64 = 0;
+        for noted in &self.log {
+            count = count.saturating_add(self.grown_by(front, &noted.event));
+        }
+        count
+    }
+
+    // The size of the file that the event created below this path.
+    fn grown_by(&self, front: &Path, event: &Event) -> u64
+        ensures { result ≡ min (appended_below front.now (seen self.now.scene).files (made_by event.now)) (2 ^ 64 - 1) }
+    {
+        match event {
+            Event::Create { path, id, .. } if is_below(path, front.text()) => {
+                size_of(&self.scene.files, *id)
+            }
+            _ => 0,
+        }
     }
 }

@@ -1,6 +1,7 @@
 //! Fakes in memory: a host that keeps what was done and tells what a stop would leave, remotes and a source.
 #![tactic(auto)]
 
+mod choosing;
 mod conditions;
 mod copying;
 mod entry;
@@ -9,16 +10,21 @@ mod files;
 mod folders;
 mod history;
 mod hosting;
+mod image;
 mod mem;
 mod names;
+mod opening;
 mod reads;
 mod remotes;
 mod scene;
 mod source;
 mod story;
 
-pub use entry::Entry;
+pub use image::{Choice, FileRow, Image};
 pub use mem::MemHost;
 pub use remotes::{MemNode, MemRemotes};
 pub use source::MemSource;
 pub use story::{Keeper, Recorder, Supplier};
+
+#[cfg(test)]
+mod tests;

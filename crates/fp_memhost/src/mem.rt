@@ -3,15 +3,20 @@ ghost use Rattle.std.specs.Prelude.{◌≡◌, ◌≤◌, ◌+◌, ◌-◌, ◌^
 ghost use Rattle.fp_host.specs.Calls.{Can};
 ghost use Rattle.fp_memhost.specs.Scenes.{seen};
 ghost use Rattle.fp_memhost.specs.Replay.{change_of};
+ghost use Rattle.fp_memhost.specs.Appended.{TellsAppended};
+ghost use Rattle.fp_memhost.specs.Images.{opened, IsImage, GivesImage, ChoicesOf};
 ghost use Rattle.fp_memhost.specs.Start.{Begins, TellsPrinted, empty_view};
-ghost use Rattle.fp_memhost.specs.Story.{fails_at, ListsOnce};
+ghost use Rattle.fp_memhost.specs.Story.{fails_at};
 ghost use Rattle.fp_memhost.specs.Plays.{done_by, Played, Looked, IsStarved};
 
+use crate::choosing::{can_choose, choices_of, choose};
 use crate::event::Event;
 use crate::history::History;
+use crate::image::{Choice, Image};
+use crate::opening::open_image;
 use crate::scene::Scene;
 use crate::story::Recorder;
-use fp_host::{Host, HostError};
+use fp_host::{Host, HostError, Items, Path};
 use std::alloc::{AllocError, Global};
 
 /// A host in memory. It keeps what was done, and tells what a stop after any number of calls would leave.
@@ -38,13 +43,68 @@ impl MemHost {
     pub fn new(alloc: Global) -> Result<Self, AllocError>
         ensures { IfOk result (λ m. Begins empty_view (⟦<MemHost as Recorder>⟧.story m) (⟦<MemHost as Host>⟧.moments m) (⟦<MemHost as Host>⟧.faults m)) }
     {
-        let history = History::new(Scene::empty(alloc)?, Scene::empty(alloc)?);
+        let start = Image {
+            names: Items::from_vec(Vec::new(alloc)),
+            files: Items::from_vec(Vec::new(alloc)),
+        };
+        let history = History::new(start, Scene::empty(alloc)?);
         Ok(MemHost {
             history,
             failing: Vec::new(alloc),
             faults: 0,
             starved: 0,
         })
+    }
+
+    /// The host that is found when the image is opened again: a name counts where each folder above it is one. No call was
+    /// made, and nothing was printed.
+    pub fn from_image(alloc: Global, image: Image) -> Result<Self, AllocError>
+        requires { IsImage image }
+        ensures { IfOk result (λ m. Begins (opened image) (⟦<MemHost as Recorder>⟧.story m) (⟦<MemHost as Host>⟧.moments m) (⟦<MemHost as Host>⟧.faults m)) }
+    {
+        let scene = open_image(alloc, &image)?;
+        let history = History::new(image, scene);
+        Ok(MemHost {
+            history,
+            failing: Vec::new(alloc),
+            faults: 0,
+            starved: 0,
+        })
+    }
+
+    /// One image that a stop after so many calls may leave: the one that is chosen. There is none exactly where a listed
+    /// name has no such entry, a listed file wasn't created since the last sync, or fewer calls were made.
+    pub fn image_after(&self, calls: u64, choice: &Choice) -> Result<Option<Image>, AllocError>
+        ensures gives { IfOk result (GivesImage ((⟦<MemHost as Recorder>⟧.story self.now).after calls) choice.now) }
+        ensures good { IfOk result (λ given. IfSome given IsImage) }
+    {
+        if calls > self.history.calls {
+            return Ok(None);
+        }
+        let scene = self.history.scene_after(calls)?;
+        if !can_choose(&scene, choice) {
+            return Ok(None);
+        }
+        Ok(Some(choose(self.alloc(), &scene, choice)?))
+    }
+
+    /// After so many calls: each name at which a stop may bring something back, ascending, with how many entries. None
+    /// where fewer calls were made.
+    pub fn choices(&self, calls: u64) -> Result<Items<(Path, u64)>, AllocError>
+        ensures { IfOk result (ChoicesOf ((⟦<MemHost as Recorder>⟧.story self.now).after calls)) }
+    {
+        if calls > self.history.calls {
+            return Ok(Items::from_vec(Vec::new(self.alloc())));
+        }
+        choices_of(self.alloc(), &self.history.scene_after(calls)?)
+    }
+
+    /// How many bytes were appended to files that were created below this path, which takes no memory; the count stands
+    /// still at 2^64 - 1.
+    pub fn appended(&self, front: &Path) -> u64
+        ensures { TellsAppended front.now (⟦<MemHost as Host>⟧.moments self.now) (⟦<MemHost as Recorder>⟧.story self.now).made result }
+    {
+        self.history.appended(front)
     }
 
     /// What was printed, which takes no memory.
@@ -70,9 +130,8 @@ impl MemHost {
 
     /// Makes the calls with these numbers, counted from 0 over all calls, fail. The truth value says whether what the call
     /// asks for is done; a stop may leave either. A failing sync, and a failing call whose condition doesn't hold, changes
-    /// nothing. The list takes the place of an earlier one.
+    /// nothing. Where a number is listed twice, the first counts. The list takes the place of an earlier one.
     pub fn fail_calls(&mut self, list: &[(u64, bool)]) -> Result<(), AllocError>
-        requires { ListsOnce list.now }
         ensures ok { OnOk result (⟦<MemHost as Recorder>⟧.story self.new ≡ record (⟦<MemHost as Recorder>⟧.story self.old) { fails = fails_at list.now }) }
         ensures err { OnErr result (⟦<MemHost as Recorder>⟧.story self.new ≡ ⟦<MemHost as Recorder>⟧.story self.old) }
         ensures moments { ⟦<MemHost as Host>⟧.moments self.new ≡ ⟦<MemHost as Host>⟧.moments self.old }

@@ -5,8 +5,7 @@ ghost use Rattle.std.specs.Option.{option_copied};
 ghost use Rattle.fp_host.specs.Paths.{Slot, elements_of, is_element, set_at};
 ghost use Rattle.fp_memhost.specs.Names.{IsAscending, IsAt, IsPlace, HasRoom, SameNames, PutsName, MayPutName, ForgetsNames, KeepsRoom, slot_of, names_of, earlier_of};
 
-use crate::Entry;
-use fp_host::Path;
+use fp_host::{Entry, Path};
 use std::alloc::AllocError;
 use std::cmp::Ordering;
 use std::mem;

@@ -8,14 +8,13 @@ ghost use Rattle.fp_memhost.specs.Names.{slot_of};
 ghost use Rattle.fp_memhost.specs.Stats.{IsOtherStat};
 ghost use Rattle.fp_memhost.specs.Scenes.{seen};
 
-use crate::Entry;
 use crate::conditions::is_dir;
 use crate::copying::copy_out;
 use crate::files::{Content, file};
 use crate::folders::children;
 use crate::names::entry;
 use crate::scene::Scene;
-use fp_host::{HostError, Items, Path, Stat, Text};
+use fp_host::{Entry, HostError, Items, Path, Stat, Text};
 use std::alloc::Global;
 
 // The file's id, where the entry is one.

@@ -2,12 +2,11 @@
 ghost use Rattle.std.specs.Prelude.{◌≡◌, OnOk, OnErr, IfOk};
 ghost use Rattle.fp_memhost.specs.Names.{IsAscending};
 
-use crate::Entry;
 use crate::entry::copy_entry;
 use crate::event::{Event, Noted};
 use crate::files::{Content, add_file, grow, settle};
 use crate::names::{Name, entry, forget, may_put, put, ready};
-use fp_host::Path;
+use fp_host::{Entry, Path};
 use std::alloc::{AllocError, Global};
 
 /// The names, the files and what was printed.

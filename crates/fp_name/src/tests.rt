@@ -17,221 +17,272 @@ fn filled(alloc: Global, front: &str, length: usize) -> Result<String, AllocErro
     Ok(text)
 }
 
+/// Texts, and whether each is an ID.
+const IDS: [(&str, bool); 34] = [
+    ("org.gnome.Maps", true),
+    ("a.b.c", true),
+    ("_._._", true),
+    ("A.b2.c_3", true),
+    ("com.example.App_1", true),
+    ("org.x.Y-z", true),
+    ("org.x.Y-", true),
+    ("org.x.Y--9", true),
+    ("org.freedesktop.Platform.GL.nvidia-550", true),
+    ("", false),
+    ("org", false),
+    ("org.x", false),
+    ("org.x.", false),
+    (".org.x.Y", false),
+    ("org..x.Y", false),
+    ("...", false),
+    ("org.x.-Y", false),
+    ("org.x-y.Z", false),
+    ("o-rg.x.Y", false),
+    ("1org.x.Y", false),
+    ("org.1x.Y", false),
+    ("org.x.1Y", false),
+    ("org.x.Y z", false),
+    (" org.x.Y", false),
+    ("org.x.Y\n", false),
+    ("org.x.Y\u{1f}", false),
+    ("org.x.Y\u{7f}", false),
+    ("org.x.Y\0", false),
+    ("org.x.Y/z", false),
+    ("org.x.Y+z", false),
+    ("org.x.Y*", false),
+    ("org.x.\u{e9}", false),
+    ("org.x.Y@", false),
+    ("org.x.Y[", false),
+];
+
+/// The first of the texts for which the calls that read IDs answer otherwise.
+fn first_other_id<'a>(alloc: Global, texts: &'a [(&'a str, bool)]) -> Option<&'a str> {
+    for (text, good) in texts {
+        let read = AppId::parse(alloc, text.as_bytes()).err();
+        if read != fault_if(*good) || is_id(text) != *good {
+            return Some(*text);
+        }
+    }
+    None
+}
+
+/// Whether an ID of this many bytes is read.
+fn reads_id(alloc: Global, length: usize) -> Result<bool, AllocError> {
+    let text = filled(alloc, "org.x.", length)?;
+    Ok(AppId::parse(alloc, text.as_bytes()).is_ok())
+}
+
 #[test]
 fn ids(rt: HostRuntime) -> Result<(), Fail> {
-    let table: [(&str, bool); 34] = [
-        ("org.gnome.Maps", true),
-        ("a.b.c", true),
-        ("_._._", true),
-        ("A.b2.c_3", true),
-        ("com.example.App_1", true),
-        ("org.x.Y-z", true),
-        ("org.x.Y-", true),
-        ("org.x.Y--9", true),
-        ("org.freedesktop.Platform.GL.nvidia-550", true),
-        ("", false),
-        ("org", false),
-        ("org.x", false),
-        ("org.x.", false),
-        (".org.x.Y", false),
-        ("org..x.Y", false),
-        ("...", false),
-        ("org.x.-Y", false),
-        ("org.x-y.Z", false),
-        ("o-rg.x.Y", false),
-        ("1org.x.Y", false),
-        ("org.1x.Y", false),
-        ("org.x.1Y", false),
-        ("org.x.Y z", false),
-        (" org.x.Y", false),
-        ("org.x.Y\n", false),
-        ("org.x.Y\u{1f}", false),
-        ("org.x.Y\u{7f}", false),
-        ("org.x.Y\0", false),
-        ("org.x.Y/z", false),
-        ("org.x.Y+z", false),
-        ("org.x.Y*", false),
-        ("org.x.\u{e9}", false),
-        ("org.x.Y@", false),
-        ("org.x.Y[", false),
-    ];
-    for (text, good) in table {
-        let read = AppId::parse(rt.alloc(), text.as_bytes());
-        assert_eq!(rt; read.err(), fault_if(good), "{text:?}");
-        assert_eq!(rt; is_id(text), good, "{text:?}");
-    }
+    assert_eq!(rt; first_other_id(rt.alloc(), &IDS), None);
     assert_eq!(rt;
         AppId::parse(rt.alloc(), b"org.x.\xff").err(),
         Some(NameFault::Bad)
     );
-    for (length, good) in [(255, true), (256, false)] {
-        let text = filled(rt.alloc(), "org.x.", length)?;
-        assert_eq!(rt;
-            AppId::parse(rt.alloc(), text.as_bytes()).err(),
-            fault_if(good)
-        );
-    }
+    assert!(rt; reads_id(rt.alloc(), 255)?);
+    assert!(rt; !reads_id(rt.alloc(), 256)?);
     Ok(())
+}
+
+/// Texts, whether each is an ARCH, and whether it is a BRANCH.
+const ARCHS_AND_BRANCHES: [(&str, bool, bool); 26] = [
+    ("x86_64", true, true),
+    ("aarch64", true, true),
+    ("_", true, true),
+    ("0", true, true),
+    ("Z9", true, true),
+    ("stable", true, true),
+    ("22.08", false, true),
+    ("-", false, true),
+    ("1-", false, true),
+    ("a.", false, true),
+    ("a..b", false, true),
+    ("5.15-22.08", false, true),
+    ("", false, false),
+    (".", false, false),
+    ("..", false, false),
+    (".stable", false, false),
+    ("a/b", false, false),
+    ("a b", false, false),
+    ("a+b", false, false),
+    ("a\t", false, false),
+    ("a\u{7f}", false, false),
+    ("a\0", false, false),
+    ("\u{e9}", false, false),
+    ("*", false, false),
+    ("a:b", false, false),
+    ("a,b", false, false),
+];
+
+/// The first of the texts for which the tests answer otherwise.
+fn first_other_branch<'a>(texts: &'a [(&'a str, bool, bool)]) -> Option<&'a str> {
+    for (text, arch, branch) in texts {
+        if is_arch(text) != *arch || is_branch(text) != *branch {
+            return Some(*text);
+        }
+    }
+    None
+}
+
+/// Whether a text of this many letters is an ARCH and a BRANCH.
+fn reads_branch(alloc: Global, length: usize) -> Result<(bool, bool), AllocError> {
+    let text = filled(alloc, "", length)?;
+    Ok((is_arch(text.as_str()), is_branch(text.as_str())))
 }
 
 #[test]
 fn archs_and_branches(rt: HostRuntime) -> Result<(), Fail> {
-    // A text, whether it is an ARCH, and whether it is a BRANCH.
-    let table: [(&str, bool, bool); 26] = [
-        ("x86_64", true, true),
-        ("aarch64", true, true),
-        ("_", true, true),
-        ("0", true, true),
-        ("Z9", true, true),
-        ("stable", true, true),
-        ("22.08", false, true),
-        ("-", false, true),
-        ("1-", false, true),
-        ("a.", false, true),
-        ("a..b", false, true),
-        ("5.15-22.08", false, true),
-        ("", false, false),
-        (".", false, false),
-        ("..", false, false),
-        (".stable", false, false),
-        ("a/b", false, false),
-        ("a b", false, false),
-        ("a+b", false, false),
-        ("a\t", false, false),
-        ("a\u{7f}", false, false),
-        ("a\0", false, false),
-        ("\u{e9}", false, false),
-        ("*", false, false),
-        ("a:b", false, false),
-        ("a,b", false, false),
-    ];
-    for (text, arch, branch) in table {
-        assert_eq!(rt; is_arch(text), arch, "{text:?}");
-        assert_eq!(rt; is_branch(text), branch, "{text:?}");
-    }
-    for (length, good) in [(1, true), (255, true), (256, false)] {
-        let text = filled(rt.alloc(), "", length)?;
-        assert_eq!(rt; is_arch(text.as_str()), good);
-        assert_eq!(rt; is_branch(text.as_str()), good);
-    }
+    assert_eq!(rt; first_other_branch(&ARCHS_AND_BRANCHES), None);
+    assert_eq!(rt; reads_branch(rt.alloc(), 1)?, (true, true));
+    assert_eq!(rt; reads_branch(rt.alloc(), 255)?, (true, true));
+    assert_eq!(rt; reads_branch(rt.alloc(), 256)?, (false, false));
     Ok(())
+}
+
+/// Texts, and whether each is the name of a remote.
+const REMOTES: [(&str, bool); 15] = [
+    ("flathub", true),
+    ("0", true),
+    ("_x", true),
+    ("a-b.c", true),
+    ("f.", true),
+    ("9-", true),
+    ("", false),
+    ("-x", false),
+    (".x", false),
+    ("a b", false),
+    ("a/b", false),
+    ("a\n", false),
+    ("a\u{7f}", false),
+    ("\u{e9}", false),
+    ("a\"b", false),
+];
+
+/// Texts, and whether each is the url of a remote.
+const URLS: [(&str, bool); 18] = [
+    ("file:///", true),
+    ("file:///srv/repo", true),
+    ("file:///!~", true),
+    ("file:////", true),
+    ("", false),
+    ("file://", false),
+    ("file:/srv", false),
+    ("File:///srv", false),
+    ("http:///srv", false),
+    (" file:///srv", false),
+    ("file:///a b", false),
+    ("file:///srv ", false),
+    ("file:///a\u{7f}", false),
+    ("file:///a\u{1f}", false),
+    ("file:///a\n", false),
+    ("file:///a\0", false),
+    ("file:///\u{e9}", false),
+    ("file//:/", false),
+];
+
+/// The first of the texts for which the call that reads names of remotes answers otherwise.
+fn first_other_remote<'a>(alloc: Global, texts: &'a [(&'a str, bool)]) -> Option<&'a str> {
+    for (text, good) in texts {
+        if RemoteName::parse(alloc, text.as_bytes()).err() != fault_if(*good) {
+            return Some(*text);
+        }
+    }
+    None
+}
+
+/// The first of the texts for which the call that reads urls answers otherwise.
+fn first_other_url<'a>(alloc: Global, texts: &'a [(&'a str, bool)]) -> Option<&'a str> {
+    for (text, good) in texts {
+        if RemoteUrl::parse(alloc, text.as_bytes()).err() != fault_if(*good) {
+            return Some(*text);
+        }
+    }
+    None
+}
+
+/// Whether a name of a remote of this many bytes is read.
+fn reads_remote(alloc: Global, length: usize) -> Result<bool, AllocError> {
+    let text = filled(alloc, "a", length)?;
+    Ok(RemoteName::parse(alloc, text.as_bytes()).is_ok())
+}
+
+/// Whether a url of this many bytes is read.
+fn reads_url(alloc: Global, length: usize) -> Result<bool, AllocError> {
+    let text = filled(alloc, "file:///", length)?;
+    Ok(RemoteUrl::parse(alloc, text.as_bytes()).is_ok())
 }
 
 #[test]
 fn remotes(rt: HostRuntime) -> Result<(), Fail> {
-    let names: [(&str, bool); 15] = [
-        ("flathub", true),
-        ("0", true),
-        ("_x", true),
-        ("a-b.c", true),
-        ("f.", true),
-        ("9-", true),
-        ("", false),
-        ("-x", false),
-        (".x", false),
-        ("a b", false),
-        ("a/b", false),
-        ("a\n", false),
-        ("a\u{7f}", false),
-        ("\u{e9}", false),
-        ("a\"b", false),
-    ];
-    for (text, good) in names {
-        let read = RemoteName::parse(rt.alloc(), text.as_bytes());
-        assert_eq!(rt; read.err(), fault_if(good), "{text:?}");
-    }
-    let urls: [(&str, bool); 18] = [
-        ("file:///", true),
-        ("file:///srv/repo", true),
-        ("file:///!~", true),
-        ("file:////", true),
-        ("", false),
-        ("file://", false),
-        ("file:/srv", false),
-        ("File:///srv", false),
-        ("http:///srv", false),
-        (" file:///srv", false),
-        ("file:///a b", false),
-        ("file:///srv ", false),
-        ("file:///a\u{7f}", false),
-        ("file:///a\u{1f}", false),
-        ("file:///a\n", false),
-        ("file:///a\0", false),
-        ("file:///\u{e9}", false),
-        ("file//:/", false),
-    ];
-    for (text, good) in urls {
-        let read = RemoteUrl::parse(rt.alloc(), text.as_bytes());
-        assert_eq!(rt; read.err(), fault_if(good), "{text:?}");
-    }
-    assert_eq!(rt;
-        RemoteName::parse(rt.alloc(), b"a\x80").err(),
-        Some(NameFault::Bad)
-    );
-    assert_eq!(rt;
-        RemoteUrl::parse(rt.alloc(), b"file:///\xc3").err(),
-        Some(NameFault::Bad)
-    );
-    for (length, good) in [(64, true), (65, false)] {
-        let text = filled(rt.alloc(), "a", length)?;
-        assert_eq!(rt;
-            RemoteName::parse(rt.alloc(), text.as_bytes()).err(),
-            fault_if(good)
-        );
-    }
-    for (length, good) in [(1024, true), (1025, false)] {
-        let text = filled(rt.alloc(), "file:///", length)?;
-        assert_eq!(rt;
-            RemoteUrl::parse(rt.alloc(), text.as_bytes()).err(),
-            fault_if(good)
-        );
-    }
+    assert_eq!(rt; first_other_remote(rt.alloc(), &REMOTES), None);
+    assert_eq!(rt; first_other_url(rt.alloc(), &URLS), None);
+    assert!(rt; RemoteName::parse(rt.alloc(), b"a\x80").is_err());
+    assert!(rt; RemoteUrl::parse(rt.alloc(), b"file:///\xc3").is_err());
+    assert!(rt; reads_remote(rt.alloc(), 64)? && !reads_remote(rt.alloc(), 65)?);
+    assert!(rt; reads_url(rt.alloc(), 1024)? && !reads_url(rt.alloc(), 1025)?);
     Ok(())
+}
+
+/// Texts, whether each is a ref, and whether it is a pattern.
+const REFS_AND_PATTERNS: [(&str, bool, bool); 30] = [
+    ("app/org.x.App/x86_64/stable", true, true),
+    ("runtime/org.x.Y-z/x86_64/22.08", true, true),
+    ("app/a.b.c/_/-", true, true),
+    ("app/org.x/x86_64/stable", false, false),
+    ("runtime/org.x-y.Z/x86_64/1", false, false),
+    ("", false, false),
+    ("app", false, false),
+    ("app/", false, false),
+    ("app/org.x.App", false, false),
+    ("app/org.x.App/x86_64", false, false),
+    ("app/org.x.App/x86_64/", false, false),
+    ("app/org.x.App//stable", false, false),
+    ("app//x86_64/stable", false, false),
+    ("/org.x.App/x86_64/stable", false, false),
+    ("app/org.x.App/x86_64/stable/", false, false),
+    ("app/org.x.App/x86_64/sta/ble", false, false),
+    ("App/org.x.App/x86_64/stable", false, false),
+    ("apps/org.x.App/x86_64/stable", false, false),
+    ("extension/org.x.App/x86_64/stable", false, false),
+    ("app/org.x.App/x86-64/stable", false, false),
+    ("app/org.x.App/x86_64/.stable", false, false),
+    ("app/org.x.App/x86_64/stable\n", false, false),
+    ("app/*/*/*", false, true),
+    ("app/org.x.App/*/stable", false, true),
+    ("runtime/*/x86_64/22.08", false, true),
+    ("*/org.x.App/x86_64/stable", false, false),
+    ("app/org.x.*/x86_64/stable", false, false),
+    ("app/**/x86_64/stable", false, false),
+    ("app/*/*", false, false),
+    ("app/*/*/*/*", false, false),
+];
+
+/// The first of the texts for which the calls that read refs answer otherwise.
+fn first_other_ref<'a>(alloc: Global, texts: &'a [(&'a str, bool, bool)]) -> Option<&'a str> {
+    for (text, name, _) in texts {
+        let read = RefName::parse(alloc, text.as_bytes()).err();
+        if read != fault_if(*name) || is_ref(text) != *name {
+            return Some(*text);
+        }
+    }
+    None
+}
+
+/// The first of the texts for which the calls that read patterns answer otherwise.
+fn first_other_pattern<'a>(alloc: Global, texts: &'a [(&'a str, bool, bool)]) -> Option<&'a str> {
+    for (text, _, pattern) in texts {
+        let read = PinPattern::parse(alloc, text.as_bytes()).err();
+        if read != fault_if(*pattern) || is_pin(text) != *pattern {
+            return Some(*text);
+        }
+    }
+    None
 }
 
 #[test]
 fn refs_and_patterns(rt: HostRuntime) {
-    // A text, whether it is a ref, and whether it is a pattern.
-    let table: [(&str, bool, bool); 30] = [
-        ("app/org.x.App/x86_64/stable", true, true),
-        ("runtime/org.x.Y-z/x86_64/22.08", true, true),
-        ("app/a.b.c/_/-", true, true),
-        ("app/org.x/x86_64/stable", false, false),
-        ("runtime/org.x-y.Z/x86_64/1", false, false),
-        ("", false, false),
-        ("app", false, false),
-        ("app/", false, false),
-        ("app/org.x.App", false, false),
-        ("app/org.x.App/x86_64", false, false),
-        ("app/org.x.App/x86_64/", false, false),
-        ("app/org.x.App//stable", false, false),
-        ("app//x86_64/stable", false, false),
-        ("/org.x.App/x86_64/stable", false, false),
-        ("app/org.x.App/x86_64/stable/", false, false),
-        ("app/org.x.App/x86_64/sta/ble", false, false),
-        ("App/org.x.App/x86_64/stable", false, false),
-        ("apps/org.x.App/x86_64/stable", false, false),
-        ("extension/org.x.App/x86_64/stable", false, false),
-        ("app/org.x.App/x86-64/stable", false, false),
-        ("app/org.x.App/x86_64/.stable", false, false),
-        ("app/org.x.App/x86_64/stable\n", false, false),
-        ("app/*/*/*", false, true),
-        ("app/org.x.App/*/stable", false, true),
-        ("runtime/*/x86_64/22.08", false, true),
-        ("*/org.x.App/x86_64/stable", false, false),
-        ("app/org.x.*/x86_64/stable", false, false),
-        ("app/**/x86_64/stable", false, false),
-        ("app/*/*", false, false),
-        ("app/*/*/*/*", false, false),
-    ];
-    for (text, name, pattern) in table {
-        let read = RefName::parse(rt.alloc(), text.as_bytes());
-        assert_eq!(rt; read.err(), fault_if(name), "{text:?}");
-        assert_eq!(rt; is_ref(text), name, "{text:?}");
-        let read = PinPattern::parse(rt.alloc(), text.as_bytes());
-        assert_eq!(rt; read.err(), fault_if(pattern), "{text:?}");
-        assert_eq!(rt; is_pin(text), pattern, "{text:?}");
-    }
+    assert_eq!(rt; first_other_ref(rt.alloc(), &REFS_AND_PATTERNS), None);
+    assert_eq!(rt; first_other_pattern(rt.alloc(), &REFS_AND_PATTERNS), None);
     let odd = b"app/org.x.App/x86_64/\xfe";
     assert_eq!(rt; RefName::parse(rt.alloc(), odd).err(), Some(NameFault::Bad));
     assert_eq!(rt;
@@ -278,30 +329,39 @@ fn parts_of_refs(rt: HostRuntime) -> Result<(), Fail> {
     Ok(())
 }
 
+/// Texts behind a kind that make no ref.
+const NO_REFS: [&str; 5] = [
+    "org.x.Y/x86_64",
+    "org.x.Y/x86_64/1/2",
+    "org.x/x86_64/1",
+    "a.b.c/a/.1",
+    "",
+];
+
+/// The first of the texts that makes a ref.
+fn first_made<'a>(alloc: Global, texts: &'a [&'a str]) -> Option<&'a str> {
+    for text in texts {
+        if RefName::of_kind(alloc, RefKind::App, text).err() != Some(NameFault::Bad) {
+            return Some(*text);
+        }
+    }
+    None
+}
+
+fn is_no_ref(alloc: Global, id: &str, arch: &str, branch: &str) -> bool {
+    RefName::new(alloc, RefKind::App, id, arch, branch).err() == Some(NameFault::Bad)
+}
+
 #[test]
 fn refs_of_parts(rt: HostRuntime) -> Result<(), Fail> {
     let text = "runtime/org.x.Y-z/x86_64/22.08";
     assert!(rt; made_alike(rt.alloc(), RefKind::Runtime, "org.x.Y-z", text)?);
     let rest = "org.x.Y-z/x86_64/22.08";
     assert!(rt; of_kind_alike(rt.alloc(), RefKind::Runtime, rest, text)?);
-    for text in [
-        "org.x.Y/x86_64",
-        "org.x.Y/x86_64/1/2",
-        "org.x/x86_64/1",
-        "a.b.c/a/.1",
-        "",
-    ] {
-        let made = RefName::of_kind(rt.alloc(), RefKind::App, text);
-        assert_eq!(rt; made.err(), Some(NameFault::Bad), "{text:?}");
-    }
-    for (id, arch, branch) in [
-        ("org.x", "a", "1"),
-        ("a.b.c", "", "1"),
-        ("a.b.c", "a", "1/2"),
-    ] {
-        let made = RefName::new(rt.alloc(), RefKind::App, id, arch, branch);
-        assert_eq!(rt; made.err(), Some(NameFault::Bad));
-    }
+    assert_eq!(rt; first_made(rt.alloc(), &NO_REFS), None);
+    assert!(rt; is_no_ref(rt.alloc(), "org.x", "a", "1"));
+    assert!(rt; is_no_ref(rt.alloc(), "a.b.c", "", "1"));
+    assert!(rt; is_no_ref(rt.alloc(), "a.b.c", "a", "1/2"));
     Ok(())
 }
 
@@ -314,66 +374,84 @@ fn compared(alloc: Global, left: &str, right: &str) -> Result<(Ordering, Orderin
     Ok((first.cmp(&second), pattern.cmp(&other)))
 }
 
-#[test]
-fn order(rt: HostRuntime) {
-    // By the bytes of the texts the left ref comes first. The marked ones have the other order by
-    // their parts.
-    let table = [
-        ("app/org.x.A-b/x86_64/1", "app/org.x.A/x86_64/1"), // marked: `-` comes before `/`
-        ("app/org.x.A.b/x86_64/1", "app/org.x.A/x86_64/1"), // marked: `.` comes before `/`
-        ("app/org.x.A-b/x86_64/1", "app/org.x.A.b/x86_64/1"),
-        ("app/org.x.A/x86_64/2", "app/org.x.A_/x86_64/1"),
-        ("app/org.x.A/x86_64/2", "app/org.x.A/x86_64_v3/1"),
-        ("app/org.x.A/x86_64/1", "app/org.x.A/x86_64/1-"),
-        ("app/org.x.A/x86_64/1-0", "app/org.x.A/x86_64/1.0"),
-        ("app/org.x.B/x86_64/1", "app/org.x.a/x86_64/1"),
-        ("app/org.x.Z/x86_64/9", "runtime/a.b.c/a/0"),
-        ("app/org.x.A/x86_64/10", "app/org.x.A/x86_64/9"),
-    ];
-    for (left, right) in table {
-        let answer = compared(rt.alloc(), left, right).ok();
-        assert_eq!(rt; answer, Some((Ordering::Less, Ordering::Less)), "{left:?}");
-        let answer = compared(rt.alloc(), right, left).ok();
-        assert_eq!(rt;
-            answer,
-            Some((Ordering::Greater, Ordering::Greater)),
-            "{left:?}"
-        );
-        let answer = compared(rt.alloc(), left, left).ok();
-        assert_eq!(rt;
-            answer,
-            Some((Ordering::Equal, Ordering::Equal)),
-            "{left:?}"
-        );
+/// By the bytes of the texts the left ref comes first. The first two have the other order by their parts, since `-` and
+/// `.` come before `/`.
+const ORDERED: [(&str, &str); 10] = [
+    ("app/org.x.A-b/x86_64/1", "app/org.x.A/x86_64/1"),
+    ("app/org.x.A.b/x86_64/1", "app/org.x.A/x86_64/1"),
+    ("app/org.x.A-b/x86_64/1", "app/org.x.A.b/x86_64/1"),
+    ("app/org.x.A/x86_64/2", "app/org.x.A_/x86_64/1"),
+    ("app/org.x.A/x86_64/2", "app/org.x.A/x86_64_v3/1"),
+    ("app/org.x.A/x86_64/1", "app/org.x.A/x86_64/1-"),
+    ("app/org.x.A/x86_64/1-0", "app/org.x.A/x86_64/1.0"),
+    ("app/org.x.B/x86_64/1", "app/org.x.a/x86_64/1"),
+    ("app/org.x.Z/x86_64/9", "runtime/a.b.c/a/0"),
+    ("app/org.x.A/x86_64/10", "app/org.x.A/x86_64/9"),
+];
+
+/// Whether two refs compare so, and the patterns of their texts too.
+fn is_order(alloc: Global, left: &str, right: &str, order: Ordering) -> bool {
+    compared(alloc, left, right).ok() == Some((order, order))
+}
+
+/// The first of the left texts that compares otherwise.
+fn first_misordered<'a>(alloc: Global, texts: &'a [(&'a str, &'a str)]) -> Option<&'a str> {
+    for (left, right) in texts {
+        if !is_order(alloc, left, right, Ordering::Less)
+            || !is_order(alloc, right, left, Ordering::Greater)
+            || !is_order(alloc, left, left, Ordering::Equal)
+        {
+            return Some(*left);
+        }
     }
+    None
 }
 
 #[test]
-fn matching(rt: HostRuntime) -> Result<(), Fail> {
-    let table = [
-        ("app/org.x.App/x86_64/stable", true),
-        ("app/*/*/*", true),
-        ("app/org.x.App/*/*", true),
-        ("app/*/x86_64/*", true),
-        ("app/*/*/stable", true),
-        ("runtime/org.x.App/x86_64/stable", false),
-        ("runtime/*/*/*", false),
-        ("app/org.x.Ap/*/*", false),
-        ("app/org.x.App2/*/*", false),
-        ("app/org.x.app/*/*", false),
-        ("app/*/x86/*", false),
-        ("app/*/x86_64_v3/*", false),
-        ("app/*/*/stabl", false),
-        ("app/*/*/stable2", false),
-        ("app/org.x.Other/*/*", false),
-        ("app/*/aarch64/stable", false),
-    ];
-    let name = RefName::parse(rt.alloc(), b"app/org.x.App/x86_64/stable")?;
-    for (pattern, matches) in table {
-        let pattern = PinPattern::parse(rt.alloc(), pattern.as_bytes())?;
-        assert_eq!(rt; pattern.matches(&name), matches, "{pattern:?}");
+fn order(rt: HostRuntime) {
+    assert_eq!(rt; first_misordered(rt.alloc(), &ORDERED), None);
+}
+
+/// Patterns, and whether each matches `app/org.x.App/x86_64/stable`.
+const PATTERNS: [(&str, bool); 16] = [
+    ("app/org.x.App/x86_64/stable", true),
+    ("app/*/*/*", true),
+    ("app/org.x.App/*/*", true),
+    ("app/*/x86_64/*", true),
+    ("app/*/*/stable", true),
+    ("runtime/org.x.App/x86_64/stable", false),
+    ("runtime/*/*/*", false),
+    ("app/org.x.Ap/*/*", false),
+    ("app/org.x.App2/*/*", false),
+    ("app/org.x.app/*/*", false),
+    ("app/*/x86/*", false),
+    ("app/*/x86_64_v3/*", false),
+    ("app/*/*/stabl", false),
+    ("app/*/*/stable2", false),
+    ("app/org.x.Other/*/*", false),
+    ("app/*/aarch64/stable", false),
+];
+
+/// Whether the pattern matches the ref.
+fn is_match(alloc: Global, pattern: &str, name: &str) -> Result<bool, NameFault> {
+    let pattern = PinPattern::parse(alloc, pattern.as_bytes())?;
+    let name = RefName::parse(alloc, name.as_bytes())?;
+    Ok(pattern.matches(&name))
+}
+
+/// The first of the patterns that matches otherwise.
+fn first_mismatch<'a>(alloc: Global, patterns: &'a [(&'a str, bool)]) -> Option<&'a str> {
+    for (pattern, matches) in patterns {
+        if is_match(alloc, pattern, "app/org.x.App/x86_64/stable") != Ok(*matches) {
+            return Some(*pattern);
+        }
     }
-    Ok(())
+    None
+}
+
+#[test]
+fn matching(rt: HostRuntime) {
+    assert_eq!(rt; first_mismatch(rt.alloc(), &PATTERNS), None);
 }
 
 // SHA-256 of no bytes.
@@ -401,29 +479,35 @@ fn digest(rt: HostRuntime) -> Result<(), Fail> {
     Ok(())
 }
 
+/// Texts that are no digests.
+const NO_DIGESTS: [&str; 12] = [
+    "",
+    "e3",
+    "e3b0c44298fc1c149afbf4c8996fb92427ae41e4649b934ca495991b7852b85",
+    "e3b0c44298fc1c149afbf4c8996fb92427ae41e4649b934ca495991b7852b8555",
+    "E3b0c44298fc1c149afbf4c8996fb92427ae41e4649b934ca495991b7852b855",
+    "e3b0c44298fc1c149afbf4c8996fb92427ae41e4649b934ca495991b7852b85F",
+    "g3b0c44298fc1c149afbf4c8996fb92427ae41e4649b934ca495991b7852b855",
+    "e3b0c44298fc1c149afbf4c8996fb92427ae41e4649b934ca495991b7852b85\n",
+    "e3b0c44298fc1c149afbf4c8996fb92427ae41e4649b934ca495991b7852b8\u{e9}",
+    "e3b0c44298fc1c149afbf4c8996fb92427ae41e4649b934ca495991b7852b85/",
+    "e3b0c44298fc1c149afbf4c8996fb92427ae41e4649b934ca495991b7852b85:",
+    "e3b0c44298fc1c149afbf4c8996fb92427ae41e4649b934ca495991b7852b85`",
+];
+
+/// The first of the texts that reads as a digest.
+fn first_digest<'a>(texts: &'a [&'a str]) -> Option<&'a str> {
+    for text in texts {
+        if Digest::parse(text.as_bytes()) != Err(NameFault::Bad) {
+            return Some(*text);
+        }
+    }
+    None
+}
+
 #[test]
 fn no_digests(rt: HostRuntime) {
-    let bad = [
-        "",
-        "e3",
-        "e3b0c44298fc1c149afbf4c8996fb92427ae41e4649b934ca495991b7852b85",
-        "e3b0c44298fc1c149afbf4c8996fb92427ae41e4649b934ca495991b7852b8555",
-        "E3b0c44298fc1c149afbf4c8996fb92427ae41e4649b934ca495991b7852b855",
-        "e3b0c44298fc1c149afbf4c8996fb92427ae41e4649b934ca495991b7852b85F",
-        "g3b0c44298fc1c149afbf4c8996fb92427ae41e4649b934ca495991b7852b855",
-        "e3b0c44298fc1c149afbf4c8996fb92427ae41e4649b934ca495991b7852b85\n",
-        "e3b0c44298fc1c149afbf4c8996fb92427ae41e4649b934ca495991b7852b8\u{e9}",
-        "e3b0c44298fc1c149afbf4c8996fb92427ae41e4649b934ca495991b7852b85/",
-        "e3b0c44298fc1c149afbf4c8996fb92427ae41e4649b934ca495991b7852b85:",
-        "e3b0c44298fc1c149afbf4c8996fb92427ae41e4649b934ca495991b7852b85`",
-    ];
-    for text in bad {
-        assert_eq!(rt;
-            Digest::parse(text.as_bytes()),
-            Err(NameFault::Bad),
-            "{text:?}"
-        );
-    }
+    assert_eq!(rt; first_digest(&NO_DIGESTS), None);
 }
 
 fn id_is_written(alloc: Global, text: &str) -> Result<bool, NameFault> {

@@ -22,6 +22,10 @@ use std::rt::Files;
 /// The root folder and those above it are made by the first call that needs them, where they are absent. A folder gets
 /// the permission bits 0755 less the umask, a file exactly those that were asked for. Ids are the numbers of inodes. A
 /// symlink in the place of a folder above a path is followed; at the end of a path none is.
+///
+/// A `sync` makes last each file and each folder that was changed since the last one. The first one also makes last what an
+/// earlier run may have left that was stopped before its own: the root folder, the files and folders at its top, and
+/// `repo/tmp`, where new files are staged.
 pub struct HostDir<'a, R> {
     tree: Tree<'a, R>,
     faults: Faults,

@@ -23,7 +23,12 @@ pub fn list_names<R: Files + AllocGlobal>(rt: &R, alloc: Global, at: &str) -> io
     Ok(names)
 }
 
-fn read_names<R: Files + AllocGlobal>(rt: &R, alloc: Global, at: &str) -> io::Result<Vec<Text>> {
+// The names in the folder, in no order.
+pub fn read_names<R: Files + AllocGlobal>(
+    rt: &R,
+    alloc: Global,
+    at: &str,
+) -> io::Result<Vec<Text>> {
     let mut names = Vec::new(alloc);
     for entry in fs::read_dir(&rt, at)? {
         let name = entry?.file_name().to_string(alloc)?;

@@ -68,6 +68,13 @@ impl Touched {
         }
     }
 
+    // Makes last what was left before any change. Where a sync of it failed, no later one succeeds.
+    pub fn sync_before<R: Files>(&mut self, rt: &R, left: &mut Touched) -> Result<(), SystemError> {
+        let done = left.sync(rt);
+        self.is_lost |= left.is_lost;
+        done
+    }
+
     fn sync_all<R: Files>(&self, rt: &R) -> Result<(), SystemError> {
         if self.is_lost {
             return Err(SystemError {

@@ -4,7 +4,7 @@ ghost use Rattle.fp_host.specs.Reads.{AreNames, HasBits};
 
 use crate::fault::{Call, SystemError};
 use crate::files;
-use crate::names::list_names;
+use crate::names::{list_names, read_names};
 use crate::touched::Touched;
 use fp_host::{Items, Path, Stat, Text};
 use std::alloc::{AllocError, Global};
@@ -21,6 +21,8 @@ pub struct Tree<'a, R> {
     root: String,
     // Whether the root folder is known to be there.
     is_made: bool,
+    // Whether what an earlier run left was made to last.
+    is_caught_up: bool,
     touched: Touched,
 }
 
@@ -31,6 +33,7 @@ impl<R> Drop for Tree<'_, R> {
             alloc: _,
             root: _,
             is_made: _,
+            is_caught_up: _,
             touched: _,
         } = self;
     }
@@ -44,6 +47,7 @@ impl<'a, R> Tree<'a, R> {
             alloc,
             root: root.to_string(alloc)?,
             is_made: false,
+            is_caught_up: false,
             touched: Touched::nothing(alloc),
         })
     }
@@ -219,8 +223,53 @@ impl<R: Files + Print + AllocGlobal> Tree<'_, R> {
         Ok(())
     }
 
+    // Makes all changes last, the first time also what an earlier run may have left.
     pub fn sync(&mut self) -> Result<(), SystemError> {
+        if !self.is_caught_up {
+            self.catch_up()?;
+            self.is_caught_up = true;
+        }
         self.touched.sync(self.rt)
+    }
+
+    fn catch_up(&mut self) -> Result<(), SystemError> {
+        match self.left_before() {
+            Ok(mut left) => self.touched.sync_before(self.rt, &mut left),
+            Err(e) => Err(SystemError::on(self.alloc, Call::List, &self.root, e)),
+        }
+    }
+
+    // What an earlier run may have changed without making it last: the root folder, what stands at its top, and `repo/tmp`,
+    // where new files are staged.
+    fn left_before(&self) -> io::Result<Touched> {
+        let mut left = Touched::nothing(self.alloc);
+        if files::is_folder(self.rt, &self.root)? {
+            left.add_folder(&self.root)?;
+            self.add_top(&mut left)?;
+            self.add_found(&mut left, "repo/tmp")?;
+        }
+        Ok(left)
+    }
+
+    fn add_top(&self, left: &mut Touched) -> io::Result<()> {
+        for name in &read_names(self.rt, self.alloc, &self.root)? {
+            self.add_found(left, name.as_str())?;
+        }
+        Ok(())
+    }
+
+    // Adds the file or folder that stands there. One that may not be opened is not ours, and shows nothing.
+    fn add_found(&self, left: &mut Touched, below: &str) -> io::Result<()> {
+        let root = &self.root;
+        let at = format!(in self.alloc; "{root}/{below}")?;
+        let Some(found) = files::look(self.rt, &at)? else {
+            return Ok(());
+        };
+        if (found.is_file() || found.is_dir()) && fs::open(self.rt, &at).is_ok() {
+            left.add_file(&at)?;
+            left.add_folder(&at)?;
+        }
+        Ok(())
     }
 
     pub fn print(&self, piece: &[u8]) -> io::Result<()> {

@@ -1,10 +1,10 @@
 -- The text of a `config` reads back.
-use Rattle.std.proofs.Common.{◌≡◌, ⊎_elim, ℕ, suc, ◌+◌, ◌-◌, ◌<◌, ◌≤◌, Bool, true, false, not, ◌&&◌, ◌||◌, cond, eqb, leb, List, [], ◌∷◌, ◌++◌, length, map, take, drop, codes, Option, Some, None, Ok, refl, sym, ap, subst, ◌∙◌, inl, inr, arith, length-append}
-use Rattle.std.specs.List.{list_all, list_any, filter_map, find, slice_split, join_with_byte}
+use Rattle.std.proofs.Common.{◌≡◌, ⊎_elim, ℕ, ◌+◌, ◌-◌, ◌<◌, Bool, true, false, not, ◌&&◌, ◌||◌, eqb, leb, List, [], ◌∷◌, ◌++◌, length, map, take, drop, codes, Option, Some, None, refl, sym, ap, ◌∙◌, arith, length-append}
+use Rattle.std.specs.List.{list_all, list_any, filter_map, slice_split, join_with_byte}
 use Rattle.std.specs.Option.{option_and_then, is_some}
 use Rattle.std.specs.Char.{is_ascii_graphic}
-use Rattle.std.specs.Str.{is_utf8, bytes_eq, IsAscii}
-use Rattle.std.proofs.lemmas.Bool.{cases_Bool, and_parts, and_from, or_cases, or_left, or_right, or_from, or_parts, not-true, not_from_false, ne_eqb, false≢true, both_ways, false_from_ne_true, le-leb}
+use Rattle.std.specs.Str.{is_utf8, bytes_eq}
+use Rattle.std.proofs.lemmas.Bool.{and_parts, and_from, or_cases, or_left, or_right, or_from, or_parts, not-true, not_from_false, ne_eqb, false≢true, both_ways, false_from_ne_true, le-leb}
 use Rattle.std.proofs.lemmas.Bool.Decides.{nat_tests}
 use Rattle.std.proofs.lemmas.List.{drop-drop, take-append-drop, drop-append-le, take-append-le, take_all, drop_all}
 use Rattle.std.proofs.lemmas.List.Elements.{filter_map-append}
@@ -13,7 +13,7 @@ use Rattle.std.proofs.lemmas.Slice.Eq.{bytes_eq-Decides}
 use Rattle.std.proofs.lemmas.Str.{IsUtf8-from_ascii, is_utf8-from_IsUtf8}
 use Rattle.std.proofs.lemmas.Str.Ascii.{IsAscii-from_all}
 use Rattle.fp_host.specs.Reads.{comes_first, is_ascending}
-use Rattle.fp_name.specs.Bytes.{is_word, is_dashed, is_dotted, is_slash, begins_with}
+use Rattle.fp_name.specs.Bytes.{is_dotted, is_slash}
 use Rattle.fp_name.specs.Grammar.{is_remote_name, is_url, is_id, is_arch, is_branch}
 use Rattle.fp_name.specs.Kinds.{kind_word}
 use Rattle.fp_name.specs.Refs.{Ref, ref_text, parts_of}
@@ -23,17 +23,16 @@ use Rattle.fp_name.specs.declared.kind.RefKind.TheVariants.{App, Runtime}
 use Rattle.fp_name.proofs.Bytes.{list_all-wider, All-from_list_all, dotted_id, dotted_arch, dotted_branch, dotted_remote_name}
 use Rattle.fp_name.proofs.Refs.{parts_are}
 use Rattle.std.proofs.lemmas.List.Splits.{join_with_byte-slice_split}
-use Rattle.fp_keyfile.specs.declared.group.Pair.{Pair}
 use Rattle.fp_keyfile.specs.declared.group.Group.{Group}
-use Rattle.fp_keyfile.specs.Grammar.{is_blank, is_return, is_control, begins_so, ends_so, is_name_byte, is_name, is_key_byte, begins_no_key, is_key, is_value_byte, is_value}
-use Rattle.fp_keyfile.specs.KeyFile.{file_of, text_of, names_of, keys_of, keys_at, group_at, are_distinct, is_good_pair, is_good_group, is_good}
+use Rattle.fp_keyfile.specs.Grammar.{is_blank, is_return, begins_so, ends_so, is_name_byte, is_name, is_key_byte, begins_no_key, is_key, is_value_byte, is_value}
+use Rattle.fp_keyfile.specs.KeyFile.{names_of, keys_of, keys_at, group_at, are_distinct, is_good_pair, is_good_group, is_good}
 use Rattle.fp_keyfile.proofs.Good.{good_pair_from, good_group_from, good_from}
 use Rattle.fp_keyfile.proofs.Read.{file_of-text_of}
 use Rattle.fp_small.specs.declared.state.RemoteRow.{RemoteRow}
 use Rattle.fp_small.specs.declared.config.Settings.{Settings}
 use Rattle.fp_small.specs.Order.{comes_before, sorted_by}
-use Rattle.fp_small.specs.Config.{name_of, is_layout, is_pin_pair, is_pins, remote_front, is_quoted, quoted_name, row_of, remote_of, is_part, remotes_in, pins_in, is_config, settings_of, settings_read, config_of, is_row, IsSettings, layout_group, remote_group, pin_pair, pins_groups, config_file, config_text}
-use Rattle.fp_small.proofs.Ordered.{bytes_eq-itself, bytes_eq-is, bytes_eq-differ, before_on, before_differs, sorted_by-ascending}
+use Rattle.fp_small.specs.Config.{name_of, is_layout, is_pin_pair, is_pins, remote_front, is_quoted, quoted_name, row_of, remote_of, is_part, remotes_in, pins_in, is_config, settings_of, config_of, is_row, IsSettings, layout_group, remote_group, pin_pair, pins_groups, config_file, config_text}
+use Rattle.fp_small.proofs.Ordered.{bytes_eq-is, bytes_eq-differ, before_on, before_differs, sorted_by-ascending}
 use Rattle.fp_small.proofs.ConfigReads.{config_is}
 
 -- ---- bytes

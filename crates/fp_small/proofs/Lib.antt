@@ -1,5 +1,6 @@
 pub mod Making
 pub mod NamingLemmas
+pub mod Remoting
 pub mod Replacement
 pub mod Staging
 pub mod Whole

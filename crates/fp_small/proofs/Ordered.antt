@@ -311,7 +311,7 @@ list_any-removed (y ∷ ys) p q h =
     other : (y : List ℕ) → bytes_eq y p ≡ true → bytes_eq q y ≡ false
     other y e = bytes_eq-differ y q (subst (λ (z : List ℕ). bytes_eq z q ≡ false) (sym (bytes_eq-is y p e)) h)
 
-none_left : (xs : List (List ℕ)) (p : List ℕ) → list_any (bytes_eq p) (removed (λ x. x) xs p) ≡ false
+pub none_left : (xs : List (List ℕ)) (p : List ℕ) → list_any (bytes_eq p) (removed (λ x. x) xs p) ≡ false
 none_left [] p = refl
 none_left (y ∷ ys) p =
     elim (cases_Bool (bytes_eq y p)) [

@@ -2,6 +2,7 @@
 use Rattle.std.specs.Prelude.{ℕ, Bool, List, [], ◌∷◌, if◌then◌else◌}
 use Rattle.std.specs.Cmp.Lexicographic.{slice_cmp}
 use Rattle.std.specs.Ordering.{is_lt, nat_cmp}
+use Rattle.std.specs.List.{list_any}
 use Rattle.std.specs.Str.{bytes_eq}
 
 abbrev pub comes_before : List ℕ → List ℕ → Bool
@@ -24,3 +25,11 @@ sorted_by name xs = sorted_onto name [] xs
 abbrev pub removed : {A : Type 0} → (A → List ℕ) → List A → List ℕ → List A
 removed name [] x = []
 removed name (y ∷ ys) x = if bytes_eq (name y) x then removed name ys x else y ∷ removed name ys x
+
+-- whether one of the elements has this name
+abbrev pub has_name : {A : Type 0} → (A → List ℕ) → List A → List ℕ → Bool
+has_name name xs x = list_any (λ y. bytes_eq x (name y)) xs
+
+-- the list with this one in the place of the one that has its name
+abbrev pub replaced : {A : Type 0} → (A → List ℕ) → List A → A → List A
+replaced name xs x = inserted name (removed name xs (name x)) x

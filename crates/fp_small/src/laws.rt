@@ -1,11 +1,12 @@
 //! Laws of the words that the contracts use, for crates that build on them. Each is the contract of a function that
 //! does nothing.
 
-ghost use Rattle.std.specs.Prelude.{◌≡◌, ◌≢◌, ◌↔◌, ◌⊎◌, ◌<◌, ℕ, List, length, true, Some, Contains};
+ghost use Rattle.std.specs.Prelude.{◌≡◌, ◌≢◌, ◌↔◌, ◌⊎◌, ◌<◌, ℕ, List, length, true, false, Some, Contains};
 ghost use Rattle.fp_name.specs.Pins.{is_pin};
-ghost use Rattle.fp_small.specs.Order.{inserted, removed};
-ghost use Rattle.fp_small.specs.Config.{IsSettings, config_of, config_text};
+ghost use Rattle.fp_small.specs.Order.{inserted, removed, replaced, has_name};
+ghost use Rattle.fp_small.specs.Config.{IsSettings, config_of, config_text, is_row, name_of};
 ghost use Rattle.fp_small.specs.declared.config.Settings.{Settings};
+ghost use Rattle.fp_small.specs.declared.state.RemoteRow.{RemoteRow};
 
 /// A `config` that is written reads back as it was.
 pub fn written_config_reads_back()
@@ -28,4 +29,21 @@ pub fn added_pin()
 pub fn dropped_pin()
     ensures good { (s : Settings) (p : List ℕ) → IsSettings s → IsSettings (record s { pins = removed (λ q. q) s.pins p }) }
     ensures has { (pins : List (List ℕ)) (p q : List ℕ) → Contains (removed (λ x. x) pins p) q ↔ (Contains pins q × (q ≢ p)) }
+{}
+
+/// With one more remote the settings can be written.
+pub fn added_remote()
+    ensures { (s : Settings) (row : RemoteRow) → IsSettings s → is_row row ≡ true → has_name name_of s.remotes row.name ≡ false → length s.remotes < 256
+        → IsSettings (record s { remotes = inserted name_of s.remotes row }) }
+{}
+
+/// With another remote of the same name the settings can be written.
+pub fn modified_remote()
+    ensures { (s : Settings) (row : RemoteRow) → IsSettings s → is_row row ≡ true → has_name name_of s.remotes row.name ≡ true
+        → IsSettings (record s { remotes = replaced name_of s.remotes row }) }
+{}
+
+/// Without a remote the settings can be written.
+pub fn dropped_remote()
+    ensures { (s : Settings) (name : List ℕ) → IsSettings s → IsSettings (record s { remotes = removed name_of s.remotes name }) }
 {}

@@ -17,7 +17,10 @@ pub use config_reading::read_config;
 pub use config_writing::write_config;
 pub use loading::{Loaded, load};
 pub use op::Op;
-pub use ordering::{has_pin, insert_pin, remove_pin};
+pub use ordering::{has_pin, has_remote, insert_pin, insert_remote, remove_pin, remove_remote};
 pub use refusal::{Refusal, What};
 pub use replacing::replace;
 pub use state::{Layout, OverrideRow, Previous, RefRow, RemoteRow, State};
+
+#[cfg(test)]
+mod tests;

@@ -1,9 +1,13 @@
 // One operation on an installation.
-use fp_name::PinPattern;
+use crate::state::RemoteRow;
+use fp_name::{PinPattern, RemoteName};
 
 /// One operation on an installation: the step that is done wholly or not at all, and that one line acknowledges.
 #[derive(Drop)]
 pub enum Op {
     AddPin(PinPattern),
     DropPin(PinPattern),
+    AddRemote(RemoteRow),
+    ModifyRemote(RemoteRow),
+    DropRemote(RemoteName),
 }

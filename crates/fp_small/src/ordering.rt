@@ -1,10 +1,11 @@
 // Lists that ascend by name.
 ghost use Rattle.std.specs.Prelude.{◌≡◌, ◌≤◌, ◌↔◌, length, IsTrue, OnOk, OnErr, Contains};
 ghost use Rattle.std.specs.List.{insert};
-ghost use Rattle.fp_small.specs.Order.{inserted, removed};
+ghost use Rattle.fp_small.specs.Config.{name_of};
+ghost use Rattle.fp_small.specs.Order.{inserted, removed, has_name};
 
 use crate::state::RemoteRow;
-use fp_name::PinPattern;
+use fp_name::{PinPattern, RemoteName};
 use std::alloc::AllocError;
 
 /// What lists are ordered by.
@@ -81,4 +82,26 @@ pub fn has_pin(pins: &[PinPattern], pin: &PinPattern) -> bool
         }
     }
     false
+}
+
+/// Puts a remote among others where it belongs by the bytes of its name. Want of memory changes nothing.
+pub fn insert_remote(remotes: &mut Vec<RemoteRow>, row: RemoteRow) -> Result<(), AllocError>
+    ensures ok { OnOk result (remotes.new.items ≡ inserted name_of remotes.old.items row) }
+    ensures err { OnErr result (remotes.new.items ≡ remotes.old.items) }
+{
+    insert_by_name(remotes, row)
+}
+
+/// Takes the remote of a name away, which takes no memory. Where there is none, nothing changes.
+pub fn remove_remote(remotes: &mut Vec<RemoteRow>, name: &RemoteName)
+    ensures { remotes.new.items ≡ removed name_of remotes.old.items name.now }
+{
+    remotes.retain(|row| row.name.as_str() != name.as_str());
+}
+
+/// Whether there is a remote of this name.
+pub fn has_remote(remotes: &[RemoteRow], name: &RemoteName) -> bool
+    ensures { result ≡ has_name name_of remotes.now name.now }
+{
+    remotes.iter().any(|row| name.as_str() == row.name.as_str())
 }

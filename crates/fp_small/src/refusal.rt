@@ -1,11 +1,12 @@
 // Why a command is refused.
 use fp_host::Path;
-use fp_name::PinPattern;
+use fp_name::{PinPattern, RemoteName};
 
 /// What has a limit.
 #[derive(Clone, Copy, Debug, PartialEq, Eq)]
 pub enum What {
     Pins,
+    Remotes,
 }
 
 /// Why a command is refused.
@@ -13,6 +14,10 @@ pub enum What {
 pub enum Refusal {
     /// The words are no command. The index is that of the first word with which they can't go on to be one.
     BadWords { index: u64 },
+    /// There is no remote of this name.
+    NoSuchRemote { remote: RemoteName },
+    /// There is a remote of this name already.
+    RemoteExists { remote: RemoteName },
     /// The pattern is pinned already.
     PinExists { pin: PinPattern },
     /// The pattern isn't pinned.

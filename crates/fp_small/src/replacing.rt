@@ -54,8 +54,7 @@ fn stage<H: Host>(host: &mut H, path: &Path, bytes: &[u8]) -> Result<(), HostEnd
 {
     host.create(path, 0o644)?;
     host.append(path, bytes)?;
-    host.sync()?;
-    Ok(())
+    Ok(host.sync()?)
 }
 
 /// Gives a file that is on the disk its name, and syncs.

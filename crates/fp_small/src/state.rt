@@ -1,7 +1,10 @@
 // What an installation holds, apart from its objects.
+ghost use Rattle.std.specs.Prelude.{◌≡◌, IfOk};
+
 use fp_host::Items;
 use fp_keyfile::KeyFile;
 use fp_name::{Digest, PinPattern, RefName, RemoteName, RemoteUrl, Text};
+use std::alloc::AllocError;
 
 /// How an installation keeps its settings.
 #[derive(Clone, Copy, Debug, PartialEq, Eq)]
@@ -32,10 +35,22 @@ pub struct RefRow {
 }
 
 /// A remote by its name.
-#[derive(Drop)]
+#[derive(Debug, Drop)]
 pub struct RemoteRow {
     pub name: RemoteName,
     pub url: RemoteUrl,
+}
+
+impl RemoteRow {
+    /// The same remote again.
+    pub fn copy(&self) -> Result<RemoteRow, AllocError>
+        ensures { IfOk result (λ row. row ≡ self.now) }
+    {
+        Ok(RemoteRow {
+            name: self.name.copy()?,
+            url: self.url.copy()?,
+        })
+    }
 }
 
 /// The override of an application, or the global one.

@@ -14,11 +14,15 @@ use std::thread::Threads;
 
 /// What fpk takes.
 const HELP: &str = "\
-fpk pin PATTERN      pins the refs that the pattern matches
-fpk unpin PATTERN    takes the pin away
-fpk list --pins      prints the patterns that are pinned
-fpk --help           prints this
-fpk --version        prints the version
+fpk pin PATTERN              pins the refs that the pattern matches
+fpk unpin PATTERN            takes the pin away
+fpk remote-add NAME URL      adds a remote
+fpk remote-modify NAME URL   gives a remote another URL
+fpk remote-delete NAME       takes the remote away
+fpk list --pins              prints the patterns that are pinned
+fpk list --remotes           prints the remotes
+fpk --help                   prints this
+fpk --version                prints the version
 
 A pattern is KIND/ID/ARCH/BRANCH, where KIND is app or runtime, and * may stand for each of the others.
 The installation is the folder that FPK_INSTALLATION names, else the folder `installation` here.
@@ -115,3 +119,6 @@ fn complain(rt: &impl Eprint, text: &str, status: u8) -> u8
 fn wanting(rt: &impl Eprint) -> u8 {
     complain(rt, "fpk: memory was wanting", 6)
 }
+
+#[cfg(test)]
+mod tests;

@@ -1,24 +1,24 @@
 -- Replacing `config`: the state of before or the one after.
-use Rattle.std.proofs.Common.{◌≡◌, ◌⊎◌, ◌≤◌, inl, inr, ℕ, List, [], ◌∷◌, length, leb, codes, true, Option, Some, None, Contains, refl, sym, ◌∙◌, ap, subst, arith, if◌then◌else◌, ⊎_elim}
+use Rattle.std.proofs.Common.{◌≡◌, ◌⊎◌, ◌≤◌, inl, inr, ℕ, List, [], ◌∷◌, length, Option, Some, None, Contains, refl, sym, ◌∙◌, ap, subst, arith, if◌then◌else◌}
 use Rattle.std.proofs.lemmas.Bool.{le-leb}
 use Rattle.std.proofs.lemmas.List.Elements.{Contains-push_cases}
-use Rattle.fp_host.specs.Paths.{Elements, Slot, absent, dir, file, link, IsAbove}
+use Rattle.fp_host.specs.Paths.{Elements, Slot, absent, dir, file, link}
 use Rattle.fp_host.specs.View.{View, Inode, IsTree}
-use Rattle.fp_host.specs.Outcome.{Spot, Disk, Leaves, gone, folder, holds, points, spot_of, holding, shows}
+use Rattle.fp_host.specs.Outcome.{Spot, Disk, folder, holds, spot_of, holding, shows}
 use Rattle.fp_host.proofs.Settled.{at_tree}
-use Rattle.fp_small.specs.Places.{repo, tmp, new_name}
-use Rattle.fp_small.specs.Folders.{IsFree, AreFree}
+use Rattle.fp_small.specs.Places.{repo, tmp}
+use Rattle.fp_small.specs.Folders.{IsFree}
 use Rattle.fp_small.specs.Move.{IsNew}
 use Rattle.fp_small.specs.Replace.{IsStaging, folders_of, ReplacesAt, Replaces, WasReplaced, CanReplace}
-use Rattle.fp_small.specs.Config.{config_of, config_text, IsSettings}
+use Rattle.fp_small.specs.Config.{config_of, config_text}
 use Rattle.fp_small.specs.declared.config.Settings.{Settings}
 use Rattle.fp_small.specs.declared.state.State.{State}
 use Rattle.fp_small.specs.declared.op.Op.{Op}
-use Rattle.fp_small.specs.declared.op.Op.TheVariants.{AddPin, DropPin}
+use Rattle.fp_small.specs.declared.op.Op.TheVariants.{AddPin, DropPin, AddRemote, ModifyRemote, DropRemote}
 use Rattle.dep_states.specs.Names.{config}
-use Rattle.dep_states.specs.Shown.{Shows, settings_at, settings_of, state_of, or_else, read_of, bad, empty_settings, config_most}
+use Rattle.dep_states.specs.Shown.{Shows, settings_at, settings_of, or_else, read_of, bad, empty_settings, config_most}
 use Rattle.dep_states.specs.Zones.{Allowed, IsFileOrGone, IsFolderOrGone}
-use Rattle.dep_states.specs.Sound.{Sound, Opens}
+use Rattle.dep_states.specs.Sound.{Opens}
 use Rattle.dep_states.specs.After.{after, May, IsGood}
 use Rattle.dep_states.proofs.Law.{same_shown, now_left}
 use Rattle.fp_host.specs.Moments.{Moments, Goes}
@@ -26,6 +26,7 @@ use Rattle.fp_host.specs.Frame.{Ends}
 use Rattle.fp_host.proofs.Goes.{begins}
 use Rattle.fp_host.proofs.Ending.{ends_goes, ends_both, ends_to}
 use Rattle.fp_small.proofs.Pinning.{added, dropped}
+use Rattle.fp_small.proofs.Remoting as remotes
 use Rattle.op_change.specs.Applied.{IsOneOf, Applies, WasApplied}
 use Rattle.op_change.proofs.Sizes.{config_fits}
 
@@ -175,6 +176,9 @@ can_replace v tree opens =
 pub good_after : (s : State) (op : Op) → May s op → IsGood s → IsGood (after s op)
 good_after s (AddPin pin) may good = record { settings = added (settings_of s) pin good.settings may.0 may.1 may.2; rest = ap (λ x. after x (AddPin pin)) good.rest }
 good_after s (DropPin pin) may good = record { settings = dropped (settings_of s) pin good.settings; rest = ap (λ x. after x (DropPin pin)) good.rest }
+good_after s (AddRemote row) may good = record { settings = remotes.added (settings_of s) row good.settings may.0 may.1 may.2; rest = ap (λ x. after x (AddRemote row)) good.rest }
+good_after s (ModifyRemote row) may good = record { settings = remotes.modified (settings_of s) row good.settings may.0 may.1; rest = ap (λ x. after x (ModifyRemote row)) good.rest }
+good_after s (DropRemote name) may good = record { settings = remotes.dropped (settings_of s) name good.settings; rest = ap (λ x. after x (DropRemote name)) good.rest }
 
 -- ---- what the parts of the call tell of it
 

@@ -1,7 +1,6 @@
 -- A `config` that is written is short enough to be read.
-use Rattle.std.proofs.Common.{◌≡◌, ◌≤◌, ◌+◌, ◌*◌, ℕ, zero, suc, Bool, true, false, ◌&&◌, ◌||◌, leb, List, [], ◌∷◌, ◌++◌, length, map, flat_map, codes, Option, Some, None, refl, sym, ap, ◌∙◌, subst, arith, length-append, ⊎_elim}
+use Rattle.std.proofs.Common.{◌≡◌, ◌≤◌, ◌+◌, ◌*◌, ℕ, Bool, true, ◌&&◌, ◌||◌, leb, List, [], ◌∷◌, ◌++◌, length, map, flat_map, codes, Option, Some, None, refl, sym, ap, ◌∙◌, subst, arith, length-append, ⊎_elim}
 use Rattle.std.specs.List.{slice_split, join_with_byte, list_all}
-use Rattle.std.specs.Str.{bytes_eq}
 use Rattle.std.proofs.lemmas.Bool.{and_parts, or_cases, leb-true, false≢true}
 use Rattle.std.proofs.lemmas.Slice.Eq.{bytes_eq-Decides}
 use Rattle.std.proofs.lemmas.List.Splits.{join_with_byte-slice_split}
@@ -16,7 +15,7 @@ use Rattle.fp_name.proofs.Refs.{parts_are}
 use Rattle.fp_keyfile.specs.declared.group.Pair.{Pair}
 use Rattle.fp_keyfile.specs.declared.group.Group.{Group}
 use Rattle.fp_keyfile.specs.KeyFile.{pair_text, group_text, text_of}
-use Rattle.fp_small.specs.Config.{config_text, config_file, layout_group, remote_group, remote_front, pin_pair, pins_groups, is_row, IsSettings}
+use Rattle.fp_small.specs.Config.{config_text, layout_group, remote_group, remote_front, pin_pair, pins_groups, is_row, IsSettings}
 use Rattle.fp_small.specs.declared.config.Settings.{Settings}
 use Rattle.fp_small.specs.declared.state.RemoteRow.{RemoteRow}
 use Rattle.dep_states.specs.Shown.{config_most}

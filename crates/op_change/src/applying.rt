@@ -13,7 +13,9 @@ ghost use Rattle.op_change.specs.Applied.{Applies, WasApplied};
 
 use dep_states::Opened;
 use fp_host::{Host, HostEnd, Items, Path};
-use fp_small::{Op, State, insert_pin, remove_pin, replace, write_config};
+use fp_small::{
+    Op, State, insert_pin, insert_remote, remove_pin, remove_remote, replace, write_config,
+};
 use std::alloc::{AllocError, Global};
 
 /// Does one operation on an opened installation: every stop leaves the state of before or the one after, and once it is
@@ -43,14 +45,21 @@ fn changed(state: State, op: &Op) -> Result<State, AllocError>
     ensures { IfOk result (λ s. s ≡ after state op.now) }
 {
     let mut pins = state.pins.into_vec();
+    let mut remotes = state.remotes.into_vec();
     match op {
         Op::AddPin(pin) => insert_pin(&mut pins, pin.copy()?)?,
         Op::DropPin(pin) => remove_pin(&mut pins, pin),
+        Op::AddRemote(row) => insert_remote(&mut remotes, row.copy()?)?,
+        Op::ModifyRemote(row) => {
+            remove_remote(&mut remotes, &row.name);
+            insert_remote(&mut remotes, row.copy()?)?;
+        }
+        Op::DropRemote(name) => remove_remote(&mut remotes, name),
     }
     Ok(State {
         layout: state.layout,
         refs: state.refs,
-        remotes: state.remotes,
+        remotes: Items::from_vec(remotes),
         pins: Items::from_vec(pins),
         overrides: state.overrides,
     })

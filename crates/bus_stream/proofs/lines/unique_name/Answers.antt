@@ -1,4 +1,4 @@
-use Rattle.std.proofs.Common.{rules, ◌≡◌}
+use Rattle.std.proofs.Common.{rules}
 use Rattle.bus_stream.proofs.Names.{IsUtf8-from_unique}
 use Rattle.bus_stream.proofs.lines.unique_name.Goals as goal
 

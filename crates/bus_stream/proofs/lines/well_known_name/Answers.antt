@@ -1,4 +1,4 @@
-use Rattle.std.proofs.Common.{rules, ◌≡◌}
+use Rattle.std.proofs.Common.{rules}
 use Rattle.bus_stream.proofs.Names.{IsUtf8-from_well_known}
 use Rattle.bus_stream.proofs.lines.well_known_name.Goals as goal
 

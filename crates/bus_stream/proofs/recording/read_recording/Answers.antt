@@ -1,6 +1,6 @@
-use Rattle.std.proofs.Common.{rules, ◌≡◌, ◌==◌, ℕ, List, ◌+◌, ◌<◌, ◌≤◌, length, ap, arith, refl, sym, ◌∙◌, Fits, w64, Some, None, Err, true}
+use Rattle.std.proofs.Common.{rules, ◌≡◌, arith, refl, ◌∙◌, Some, true}
 use Rattle.bus_stream.specs.Lines.{parts_at}
-use Rattle.bus_stream.specs.Recordings.{recording_of, said, Knows, Took, with_line, with_lines}
+use Rattle.bus_stream.specs.Recordings.{recording_of, said, Took, with_line}
 use Rattle.bus_stream.proofs.RecordingLaws.{good_line, bad_line, nothing_left, no_newline, behind_is_shorter}
 use Rattle.bus_stream.proofs.recording.read_recording.Goals as goal
 

@@ -1,4 +1,4 @@
-use Rattle.std.proofs.Common.{◌≡◌, ◌∙◌, List, ℕ, refl, sym, ap}
+use Rattle.std.proofs.Common.{◌∙◌, List, refl, sym, ap}
 use Rattle.std.specs.List.{list_any}
 use Rattle.fp_host.specs.Paths.{Elements, elements_of}
 use Rattle.fp_memhost.specs.declared.names.Name.{Name}

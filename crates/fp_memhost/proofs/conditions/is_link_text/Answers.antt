@@ -1,7 +1,6 @@
-use Rattle.std.proofs.Common.{◌≡◌, ◌≤◌, ◌∙◌, List, ℕ, ap, subst, length, arith, true, not}
+use Rattle.std.proofs.Common.{◌≤◌, ◌∙◌, List, ℕ, ap, subst, not}
 use Rattle.std.specs.Prelude.{◌==◌}
 use Rattle.std.specs.List.{list_all}
-use Rattle.std.proofs.lemmas.Bool.{eqb-false}
 use Rattle.std.proofs.lemmas.Str.{is_utf8-from_IsUtf8}
 use Rattle.fp_memhost.proofs.Judging.{link_text_is, not_short}
 use Rattle.fp_memhost.proofs.conditions.is_link_text.Goals as goal

@@ -1,6 +1,5 @@
-use Rattle.std.proofs.Common.{◌≡◌, ◌∙◌, List, refl, sym, ap, subst}
+use Rattle.std.proofs.Common.{refl, sym, subst}
 use Rattle.fp_memhost.specs.Files.{AddsFile}
-use Rattle.fp_memhost.specs.declared.files.Content.{Content}
 use Rattle.fp_memhost.proofs.Filing.{write_file, push_file, adds_file}
 use Rattle.fp_memhost.proofs.files.add_file.Goals as goal
 

@@ -1,4 +1,4 @@
-use Rattle.std.proofs.Common.{◌≡◌, ◌≢◌, ◌≤◌, arith, inl, inr, None, ap, sym, ◌∙◌}
+use Rattle.std.proofs.Common.{◌≢◌, ◌≤◌, arith, inl, inr, None, ap, sym, ◌∙◌}
 use Rattle.std.proofs.lemmas.Bool.{cases_eq}
 use Rattle.fp_memhost.specs.Files.{file_at}
 use Rattle.fp_memhost.proofs.Filing.{is_present, some_left}

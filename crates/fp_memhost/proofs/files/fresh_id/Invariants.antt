@@ -1,4 +1,4 @@
-use Rattle.std.proofs.Common.{◌≡◌, ◌≢◌, ◌<◌, ◌≤◌, ℕ, length, None}
+use Rattle.std.proofs.Common.{◌≢◌, ◌<◌, ◌≤◌, ℕ, length, None}
 use Rattle.fp_memhost.specs.Files.{file_at}
 use Rattle.fp_memhost.proofs.files.fresh_id.Given as goal
 

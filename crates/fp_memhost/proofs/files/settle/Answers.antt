@@ -1,4 +1,4 @@
-use Rattle.std.proofs.Common.{◌≡◌, ◌∙◌, List, length, refl, sym, ap, subst}
+use Rattle.std.proofs.Common.{◌∙◌, List, length, sym, ap, subst}
 use Rattle.fp_memhost.specs.Files.{SettlesFiles}
 use Rattle.fp_memhost.specs.declared.files.Content.{Content}
 use Rattle.fp_memhost.proofs.Forgetting.{whole}

@@ -1,4 +1,4 @@
-use Rattle.std.proofs.Common.{◌≡◌, ◌≢◌, ◌∙◌, ◌||◌, ◌∷◌, [], List, ℕ, Bool, true, false, sym, ap, drop, refl, rules}
+use Rattle.std.proofs.Common.{◌≡◌, ◌≢◌, ◌∙◌, ◌||◌, ◌∷◌, [], List, ℕ, true, false, sym, ap, drop, refl, rules}
 use Rattle.std.specs.Str.{bytes_eq}
 use Rattle.std.proofs.lemmas.Bool.{false≢true, or_left}
 use Rattle.fp_host.specs.Paths.{Elements, path_eq, elements_of}

@@ -1,5 +1,5 @@
-use Rattle.std.proofs.Common.{◌≡◌, ◌∙◌, refl, sym, ap, subst, arith, length, List}
-use Rattle.fp_memhost.specs.Names.{IsAscending, ForgetsNames, ascends}
+use Rattle.std.proofs.Common.{◌∙◌, refl, sym, ap, subst, arith, length, List}
+use Rattle.fp_memhost.specs.Names.{ForgetsNames, ascends}
 use Rattle.fp_memhost.specs.declared.names.Name.{Name}
 use Rattle.fp_memhost.proofs.Forgetting.{forgot_none, forgot_more, forgot_end, forgot_all, forgot_ascends, whole}
 use Rattle.fp_memhost.proofs.names.forget.Goals as goal

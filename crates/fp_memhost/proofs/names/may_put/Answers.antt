@@ -1,6 +1,5 @@
-use Rattle.std.proofs.Common.{◌≡◌, ◌≤◌, ◌+◌, ◌<◌, ◌∷◌, ◌++◌, [], Option, refl, ◌∙◌, ap, arith}
+use Rattle.std.proofs.Common.{refl, arith}
 use Rattle.fp_memhost.proofs.Editing.{no_room, was_there, room_here, write_ascends, write_keeps, write_may_put}
-use Rattle.fp_memhost.specs.declared.entry.Entry.{Entry}
 use Rattle.fp_memhost.proofs.names.may_put.Goals as goal
 
 pub unreachable-requires : goal.unreachable-requires

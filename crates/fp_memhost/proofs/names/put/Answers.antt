@@ -1,6 +1,6 @@
-use Rattle.std.proofs.Common.{◌≡◌, ◌≤◌, ◌+◌, ◌<◌, ◌∷◌, ◌++◌, [], Option, refl, ◌∙◌, ap, arith}
+use Rattle.std.proofs.Common.{◌∷◌, ◌++◌, [], Option, refl, ◌∙◌, ap, arith}
 use Rattle.fp_memhost.proofs.Editing.{no_room, was_there, room_here, write_ascends, write_keeps, write_puts}
-use Rattle.fp_memhost.specs.declared.entry.Entry.{Entry}
+use Rattle.fp_host.specs.declared.host.Entry.{Entry}
 use Rattle.fp_memhost.proofs.names.put.Goals as goal
 
 pub unreachable-requires : goal.unreachable-requires

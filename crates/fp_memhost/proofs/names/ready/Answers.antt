@@ -1,4 +1,4 @@
-use Rattle.std.proofs.Common.{◌≡◌, ◌≤◌, ◌+◌, List, refl, sym, subst, arith}
+use Rattle.std.proofs.Common.{List, refl, sym, subst, arith}
 use Rattle.std.proofs.lemmas.Result.{on_ok_weaker}
 use Rattle.fp_memhost.proofs.Editing.{write_ascends, write_same, write_keeps, write_edit, edited_room, add_ascends, add_same, add_keeps, add_edit}
 use Rattle.fp_memhost.specs.Names.{IsAscending, SameNames, KeepsRoom, HasRoom}

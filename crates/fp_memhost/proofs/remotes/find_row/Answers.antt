@@ -1,6 +1,5 @@
-use Rattle.std.proofs.Common.{◌≡◌, ◌∙◌, get_or, ap, sym, subst, true}
+use Rattle.std.proofs.Common.{◌∙◌, ap, sym}
 use Rattle.std.proofs.lemmas.List.{get_or_default}
-use Rattle.fp_memhost.specs.declared.remotes.Row.{Row}
 use Rattle.fp_memhost.specs.RemoteRows.{is_row}
 use Rattle.fp_memhost.proofs.Finding.{find_more}
 use Rattle.fp_memhost.proofs.remotes.find_row.Goals as goal

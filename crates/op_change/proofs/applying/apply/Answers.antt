@@ -1,7 +1,6 @@
 use Rattle.std.proofs.Common.{◌≡◌, ◌∙◌, ap, sym, subst, arith, IsErrOf}
 use Rattle.fp_host.proofs.Cause.{passed_on, same_fault}
 use Rattle.fp_host.proofs.Ending.{ends_start}
-use Rattle.fp_host.specs.declared.host.HostEnd.{HostEnd}
 use Rattle.fp_host.specs.declared.host.HostEnd.TheVariants.{Fault}
 use Rattle.fp_small.specs.Replace.{CanReplace}
 use Rattle.fp_small.specs.declared.state.State.{State}

@@ -1,7 +1,7 @@
-use Rattle.std.proofs.Common.{◌≡◌, ◌∙◌, inl, inr, refl, sym, ap, subst, arith, List}
+use Rattle.std.proofs.Common.{◌∙◌, inl, inr, refl, sym, ap, subst, arith, List}
 use Rattle.std.proofs.lemmas.Bool.{cases_Bool}
 use Rattle.fp_memhost.specs.declared.event.Noted.{Noted}
-use Rattle.fp_memhost.specs.Scenes.{seen}
+use Rattle.fp_memhost.specs.Images.{opened}
 use Rattle.fp_memhost.specs.Replay.{view_now, IsNumbered, AreTrees}
 use Rattle.fp_memhost.proofs.Logging.{numbered_skip, agrees_more, numbered_kept, trees_kept}
 use Rattle.fp_memhost.proofs.history.History.note.Goals as goal
@@ -9,7 +9,7 @@ use Rattle.fp_memhost.proofs.history.History.note.Goals as goal
 pub invariant_of-self : goal.invariant_of-self
 invariant_of-self c =
     let h = c.args.self.now in
-    let start = seen h.start in
+    let start = opened h.start in
     let log = h.log.items in
     let e : Noted = record { call = h.calls; is_done = c.args.is_done; event = c.args.event } in
     let n = c.saturating_add-self.result in

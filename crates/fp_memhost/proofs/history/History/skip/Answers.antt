@@ -1,4 +1,3 @@
-use Rattle.std.proofs.Common.{◌≡◌}
 use Rattle.fp_memhost.proofs.Logging.{numbered_skip}
 use Rattle.fp_memhost.proofs.history.History.skip.Goals as goal
 

@@ -1,4 +1,4 @@
-use Rattle.std.proofs.Common.{◌≡◌, ◌≢◌, ◌↔◌, ◌∷◌, ℕ, List, Contains, refl, sym, subst}
+use Rattle.std.proofs.Common.{◌≡◌, ◌≢◌, ◌↔◌, ◌∷◌, ℕ, List, Contains, refl, subst}
 use Rattle.fp_host.specs.Paths.{absent, dir}
 use Rattle.fp_host.specs.Reads.{ListOf, Reads}
 use Rattle.fp_memhost.specs.declared.scene.Scene.{Scene}

@@ -1,4 +1,4 @@
-use Rattle.std.proofs.Common.{◌≡◌, ℕ, List, refl, sym, subst}
+use Rattle.std.proofs.Common.{◌≡◌, ℕ, List, refl, subst}
 use Rattle.fp_host.specs.Paths.{link}
 use Rattle.fp_host.specs.Reads.{LinkOf, Reads}
 use Rattle.fp_memhost.specs.declared.scene.Scene.{Scene}

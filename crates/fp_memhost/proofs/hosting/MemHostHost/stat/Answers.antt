@@ -1,7 +1,6 @@
 use Rattle.std.proofs.Common.{refl, sym, subst, Ok}
 use Rattle.fp_host.specs.View.{IsTree}
 use Rattle.fp_host.specs.Reads.{StatOf, IsStat}
-use Rattle.fp_host.specs.declared.host.HostError.{HostError}
 use Rattle.fp_memhost.specs.declared.scene.Scene.{Scene}
 use Rattle.fp_memhost.specs.Scenes.{seen}
 use Rattle.fp_memhost.specs.Story.{FailsToRead}

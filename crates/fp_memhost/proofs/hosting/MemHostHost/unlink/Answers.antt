@@ -1,8 +1,8 @@
-use Rattle.std.proofs.Common.{refl, sym, subst}
+use Rattle.std.proofs.Common.{refl}
 use Rattle.fp_host.specs.Calls.{Can, unlinks}
 use Rattle.fp_memhost.specs.declared.scene.Scene.{Scene}
 use Rattle.fp_memhost.specs.Scenes.{seen}
-use Rattle.fp_memhost.proofs.Calling.{step_of, records_of, judged, scene_tree}
+use Rattle.fp_memhost.proofs.Calling.{step_of, records_of, judged}
 use Rattle.fp_memhost.proofs.hosting.MemHostHost.unlink.Goals as goal
 
 pub returns-clause-step : goal.returns-clause-step

@@ -1,4 +1,4 @@
-use Rattle.std.proofs.Common.{◌≡◌, ◌∙◌, sym, ap}
+use Rattle.std.proofs.Common.{◌∙◌, sym, ap}
 use Rattle.std.proofs.lemmas.Bool.{false≢true}
 use Rattle.fp_memhost.specs.RemoteRows.{held_of}
 use Rattle.fp_memhost.proofs.Putting.{can_put_is}

@@ -1,4 +1,3 @@
-use Rattle.std.proofs.Common.{◌≡◌, ◌∙◌, refl, sym}
 use Rattle.fp_memhost.proofs.Putting.{bits_of}
 use Rattle.fp_memhost.proofs.remotes.MemRemotesRemotes.node.Goals as goal
 

@@ -1,0 +1,8 @@
+/// Which side sent.
+#[derive(Clone, Copy, Debug, PartialEq, Eq)]
+pub enum Side {
+    /// The client.
+    Client,
+    /// The bus.
+    Bus,
+}

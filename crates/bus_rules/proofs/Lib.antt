@@ -1,0 +1,3 @@
+pub mod Splits
+pub mod Spelling
+pub mod Below

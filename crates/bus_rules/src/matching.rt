@@ -1,0 +1,71 @@
+//! Which messages a rule matches.
+
+ghost use Rattle.std.specs.Prelude.{◌≡◌};
+ghost use Rattle.bus_rules.specs.Rules.{says, has_member, has_object, members_match, objects_match, rule_matches};
+
+use crate::rule::{Members, Objects, Rule};
+use crate::within::is_at_or_under;
+use bus_frame::{Header, Text};
+
+fn is_text(found: &Option<Text>, text: &Text) -> bool
+    ensures { result ≡ says found.now text.now }
+{
+    match found {
+        Some(found) => found.as_str() == text.as_str(),
+        None => false,
+    }
+}
+
+fn is_member(members: &Members, header: &Header) -> bool
+    ensures { result ≡ has_member members.now header.now }
+{
+    match members {
+        Members::All => true,
+        Members::Of(interface) => is_text(&header.interface, interface),
+        Members::One(interface, member) => {
+            is_text(&header.interface, interface) && is_text(&header.member, member)
+        }
+    }
+}
+
+fn is_object(objects: &Objects, path: &Option<Text>) -> bool
+    ensures { result ≡ has_object objects.now path.now }
+{
+    let Some(path) = path else {
+        return false;
+    };
+    match objects {
+        Objects::At(wanted) => path.as_str() == wanted.as_str(),
+        Objects::Below(above) => {
+            is_at_or_under(b'/', path.as_str().as_bytes(), above.as_str().as_bytes())
+        }
+    }
+}
+
+fn is_among(members: &Option<Members>, header: &Header) -> bool
+    ensures { result ≡ members_match members.now header.now }
+{
+    match members {
+        Some(members) => is_member(members, header),
+        None => true,
+    }
+}
+
+fn is_there(objects: &Option<Objects>, header: &Header) -> bool
+    ensures { result ≡ objects_match objects.now header.now }
+{
+    match objects {
+        Some(objects) => is_object(objects, &header.path),
+        None => true,
+    }
+}
+
+impl Rule {
+    /// Whether a message with this header is one that the rule names. It takes no memory.
+    #[tactic(auto, unfolding(crate::specs::Rules::rule_matches))]
+    pub fn matches(&self, header: &Header) -> bool
+        ensures { result ≡ rule_matches self.now header.now }
+    {
+        is_among(&self.members, header) && is_there(&self.objects, header)
+    }
+}

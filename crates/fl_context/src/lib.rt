@@ -1,0 +1,13 @@
+//! What layers of mentions grant: the last mention of a permission decides.
+#![tactic(auto)]
+
+mod folding;
+mod grants;
+mod latest;
+pub mod laws;
+
+pub use folding::fold;
+pub use grants::{Grants, is_granted};
+
+#[cfg(test)]
+mod tests;

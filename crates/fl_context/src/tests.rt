@@ -1,0 +1,3 @@
+//! Layers with what they grant.
+
+use super::*;

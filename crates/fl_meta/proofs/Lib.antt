@@ -1,0 +1,4 @@
+pub mod Endings
+pub mod Bare
+pub mod Searches
+pub mod Same

@@ -1,0 +1,94 @@
+-- The entries of a list of permissions, and what each mentions.
+use Rattle.std.specs.Prelude.{ℕ, Bool, ◌&&◌, List, [], ◌∷◌, length, drop, ◌==◌, false, Option, Some, None, unwrap_or, is_some, if◌then◌else◌}
+use Rattle.std.specs.List.{list_all, slice_split, flat_map}
+use Rattle.fp_keyfile.specs.Grammar.{is_blank, begins_so}
+use Rattle.fp_keyfile.specs.Lines.{trimmed_front}
+use Rattle.fl_meta.specs.declared.permission.PermList.{PermList}
+use Rattle.fl_meta.specs.declared.permission.PermList.TheVariants as lists
+use Rattle.fl_meta.specs.declared.permission.Value.{Value}
+use Rattle.fl_meta.specs.declared.permission.Value.TheVariants as values
+use Rattle.fl_meta.specs.declared.permission.Mention.{Mention}
+use Rattle.fl_meta.specs.Names.{list_with, access_of}
+
+abbrev pub is_semicolon : ℕ → Bool
+is_semicolon b = b == 59
+
+abbrev pub is_colon : ℕ → Bool
+is_colon b = b == 58
+
+abbrev pub is_mark : ℕ → Bool
+is_mark b = b == 33
+
+abbrev pub is_empty : List ℕ → Bool
+is_empty text = length text == 0
+
+-- ---- filesystems
+
+-- nothing but endings, each a colon with `ro`, `rw` or `create`
+abbrev pub is_ending : List ℕ → Bool
+is_ending word = is_some (access_of word)
+
+abbrev pub are_endings : List (List ℕ) → Bool
+are_endings [] = false
+are_endings (front ∷ words) = is_empty front && list_all is_ending words
+
+-- the text without the endings at its end, as many as there are
+unfoldable pub without_endings : List ℕ → List ℕ
+without_endings [] = []
+without_endings (b ∷ bs) = if are_endings (slice_split is_colon (b ∷ bs)) then [] else b ∷ without_endings bs
+
+-- what stands behind the last colon, where there is one
+abbrev pub last_of : List ℕ → List (List ℕ) → List ℕ
+last_of last [] = last
+last_of last (next ∷ words) = last_of next words
+
+abbrev pub behind_first : List (List ℕ) → Option (List ℕ)
+behind_first [] = None
+behind_first (word ∷ words) = Some (last_of word words)
+
+abbrev pub last_word : List (List ℕ) → Option (List ℕ)
+last_word [] = None
+last_word (front ∷ words) = behind_first words
+
+-- what the last ending says; without one it is rw
+abbrev pub access_behind : Option (List ℕ) → Option Value
+access_behind None = None
+access_behind (Some word) = access_of word
+
+unfoldable pub access_at : List ℕ → Value
+access_at text = unwrap_or (access_behind (last_word (slice_split is_colon text))) values.Rw
+
+-- ---- an entry
+
+-- a leading `!` says that the permission is off
+abbrev pub is_off : List ℕ → Bool
+is_off entry = begins_so is_mark entry
+
+abbrev pub without_mark : List ℕ → List ℕ
+without_mark entry = if is_off entry then drop 1 entry else entry
+
+-- the name in an entry
+abbrev pub name_in : PermList → List ℕ → List ℕ
+name_in lists.Filesystems text = without_endings text
+name_in list text = text
+
+-- the value of an entry that isn't off
+abbrev pub value_in : PermList → List ℕ → Value
+value_in lists.Filesystems text = access_at text
+value_in list text = values.On
+
+abbrev pub mention_of : PermList → List ℕ → Value → Mention
+mention_of list name value = record { permission = record { list = list; name = name }; value = value }
+
+-- an entry without a name mentions nothing
+abbrev pub named : PermList → List ℕ → Value → List Mention
+named list name value = if is_empty name then [] else mention_of (list_with list name) name value ∷ []
+
+unfoldable pub mentions_in : PermList → List ℕ → List Mention
+mentions_in list entry = named list (name_in list (without_mark entry)) (if is_off entry then values.Off else value_in list (without_mark entry))
+
+-- ---- a list
+
+-- A list is cut at `;`, and spaces and tabs at the start of an entry are dropped. An empty entry has no name.
+unfoldable pub list_mentions : PermList → List ℕ → List Mention
+list_mentions list value = flat_map (λ piece. mentions_in list (trimmed_front is_blank piece)) (slice_split is_semicolon value)

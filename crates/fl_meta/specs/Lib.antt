@@ -1,0 +1,7 @@
+pub mod Names
+pub mod Order
+pub mod Patterns
+pub mod Entries
+pub mod Cuts
+pub mod Mentions
+pub mod Metadata

@@ -1,0 +1,70 @@
+-- The permissions that a key file mentions, in its order.
+use Rattle.std.specs.Prelude.{ℕ, Bool, not, ◌&&◌, List, [], ◌∷◌, ◌++◌, Option, Some, None, codes, if◌then◌else◌}
+use Rattle.std.specs.List.{list_any, flat_map}
+use Rattle.std.specs.Str.{bytes_eq}
+use Rattle.fp_keyfile.specs.declared.group.Group.{Group}
+use Rattle.fp_keyfile.specs.declared.group.Pair.{Pair}
+use Rattle.fl_meta.specs.declared.permission.PermList.{PermList}
+use Rattle.fl_meta.specs.declared.permission.PermList.TheVariants as lists
+use Rattle.fl_meta.specs.declared.permission.Value.{Value}
+use Rattle.fl_meta.specs.declared.permission.Value.TheVariants as values
+use Rattle.fl_meta.specs.declared.permission.Mention.{Mention}
+use Rattle.fl_meta.specs.declared.mentions.Source.{Source}
+use Rattle.fl_meta.specs.declared.mentions.Source.TheVariants as sources
+use Rattle.fl_meta.specs.Names.{list_of_key, list_of_unknown_key, level_of}
+use Rattle.fl_meta.specs.Patterns.{is_pattern}
+use Rattle.fl_meta.specs.Entries.{is_semicolon, is_off, mention_of, list_mentions}
+
+-- ---- the group `Context`: each key is a list; an override has besides keys for what was unknown
+
+abbrev pub or_unknown : Option PermList → List ℕ → Option PermList
+or_unknown (Some list) key = Some list
+or_unknown None key = list_of_unknown_key key
+
+abbrev pub list_at : Source → List ℕ → Option PermList
+list_at sources.Metadata key = list_of_key key
+list_at sources.Override key = or_unknown (list_of_key key) key
+
+abbrev pub context_mentions : Option PermList → List ℕ → List Mention
+context_mentions None value = []
+context_mentions (Some list) value = list_mentions list value
+
+-- ---- the group `Environment`
+
+abbrev pub variable_mentions : Pair → List Mention
+variable_mentions p = mention_of lists.Environment p.key (values.Text p.value) ∷ []
+
+-- ---- the groups of the buses: each pair is a pattern and its level
+
+-- A pair whose pattern or level isn't known is an unknown permission, if it can stand in a list: it has no `;` and
+-- doesn't begin with `!`.
+abbrev pub pair_name : Pair → List ℕ
+pair_name p = p.key ++ 61 ∷ p.value
+
+abbrev pub can_stand : List ℕ → Bool
+can_stand name = not (list_any is_semicolon name) && not (is_off name)
+
+abbrev pub odd_pair : PermList → List ℕ → List Mention
+odd_pair unknown name = if can_stand name then mention_of unknown name values.On ∷ [] else []
+
+abbrev pub bus_with : PermList → PermList → Pair → Option Value → List Mention
+bus_with list unknown p None = odd_pair unknown (pair_name p)
+bus_with list unknown p (Some level) = if is_pattern p.key then mention_of list p.key level ∷ [] else odd_pair unknown (pair_name p)
+
+abbrev pub bus_mentions : PermList → PermList → Pair → List Mention
+bus_mentions list unknown p = bus_with list unknown p (level_of p.value)
+
+-- ---- a pair, and a file
+
+unfoldable pub pair_mentions : Source → List ℕ → Pair → List Mention
+pair_mentions source group p =
+    if bytes_eq group (codes "Context") then context_mentions (list_at source p.key) p.value
+    else (if bytes_eq group (codes "Environment") then variable_mentions p
+    else (if bytes_eq group (codes "Session Bus Policy") then bus_mentions lists.SessionBus lists.UnknownSessionBus p
+    else (if bytes_eq group (codes "System Bus Policy") then bus_mentions lists.SystemBus lists.UnknownSystemBus p else [])))
+
+unfoldable pub group_mentions : Source → Group → List Mention
+group_mentions source g = flat_map (pair_mentions source g.name) g.pairs
+
+unfoldable pub file_mentions : Source → List Group → List Mention
+file_mentions source file = flat_map (group_mentions source) file

@@ -1,0 +1,84 @@
+-- Metadata files of applications and runtimes: flatpak-metadata(5).
+use Rattle.std.specs.Prelude.{◌≡◌, ℕ, Bool, List, [], ◌∷◌, ◌++◌, drop, Option, Some, None, option_and_then, Result, Ok, Err, codes, nat_eq, if◌then◌else◌}
+use Rattle.std.specs.List.{flat_map, list_any, starts_with}
+use Rattle.std.specs.Str.{bytes_eq}
+use Rattle.fp_keyfile.specs.declared.group.Group.{Group}
+use Rattle.fp_keyfile.specs.KeyFile.{value_at}
+use Rattle.fp_name.specs.Refs.{Ref, ref_of}
+use Rattle.fp_name.specs.Kinds.{kind_word}
+use Rattle.fp_name.specs.declared.kind.RefKind.TheVariants as refs
+use Rattle.fl_meta.specs.declared.meta.MetaKind.{MetaKind}
+use Rattle.fl_meta.specs.declared.meta.MetaKind.TheVariants as kinds
+use Rattle.fl_meta.specs.declared.meta.Meta.{Meta}
+use Rattle.fl_meta.specs.declared.fault.MetaRule.{MetaRule}
+use Rattle.fl_meta.specs.declared.fault.MetaRule.TheVariants as rules
+use Rattle.fl_meta.specs.declared.fault.MetaError.{MetaError}
+use Rattle.fl_meta.specs.declared.fault.MetaError.TheVariants as errors
+use Rattle.fl_meta.specs.declared.mentions.Source.TheVariants as sources
+use Rattle.fl_meta.specs.Entries.{is_empty}
+use Rattle.fl_meta.specs.Mentions.{file_mentions}
+
+-- the group that says what kind of file it is
+abbrev pub kind_group : MetaKind → List ℕ
+kind_group kinds.App = codes "Application"
+kind_group kinds.Runtime = codes "Runtime"
+
+abbrev pub has_group : List Group → List ℕ → Bool
+has_group file name = list_any (λ g. bytes_eq g.name name) file
+
+-- the runtime that `ID/ARCH/BRANCH` names
+abbrev pub runtime_of : List ℕ → Option Ref
+runtime_of text = ref_of (kind_word refs.Runtime ++ 47 ∷ text)
+
+-- the name behind `Extension `, which isn't empty
+abbrev pub name_behind : List ℕ → List (List ℕ)
+name_behind name = if is_empty name then [] else name ∷ []
+
+abbrev pub extension_of : Group → List (List ℕ)
+extension_of g = if starts_with nat_eq g.name (codes "Extension ") then name_behind (drop 10 g.name) else []
+
+unfoldable pub extensions_of : List Group → List (List ℕ)
+extensions_of file = flat_map extension_of file
+
+abbrev pub meta_with : List Group → MetaKind → Option Ref → Option (List ℕ) → Meta
+meta_with file kind runtime command = record { kind = kind; runtime = runtime; command = command; mentions = file_mentions sources.Metadata file; extensions = extensions_of file }
+
+-- the runtime and the command of an application
+unfoldable pub runtime_in : List Group → Option Ref
+runtime_in file = option_and_then runtime_of (value_at file (codes "Application") (codes "runtime"))
+
+unfoldable pub command_in : List Group → Option (List ℕ)
+command_in file = value_at file (codes "Application") (codes "command")
+
+abbrev pub app_of : List Group → Option Ref → Result Meta MetaRule
+app_of file None = Err rules.Runtime
+app_of file (Some runtime) = Ok (meta_with file kinds.App (Some runtime) (command_in file))
+
+abbrev pub runtime_meta : List Group → Meta
+runtime_meta file = meta_with file kinds.Runtime None None
+
+abbrev pub meta_in : MetaKind → List Group → Result Meta MetaRule
+meta_in kinds.App file = app_of file (runtime_in file)
+meta_in kinds.Runtime file = Ok (runtime_meta file)
+
+-- what a key file is as metadata of this kind, or the first rule that it breaks
+unfoldable pub meta_of : MetaKind → List Group → Result Meta MetaRule
+meta_of kind file = if has_group file (kind_group kind) then meta_in kind file else Err rules.Group
+
+-- What a call answered is that, unless memory ran out.
+abbrev pub Fails : MetaError → Result Meta MetaRule → Type 0
+Fails errors.NoMemory read = Unit {0}
+Fails (errors.Rule rule) read = read ≡ Err rule
+
+abbrev pub Gives : Result Meta MetaError → Result Meta MetaRule → Type 0
+Gives (Ok meta) read = read ≡ Ok meta
+Gives (Err e) read = Fails e read
+
+abbrev pub NoRuntime : MetaError → Option Ref → Type 0
+NoRuntime errors.NoMemory read = Unit {0}
+NoRuntime (errors.Rule rules.Runtime) read = read ≡ None
+NoRuntime (errors.Rule rules.Group) read = ⊥
+
+abbrev pub GivesRuntime : Result Ref MetaError → Option Ref → Type 0
+GivesRuntime (Ok runtime) read = read ≡ Some runtime
+GivesRuntime (Err e) read = NoRuntime e read

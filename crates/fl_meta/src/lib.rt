@@ -1,0 +1,20 @@
+//! The metadata of applications and runtimes: which permissions it mentions.
+#![tactic(auto)]
+
+mod entries;
+mod fault;
+pub mod laws;
+mod mentions;
+mod meta;
+mod names;
+mod pattern;
+mod permission;
+
+pub use fault::{MetaError, MetaRule};
+pub use mentions::{Source, mentions_of};
+pub use meta::{Meta, MetaKind};
+pub use pattern::is_pattern;
+pub use permission::{Layer, Mention, PermList, Permission, Value};
+
+#[cfg(test)]
+mod tests;

@@ -1,0 +1,3 @@
+//! Metadata files with the permissions that they mention.
+
+use super::*;

@@ -1,0 +1,5 @@
+pub mod Plain
+pub mod Reading
+pub mod Back
+pub mod Sets
+pub mod Files

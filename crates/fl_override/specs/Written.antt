@@ -1,0 +1,128 @@
+-- How mentions are written as a key file.
+use Rattle.std.specs.Prelude.{◌≡◌, ℕ, Bool, true, List, [], ◌∷◌, ◌++◌, ◌==◌, length, codes, if◌then◌else◌}
+use Rattle.std.specs.List.{flat_map}
+use Rattle.std.specs.Str.{is_utf8}
+use Rattle.fp_keyfile.specs.declared.group.Group.{Group}
+use Rattle.fp_keyfile.specs.declared.group.Pair.{Pair}
+use Rattle.fp_keyfile.specs.Grammar.{is_key, is_value}
+use Rattle.fl_meta.specs.declared.permission.PermList.{PermList}
+use Rattle.fl_meta.specs.declared.permission.PermList.TheVariants as lists
+use Rattle.fl_meta.specs.declared.permission.Value.{Value}
+use Rattle.fl_meta.specs.declared.permission.Value.TheVariants as values
+use Rattle.fl_meta.specs.declared.permission.Mention.{Mention}
+use Rattle.fl_meta.specs.declared.mentions.Source.TheVariants as sources
+use Rattle.fl_meta.specs.Order.{place_of}
+use Rattle.fl_meta.specs.Mentions.{pair_mentions}
+
+-- ---- a list of the group `Context`
+
+-- the key of a list
+abbrev pub key_of : PermList → List ℕ
+key_of lists.Shared = codes "shared"
+key_of lists.Sockets = codes "sockets"
+key_of lists.Devices = codes "devices"
+key_of lists.Features = codes "features"
+key_of lists.Filesystems = codes "filesystems"
+key_of lists.Persistent = codes "persistent"
+key_of lists.UnknownShared = codes "unknown-shared"
+key_of lists.UnknownSockets = codes "unknown-sockets"
+key_of lists.UnknownDevices = codes "unknown-devices"
+key_of lists.UnknownFeatures = codes "unknown-features"
+key_of lists.UnknownSessionBus = codes "unknown-session-bus"
+key_of lists.UnknownSystemBus = codes "unknown-system-bus"
+key_of lists.Environment = []
+key_of lists.SessionBus = []
+key_of lists.SystemBus = []
+
+-- off is a leading `!`, and rw has no ending
+abbrev pub entry_with : Value → List ℕ → List ℕ
+entry_with values.Off name = 33 ∷ name
+entry_with values.Ro name = name ++ codes ":ro"
+entry_with values.Create name = name ++ codes ":create"
+entry_with value name = name
+
+abbrev pub entry_text : Mention → List ℕ
+entry_text m = entry_with m.value m.permission.name
+
+-- each entry is followed by `;`
+abbrev pub closed_entry : Mention → List ℕ
+closed_entry m = entry_text m ++ 59 ∷ []
+
+abbrev pub is_in : PermList → Mention → Bool
+is_in list m = place_of m.permission.list == place_of list
+
+abbrev pub entry_in : PermList → Mention → List ℕ
+entry_in list m = if is_in list m then closed_entry m else []
+
+unfoldable pub list_text : PermList → List Mention → List ℕ
+list_text list mentions = flat_map (entry_in list) mentions
+
+-- a key without names is left out
+abbrev pub pair_if : List ℕ → List ℕ → List Pair
+pair_if key value = if length value == 0 then [] else record { key = key; value = value } ∷ []
+
+abbrev pub list_pair : List Mention → PermList → List Pair
+list_pair mentions list = pair_if (key_of list) (list_text list mentions)
+
+abbrev pub context_lists : List PermList
+context_lists = lists.Shared ∷ lists.Sockets ∷ lists.Devices ∷ lists.Features ∷ lists.Filesystems ∷ lists.Persistent
+    ∷ lists.UnknownShared ∷ lists.UnknownSockets ∷ lists.UnknownDevices ∷ lists.UnknownFeatures ∷ lists.UnknownSessionBus ∷ lists.UnknownSystemBus ∷ []
+
+unfoldable pub context_pairs : List Mention → List Pair
+context_pairs mentions = flat_map (list_pair mentions) context_lists
+
+-- ---- the groups whose keys are names
+
+-- the text of a variable, and the word of a level
+abbrev pub word_of : Value → List ℕ
+word_of (values.Text text) = text
+word_of values.NoBus = codes "none"
+word_of values.See = codes "see"
+word_of values.Talk = codes "talk"
+word_of values.Own = codes "own"
+word_of value = []
+
+abbrev pub named_pair : Mention → Pair
+named_pair m = record { key = m.permission.name; value = word_of m.value }
+
+abbrev pub named_in : PermList → Mention → List Pair
+named_in list m = if is_in list m then named_pair m ∷ [] else []
+
+unfoldable pub named_pairs : PermList → List Mention → List Pair
+named_pairs list mentions = flat_map (named_in list) mentions
+
+-- ---- the file: a group without keys is left out
+
+abbrev pub group_if : List ℕ → List Pair → List Group
+group_if name pairs = if length pairs == 0 then [] else record { name = name; pairs = pairs } ∷ []
+
+unfoldable pub file_with : List Mention → List Group
+file_with mentions =
+    group_if (codes "Context") (context_pairs mentions) ++ (group_if (codes "Environment") (named_pairs lists.Environment mentions)
+    ++ (group_if (codes "Session Bus Policy") (named_pairs lists.SessionBus mentions) ++ group_if (codes "System Bus Policy") (named_pairs lists.SystemBus mentions)))
+
+-- ---- which mentions can be written
+
+abbrev pub group_of : PermList → List ℕ
+group_of lists.Environment = codes "Environment"
+group_of lists.SessionBus = codes "Session Bus Policy"
+group_of lists.SystemBus = codes "System Bus Policy"
+group_of list = codes "Context"
+
+abbrev pub pair_with : PermList → Mention → Pair
+pair_with lists.Environment m = named_pair m
+pair_with lists.SessionBus m = named_pair m
+pair_with lists.SystemBus m = named_pair m
+pair_with list m = record { key = key_of list; value = closed_entry m }
+
+-- a mention written alone
+abbrev pub pair_of : Mention → Pair
+pair_of m = pair_with m.permission.list m
+
+-- Alone it is a pair of a key file, and reads back as this one mention.
+pub record CanWrite (m : Mention) : Type 0 where
+  pub key : is_key (pair_of m).key ≡ true
+  pub key_text : is_utf8 (pair_of m).key ≡ true
+  pub value : is_value (pair_of m).value ≡ true
+  pub value_text : is_utf8 (pair_of m).value ≡ true
+  pub reads : pair_mentions sources.Override (group_of m.permission.list) (pair_of m) ≡ m ∷ []

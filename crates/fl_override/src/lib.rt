@@ -1,0 +1,11 @@
+//! Overrides: what a user changes of an application's permissions.
+#![tactic(auto)]
+
+pub mod laws;
+mod override_set;
+mod writing;
+
+pub use override_set::OverrideSet;
+
+#[cfg(test)]
+mod tests;

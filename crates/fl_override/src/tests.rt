@@ -1,0 +1,3 @@
+//! Overrides, read, changed and written.
+
+use super::*;

@@ -1,0 +1,197 @@
+-- The end of a run: the line of its refusal, and its status.
+use Rattle.std.proofs.Common.{◌≡◌, inl, inr, ℕ, List, [], ◌∷◌, ◌++◌, Bool, true, false, nat_le, length, append_assoc, Option, Some, None, Ok, if◌then◌else◌, refl, sym, ◌∙◌, ap, subst}
+use Rattle.std.proofs.lemmas.List.{append-nil}
+use Rattle.std.proofs.lemmas.Grind.{flat_map-append}
+use Rattle.std.proofs.lemmas.List.Elements.{filter_map-append}
+use Rattle.fp_host.specs.View.{View}
+use Rattle.fp_host.specs.Outcome.{Disk, Leaves, Follows, Nothing}
+use Rattle.fp_small.specs.declared.state.State.{State}
+use Rattle.fp_small.specs.declared.op.Op.{Op}
+use Rattle.fp_small.specs.declared.op.Op.TheVariants.{AddPin, DropPin, AddRemote, ModifyRemote, DropRemote}
+use Rattle.fp_small.specs.declared.refusal.Refusal.{Refusal}
+use Rattle.fp_small.specs.declared.refusal.Refusal.TheVariants.{NoSuchRemote, RemoteExists, PinExists, NoSuchPin, Limit, Damaged}
+use Rattle.fp_small.specs.declared.refusal.What.TheVariants.{Pins, Remotes}
+use Rattle.fp_small.specs.Config.{name_of}
+use Rattle.fp_small.specs.Order.{has_name}
+use Rattle.dep_states.specs.Names.{config}
+use Rattle.dep_states.specs.Shown.{IsShown}
+use Rattle.dep_states.specs.Sound.{IsSound}
+use Rattle.dep_states.specs.After.{after_all}
+use Rattle.dep_states.proofs.Law.{same_shown, spared, spared_sound, spares_nothing}
+use Rattle.fl_words.specs.Lines.{refusal_text}
+use Rattle.fl_words.specs.declared.command.Command.{Command}
+use Rattle.fl_words.specs.declared.command.Command.TheVariants.{Pin, Unpin, AddRemote as Adding, ModifyRemote as Modifying, DeleteRemote, ListPins, ListRemotes}
+use Rattle.fl_top.specs.Answer.{Answer, Piece, lines_of, last_of, joined, ops_in, ops_of, did, refusal_of, unless, act, answer_over, over, is_pinned}
+use Rattle.fl_top.specs.Runs.{ShowsAfter, IsPrefix, IsJust, Printed, Runs, Stands, Answers, Ran}
+use Rattle.fl_top.specs.Performs.{Completes, Ended}
+use Rattle.fl_top.specs.Says.{Says, WasSaid, Refuses}
+use Rattle.fl_top.specs.Status.{status_of, status_by}
+
+-- ---- pieces
+
+pub joined-append : (xs ys : List Piece) → joined (xs ++ ys) ≡ joined xs ++ joined ys
+joined-append xs ys = flat_map-append (λ (piece : Piece). piece.text) xs ys
+
+-- the line of a refusal acknowledges nothing
+ops_last : (o : Option Refusal) → ops_in (last_of o) ≡ []
+ops_last None = refl
+ops_last (Some r) = refl
+
+pub ops_lines : (a : Answer) → ops_in (lines_of a) ≡ ops_of a
+ops_lines a = filter_map-append (λ (piece : Piece). piece.op) a.pieces (last_of a.refusal) ∙ ap (λ (l : List Op). ops_of a ++ l) (ops_last a.refusal) ∙ append-nil (ops_of a)
+
+-- ---- what every stop leaves shows a state and is sound
+
+after_shown : (u : View) (ops : List Op) (disk : Disk) → ShowsAfter u ops disk → IsShown disk
+after_shown u [] disk at = record { state = at.2; shows = at.4 }
+after_shown u (op ∷ ops) disk at = record { state = after_all at.0 (op ∷ ops); shows = at.2 }
+
+pub runs_sound : {a : Answer} {u w : View} → Runs a u w → IsSound u → IsSound w
+runs_sound {u = u} runs sound = record {
+  shown = λ disk left. let p = runs.prefix sound disk left in after_shown u p.done disk p.shown;
+  sound = λ disk left. (runs.prefix sound disk left).sound;
+}
+
+-- ---- a step that only prints
+
+after_on : (u : View) (ops : List Op) (disk before : Disk) → disk config ≡ before config → ShowsAfter u ops before → ShowsAfter u ops disk
+after_on u [] disk before same at = (at.0, at.1, at.2, at.3, same_shown same at.4)
+after_on u (op ∷ ops) disk before same at = (at.0, at.1, same_shown same at.2)
+
+pub just_on : (ops : List Op) {u v w : View} → Follows Nothing v w → ((disk : Disk) → Leaves v disk → IsJust ops u disk) → (disk : Disk) → Leaves w disk → IsJust ops u disk
+just_on ops {u = u} follows just disk left =
+    let from = follows.from disk left in
+    let was = just from.0 from.1 in
+    record { shown = after_on u ops disk from.0 (spared spares_nothing from.2) was.shown; sound = spared_sound spares_nothing.permits from.2 was.sound }
+
+-- all operations are done, and acknowledged by what was said
+prefix_all : (a : Answer) (said : List Piece) {u : View} {disk : Disk} → ops_in said ≡ ops_of a → IsJust (ops_of a) u disk → IsPrefix a (ops_in said) u disk
+prefix_all a said all just = record {
+  done = ops_of a;
+  undone = [];
+  prefix = sym (append-nil (ops_of a));
+  more = [];
+  holds = sym all ∙ sym (append-nil (ops_in said));
+  shown = just.shown;
+  sound = just.sound;
+}
+
+-- the pieces before the line of the refusal
+before_last : (a : Answer) {u w : View} → w.printed ≡ u.printed ++ joined a.pieces → Printed a a.pieces u w
+before_last a printed = record { left = last_of a.refusal; pieces = refl; printed = printed }
+
+-- and all of them
+all_lines : (a : Answer) {u w : View} → w.printed ≡ u.printed ++ joined (lines_of a) → Printed a (lines_of a) u w
+all_lines a printed = record { left = []; pieces = sym (append-nil (lines_of a)); printed = printed }
+
+-- what is printed with the line of the refusal
+with_last : (a : Answer) (r : Refusal) (u v w : View) → a.refusal ≡ Some r → v.printed ≡ u.printed ++ joined a.pieces → w.printed ≡ v.printed ++ refusal_text r → w.printed ≡ u.printed ++ joined (lines_of a)
+with_last a r u v w is first more =
+    more ∙ ap (λ (p : List ℕ). p ++ refusal_text r) first ∙ append_assoc u.printed (joined a.pieces) (refusal_text r)
+    ∙ ap (λ (t : List ℕ). u.printed ++ t) (ap (λ (t : List ℕ). joined a.pieces ++ t) (last_text a r is) ∙ sym (joined-append a.pieces (last_of a.refusal)))
+  where
+    last_text : (a : Answer) (r : Refusal) → a.refusal ≡ Some r → refusal_text r ≡ joined (last_of a.refusal)
+    last_text a r is = sym (append-nil (refusal_text r)) ∙ ap (λ (o : Option Refusal). joined (last_of o)) (sym is)
+
+pub refusing : (a : Answer) (r : Refusal) {u v w : View} → a.refusal ≡ Some r → Runs a u v → Completes a u v → Says (refusal_text r) v w → Runs a u w
+refusing a r {u = u} {v = v} {w = w} is runs done says = elim (says.printed) [
+  | inl none ↦ record {
+    said = a.pieces;
+    so_far = before_last a (none ∙ done.printed);
+    prefix = λ sound disk left. prefix_all a a.pieces refl (just_on (ops_of a) says.follows (done.just sound) disk left);
+    untouched = λ none q. says.names q ∙ runs.untouched none q;
+  }
+  | inr more ↦ record {
+    said = lines_of a;
+    so_far = all_lines a (with_last a r u v w is done.printed more);
+    prefix = λ sound disk left. prefix_all a (lines_of a) (ops_lines a) (just_on (ops_of a) says.follows (done.just sound) disk left);
+    untouched = λ none q. says.names q ∙ runs.untouched none q;
+  }
+]
+
+-- ---- at the return
+
+stands_before : (a : Answer) {u w : View} → Completes a u w → Stands a u w
+stands_before a done = record { said = a.pieces; so_far = before_last a done.printed; just = done.just }
+
+stands_all : (a : Answer) (r : Refusal) {u v w : View} → a.refusal ≡ Some r → Completes a u v → WasSaid (refusal_text r) v w → Stands a u w
+stands_all a r {u = u} {v = v} {w = w} is done said = record {
+  said = lines_of a;
+  so_far = all_lines a (with_last a r u v w is done.printed said.printed);
+  just = λ sound disk left. subst (λ (ops : List Op). IsJust ops u disk) (sym (ops_lines a)) (just_on (ops_of a) said.follows (done.just sound) disk left);
+}
+
+answers_all : (a : Answer) (r : Refusal) (status : ℕ) {u v w : View} → a.refusal ≡ Some r → status ≡ status_of r → Completes a u v → WasSaid (refusal_text r) v w → Answers a status u w
+answers_all a r status {u = u} {v = v} {w = w} is status_is done said = record {
+  status_is = status_is ∙ ap status_by (sym is);
+  printed = with_last a r u v w is done.printed said.printed;
+  shown = λ sound s at. same_shown (said.shown config) (done.shown sound s at);
+}
+
+pub ran_done : (a : Answer) {u w : View} → Runs a u w → Ended a (Ok tt) u w → Ran a 0 u w
+ran_done a {u = u} runs ended = record {
+  answers = λ three six. record {
+    status_is = ap status_by (sym ended.0);
+    printed = ended.1.printed ∙ ap (λ (t : List Piece). u.printed ++ joined t) (sym (append-nil a.pieces) ∙ ap (λ (o : Option Refusal). a.pieces ++ last_of o) (sym ended.0));
+    shown = ended.1.shown;
+  };
+  stands = λ three. stands_before a ended.1;
+  sound = runs_sound runs;
+}
+
+pub ran_fault : (a : Answer) {u w : View} → Runs a u w → Ran a 3 u w
+ran_fault a runs = record { answers = λ three six. absurd (three refl); stands = λ three. absurd (three refl); sound = runs_sound runs }
+
+pub ran_memory : (a : Answer) {u w : View} → Runs a u w → Stands a u w → Ran a 6 u w
+ran_memory a runs stands = record { answers = λ three six. absurd (six refl); stands = λ three. stands; sound = runs_sound runs }
+
+pub ran_refused : (a : Answer) (r : Refusal) (status result : ℕ) {u v w : View} → a.refusal ≡ Some r → status ≡ status_of r → Completes a u v → Runs a u w → Refuses (refusal_text r) status result v w → Ran a result u w
+ran_refused a r status result {u = u} {w = w} is status_is done runs refuses = elim refuses [
+  | inl said ↦ subst (λ (n : ℕ). Ran a n u w) (sym said.0) (record {
+    answers = λ three six. answers_all a r status is status_is done said.1;
+    stands = λ three. stands_all a r is done said.1;
+    sound = runs_sound runs;
+  })
+  | inr other ↦ elim other [
+    | inl three ↦ subst (λ (n : ℕ). Ran a n u w) (sym three) (ran_fault a runs)
+    | inr six ↦ subst (λ (n : ℕ). Ran a n u w) (sym six.0) (ran_memory a runs (subst (λ (x : View). Stands a u x) (sym six.1) (stands_before a done)))
+  ]
+]
+
+-- ---- a command is never refused as no command
+
+one_of_some : (r q : Refusal) → Some r ≡ Some q → 1 ≡ status_of r → 1 ≡ status_of q
+one_of_some r q is one = let same : r ≡ q = cc is in subst (λ (x : Refusal). 1 ≡ status_of x) same one
+
+first_plain : (b c : Bool) (one two q : Refusal) → 1 ≡ status_of one → 1 ≡ status_of two → (if b then Some one else (if c then Some two else None)) ≡ Some q → 1 ≡ status_of q
+first_plain true c one two q f g is = one_of_some one q is f
+first_plain false true one two q f g is = one_of_some two q is g
+first_plain false false one two q f g is = absurd (cc is)
+
+none_plain : (b : Bool) (one q : Refusal) → 1 ≡ status_of one → (if b then None else Some one) ≡ Some q → 1 ≡ status_of q
+none_plain true one q f is = absurd (cc is)
+none_plain false one q f is = one_of_some one q is f
+
+op_plain : (op : Op) (s : State) (q : Refusal) → refusal_of s op ≡ Some q → 1 ≡ status_of q
+op_plain (AddPin pin) s q is = first_plain (is_pinned s.pins pin) (nat_le 1024 (length s.pins)) (PinExists pin) (Limit Pins 1025) q refl refl is
+op_plain (DropPin pin) s q is = none_plain (is_pinned s.pins pin) (NoSuchPin pin) q refl is
+op_plain (AddRemote row) s q is = first_plain (has_name name_of s.remotes row.name) (nat_le 256 (length s.remotes)) (RemoteExists row.name) (Limit Remotes 257) q refl refl is
+op_plain (ModifyRemote row) s q is = none_plain (has_name name_of s.remotes row.name) (NoSuchRemote row.name) q refl is
+op_plain (DropRemote name) s q is = none_plain (has_name name_of s.remotes name) (NoSuchRemote name) q refl is
+
+unless_refusal : (op : Op) (o : Option Refusal) (r : Refusal) → (unless o (did op)).refusal ≡ Some r → o ≡ Some r
+unless_refusal op None r is = is
+unless_refusal op (Some q) r is = is
+
+act_plain : (op : Op) (s : State) (r : Refusal) → (act op s).refusal ≡ Some r → 1 ≡ status_of r
+act_plain op s r is = op_plain op s r (unless_refusal op (refusal_of s op) r is)
+
+pub command_plain : (command : Command) (o : Option State) (r : Refusal) → (over (answer_over command) o).refusal ≡ Some r → 1 ≡ status_of r
+command_plain command None r is = one_of_some (Damaged config) r is refl
+command_plain (Pin pin) (Some s) r is = act_plain (AddPin pin) s r is
+command_plain (Unpin pin) (Some s) r is = act_plain (DropPin pin) s r is
+command_plain (Adding row) (Some s) r is = act_plain (AddRemote row) s r is
+command_plain (Modifying row) (Some s) r is = act_plain (ModifyRemote row) s r is
+command_plain (DeleteRemote name) (Some s) r is = act_plain (DropRemote name) s r is
+command_plain ListPins (Some s) r is = absurd (cc is)
+command_plain ListRemotes (Some s) r is = absurd (cc is)

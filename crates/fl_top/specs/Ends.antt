@@ -1,0 +1,26 @@
+-- The ends of the layers below as ends of a run.
+use Rattle.std.specs.Prelude.{◌≡◌, Option, Some, None, Result, Ok, Err}
+use Rattle.fp_host.specs.declared.host.HostEnd.{HostEnd}
+use Rattle.fp_host.specs.declared.host.HostEnd.TheVariants as host
+use Rattle.dep_open.specs.declared.open_end.OpenEnd.{OpenEnd}
+use Rattle.dep_open.specs.declared.open_end.OpenEnd.TheVariants as open_end
+use Rattle.fp_small.specs.declared.refusal.Refusal.{Refusal}
+use Rattle.fp_small.specs.declared.refusal.Refusal.TheVariants.{Damaged}
+use Rattle.fl_top.specs.declared.end.RunEnd.{RunEnd}
+use Rattle.fl_top.specs.declared.end.RunEnd.TheVariants.{Refused, Fault, NoMemory}
+
+abbrev pub end_of_host : HostEnd → RunEnd
+end_of_host host.Fault = Fault
+end_of_host host.NoMemory = NoMemory
+
+abbrev pub end_of_open : OpenEnd → RunEnd
+end_of_open (open_end.Damaged path) = Refused (Damaged path)
+end_of_open open_end.Fault = Fault
+end_of_open open_end.NoMemory = NoMemory
+
+-- What speaks against an operation, exactly.
+abbrev pub IsTried : Option Refusal → Result (Unit {0}) RunEnd → Type 0
+IsTried refusal (Ok u) = refusal ≡ None
+IsTried refusal (Err (Refused r)) = refusal ≡ Some r
+IsTried refusal (Err Fault) = ⊥
+IsTried refusal (Err NoMemory) = Unit {0}

@@ -1,0 +1,53 @@
+-- Runs one after another on one installation, with stops and without.
+use Rattle.std.specs.Prelude.{◌≡◌, List, [], ◌∷◌, ◌++◌, ℕ}
+use Rattle.fp_host.specs.Paths.{Elements}
+use Rattle.fp_host.specs.View.{View, IsTree}
+use Rattle.fp_host.specs.Outcome.{Disk, Leaves, IsSettled, shows}
+use Rattle.fp_small.specs.declared.state.State.{State}
+use Rattle.fp_small.specs.declared.op.Op.{Op}
+use Rattle.dep_states.specs.Shown.{Shows}
+use Rattle.dep_states.specs.After.{after_all}
+use Rattle.fl_top.specs.Answer.{answer, ops_in, ops_of}
+use Rattle.fl_top.specs.Runs.{RunsBy}
+
+-- the operations of a run, and those that it acknowledged
+pub record Stretch : Type 0 where
+  pub ops : List Op
+  pub acknowledged : List Op
+
+-- what a stop at the view w left is opened again, as the view v
+pub record Reopens (w v : View) : Type 0 where
+  pub disk : Disk
+  pub left : Leaves w disk
+  pub tree : IsTree v
+  pub settled : IsSettled v
+  pub same : (q : Elements) → shows v q ≡ disk q
+
+-- From the view u on. A run goes on from where the last one was left, at its return or at any moment before, or from what a
+-- stop left. The latest run comes first.
+pub data History (u : View) : List Stretch → View → Type 0 where
+  begins : History u [] u
+  runs : (stretches : List Stretch) (v w : View) (words : List (List ℕ)) → History u stretches v → (run : RunsBy words v w) → History u (record { ops = ops_of (answer words (shows v)); acknowledged = ops_in run.said } ∷ stretches) w
+  stops : (stretches : List Stretch) (v w : View) → History u stretches w → Reopens w v → History u stretches v
+
+-- a prefix of a run's operations that holds the acknowledged ones leads from the one state to the other
+pub record Leads (stretch : Stretch) (s t : State) : Type 0 where
+  pub done : List Op
+  pub undone : List Op
+  pub prefix : stretch.ops ≡ done ++ undone
+  pub more : List Op
+  pub holds : done ≡ stretch.acknowledged ++ more
+  pub after : t ≡ after_all s done
+
+-- such a prefix of each run, one after another
+abbrev pub LeadsAll : List Stretch → State → State → Type 0
+LeadsAll [] s t = t ≡ s
+LeadsAll (stretch ∷ earlier) s t = (m : State) × LeadsAll earlier s m × Leads stretch m t
+
+-- from a state that a stop at the start would have left to the one that the image shows
+pub record IsReached (u : View) (stretches : List Stretch) (disk : Disk) (t : State) : Type 0 where
+  pub before : Disk
+  pub left : Leaves u before
+  pub state : State
+  pub shown : Shows before state
+  pub leads : LeadsAll stretches state t

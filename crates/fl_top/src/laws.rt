@@ -1,0 +1,16 @@
+//! Laws of runs. Each is the contract of a function that does nothing.
+ghost use Rattle.std.specs.Prelude.{◌≡◌, List};
+ghost use Rattle.fp_host.specs.View.{View};
+ghost use Rattle.fp_host.specs.Outcome.{Disk, Leaves};
+ghost use Rattle.fp_small.specs.declared.state.State.{State};
+ghost use Rattle.dep_states.specs.Shown.{Shows};
+ghost use Rattle.dep_states.specs.Sound.{IsSound};
+ghost use Rattle.fl_top.specs.History.{Stretch, History, IsReached};
+
+/// Runs join. Whatever list of commands runs, one after another, with a stop at any moment between or within them: where
+/// every stop at the start would have left a sound installation, every stop at the end does; and what it shows is reached
+/// from a state of the start by a prefix of each run's operations that holds those that the run acknowledged.
+pub fn runs_join()
+    ensures sound { (u w : View) (stretches : List Stretch) → IsSound u → History u stretches w → IsSound w }
+    ensures reached { (u w : View) (stretches : List Stretch) → IsSound u → History u stretches w → (disk : Disk) → Leaves w disk → (t : State) → Shows disk t → IsReached u stretches disk t }
+{}

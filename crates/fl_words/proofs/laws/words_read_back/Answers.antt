@@ -1,0 +1,5 @@
+use Rattle.fl_words.proofs.ReadBack.{read_back}
+use Rattle.fl_words.proofs.laws.words_read_back.Goals as goal
+
+pub returns-clause-read : goal.returns-clause-read
+returns-clause-read c = read_back
