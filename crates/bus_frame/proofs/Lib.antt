@@ -1,4 +1,5 @@
 pub mod ArrayLaws
+pub mod BodyLaws
 pub mod EndLaws
 pub mod FieldLaws
 pub mod FieldSteps

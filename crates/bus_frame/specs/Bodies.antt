@@ -1,10 +1,11 @@
 -- The bodies that a filter reads and writes: texts, and lists of names.
-use Rattle.std.specs.Prelude.{ℕ, zero, suc, ◌+◌, ◌-◌, Bool, ◌==◌, nat_lt, if◌then◌else◌, List, [], ◌∷◌, ◌++◌, length, take, drop, codes, Option, Some, None, option_map, unwrap_or}
+use Rattle.std.specs.Prelude.{◌≡◌, ◌≤◌, ℕ, zero, suc, ◌+◌, ◌-◌, Bool, ◌==◌, nat_lt, if◌then◌else◌, List, [], ◌∷◌, ◌++◌, length, take, drop, codes, Option, Some, None, option_map, unwrap_or}
 use Rattle.std.specs.Str.{bytes_eq}
 use Rattle.bus_frame.specs.declared.header.Header.{Header}
 use Rattle.bus_frame.specs.Steps.{◌>>=◌, first_of, behind_byte}
 use Rattle.bus_frame.specs.Places.{Place, bytes_at, long_text_at}
 use Rattle.bus_frame.specs.Values.{array_head_at}
+use Rattle.bus_frame.specs.Grammar.{IsLongText, array_head}
 use Rattle.bus_frame.specs.Writing.{number_bytes, zeros, text_bytes}
 
 -- the body of a message
@@ -16,6 +17,41 @@ signature_text h = unwrap_or h.signature []
 
 abbrev pub has_signature : Header → List ℕ → Bool
 has_signature h types = bytes_eq (signature_text h) types
+
+-- ---- what bodies are, by the bytes that spell them
+
+abbrev pub body_bytes : Header → List ℕ → List ℕ
+body_bytes h message = take h.body_len (drop h.body_at message)
+
+-- a text at the start of a body whose signature begins with `s`
+pub record BeginsWithText (h : Header) (message text : List ℕ) : Type 0 where
+  pub types : List ℕ
+  pub typed : signature_text h ≡ 115 ∷ types
+  pub first : List ℕ
+  pub rest : List ℕ
+  pub parts : body_bytes h message ≡ first ++ rest
+  pub is : IsLongText h.little h.body_at text first
+
+-- texts one after another, and nothing behind them
+abbrev pub AreTexts : Bool → ℕ → List (List ℕ) → List ℕ → Type 0
+AreTexts little at [] bytes = bytes ≡ []
+AreTexts little at (text ∷ texts) bytes =
+    (first : List ℕ) × (rest : List ℕ) × (bytes ≡ first ++ rest) × IsLongText little at text first × AreTexts little (at + length first) texts rest
+
+-- three texts, of the signature `sss`
+pub record AreThreeTexts (h : Header) (message a b c : List ℕ) : Type 0 where
+  pub typed : signature_text h ≡ codes "sss"
+  pub are : AreTexts h.little h.body_at (a ∷ b ∷ c ∷ []) (body_bytes h message)
+
+-- one array of texts, of the signature `as`
+pub record AreNames (h : Header) (message : List ℕ) (names : List (List ℕ)) : Type 0 where
+  pub typed : signature_text h ≡ codes "as"
+  pub elements : List ℕ
+  pub fits : length elements ≤ 67108864
+  pub spelled : body_bytes h message ≡ array_head h.little 4 h.body_at (length elements) ++ elements
+  pub are : AreTexts h.little (h.body_at + length (array_head h.little 4 h.body_at (length elements))) names elements
+
+-- ---- reading them
 
 -- the text at the start of a body whose signature begins with `s`
 unfoldable pub first_text : Header → List ℕ → Option (List ℕ)

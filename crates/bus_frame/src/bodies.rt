@@ -1,9 +1,9 @@
 //! The bodies that a filter reads: texts, and lists of names.
 
-ghost use Rattle.std.specs.Prelude.{◌≡◌, ◌==◌, ◌+◌, length, map, is_some, IfOk, List, ℕ};
+ghost use Rattle.std.specs.Prelude.{◌≡◌, ◌↔◌, IsTrue, Some, option_map, ◌==◌, ◌+◌, length, map, is_some, IfOk, List, ℕ};
 ghost use Rattle.bus_frame.specs.Steps.{Gives};
 ghost use Rattle.bus_frame.specs.Places.{place_of};
-ghost use Rattle.bus_frame.specs.Bodies.{body_place, signature_text, has_signature, first_text, three_texts_at, three_texts, texts_at, elements_place, names_place, names_in};
+ghost use Rattle.bus_frame.specs.Bodies.{BeginsWithText, AreThreeTexts, AreNames, body_place, signature_text, has_signature, first_text, three_texts_at, three_texts, texts_at, elements_place, names_place, names_in};
 
 use crate::cursor::Cursor;
 use crate::header::Header;
@@ -39,15 +39,22 @@ fn signature(header: &Header) -> &str
     }
 }
 
-/// The text at the start of the body. There is none exactly where the signature doesn't begin with `s`, or no text
-/// stands there. It takes no memory.
 #[tactic(auto, unfolding(crate::specs::Bodies::first_text))]
-pub fn first_string<'m>(header: &Header, message: &'m [u8]) -> Option<&'m str>
+fn text_at_start<'m>(header: &Header, message: &'m [u8]) -> Option<&'m str>
     ensures { Gives (λ t. t.now) result (first_text header.now message.now) }
 {
     after_byte(b's', signature(header).as_bytes())?;
     let (text, _) = body(header, message).long_text(header.little)?;
     Some(text)
+}
+
+/// The text at the start of the body. There is none exactly where the signature doesn't begin with `s`, or no text
+/// stands there. It takes no memory.
+pub fn first_string<'m>(header: &Header, message: &'m [u8]) -> Option<&'m str>
+    ensures exact { Gives (λ t. t.now) result (first_text header.now message.now) }
+    ensures text { (text : List ℕ) → (option_map (λ t. t.now) result ≡ Some text) ↔ BeginsWithText header.now message.now text }
+{
+    text_at_start(header, message)
 }
 
 #[tactic(auto, unfolding(crate::specs::Bodies::three_texts_at))]
@@ -63,16 +70,24 @@ fn three<'m>(little: bool, place: Cursor<'m>) -> Option<(&'m str, &'m str, &'m s
     Some((first, second, third))
 }
 
-/// The three texts of the body. There are none exactly where the signature isn't `sss`, or the body isn't exactly
-/// three texts. It takes no memory.
 #[tactic(auto, unfolding(crate::specs::Bodies::three_texts))]
-pub fn three_strings<'m>(header: &Header, message: &'m [u8]) -> Option<(&'m str, &'m str, &'m str)>
+fn texts_of_three<'m>(header: &Header, message: &'m [u8]) -> Option<(&'m str, &'m str, &'m str)>
     ensures { Gives (λ t. (t.0.now, t.1.now, t.2.now)) result (three_texts header.now message.now) }
 {
     if signature(header) != "sss" {
         return None;
     }
     three(header.little, body(header, message))
+}
+
+/// The three texts of the body. There are none exactly where the signature isn't `sss`, or the body isn't exactly
+/// three texts. It takes no memory.
+pub fn three_strings<'m>(header: &Header, message: &'m [u8]) -> Option<(&'m str, &'m str, &'m str)>
+    ensures exact { Gives (λ t. (t.0.now, t.1.now, t.2.now)) result (three_texts header.now message.now) }
+    ensures texts { (a b c : List ℕ) → (option_map {U = List ℕ × List ℕ × List ℕ} (λ t. (t.0.now, t.1.now, t.2.now)) result ≡ Some (a, b, c))
+        ↔ AreThreeTexts header.now message.now a b c }
+{
+    texts_of_three(header, message)
 }
 
 #[tactic(auto, unfolding(crate::specs::Bodies::elements_place))]
@@ -134,9 +149,8 @@ fn texts(alloc: Global, little: bool, place: Cursor<'_>) -> Result<Option<Vec<Te
     Ok(Some(texts))
 }
 
-/// Whether the signature is `as` and the body is exactly one such array. It takes no memory.
 #[tactic(auto, unfolding(crate::specs::Bodies::names_in))]
-pub fn is_names(header: &Header, message: &[u8]) -> bool
+fn has_names(header: &Header, message: &[u8]) -> bool
     ensures { result ≡ is_some (names_in header.now message.now) }
 {
     match names(header, message) {
@@ -145,9 +159,16 @@ pub fn is_names(header: &Header, message: &[u8]) -> bool
     }
 }
 
-/// The texts of a body that is one array of them, in order; there are none exactly where `is_names` is false.
+/// Whether the signature is `as` and the body is exactly one such array. It takes no memory.
+pub fn is_names(header: &Header, message: &[u8]) -> bool
+    ensures exact { result ≡ is_some (names_in header.now message.now) }
+    ensures names { IsTrue result ↔ ((names : List (List ℕ)) × AreNames header.now message.now names) }
+{
+    has_names(header, message)
+}
+
 #[tactic(auto, unfolding(crate::specs::Bodies::names_in))]
-pub fn names_body(
+fn names_of(
     alloc: Global,
     header: &Header,
     message: &[u8],
@@ -161,4 +182,16 @@ pub fn names_body(
         },
         None => Ok(None),
     }
+}
+
+/// The texts of a body that is one array of them, in order; there are none exactly where `is_names` is false.
+pub fn names_body(
+    alloc: Global,
+    header: &Header,
+    message: &[u8],
+) -> Result<Option<Items<Text>>, AllocError>
+    ensures exact { IfOk result (λ found. found ≡ names_in header.now message.now) }
+    ensures names { IfOk result (λ found. (names : List (List ℕ)) → (found ≡ Some names) ↔ AreNames header.now message.now names) }
+{
+    names_of(alloc, header, message)
 }

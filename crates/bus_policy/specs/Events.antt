@@ -1,0 +1,136 @@
+-- What is known of names and calls from the events before: the messages of both sides, each with its verdict, the latest
+-- first.
+use Rattle.std.specs.Prelude.{ℕ, ◌%◌, Bool, true, false, ◌||◌, ◌&&◌, ◌==◌, not, if◌then◌else◌, List, [], ◌∷◌, ◌++◌, codes, Option, Some, None, is_some}
+use Rattle.std.specs.Option.{option_map_or}
+use Rattle.std.specs.List.{list_any, filter_map}
+use Rattle.std.specs.Str.{bytes_eq}
+use Rattle.bus_frame.specs.declared.header.Header.{Header}
+use Rattle.bus_frame.specs.declared.side.Side.{Side}
+use Rattle.bus_frame.specs.declared.side.Side.TheVariants as side
+use Rattle.bus_frame.specs.Bodies.{three_texts}
+use Rattle.bus_rules.specs.Rules.{says}
+use Rattle.bus_policy.specs.declared.verdict.Verdict.{Verdict}
+use Rattle.bus_policy.specs.declared.verdict.Verdict.TheVariants as verdict
+
+-- a message of a side
+pub record Event : Type 0 where
+  pub side : Side
+  pub header : Header
+  pub bytes : List ℕ
+
+-- an event and what became of it
+pub record Judged : Type 0 where
+  pub event : Event
+  pub verdict : Verdict
+
+abbrev pub is_bus_side : Side → Bool
+is_bus_side side.Client = false
+is_bus_side side.Bus = true
+
+-- the bus itself, by its name
+abbrev pub driver : List ℕ
+driver = codes "org.freedesktop.DBus"
+
+-- A name that begins with `:` is unique, also where it isn't good.
+abbrev pub is_unique_like : List ℕ → Bool
+is_unique_like [] = false
+is_unique_like (c ∷ cs) = c == 58
+
+abbrev pub is_call : Header → Bool
+is_call h = h.kind == 1
+
+abbrev pub is_return : Header → Bool
+is_return h = h.kind == 2
+
+abbrev pub is_reply : Header → Bool
+is_reply h = h.kind == 2 || h.kind == 3
+
+abbrev pub is_signal : Header → Bool
+is_signal h = h.kind == 4
+
+-- flag 1, NO_REPLY_EXPECTED
+abbrev pub wants_no_reply : Header → Bool
+wants_no_reply h = h.flags % 2 == 1
+
+-- ---- owners of names
+
+-- a signal of the bus that a name has another owner, by its fields
+abbrev pub tells_owner : Header → Bool
+tells_owner h =
+    is_signal h && says h.sender driver && says h.interface driver && says h.member (codes "NameOwnerChanged")
+
+-- the name and its new owner, of such a signal whose body is three texts
+abbrev pub new_owner : Event → Option (List ℕ × List ℕ)
+new_owner e =
+    if is_bus_side e.side && tells_owner e.header then option_map_or (λ t. Some (t.0, t.2)) (three_texts e.header e.bytes) None
+    else None
+
+-- the name that an event gives to an owner
+abbrev pub name_given : List ℕ → Event → Option (List ℕ)
+name_given owner e = option_map_or (λ given. if bytes_eq given.1 owner then Some given.0 else None) (new_owner e) None
+
+abbrev pub name_owned : List ℕ → List ℕ × List ℕ → Option (List ℕ)
+name_owned owner row = if bytes_eq row.1 owner then Some row.0 else None
+
+-- the names that a unique name had at the opening or got since
+abbrev pub names_of : List (List ℕ × List ℕ) → List Judged → List ℕ → List (List ℕ)
+names_of owners noted owner =
+    if is_unique_like owner then filter_map (λ j. name_given owner j.event) noted ++ filter_map (name_owned owner) owners
+    else []
+
+-- ---- who wrote
+
+-- a message of the bus side from a peer to a destination
+abbrev pub is_addressed_by : List ℕ → Event → Bool
+is_addressed_by peer e = is_bus_side e.side && says e.header.sender peer && is_some e.header.destination
+
+abbrev pub has_written : List Judged → List ℕ → Bool
+has_written noted peer = is_unique_like peer && list_any (λ j. is_addressed_by peer j.event) noted
+
+-- ---- calls that wait for a reply
+
+abbrev pub is_forwarded : Verdict → Bool
+is_forwarded verdict.Forward = true
+is_forwarded verdict.Reduce = true
+is_forwarded verdict.AnswerDenied = false
+is_forwarded verdict.AnswerUnknown = false
+is_forwarded verdict.Drop = false
+
+abbrev pub is_serial : Option ℕ → ℕ → Bool
+is_serial None serial = false
+is_serial (Some n) serial = n == serial
+
+-- a forwarded call of the client with this serial that wants a reply, and a forwarded reply to it
+abbrev pub is_client_call : ℕ → Judged → Bool
+is_client_call serial j =
+    not (is_bus_side j.event.side) && is_call j.event.header && j.event.header.serial == serial
+    && not (wants_no_reply j.event.header) && is_forwarded j.verdict
+
+abbrev pub is_bus_reply : ℕ → Judged → Bool
+is_bus_reply serial j =
+    is_bus_side j.event.side && is_reply j.event.header && is_serial j.event.header.reply_serial serial && is_forwarded j.verdict
+
+-- the latest call of the client with this serial that waits
+abbrev pub client_waits : List Judged → ℕ → Option Header
+client_waits [] serial = None
+client_waits (j ∷ before) serial =
+    if is_client_call serial j then Some j.event.header
+    else (if is_bus_reply serial j then None else client_waits before serial)
+
+-- a call from a peer to the client with this serial that wants a reply, and a forwarded reply to it
+abbrev pub is_bus_call : List ℕ → ℕ → Judged → Bool
+is_bus_call peer serial j =
+    is_bus_side j.event.side && is_call j.event.header && says j.event.header.sender peer && j.event.header.serial == serial
+    && not (wants_no_reply j.event.header) && is_forwarded j.verdict
+
+abbrev pub is_client_reply : List ℕ → ℕ → Judged → Bool
+is_client_reply peer serial j =
+    not (is_bus_side j.event.side) && is_reply j.event.header && says j.event.header.destination peer
+    && is_serial j.event.header.reply_serial serial && is_forwarded j.verdict
+
+-- whether a call from a peer with this serial waits
+abbrev pub peer_waits : List Judged → List ℕ → ℕ → Bool
+peer_waits [] peer serial = false
+peer_waits (j ∷ before) peer serial =
+    if is_bus_call peer serial j then true
+    else (if is_client_reply peer serial j then false else peer_waits before peer serial)

@@ -1,0 +1,4 @@
+pub mod Levels
+pub mod Events
+pub mod Verdicts
+pub mod Watching

@@ -1,0 +1,195 @@
+-- What is known after events, and that a watch knows it.
+use Rattle.std.specs.Prelude.{◌≡◌, ℕ, Bool, true, false, ◌||◌, ◌&&◌, ◌==◌, not, if◌then◌else◌, List, [], ◌∷◌, map, Option, Some, None, option_map}
+use Rattle.std.specs.Ordering.{nat_cmp}
+use Rattle.std.specs.BTreeMap.{get, get_by_text}
+use Rattle.std.specs.BTreeSet as set
+use Rattle.std.specs.List.{list_any}
+use Rattle.std.specs.Str.{bytes_eq}
+use Rattle.bus_frame.specs.declared.header.Header.{Header}
+use Rattle.bus_frame.specs.declared.side.Side.{Side}
+use Rattle.bus_rules.specs.Rules.{says}
+use Rattle.bus_policy.specs.declared.level.Level.{Level}
+use Rattle.bus_policy.specs.declared.level.Level.TheVariants as level
+use Rattle.bus_policy.specs.declared.policy.RuleKind.{RuleKind}
+use Rattle.bus_policy.specs.declared.policy.PolicyRule.{PolicyRule}
+use Rattle.bus_policy.specs.declared.peer.Peer.{Peer}
+use Rattle.bus_policy.specs.declared.watch.Watch.{Watch}
+use Rattle.bus_policy.specs.declared.peer.RawNews.{RawNews}
+use Rattle.bus_policy.specs.declared.peer.RawNews.TheVariants as raw
+use Rattle.bus_policy.specs.declared.verdict.Verdict.{Verdict}
+use Rattle.bus_policy.specs.Levels.{greater, rules_level, allows, pattern_matches}
+use Rattle.bus_policy.specs.Events.{Event, Judged, driver, is_unique_like, is_call, wants_no_reply, is_forwarded, name_given, names_of, is_addressed_by, has_written, is_client_call, is_bus_reply, is_bus_call, is_client_reply, client_waits, peer_waits}
+use Rattle.bus_policy.specs.Verdicts.{Sight, is_listing, verdict_in}
+
+-- ---- what is known
+
+-- the level that the rules give to a name that a peer had; a unique name has none
+abbrev pub name_level : List PolicyRule → List ℕ → Level
+name_level rules name = if is_unique_like name then level.None else rules_level rules name
+
+-- the greatest of some names
+abbrev pub names_level : List PolicyRule → List (List ℕ) → Level
+names_level rules [] = level.None
+names_level rules (name ∷ names) = greater (name_level rules name) (names_level rules names)
+
+abbrev pub level_if : Bool → Level → Level
+level_if b l = if b then l else level.None
+
+-- The level of a name: of the bus, of a unique name by the names that it had, whether it wrote and whether it is the
+-- client's, and of another name by the rules.
+abbrev pub level_by_parts : List PolicyRule → Option (List ℕ) → List ℕ → Level → Bool → Level
+level_by_parts rules client name had wrote =
+    if bytes_eq name driver then level.Talk
+    else (if is_unique_like name then greater had (greater (level_if wrote level.See) (level_if (says client name) level.Talk))
+    else rules_level rules name)
+
+abbrev pub Owners : Type 0
+Owners = List (List ℕ × List ℕ)
+
+abbrev pub level_after : List PolicyRule → Option (List ℕ) → Owners → List Judged → List ℕ → Level
+level_after rules client owners noted name =
+    level_by_parts rules client name (names_level rules (names_of owners noted name)) (has_written noted name)
+
+-- a rule's pattern matches a peer, or a name that the peer had
+abbrev pub is_meant : List (List ℕ) → List ℕ → PolicyRule → Bool
+is_meant names peer rule = pattern_matches rule.pattern peer || list_any (pattern_matches rule.pattern) names
+
+abbrev pub leave_after : List PolicyRule → Owners → List Judged → RuleKind → List ℕ → Header → Bool
+leave_after rules owners noted kind peer header =
+    list_any (λ rule. allows kind header rule.grant && is_meant (names_of owners noted peer) peer rule) rules
+
+abbrev pub sight_after : List PolicyRule → Option (List ℕ) → Owners → List Judged → Sight
+sight_after rules client owners noted = record {
+  level_of = level_after rules client owners noted;
+  gives_leave = leave_after rules owners noted;
+  client_waits = λ serial. option_map is_listing (client_waits noted serial);
+  peer_waits = peer_waits noted;
+}
+
+-- what becomes of a message behind others
+abbrev pub verdict_after : List PolicyRule → Option (List ℕ) → Owners → List Judged → Event → Verdict
+verdict_after rules client owners noted e = verdict_in (sight_after rules client owners noted) e
+
+-- the events of a filter, the latest first, each with its verdict
+abbrev pub judged : List PolicyRule → Option (List ℕ) → Owners → List Event → List Judged
+judged rules client owners [] = []
+judged rules client owners (e ∷ before) =
+    let noted = judged rules client owners before in
+    record { event = e; verdict = verdict_after rules client owners noted e } ∷ noted
+
+-- ---- what a watch knows
+
+abbrev pub rules_of : Watch → List PolicyRule
+rules_of w = w.policy
+
+abbrev pub client_of : Watch → Option (List ℕ)
+client_of w = w.client
+
+-- what is known of a peer: the level of the names that it had, whether it wrote, which rules' patterns match a name that
+-- it had, and which of its calls wait
+pub record Known : Type 0 where
+  pub had : Level
+  pub wrote : Bool
+  pub meant : List Bool
+  pub waits : ℕ → Bool
+
+abbrev pub known_of : List PolicyRule → Option Peer → Known
+known_of rules None = record { had = level.None; wrote = false; meant = map (λ rule. false) rules; waits = λ serial. false }
+known_of rules (Some peer) = record { had = peer.had; wrote = peer.wrote; meant = peer.meant.items; waits = λ serial. set.contains nat_cmp peer.waiting serial }
+
+-- by the names that it had
+abbrev pub known_by : List PolicyRule → List (List ℕ) → Bool → (ℕ → Bool) → Known
+known_by rules names wrote waits = record {
+  had = names_level rules names;
+  wrote = wrote;
+  meant = map (λ rule. list_any (pattern_matches rule.pattern) names) rules;
+  waits = waits;
+}
+
+abbrev pub known_after : List PolicyRule → Owners → List Judged → List ℕ → Known
+known_after rules owners noted name = known_by rules (names_of owners noted name) (has_written noted name) (peer_waits noted name)
+
+-- what is known with a name more, with a message more, with a call that waits, and with one that waits no more
+abbrev pub or_each : (PolicyRule → Bool) → List PolicyRule → List Bool → List Bool
+or_each test [] flags = flags
+or_each test (rule ∷ rules) [] = []
+or_each test (rule ∷ rules) (flag ∷ flags) = (test rule || flag) ∷ or_each test rules flags
+
+abbrev pub with_name : List PolicyRule → List ℕ → Known → Known
+with_name rules name k = record k { had = greater (name_level rules name) k.had; meant = or_each (λ rule. pattern_matches rule.pattern name) rules k.meant }
+
+abbrev pub with_message : Known → Known
+with_message k = record k { wrote = true }
+
+abbrev pub with_call : ℕ → Known → Known
+with_call serial k = record k { waits = λ n. if serial == n then true else k.waits n }
+
+abbrev pub without_call : ℕ → Known → Known
+without_call serial k = record k { waits = λ n. if serial == n then false else k.waits n }
+
+abbrev pub with_message_if : Bool → Known → Known
+with_message_if true k = with_message k
+with_message_if false k = k
+
+abbrev pub with_call_if : Option ℕ → Known → Known
+with_call_if None k = k
+with_call_if (Some serial) k = with_call serial k
+
+-- what an event tells of a peer: a name that it has now; or a message of its, and whether that is a call that waits
+abbrev pub with_news : List PolicyRule → RawNews → Known → Known
+with_news rules (raw.Name name) k = with_name rules name.now k
+with_news rules (raw.Message wrote call) k = with_message_if wrote (with_call_if call k)
+
+-- what is known of a peer with an event more
+abbrev pub with_name_if : List PolicyRule → Option (List ℕ) → Known → Known
+with_name_if rules None k = k
+with_name_if rules (Some name) k = with_name rules name k
+
+-- the name that an event gives to a unique name
+abbrev pub name_told : List ℕ → Judged → Option (List ℕ)
+name_told peer j = if is_unique_like peer then name_given peer j.event else None
+
+abbrev pub with_event : List PolicyRule → Judged → List ℕ → Known → Known
+with_event rules j peer k = record (with_name_if rules (name_told peer j) k) {
+  wrote = (is_unique_like peer && is_addressed_by peer j.event) || k.wrote;
+  waits = λ serial. if is_bus_call peer serial j then true else (if is_client_reply peer serial j then false else k.waits serial);
+}
+
+-- the serial of a call that waits from now on
+abbrev pub waiting_call : Header → Verdict → Option ℕ
+waiting_call h verdict = if is_call h && not (wants_no_reply h) && is_forwarded verdict then Some h.serial else None
+
+abbrev pub judged_event : Side → Header → List ℕ → Verdict → Judged
+judged_event side header bytes verdict = record { event = record { side = side; header = header; bytes = bytes }; verdict = verdict }
+
+-- what is known of a call of the client with an event more
+abbrev pub call_with_event : Judged → ℕ → Option Bool → Option Bool
+call_with_event j serial waits =
+    if is_client_call serial j then Some (is_listing j.event.header)
+    else (if is_bus_reply serial j then None else waits)
+
+-- a watch knows what is known after these events
+pub record WatchAt (w : Watch) (owners : Owners) (noted : List Judged) : Type 0 where
+  pub peers : (name : List ℕ) → known_of (rules_of w) (get_by_text w.peers name) ≡ known_after (rules_of w) owners noted name
+  pub calls : (serial : ℕ) → get nat_cmp w.waiting serial ≡ option_map is_listing (client_waits noted serial)
+
+-- ---- what it answers by
+
+abbrev pub any_leave : RuleKind → List ℕ → Header → List PolicyRule → List Bool → Bool
+any_leave kind peer header [] meant = false
+any_leave kind peer header (rule ∷ rules) [] = (allows kind header rule.grant && pattern_matches rule.pattern peer) || any_leave kind peer header rules []
+any_leave kind peer header (rule ∷ rules) (m ∷ meant) = (allows kind header rule.grant && (pattern_matches rule.pattern peer || m)) || any_leave kind peer header rules meant
+
+abbrev pub sight_by : List PolicyRule → Option (List ℕ) → (List ℕ → Known) → (ℕ → Option Bool) → Sight
+sight_by rules client known waits = record {
+  level_of = λ name. level_by_parts rules client name (known name).had (known name).wrote;
+  gives_leave = λ kind peer header. any_leave kind peer header rules (known peer).meant;
+  client_waits = waits;
+  peer_waits = λ peer serial. (known peer).waits serial;
+}
+
+unfoldable pub sight_of : Watch → Sight
+sight_of w = sight_by (rules_of w) (client_of w) (λ name. known_of (rules_of w) (get_by_text w.peers name)) (λ serial. get nat_cmp w.waiting serial)
+
+abbrev pub event : Side → Header → List ℕ → Event
+event side header bytes = record { side = side; header = header; bytes = bytes }

@@ -1,0 +1,23 @@
+//! What a filter lets through: levels of names, and verdicts on messages by what came before.
+#![tactic(auto)]
+
+mod driver;
+mod judging;
+mod level;
+mod noting;
+mod pattern;
+mod peer;
+mod peers;
+mod policy;
+mod sight;
+mod verdict;
+mod watch;
+mod watching;
+
+pub use level::Level;
+pub use policy::{Grant, Policy, PolicyError, PolicyRule, RuleKind};
+pub use verdict::Verdict;
+pub use watch::Watch;
+
+#[cfg(test)]
+mod tests;

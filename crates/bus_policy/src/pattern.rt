@@ -1,0 +1,43 @@
+//! Patterns of names.
+
+ghost use Rattle.std.specs.Prelude.{◌≡◌, if◌then◌else◌, Some, None};
+ghost use Rattle.bus_frame.specs.Steps.{Gives};
+ghost use Rattle.bus_policy.specs.Levels.{is_open, stem, is_pattern, pattern_matches};
+
+use bus_frame::{are_name_elements, is_well_known_name};
+use bus_rules::is_at_or_under;
+
+/// NAME of `NAME.*`.
+fn stem_of(pattern: &[u8]) -> Option<&[u8]>
+    ensures { Gives (λ s. s.now) result (if is_open pattern.now then Some (stem pattern.now) else None) }
+{
+    if !pattern.ends_with(b".*") {
+        return None;
+    }
+    Some(&pattern[..pattern.len() - 2])
+}
+
+/// Whether a text is a pattern: a name that isn't unique, or one element or more and `.*`.
+#[tactic(auto, unfolding(crate::specs::Levels::is_pattern))]
+pub fn is_name_pattern(pattern: &[u8]) -> bool
+    ensures { result ≡ is_pattern pattern.now }
+{
+    if is_well_known_name(pattern) {
+        return true;
+    }
+    match stem_of(pattern) {
+        Some(stem) => are_name_elements(stem),
+        None => false,
+    }
+}
+
+/// Whether a pattern matches a name.
+#[tactic(auto, unfolding(crate::specs::Levels::pattern_matches))]
+pub fn matches_name(pattern: &[u8], name: &[u8]) -> bool
+    ensures { result ≡ pattern_matches pattern.now name.now }
+{
+    match stem_of(pattern) {
+        Some(stem) => is_at_or_under(b'.', name, stem),
+        None => name == pattern,
+    }
+}

@@ -1,0 +1,195 @@
+//! Policies: which names an application may see, talk to and own, and which messages pass besides.
+
+ghost use Rattle.std.specs.Prelude.{◌≡◌, ◌↔◌, [], ◌∷◌, ◌++◌, ℕ, List, true, false, OnOk, OnErr, IsErrOf, IsOkUnless};
+ghost use Rattle.bus_rules.specs.declared.rule.Rule.{Rule as TheRule};
+ghost use Rattle.bus_rules.specs.Rules.{IsRule, IsNoRule};
+ghost use Rattle.bus_policy.specs.Levels.{is_pattern, rules_level, given_level, level_by, allows, same_kind};
+
+use crate::level::Level;
+use crate::pattern::{is_name_pattern, matches_name};
+use bus_frame::{Header, Text};
+use bus_rules::{Rule, RuleError};
+use std::alloc::{AllocError, AllocFailed, Global};
+use std::marker::Model;
+
+/// Which messages a rule is for.
+#[derive(Clone, Copy, Debug, PartialEq, Eq)]
+pub enum RuleKind {
+    /// Calls of the client to a peer.
+    Call,
+    /// Signals of a peer to everybody.
+    Broadcast,
+}
+
+/// What a pattern's names get.
+#[derive(Debug, Drop)]
+pub enum Grant {
+    /// A level.
+    Level(Level),
+    /// That messages that a rule matches pass.
+    Rule(RuleKind, Rule),
+}
+
+/// A pattern of names, and what they get.
+#[derive(Debug, Drop)]
+pub struct PolicyRule {
+    /// A name that isn't unique, or `NAME.*` for NAME and all names below it.
+    pub pattern: Text,
+    /// What these names get.
+    pub grant: Grant,
+}
+
+/// Why a rule isn't added.
+#[derive(Debug, PartialEq, Eq, Drop)]
+pub enum PolicyError {
+    /// The pattern or the rule isn't one.
+    Bad,
+    /// There is no memory.
+    NoMemory,
+}
+
+impl From<AllocError> for PolicyError {
+    ghost use Rattle.std.specs.Prelude.{◌≡◌};
+    ghost use Rattle.bus_policy.specs.declared.policy.PolicyError.TheVariants.{NoMemory};
+
+    ghost from_gives = { λ _ e. e ≡ NoMemory };
+
+    fn from(_error: AllocError) -> PolicyError {
+        PolicyError::NoMemory
+    }
+}
+
+impl<T: Drop> From<AllocFailed<T>> for PolicyError {
+    ghost use Rattle.std.specs.Prelude.{◌≡◌};
+    ghost use Rattle.bus_policy.specs.declared.policy.PolicyError.TheVariants.{NoMemory};
+
+    ghost from_gives = { λ _ e. e ≡ NoMemory };
+
+    fn from(_error: AllocFailed<T>) -> PolicyError {
+        PolicyError::NoMemory
+    }
+}
+
+/// A list of rules.
+#[derive(Drop)]
+pub struct Policy {
+    rules: Vec<PolicyRule>,
+}
+
+impl Model for Policy {
+    ghost use Rattle.std.specs.Prelude.{List};
+    ghost use Rattle.bus_policy.specs.declared.policy.PolicyRule.{PolicyRule};
+
+    ghost Value = { List PolicyRule };
+
+    ghost view = { λ p. p.rules.items };
+}
+
+impl Policy {
+    /// A policy without rules.
+    pub fn new(alloc: Global) -> Self
+        ensures { result ≡ [] }
+    {
+        Policy {
+            rules: Vec::new(alloc),
+        }
+    }
+
+    /// Adds a rule that gives a level, at the end.
+    pub fn add(&mut self, alloc: Global, pattern: &str, level: Level) -> Result<(), PolicyError>
+        ensures ok { OnOk result (self.new ≡ self.old ++ record { pattern = pattern.now; grant = Grant.Level level } ∷ []) }
+        ensures bad { IsErrOf result PolicyError.Bad ↔ (is_pattern pattern.now ≡ false) }
+        ensures err { OnErr result (self.new ≡ self.old) }
+    {
+        if !is_name_pattern(pattern.as_bytes()) {
+            return Err(PolicyError::Bad);
+        }
+        self.push(alloc, pattern, Grant::Level(level))
+    }
+
+    fn push(&mut self, alloc: Global, pattern: &str, grant: Grant) -> Result<(), PolicyError>
+        ensures ok { OnOk result (self.new ≡ self.old ++ record { pattern = pattern.now; grant = grant } ∷ []) }
+        ensures err { OnErr result (self.new ≡ self.old) }
+        ensures memory { IsOkUnless result PolicyError.NoMemory }
+    {
+        let pattern = Text::copy_of(alloc, pattern)?;
+        self.rules.push(PolicyRule { pattern, grant })?;
+        Ok(())
+    }
+
+    /// Adds a rule for calls or for broadcasts, at the end.
+    pub fn add_rule(
+        &mut self,
+        alloc: Global,
+        kind: RuleKind,
+        pattern: &str,
+        rule: &str,
+    ) -> Result<(), PolicyError>
+        ensures ok { OnOk result ((read : TheRule) × IsRule read rule.now
+            × (self.new ≡ self.old ++ record { pattern = pattern.now; grant = Grant.Rule kind read } ∷ [])) }
+        ensures bad_pattern { is_pattern pattern.now ≡ false → IsErrOf result PolicyError.Bad }
+        ensures bad_rule { IsNoRule rule.now → IsErrOf result PolicyError.Bad }
+        ensures bad { IsErrOf result PolicyError.Bad → is_pattern pattern.now ≡ true → IsNoRule rule.now }
+        ensures err { OnErr result (self.new ≡ self.old) }
+    {
+        if !is_name_pattern(pattern.as_bytes()) {
+            return Err(PolicyError::Bad);
+        }
+        match Rule::parse(alloc, rule) {
+            Ok(rule) => self.push(alloc, pattern, Grant::Rule(kind, rule)),
+            Err(RuleError::Bad) => Err(PolicyError::Bad),
+            Err(RuleError::NoMemory) => Err(PolicyError::NoMemory),
+        }
+    }
+
+    /// The rules, lent.
+    pub fn rules(&self) -> &[PolicyRule]
+        ensures { result.now ≡ self.now }
+    {
+        &self.rules
+    }
+}
+
+/// The greatest level that rules give to a name.
+pub fn level_by_rules(rules: &[PolicyRule], name: &[u8]) -> Level
+    ensures { result ≡ rules_level rules.now name.now }
+{
+    let mut level = Level::None;
+    for rule in rules {
+        level = level.or(rule.level_of(name));
+    }
+    level
+}
+
+impl PolicyRule {
+    fn level_of(&self, name: &[u8]) -> Level
+        ensures { result ≡ level_by self.now name.now }
+    {
+        if !matches_name(self.pattern.as_str().as_bytes(), name) {
+            return Level::None;
+        }
+        match &self.grant {
+            Grant::Level(level) => *level,
+            Grant::Rule(_, _) => Level::See,
+        }
+    }
+
+    /// Whether the rule gives leave to a message, of a call or of a broadcast.
+    pub fn gives_leave(&self, kind: RuleKind, header: &Header) -> bool
+        ensures { result ≡ allows kind header.now self.now.grant }
+    {
+        match &self.grant {
+            Grant::Level(_) => false,
+            Grant::Rule(other, rule) => is_same_kind(kind, *other) && rule.matches(header),
+        }
+    }
+}
+
+fn is_same_kind(kind: RuleKind, other: RuleKind) -> bool
+    ensures { result ≡ same_kind kind other }
+{
+    matches!(
+        (kind, other),
+        (RuleKind::Call, RuleKind::Call) | (RuleKind::Broadcast, RuleKind::Broadcast)
+    )
+}
