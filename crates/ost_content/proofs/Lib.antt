@@ -1,0 +1,4 @@
+pub mod LinkTexts
+pub mod Spelled
+pub mod Told
+pub mod Values

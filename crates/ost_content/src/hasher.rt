@@ -1,0 +1,51 @@
+//! A file's digest, of a content that comes in pieces.
+
+ghost use Rattle.std.specs.Prelude.{◌≡◌, ◌++◌, [], ℕ, List, true};
+ghost use Rattle.ost_model.specs.Contents.{file_digest as digest_of_file, is_permission};
+ghost use Rattle.ost_content.specs.Taken.{HasTaken};
+
+use crate::headers::header;
+use fp_name::Digest;
+use sha2::{Digest as Hash, Sha256};
+use std::marker::Model;
+
+/// Takes in the content of a file piece by piece and then gives the file's digest. No call takes memory. Contracts see the
+/// state of SHA-256, and say of it what was taken in.
+#[derive(Debug, Drop)]
+pub struct ContentHasher {
+    hasher: Sha256,
+}
+
+impl Model for ContentHasher {
+    ghost use Rattle.sha2.specs.declared.Sha256.{Sha256};
+
+    ghost Value = { Sha256 };
+
+    ghost view = { λ h. h.hasher };
+}
+
+impl ContentHasher {
+    /// A hasher for a file with these permission bits, of whose content nothing was taken in yet.
+    pub fn new(mode: u32) -> Self
+        requires { is_permission mode ≡ true }
+        ensures { HasTaken result mode [] }
+    {
+        let mut hasher = Sha256::new();
+        hasher.update(header(mode));
+        ContentHasher { hasher }
+    }
+
+    /// Takes in the next piece of the content.
+    pub fn update(&mut self, piece: &[u8])
+        ensures { (mode : ℕ) (bytes : List ℕ) → HasTaken self.old mode bytes → HasTaken self.new mode (bytes ++ piece.now) }
+    {
+        self.hasher.update(piece);
+    }
+
+    /// The digest of the file whose content is all that was taken in, however it was cut.
+    pub fn finish(self) -> Digest
+        ensures { (mode : ℕ) (bytes : List ℕ) → HasTaken self mode bytes → result ≡ digest_of_file mode bytes }
+    {
+        Digest::from_bytes(self.hasher.finalize())
+    }
+}

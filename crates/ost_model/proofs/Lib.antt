@@ -1,0 +1,6 @@
+pub mod Places
+pub mod Looked
+pub mod Local
+pub mod Pending
+mod Rows
+mod Examples

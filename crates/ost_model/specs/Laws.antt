@@ -1,0 +1,57 @@
+-- What holds of all stores, commits and disks.
+use Rattle.std.specs.Prelude.{◌≡◌, ℕ, suc, List, [], ◌∷◌, ◌++◌, length, Bool, Option, Some, None}
+use Rattle.fp_host.specs.Paths.{Elements}
+use Rattle.fp_host.specs.Outcome.{Disk}
+use Rattle.ost_model.specs.Fields.{DirRow, TreeView}
+use Rattle.ost_model.specs.Objects.{Have, Fault}
+use Rattle.ost_model.specs.Order.{Place, Agree, order, first_fault, first_of, tree_at}
+use Rattle.ost_model.specs.Look.{look, directory, file_at, Reached, FileReached}
+use Rattle.ost_model.specs.Standing.{Stands, SameBelow, SameObjects}
+use Rattle.ost_model.specs.Walk.{Open, pending, opened, own_places, Walked}
+
+-- the order of a commit depends on the objects of the order alone
+abbrev pub OrderIsLocal : Type 0
+OrderIsLocal = (i j : Have) (commit : List ℕ) → Agree i j (order i commit) → order j commit ≡ order i commit
+
+-- and so does its first fault
+abbrev pub FaultIsLocal : Type 0
+FaultIsLocal = (i j : Have) (commit : List ℕ) → Agree i j (order i commit) → first_fault j commit ≡ first_fault i commit
+
+-- and so does what is found in it, where it has no fault
+abbrev pub LookIsLocal : Type 0
+LookIsLocal = (i j : Have) (commit : List ℕ) → first_fault i commit ≡ None → Agree i j (order i commit)
+    → (rest : Elements) → look j commit rest ≡ look i commit rest
+
+-- a directory that is found in a commit without a fault stands in its order, with all that is in it
+abbrev pub DirsAreReached : Type 0
+DirsAreReached = (have : Have) (commit : List ℕ) → first_fault have commit ≡ None
+    → (rest : Elements) (e : DirRow) → look have commit rest ≡ directory e → Reached have commit e
+
+-- and so does a file
+abbrev pub FilesAreReached : Type 0
+FilesAreReached = (have : Have) (commit : List ℕ) → first_fault have commit ≡ None
+    → (rest : Elements) (digest : List ℕ) → look have commit rest ≡ file_at digest → FileReached have commit digest
+
+-- a commit that stands in a folder goes on standing where its paths and the objects of its order stay
+abbrev pub StandingIsLocal : Type 0
+StandingIsLocal = (reads : List ℕ → Bool) (root : Elements) (i j : Disk) (commit : List ℕ) (dir : Elements)
+    → Stands reads root i commit dir → SameBelow dir i j → SameObjects root commit i j → Stands reads root j commit dir
+
+-- a walk goes on by one directory
+abbrev pub WalkGoesOn : Type 0
+WalkGoesOn = (have : Have) (test : ℕ → Place → Option Fault) (commit : List ℕ) (done : List Place) (left : List Open)
+    (fuel depth : ℕ) (e : DirRow) (v : TreeView)
+    → Walked have test commit done (record { fuel = suc fuel; depth = depth; row = e } ∷ left)
+    → tree_at have e.tree ≡ Some v → first_of test (length done) (own_places depth e v) ≡ None
+    → Walked have test commit (done ++ own_places depth e v) (opened fuel (suc depth) v.dirs ++ left)
+
+-- at its end it has done the order, which has no fault
+abbrev pub WalkEnds : Type 0
+WalkEnds = (have : Have) (test : ℕ → Place → Option Fault) (commit : List ℕ) (done : List Place)
+    → Walked have test commit done [] → (done ≡ order have commit) × (first_of test 0 (order have commit) ≡ None)
+
+-- a fault among the places that come next is the first of the order
+abbrev pub WalkFindsTheFirst : Type 0
+WalkFindsTheFirst = (have : Have) (test : ℕ → Place → Option Fault) (commit : List ℕ) (done : List Place) (left : List Open)
+    (next more : List Place) (p : Place) (f : Fault) → Walked have test commit done left → pending have left ≡ next ++ more
+    → first_of test (length done) next ≡ Some (p, f) → first_of test 0 (order have commit) ≡ Some (p, f)

@@ -1,0 +1,11 @@
+pub mod Contents
+pub mod Types
+pub mod Fields
+pub mod Readers
+pub mod Binding
+pub mod Objects
+pub mod Order
+pub mod Look
+pub mod Standing
+pub mod Walk
+pub mod Laws

@@ -1,0 +1,123 @@
+-- Objects of a store, and what is wrong with one.
+use Rattle.std.specs.Prelude.{◌≡◌, ℕ, List, ◌∷◌, ◌++◌, ◌*◌, ◌%◌, length, take, drop, Bool, true, false, leb, if◌then◌else◌, Option, Some, None, codes}
+use Rattle.std.specs.Str.{bytes_eq}
+use Rattle.fp_name.specs.Hex.{hex}
+use Rattle.fp_host.specs.Paths.{Elements, is_link_text}
+use Rattle.fp_host.specs.Outcome.{Spot, gone, folder, holds, points, Disk}
+use Rattle.ost_model.specs.declared.object.ObjKind.{ObjKind}
+use Rattle.ost_model.specs.declared.object.ObjKind.TheVariants as kinds
+use Rattle.ost_model.specs.declared.object.Object.{Object}
+use Rattle.ost_model.specs.declared.object.Object.TheVariants as objects
+use Rattle.ost_model.specs.declared.rule.Rule.{Rule}
+use Rattle.ost_model.specs.Contents.{is_permission, file_digest, link_digest, meta_digest}
+use Rattle.ost_model.specs.Fields.{MetaView}
+use Rattle.ost_model.specs.Readers.{meta_of, broken_rule}
+
+-- where objects come from: what there is of each digest and kind
+abbrev pub Have : Type 0
+Have = List ℕ → ObjKind → Option Object
+
+abbrev pub kind_text : ObjKind → List ℕ
+kind_text kinds.Commit = codes "commit"
+kind_text kinds.DirTree = codes "dirtree"
+kind_text kinds.DirMeta = codes "dirmeta"
+kind_text kinds.File = codes "file"
+
+-- `objects/XX/REST.KIND` below a store's folder, XX the first two digits of the digest
+abbrev pub object_path : Elements → List ℕ → ObjKind → Elements
+object_path root d kind = (drop 2 (hex d) ++ (codes "." ++ kind_text kind)) ∷ (take 2 (hex d) ∷ (codes "objects" ∷ root))
+
+-- what stands there, read as an object of the kind
+abbrev pub object_at : ObjKind → Spot → Option Object
+object_at kind gone = None
+object_at kind folder = None
+object_at kinds.File (holds id mode bytes) = Some (objects.File mode bytes)
+object_at kinds.Commit (holds id mode bytes) = Some (objects.Meta bytes)
+object_at kinds.DirTree (holds id mode bytes) = Some (objects.Meta bytes)
+object_at kinds.DirMeta (holds id mode bytes) = Some (objects.Meta bytes)
+object_at kinds.File (points text) = if is_link_text text then Some (objects.Link text) else None
+object_at kinds.Commit (points text) = None
+object_at kinds.DirTree (points text) = None
+object_at kinds.DirMeta (points text) = None
+
+-- the objects of the store at root, whether or not their names are true
+abbrev pub store : Elements → Disk → Have
+store root disk d kind = object_at kind (disk (object_path root d kind))
+
+pub data Fault : Type 0 where
+  too_many : Fault
+  too_deep : Fault
+  missing : Fault
+  too_long : ℕ → Fault
+  refused_mode : ℕ → Fault
+  corrupt : List ℕ → Fault
+  malformed : Rule → Fault
+
+-- the first that there is
+abbrev pub or_else : {A : Type 0} → Option A → Option A → Option A
+or_else None b = b
+or_else (Some a) b = Some a
+
+-- Supply: an object is the store's where the store has it, else the remote's.
+abbrev pub supply : Have → Have → Have
+supply own remote d kind = or_else (own d kind) (remote d kind)
+
+abbrev pub unless : Bool → Fault → Option Fault
+unless true f = None
+unless false f = Some f
+
+-- a metadata object has at most 16 MiB, a file at most 1 GiB
+abbrev pub length_fault : Object → Option Fault
+length_fault (objects.Meta bytes) = unless (leb (length bytes) (16 * 1024 * 1024)) (too_long (length bytes))
+length_fault (objects.File mode bytes) = unless (leb (length bytes) (1024 * 1024 * 1024)) (too_long (length bytes))
+length_fault (objects.Link text) = None
+
+abbrev pub mode_fault : Object → Option Fault
+mode_fault (objects.Meta bytes) = None
+mode_fault (objects.File mode bytes) = unless (is_permission mode) (refused_mode mode)
+mode_fault (objects.Link text) = None
+
+abbrev pub digest_of : Object → List ℕ
+digest_of (objects.Meta bytes) = meta_digest bytes
+digest_of (objects.File mode bytes) = file_digest mode bytes
+digest_of (objects.Link text) = link_digest text
+
+abbrev pub digest_fault : List ℕ → Object → Option Fault
+digest_fault d object = unless (bytes_eq (digest_of object) d) (corrupt (digest_of object))
+
+abbrev pub as_malformed : Option Rule → Option Fault
+as_malformed None = None
+as_malformed (Some rule) = Some (malformed rule)
+
+abbrev pub rule_fault : ObjKind → Object → Option Fault
+rule_fault kind (objects.Meta bytes) = as_malformed (broken_rule kind bytes)
+rule_fault kind (objects.File mode bytes) = None
+rule_fault kind (objects.Link text) = None
+
+-- what keeps an object from being the one that its digest names, in the order in which it is looked for
+abbrev pub name_fault : List ℕ → ObjKind → Option Object → Option Fault
+name_fault d kind None = Some missing
+name_fault d kind (Some object) = or_else (length_fault object) (or_else (mode_fault object) (or_else (digest_fault d object) (rule_fault kind object)))
+
+abbrev pub dir_bits : Option MetaView → Option Fault
+dir_bits None = None
+dir_bits (Some m) = unless (is_permission (m.mode % 4096)) (refused_mode m.mode)
+
+abbrev pub dir_mode_fault : ObjKind → Option Object → Option Fault
+dir_mode_fault kinds.DirMeta (Some (objects.Meta bytes)) = dir_bits (meta_of bytes)
+dir_mode_fault kind object = None
+
+-- the same of an object that is to be used: a directory's permission bits are within 0775 too
+abbrev pub object_fault : List ℕ → ObjKind → Option Object → Option Fault
+object_fault d kind object = or_else (name_fault d kind object) (dir_mode_fault kind object)
+
+abbrev pub has_good_bits : Spot → Bool
+has_good_bits (holds id mode bytes) = is_permission mode
+has_good_bits gone = true
+has_good_bits folder = true
+has_good_bits (points text) = true
+
+-- Named: what stands there is the object that its digest names.
+pub record Named (d : List ℕ) (kind : ObjKind) (spot : Spot) : Type 0 where
+  pub bits : has_good_bits spot ≡ true
+  pub good : name_fault d kind (object_at kind spot) ≡ None

@@ -1,0 +1,30 @@
+// Digests in metadata objects.
+ghost use Rattle.std.specs.Prelude.{◌≡◌, ◌==◌, ◌||◌, length, Some, None, if◌then◌else◌};
+ghost use Rattle.ost_model.specs.Readers.{is_long};
+ghost use Rattle.ost_object.specs.Answers.{Tries, as_is};
+ghost use Rattle.ost_object.specs.Views.{parent_bytes};
+
+use crate::error::ObjectError;
+use fp_name::Digest;
+use ost_model::Rule;
+
+/// A digest of 32 bytes. Bytes of another length break the rule.
+pub fn digest_of(bytes: &[u8], broken: Rule) -> Result<Digest, ObjectError>
+    ensures { Tries broken as_is result (if is_long bytes.now then Some bytes.now else None) }
+{
+    match Digest::from_slice(bytes) {
+        Some(digest) => Ok(digest),
+        None => Err(ObjectError::Malformed(broken)),
+    }
+}
+
+/// A parent: no bytes, or a digest of 32.
+pub fn parent_of(bytes: &[u8]) -> Result<Option<Digest>, ObjectError>
+    ensures { Tries Rule.Parent parent_bytes result (if length bytes.now == 0 || is_long bytes.now then Some bytes.now else None) }
+{
+    if bytes.is_empty() {
+        return Ok(None);
+    }
+    let digest = digest_of(bytes, Rule::Parent)?;
+    Ok(Some(digest))
+}

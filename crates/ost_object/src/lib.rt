@@ -1,0 +1,30 @@
+//! The metadata objects of OSTree's repositories: commits, dirtrees and dirmetas, read exactly.
+#![tactic(auto)]
+
+mod bindings;
+mod commit;
+mod digests;
+mod dirmeta;
+mod dirtree;
+mod error;
+mod fields;
+mod reading_commits;
+mod reading_metas;
+mod reading_rows;
+mod reading_trees;
+#[cfg(test)]
+mod real;
+#[cfg(test)]
+mod tests;
+mod tree_rules;
+mod types;
+mod values;
+
+pub use bindings::binding;
+pub use commit::Commit;
+pub use dirmeta::DirMeta;
+pub use dirtree::{DirEntry, DirTree, FileEntry};
+pub use error::ObjectError;
+pub use reading_commits::read_commit;
+pub use reading_metas::read_dirmeta;
+pub use reading_trees::read_dirtree;

@@ -1,0 +1,40 @@
+// The types of metadata objects.
+ghost use Rattle.std.specs.Prelude.{◌≡◌, IfOk, IsErr};
+ghost use Rattle.gv_value.specs.Views.{shape_of};
+ghost use Rattle.ost_model.specs.Types.{commit_shape, tree_shape, meta_shape};
+
+use gv_value::{GvType, TypeError};
+use std::alloc::{AllocError, Global};
+
+/// The type of a commit.
+pub fn commit_type(alloc: Global) -> Result<GvType, AllocError>
+    ensures { IfOk result (λ of. shape_of of ≡ commit_shape) }
+{
+    match GvType::parse(alloc, b"(a{sv}aya(say)sstayay)") {
+        Ok(of) => Ok(of),
+        Err(TypeError::NoMemory) => Err(AllocError),
+        Err(TypeError::Bad) => unreachable!(),
+    }
+}
+
+/// The type of a dirtree.
+pub fn tree_type(alloc: Global) -> Result<GvType, AllocError>
+    ensures { IfOk result (λ of. shape_of of ≡ tree_shape) }
+{
+    match GvType::parse(alloc, b"(a(say)a(sayay))") {
+        Ok(of) => Ok(of),
+        Err(TypeError::NoMemory) => Err(AllocError),
+        Err(TypeError::Bad) => unreachable!(),
+    }
+}
+
+/// The type of a dirmeta.
+pub fn meta_type(alloc: Global) -> Result<GvType, AllocError>
+    ensures { IfOk result (λ of. shape_of of ≡ meta_shape) }
+{
+    match GvType::parse(alloc, b"(uuua(ayay))") {
+        Ok(of) => Ok(of),
+        Err(TypeError::NoMemory) => Err(AllocError),
+        Err(TypeError::Bad) => unreachable!(),
+    }
+}
