@@ -9,10 +9,10 @@ use Rattle.fp_host.proofs.Kept.{tree_sync}
 use Rattle.fp_host.proofs.Settled.{at_tree, settled_disk}
 use Rattle.fp_small.specs.Config.{IsSettings}
 use Rattle.fp_small.specs.declared.state.State.{State}
-use Rattle.dep_states.specs.Names.{config}
+use Rattle.dep_states.specs.Names.{config, remotes_conf, pins_file}
 use Rattle.dep_states.specs.Shown.{Shows, settings_of}
 use Rattle.dep_states.specs.Sound.{IsSound, Opens}
-use Rattle.dep_states.proofs.Law.{follows_sound, spares_nothing, same_shown}
+use Rattle.dep_states.proofs.Law.{follows_sound, spares_nothing, same_shown, seen_same}
 use Rattle.dep_open.specs.Open.{IsOpened, Reads, Opened}
 use Rattle.dep_open.specs.Ends.{open_end}
 use Rattle.dep_open.specs.declared.open_end.OpenEnd.{OpenEnd}
@@ -20,7 +20,7 @@ use Rattle.dep_open.specs.declared.open_end.OpenEnd.TheVariants.{Damaged, Fault,
 use Rattle.fp_host.specs.declared.host.HostEnd.{HostEnd}
 use Rattle.fp_host.specs.declared.host.HostEnd.TheVariants as host
 
-synced : (v : View) → IsSettled (done syncs v)
+pub synced : (v : View) → IsSettled (done syncs v)
 synced v = record { earlier = λ q. refl; dirty = λ id. refl }
 
 -- what every stop leaves behind a sync is what stood before it
@@ -29,8 +29,8 @@ stands v tree disk left q = settled_disk (done syncs v) (tree_sync v tree) (sync
 
 opens_synced : (v : View) (s : State) → IsTree v → Shows (shows v) s → IsSound v → Opens s (done syncs v)
 opens_synced v s tree shown sound = record {
-  shown = λ disk left. same_shown (stands v tree disk left config) shown;
-  sound = (follows_sound spares_nothing (follows_sync v) sound).sound;
+  shown = λ disk left. same_shown (seen_same disk (shows v) (stands v tree disk left config) (stands v tree disk left remotes_conf) (stands v tree disk left pins_file)) shown;
+  sound = (follows_sound (spares_nothing v) (follows_sync v) sound).sound;
 }
 
 opened : (v : View) (s : State) → IsTree v → Shows (shows v) s → IsSettings (settings_of s) → IsOpened s v (done syncs v)

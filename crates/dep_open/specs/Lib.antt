@@ -1,3 +1,4 @@
 pub mod Open
 pub mod Ends
 pub mod Loads
+pub mod Tidy

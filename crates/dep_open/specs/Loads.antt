@@ -1,32 +1,58 @@
--- What a loaded `config` says.
-use Rattle.std.specs.Prelude.{◌≡◌, Some, None, Result, Ok, Err}
+-- What loaded files say.
+use Rattle.std.specs.Prelude.{◌≡◌, ◌&&◌, ℕ, List, [], Bool, true, false, Option, Some, None, Result, Ok, Err, if◌then◌else◌}
 use Rattle.fp_host.specs.Paths.{Elements}
-use Rattle.fp_small.specs.Config.{config_of, IsSettings}
+use Rattle.fp_small.specs.Config.{config_of}
+use Rattle.fp_small.specs.Old.{remotes_of, pins_of}
 use Rattle.fp_small.specs.declared.config.Settings.{Settings}
 use Rattle.fp_small.specs.declared.state.State.{State}
+use Rattle.fp_small.specs.declared.state.RemoteRow.{RemoteRow}
+use Rattle.fp_small.specs.declared.state.Layout.TheVariants.{Two}
 use Rattle.fp_small.specs.declared.loading.Loaded.{Loaded}
 use Rattle.fp_small.specs.declared.loading.Loaded.TheVariants.{Bytes, Absent, TooLong, NotFile}
-use Rattle.dep_states.specs.Shown.{empty_settings, settings_of, state_of}
+use Rattle.dep_states.specs.After.{IsGood}
+use Rattle.dep_states.specs.Shown.{empty_settings, state_of, old_state}
 use Rattle.dep_open.specs.declared.open_end.OpenEnd.{OpenEnd}
 use Rattle.dep_open.specs.declared.open_end.OpenEnd.TheVariants.{Damaged, Fault, NoMemory}
 
--- these settings
-abbrev pub Says : Loaded → Settings → Type 0
-Says Absent s = s ≡ empty_settings
-Says (Bytes bytes) s = config_of bytes ≡ Some s
-Says (TooLong size) s = ⊥
-Says NotFile s = ⊥
+abbrev pub is_away : Loaded → Bool
+is_away Absent = true
+is_away (Bytes bytes) = false
+is_away (TooLong size) = false
+is_away NotFile = false
 
--- nothing that reads
-abbrev pub SaysNothing : Loaded → Type 0
-SaysNothing Absent = ⊥
-SaysNothing (Bytes bytes) = config_of bytes ≡ None
-SaysNothing (TooLong size) = Unit {0}
-SaysNothing NotFile = Unit {0}
+-- what this says of a file, by what its bytes say, and by what it says where it is absent
+abbrev pub said : {A : Type 0} → A → (List ℕ → Option A) → Loaded → Option A
+said other read Absent = Some other
+said other read (Bytes bytes) = read bytes
+said other read (TooLong size) = None
+said other read NotFile = None
 
--- the state with these settings; or what was loaded from this path says nothing
-abbrev pub IsSaid : Loaded → Elements → Result State OpenEnd → Type 0
-IsSaid loaded path (Ok s) = Says loaded (settings_of s) × IsSettings (settings_of s) × (s ≡ state_of (settings_of s))
-IsSaid loaded path (Err (Damaged p)) = (p ≡ path) × SaysNothing loaded
-IsSaid loaded path (Err Fault) = ⊥
-IsSaid loaded path (Err NoMemory) = Unit {0}
+-- `config`
+abbrev pub settings_in : Loaded → Option Settings
+settings_in loaded = said empty_settings config_of loaded
+
+-- `remotes.conf`
+abbrev pub remotes_in : Loaded → Option (List RemoteRow)
+remotes_in loaded = said [] remotes_of loaded
+
+-- `pins`
+abbrev pub pins_in : Loaded → Option (List (List ℕ))
+pins_in loaded = said [] pins_of loaded
+
+-- `pins` and `remotes.conf`, where there is no `config`
+abbrev pub old_said : Loaded → Loaded → Result State Elements
+old_said pins remotes = if is_away remotes && is_away pins then Ok (state_of Two empty_settings) else old_state (pins_in pins) (remotes_in remotes)
+
+-- what a file at this path says; or it says nothing
+abbrev pub IsPart : {A : Type 0} → Option A → Elements → Result A OpenEnd → Type 0
+IsPart says path (Ok a) = says ≡ Some a
+IsPart says path (Err (Damaged p)) = (p ≡ path) × (says ≡ None)
+IsPart says path (Err Fault) = ⊥
+IsPart says path (Err NoMemory) = Unit {0}
+
+-- the state that files say, or the first path that says nothing
+abbrev pub IsSaid : Result State Elements → Result State OpenEnd → Type 0
+IsSaid says (Ok s) = (says ≡ Ok s) × IsGood s
+IsSaid says (Err (Damaged p)) = says ≡ Err p
+IsSaid says (Err Fault) = ⊥
+IsSaid says (Err NoMemory) = Unit {0}

@@ -1,12 +1,12 @@
 -- An installation that is opened.
-use Rattle.std.specs.Prelude.{◌≡◌, Result, Ok, Err, Option, None}
+use Rattle.std.specs.Prelude.{◌≡◌, Result, Ok, Err}
 use Rattle.fp_host.specs.Paths.{Elements, Slot}
 use Rattle.fp_host.specs.View.{View}
-use Rattle.fp_host.specs.Outcome.{Disk, shows, IsSettled}
+use Rattle.fp_host.specs.Outcome.{Disk, shows, gone, IsSettled}
 use Rattle.fp_small.specs.Config.{IsSettings}
 use Rattle.fp_small.specs.declared.state.State.{State}
-use Rattle.dep_states.specs.Names.{config}
-use Rattle.dep_states.specs.Shown.{Shows, settings_of}
+use Rattle.dep_states.specs.Names.{remotes_conf, pins_file}
+use Rattle.dep_states.specs.Shown.{Shows, settings_of, seen, state_at}
 use Rattle.dep_states.specs.Sound.{IsSound, Opens}
 use Rattle.dep_open.specs.declared.open_end.OpenEnd.{OpenEnd}
 use Rattle.dep_open.specs.declared.open_end.OpenEnd.TheVariants.{Damaged, Fault, NoMemory}
@@ -19,9 +19,9 @@ NotShown disk = (s : State) → Shows disk s → ⊥
 abbrev pub NoName : Elements → Slot → Type 0
 NoName q e = ⊥
 
--- `config` is the path that doesn't read
+-- this is the first path that doesn't read
 abbrev pub IsDamagedAt : View → Elements → Type 0
-IsDamagedAt v p = (p ≡ config) × NotShown (shows v)
+IsDamagedAt v p = seen (shows v) ≡ Err p
 
 -- what is read of the present view
 abbrev pub Reads : View → Result State OpenEnd → Type 0
@@ -29,6 +29,13 @@ Reads v (Ok s) = Shows (shows v) s × IsSettings (settings_of s)
 Reads v (Err (Damaged p)) = IsDamagedAt v p
 Reads v (Err Fault) = Unit {0}
 Reads v (Err NoMemory) = Unit {0}
+
+-- what is read of it where there is no `config`
+abbrev pub ReadsOld : View → Result State OpenEnd → Type 0
+ReadsOld v (Ok s) = (state_at gone (shows v remotes_conf) (shows v pins_file) ≡ Ok s) × IsSettings (settings_of s)
+ReadsOld v (Err (Damaged p)) = state_at gone (shows v remotes_conf) (shows v pins_file) ≡ Err p
+ReadsOld v (Err Fault) = Unit {0}
+ReadsOld v (Err NoMemory) = Unit {0}
 
 -- All that stands is settled; where each stop before would have left a sound installation, each stop leaves this state.
 pub record IsOpened (s : State) (u w : View) : Type 0 where

@@ -1,5 +1,5 @@
 -- What may stand at a path, whatever stands elsewhere. One function says of each path what it is for.
-use Rattle.std.specs.Prelude.{◌≡◌, ◌⊎◌, ◌≤◌, List, [], ◌∷◌, ℕ, if◌then◌else◌, length, codes}
+use Rattle.std.specs.Prelude.{◌≡◌, ◌⊎◌, ◌≤◌, List, [], ◌∷◌, ℕ, Bool, ◌||◌, if◌then◌else◌, length, codes}
 use Rattle.std.specs.Str.{bytes_eq}
 use Rattle.fp_host.specs.Paths.{Elements}
 use Rattle.fp_host.specs.Outcome.{Spot, gone, folder, holds, points}
@@ -25,10 +25,14 @@ abbrev pub zone_repo : List (List ℕ) → Zone
 zone_repo [] = a_folder
 zone_repo (x ∷ rest) = if bytes_eq x (codes "tmp") then here a_folder rest else anything
 
+-- the small files: `config`, and those of layout 1
+abbrev pub is_small : List ℕ → Bool
+is_small x = bytes_eq x (codes "config") || (bytes_eq x (codes "remotes.conf") || bytes_eq x (codes "pins"))
+
 -- by the elements, the outermost first
 abbrev pub zone : List (List ℕ) → Zone
 zone [] = a_folder
-zone (x ∷ rest) = if bytes_eq x (codes "repo") then zone_repo rest else (if bytes_eq x (codes "config") then here a_file rest else anything)
+zone (x ∷ rest) = if bytes_eq x (codes "repo") then zone_repo rest else (if is_small x then here a_file rest else anything)
 
 abbrev pub IsGone : Spot → Type 0
 IsGone spot = spot ≡ gone

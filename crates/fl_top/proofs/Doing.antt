@@ -1,5 +1,5 @@
 -- One operation on an opened installation, and its line.
-use Rattle.std.proofs.Common.{◌≡◌, ◌⊎◌, inl, inr, ℕ, List, [], ◌∷◌, ◌++◌, Option, Some, None, Ok, Err, refl, sym, ◌∙◌, ap, subst}
+use Rattle.std.proofs.Common.{◌≡◌, ◌⊎◌, inl, inr, ℕ, List, [], ◌∷◌, ◌++◌, Option, Some, None, Result, Ok, Err, refl, sym, ◌∙◌, ap, subst}
 use Rattle.std.proofs.lemmas.List.{append-nil}
 use Rattle.fp_host.specs.View.{View}
 use Rattle.fp_host.specs.Outcome.{Disk, Leaves}
@@ -8,16 +8,19 @@ use Rattle.fp_small.specs.declared.op.Op.{Op}
 use Rattle.fp_small.specs.declared.refusal.Refusal.{Refusal}
 use Rattle.dep_states.specs.Sound.{Opens}
 use Rattle.dep_states.specs.After.{after}
-use Rattle.dep_states.proofs.Law.{follows_opens, spares_nothing}
+use Rattle.dep_open.specs.Tidy.{Tidies, IsTidy}
 use Rattle.op_change.specs.Applied.{IsOneOf, Applies, WasApplied}
 use Rattle.fl_words.specs.Lines.{op_text}
-use Rattle.fl_top.specs.Answer.{Answer, Piece, ops_of, did, refused, refusal_of, unless, act}
+use Rattle.fl_top.specs.Answer.{Answer, Piece, joined, ops_of, did, nothing, refused, refusal_of, unless, act}
 use Rattle.fl_top.specs.Ends.{IsTried}
 use Rattle.fl_top.specs.Runs.{Printed}
-use Rattle.fl_top.specs.Performs.{IsSome, Performs, IsDone, IsHalted, Performed}
+use Rattle.fl_top.specs.Performs.{IsSome, Performs, IsDone, IsHalted, Performed, WasDone}
 use Rattle.fl_top.specs.declared.end.RunEnd.{RunEnd}
 use Rattle.fl_top.specs.declared.end.RunEnd.TheVariants.{Refused, Fault, NoMemory}
 use Rattle.fl_top.specs.Says.{Says, WasSaid}
+use Rattle.fl_top.specs.Changes.{Changes}
+use Rattle.fl_top.proofs.Changing.{change_on, applied_changes, tidied_changes}
+use Rattle.fl_top.proofs.Same.{same_opens}
 use Rattle.fl_top.proofs.Starting.{none_yet}
 
 -- ---- before the operation
@@ -27,14 +30,19 @@ not_done : (a : Answer) (s : State) {v : View} (disk : Disk) → Opens s v → L
 not_done a s disk opens left = record { done = []; undone = ops_of a; prefix = refl; more = []; holds = refl; shown = opens.shown disk left; sound = opens.sound disk left }
 
 pub not_yet : (a : Answer) (s : State) (v : View) → Performs a s v v
-not_yet a s v = record { said = []; so_far = none_yet a refl; some = λ opens disk left. not_done a s disk opens left }
+not_yet a s v = record { said = []; so_far = none_yet a refl; names = λ q. inl refl; some = λ opens disk left. not_done a s disk opens left }
 
 pub halted : (a : Answer) (s : State) {v w : View} → w ≡ v → IsHalted a s v w
 halted a s {v = v} same = subst (IsHalted a s v) (sym same) (record { said = []; so_far = none_yet a refl; opens = λ opens. opens })
 
 -- an operation that is refused
 refuses : (refusal : Refusal) (s : State) (v : View) → IsDone (refused refusal) s v v
-refuses refusal s v = record { printed = sym (append-nil v.printed); opens = λ opens. opens }
+refuses refusal s v = record {
+  names = λ q. inl refl;
+  printed = sym (append-nil v.printed);
+  opens = λ opens. opens;
+  tidied = λ opens why. elim why [ inl tidy ↦ tidy | inr some ↦ absurd (some refl) ];
+}
 
 refused_as : (op : Op) (s : State) (o : Option Refusal) (r : Refusal) (v : View) → o ≡ Some r → Performed (unless o (did op)) s (Err (Refused r)) v v
 refused_as op s o r v is = subst (λ (x : Option Refusal). Performed (unless x (did op)) s (Err (Refused r)) v v) (sym is) (refl, refuses r s v)
@@ -61,7 +69,7 @@ one_of op s disk one left = elim (one.shown disk left) [
 ]
 
 pub applying : (op : Op) (s : State) {v w : View} → Applies s op v w → Performs (did op) s v w
-applying op s applies = record { said = []; so_far = none_yet (did op) applies.printed; some = λ opens disk left. one_of op s disk (applies.either opens) left }
+applying op s {v = v} {w = w} applies = record { said = []; so_far = none_yet (did op) applies.printed; names = applied_changes s op v w applies; some = λ opens disk left. one_of op s disk (applies.either opens) left }
 
 -- the ends of an operation that isn't done
 pub not_applied : (op : Op) (s : State) (e : RunEnd) {v w : View} → (e ≡ Fault) ⊎ ((e ≡ NoMemory) × (w ≡ v)) → Performed (did op) s (Err e) v w
@@ -83,25 +91,98 @@ line_printed op v w x same more = record {
 is_done : (op : Op) (s : State) (said : List Op) {x : View} (disk : Disk) → (more : List Op) → (op ∷ [] ≡ said ++ more) → Opens (after s op) x → Leaves x disk → IsSome (did op) said s disk
 is_done op s said disk more holds opens left = record { done = op ∷ []; undone = []; prefix = refl; more = more; holds = holds; shown = opens.shown disk left; sound = opens.sound disk left }
 
-pub saying : (op : Op) (s : State) {v w x : View} → w.printed ≡ v.printed → WasApplied s op v w → Says (op_text op) w x → Performs (did op) s v x
-saying op s {v = v} {w = w} {x = x} same applied says = elim (says.printed) [
+pub saying : (op : Op) (s : State) {v w x : View} → Changes v w → w.printed ≡ v.printed → WasApplied s op v w → Says (op_text op) w x → Performs (did op) s v x
+saying op s {v = v} {w = w} {x = x} changes same applied says = elim (says.printed) [
   | inl none ↦ record {
     said = [];
     so_far = none_yet (did op) (none ∙ same);
-    some = λ opens disk left. is_done op s [] disk (op ∷ []) refl (follows_opens spares_nothing says.follows (applied.opens opens)) left;
+    names = change_on v w x changes (λ q. inl (says.names q));
+    some = λ opens disk left. is_done op s [] disk (op ∷ []) refl (same_opens says.follows (applied.opens opens)) left;
   }
   | inr more ↦ record {
     said = piece_of op ∷ [];
     so_far = line_printed op v w x same more;
-    some = λ opens disk left. is_done op s (op ∷ []) disk [] refl (follows_opens spares_nothing says.follows (applied.opens opens)) left;
+    names = change_on v w x changes (λ q. inl (says.names q));
+    some = λ opens disk left. is_done op s (op ∷ []) disk [] refl (same_opens says.follows (applied.opens opens)) left;
   }
 ]
 
-pub said_done : (op : Op) (s : State) {v w x : View} → w.printed ≡ v.printed → WasApplied s op v w → WasSaid (op_text op) w x → Performed (did op) s (Ok tt) v x
-said_done op s {v = v} {w = w} {x = x} same applied said = (
+pub said_done : (op : Op) (s t : State) {v w x : View} → Changes v w → w.printed ≡ v.printed → WasApplied s op v w → WasSaid (op_text op) w x → WasDone op s (Ok t) v x
+said_done op s t {v = v} {w = w} {x = x} changes same applied said = (said.printed ∙ ap (λ (p : List ℕ). p ++ op_text op) same, λ opens. same_opens said.follows (applied.opens opens), change_on v w x changes (λ q. inl (said.names q)))
+
+-- ---- nothing is done
+
+-- there is nothing to do
+pub idle : (s : State) (v : View) → Performed nothing s (Ok s) v v
+idle s v = (refl, refl, record { names = λ q. inl refl; printed = sym (append-nil v.printed); opens = λ opens. opens; tidied = λ opens why. elim why [ inl tidy ↦ tidy | inr some ↦ absurd (some refl) ] })
+
+-- ---- tidying behind an operation
+
+behind_done : (op : Op) (v w x : View) → w.printed ≡ v.printed ++ op_text op → x.printed ≡ w.printed → Printed (did op) (piece_of op ∷ []) v x
+behind_done op v w x more same = record {
+  left = [];
+  pieces = refl;
+  printed = same ∙ more ∙ ap (λ (t : List ℕ). v.printed ++ t) (sym (append-nil (op_text op)));
+}
+
+pub tidying : (op : Op) (s t : State) {v w x : View} → t ≡ after s op → WasDone op s (Ok t) v w → Tidies t w x → Performs (did op) s v x
+tidying op s t {v = v} {w = w} {x = x} is done tidies = record {
+  said = piece_of op ∷ [];
+  so_far = behind_done op v w x done.0 tidies.printed;
+  names = change_on v w x done.2 (tidied_changes t w x tidies);
+  some = λ opens disk left. is_done op s (op ∷ []) disk [] refl (subst (λ (z : State). Opens z x) is (tidies.opens (subst (λ (z : State). Opens z w) (sym is) (done.1 opens)))) left;
+}
+
+pub tidied : (op : Op) (s t t' : State) {v w x : View} → t ≡ after s op → t' ≡ t → WasDone op s (Ok t) v w → Tidies t w x → IsTidy x → Performed (did op) s (Ok t') v x
+tidied op s t t' {v = v} {w = w} {x = x} is same done tidies tidy = (
   refl,
+  same ∙ is,
   record {
-    printed = (line_printed op v w x same said.printed).printed;
-    opens = λ opens. follows_opens spares_nothing said.follows (applied.opens opens);
+    printed = (behind_done op v w x done.0 tidies.printed).printed;
+    names = change_on v w x done.2 (tidied_changes t w x tidies);
+    opens = λ opens. subst (λ (z : State). Opens z x) is (tidies.opens (subst (λ (z : State). Opens z w) (sym is) (done.1 opens)));
+    tidied = λ opens why. tidy;
   },
 )
+
+-- the ends of a tidying that isn't done
+pub untidied : (op : Op) (s t : State) (e : RunEnd) {v w x : View} → t ≡ after s op → (e ≡ Fault) ⊎ (e ≡ NoMemory) → WasDone op s (Ok t) v w → Tidies t w x → Performed (did op) s (Err e) v x
+untidied op s t e {v = v} {w = w} {x = x} is why done tidies = elim why [
+  | inl f ↦ subst (λ (z : RunEnd). Performed (did op) s (Err z) v x) (sym f) tt
+  | inr m ↦ subst (λ (z : RunEnd). Performed (did op) s (Err z) v x) (sym m) (record {
+    said = piece_of op ∷ [];
+    so_far = behind_done op v w x done.0 tidies.printed;
+    opens = λ opens. subst (λ (z : State). Opens z x) is (tidies.opens (subst (λ (z : State). Opens z w) (sym is) (done.1 opens)));
+  })
+]
+
+-- ---- tidying before anything else
+
+first_moved : {a : Answer} {said : List Piece} {u v w : View} → v.printed ≡ u.printed → Printed a said v w → Printed a said u w
+first_moved {said = said} same printed = record { left = printed.left; pieces = printed.pieces; printed = printed.printed ∙ ap (λ (p : List ℕ). p ++ joined said) same }
+
+pub tidied_first : (a : Answer) (s : State) {u v : View} → Tidies s u v → Performs a s u v
+tidied_first a s {u = u} {v = v} tidies = record { said = []; so_far = none_yet a tidies.printed; names = tidied_changes s u v tidies; some = λ opens disk left. not_done a s disk (tidies.opens opens) left }
+
+pub untidied_first : (a : Answer) (s : State) (e : RunEnd) {u v : View} → (e ≡ Fault) ⊎ (e ≡ NoMemory) → Tidies s u v → Performed a s (Err e) u v
+untidied_first a s e {u = u} {v = v} why tidies = elim why [
+  | inl f ↦ subst (λ (z : RunEnd). Performed a s (Err z) u v) (sym f) tt
+  | inr m ↦ subst (λ (z : RunEnd). Performed a s (Err z) u v) (sym m) (record { said = []; so_far = none_yet a tidies.printed; opens = λ opens. tidies.opens opens })
+]
+
+pub performs_tidied : (a : Answer) (s : State) {u v w : View} → Tidies s u v → Performs a s v w → Performs a s u w
+performs_tidied a s {u = u} {v = v} {w = w} tidies performs = record { said = performs.said; so_far = first_moved tidies.printed performs.so_far; names = change_on u v w (tidied_changes s u v tidies) performs.names; some = λ opens disk left. performs.some (tidies.opens opens) disk left }
+
+done_tidied : (a : Answer) (s : State) {u v w : View} → Tidies s u v → IsTidy v → IsDone a s v w → IsDone a s u w
+done_tidied a s {u = u} {v = v} {w = w} tidies tidy done = record {
+  names = change_on u v w (tidied_changes s u v tidies) done.names;
+  printed = done.printed ∙ ap (λ (p : List ℕ). p ++ joined a.pieces) tidies.printed;
+  opens = λ opens. done.opens (tidies.opens opens);
+  tidied = λ opens why. done.tidied (tidies.opens opens) (inl tidy);
+}
+
+pub performed_tidied : (a : Answer) (s : State) (r : Result State RunEnd) (u v w : View) → Tidies s u v → IsTidy v → Performed a s r v w → Performed a s r u w
+performed_tidied a s (Ok t) u v w tidies tidy done = (done.0, done.1, done_tidied a s tidies tidy done.2)
+performed_tidied a s (Err (Refused refusal)) u v w tidies tidy done = (done.0, done_tidied a s tidies tidy done.1)
+performed_tidied a s (Err Fault) u v w tidies tidy done = tt
+performed_tidied a s (Err NoMemory) u v w tidies tidy done = record { said = done.said; so_far = first_moved tidies.printed done.so_far; opens = λ opens. done.opens (tidies.opens opens) }

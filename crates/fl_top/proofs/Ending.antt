@@ -1,36 +1,39 @@
 -- The end of a run: the line of its refusal, and its status.
-use Rattle.std.proofs.Common.{◌≡◌, inl, inr, ℕ, List, [], ◌∷◌, ◌++◌, Bool, true, false, nat_le, length, append_assoc, Option, Some, None, Ok, if◌then◌else◌, refl, sym, ◌∙◌, ap, subst}
+use Rattle.std.proofs.Common.{◌≡◌, ◌≤◌, ◌+◌, arith, Result, Err, inl, inr, ℕ, List, [], ◌∷◌, ◌++◌, Bool, true, false, nat_le, length, append_assoc, Option, Some, None, Ok, if◌then◌else◌, refl, sym, ◌∙◌, ap, subst}
 use Rattle.std.proofs.lemmas.List.{append-nil}
-use Rattle.std.proofs.lemmas.Grind.{flat_map-append}
 use Rattle.std.proofs.lemmas.List.Elements.{filter_map-append}
+use Rattle.fp_host.specs.Paths.{Elements}
 use Rattle.fp_host.specs.View.{View}
 use Rattle.fp_host.specs.Outcome.{Disk, Leaves, Follows, Nothing}
 use Rattle.fp_small.specs.declared.state.State.{State}
+use Rattle.fp_small.specs.declared.state.Layout.{Layout}
+use Rattle.fp_small.specs.declared.state.Layout.TheVariants.{One, Two}
 use Rattle.fp_small.specs.declared.op.Op.{Op}
-use Rattle.fp_small.specs.declared.op.Op.TheVariants.{AddPin, DropPin, AddRemote, ModifyRemote, DropRemote}
+use Rattle.fp_small.specs.declared.op.Op.TheVariants.{AddPin, DropPin, AddRemote, ModifyRemote, DropRemote, Migrate}
 use Rattle.fp_small.specs.declared.refusal.Refusal.{Refusal}
-use Rattle.fp_small.specs.declared.refusal.Refusal.TheVariants.{NoSuchRemote, RemoteExists, PinExists, NoSuchPin, Limit, Damaged}
-use Rattle.fp_small.specs.declared.refusal.What.TheVariants.{Pins, Remotes}
+use Rattle.fp_small.specs.declared.refusal.Refusal.TheVariants.{BadWords, NoSuchRemote, RemoteExists, PinExists, NoSuchPin, Limit, BadRecord, Damaged}
+use Rattle.fp_small.specs.declared.refusal.What.TheVariants.{Pins, Remotes, Input}
 use Rattle.fp_small.specs.Config.{name_of}
 use Rattle.fp_small.specs.Order.{has_name}
-use Rattle.dep_states.specs.Names.{config}
 use Rattle.dep_states.specs.Shown.{IsShown}
 use Rattle.dep_states.specs.Sound.{IsSound}
 use Rattle.dep_states.specs.After.{after_all}
-use Rattle.dep_states.proofs.Law.{same_shown, spared, spared_sound, spares_nothing}
-use Rattle.fl_words.specs.Lines.{refusal_text}
+use Rattle.fl_words.specs.Lines.{refusal_text, pins_text, remotes_text}
+use Rattle.fl_words.specs.Batch.{batch_of}
 use Rattle.fl_words.specs.declared.command.Command.{Command}
-use Rattle.fl_words.specs.declared.command.Command.TheVariants.{Pin, Unpin, AddRemote as Adding, ModifyRemote as Modifying, DeleteRemote, ListPins, ListRemotes}
-use Rattle.fl_top.specs.Answer.{Answer, Piece, lines_of, last_of, joined, ops_in, ops_of, did, refusal_of, unless, act, answer_over, over, is_pinned}
+use Rattle.fl_words.specs.declared.command.Command.TheVariants.{Pin, Unpin, RemoteAdd, RemoteModify, RemoteDelete, ListPins, ListRemotes, Batch}
+use Rattle.fl_top.specs.Answer.{Answer, Piece, lines_of, last_of, joined, ops_in, ops_of, did, told, refused, behind, refusal_of, unless, act, act_on, op_of, change_over, in_turn, migrating, changing, told_pins, told_remotes, over, of_batch, answer_over, is_pinned}
+use Rattle.fl_top.specs.Input.{input_most}
 use Rattle.fl_top.specs.Runs.{ShowsAfter, IsPrefix, IsJust, Printed, Runs, Stands, Answers, Ran}
 use Rattle.fl_top.specs.Performs.{Completes, Ended}
 use Rattle.fl_top.specs.Says.{Says, WasSaid, Refuses}
-use Rattle.fl_top.specs.Status.{status_of, status_by}
+use Rattle.fl_top.specs.Status.{status_of, status_by, IsAnswered}
+use Rattle.fl_top.proofs.Same.{unmoved, same_shown, same_sound}
+use Rattle.fl_top.proofs.Starting.{same_tidy, stood, unchanged}
+use Rattle.fl_top.proofs.Changing.{change_on}
+use Rattle.fl_top.proofs.Turning.{joined-append}
 
 -- ---- pieces
-
-pub joined-append : (xs ys : List Piece) → joined (xs ++ ys) ≡ joined xs ++ joined ys
-joined-append xs ys = flat_map-append (λ (piece : Piece). piece.text) xs ys
 
 -- the line of a refusal acknowledges nothing
 ops_last : (o : Option Refusal) → ops_in (last_of o) ≡ []
@@ -54,7 +57,7 @@ runs_sound {u = u} runs sound = record {
 
 -- ---- a step that only prints
 
-after_on : (u : View) (ops : List Op) (disk before : Disk) → disk config ≡ before config → ShowsAfter u ops before → ShowsAfter u ops disk
+after_on : (u : View) (ops : List Op) (disk before : Disk) → ((p : Elements) → disk p ≡ before p) → ShowsAfter u ops before → ShowsAfter u ops disk
 after_on u [] disk before same at = (at.0, at.1, at.2, at.3, same_shown same at.4)
 after_on u (op ∷ ops) disk before same at = (at.0, at.1, same_shown same at.2)
 
@@ -62,7 +65,7 @@ pub just_on : (ops : List Op) {u v w : View} → Follows Nothing v w → ((disk 
 just_on ops {u = u} follows just disk left =
     let from = follows.from disk left in
     let was = just from.0 from.1 in
-    record { shown = after_on u ops disk from.0 (spared spares_nothing from.2) was.shown; sound = spared_sound spares_nothing.permits from.2 was.sound }
+    record { shown = after_on u ops disk from.0 (unmoved from.2) was.shown; sound = same_sound (unmoved from.2) was.sound }
 
 -- all operations are done, and acknowledged by what was said
 prefix_all : (a : Answer) (said : List Piece) {u : View} {disk : Disk} → ops_in said ≡ ops_of a → IsJust (ops_of a) u disk → IsPrefix a (ops_in said) u disk
@@ -99,12 +102,14 @@ refusing a r {u = u} {v = v} {w = w} is runs done says = elim (says.printed) [
     said = a.pieces;
     so_far = before_last a (none ∙ done.printed);
     prefix = λ sound disk left. prefix_all a a.pieces refl (just_on (ops_of a) says.follows (done.just sound) disk left);
+    names = change_on u v w runs.names (λ q. inl (says.names q));
     untouched = λ none q. says.names q ∙ runs.untouched none q;
   }
   | inr more ↦ record {
     said = lines_of a;
     so_far = all_lines a (with_last a r u v w is done.printed more);
     prefix = λ sound disk left. prefix_all a (lines_of a) (ops_lines a) (just_on (ops_of a) says.follows (done.just sound) disk left);
+    names = change_on u v w runs.names (λ q. inl (says.names q));
     untouched = λ none q. says.names q ∙ runs.untouched none q;
   }
 ]
@@ -125,31 +130,55 @@ answers_all : (a : Answer) (r : Refusal) (status : ℕ) {u v w : View} → a.ref
 answers_all a r status {u = u} {v = v} {w = w} is status_is done said = record {
   status_is = status_is ∙ ap status_by (sym is);
   printed = with_last a r u v w is done.printed said.printed;
-  shown = λ sound s at. same_shown (said.shown config) (done.shown sound s at);
+  shown = λ sound s at. same_shown said.shown (done.shown sound s at);
+  tidied = λ sound why. same_tidy said.names (done.tidied sound why);
 }
 
 pub ran_done : (a : Answer) {u w : View} → Runs a u w → Ended a (Ok tt) u w → Ran a 0 u w
 ran_done a {u = u} runs ended = record {
-  answers = λ three six. record {
+  answers = λ answered. record {
     status_is = ap status_by (sym ended.0);
     printed = ended.1.printed ∙ ap (λ (t : List Piece). u.printed ++ joined t) (sym (append-nil a.pieces) ∙ ap (λ (o : Option Refusal). a.pieces ++ last_of o) (sym ended.0));
     shown = ended.1.shown;
+    tidied = ended.1.tidied;
   };
   stands = λ three. stands_before a ended.1;
+  unread = λ five. absurd (omega (arith, five));
   sound = runs_sound runs;
 }
 
+pub not_answered : (n : ℕ) → 3 ≤ n → IsAnswered n → ⊥
+not_answered n high answered = elim answered [
+  | inl is ↦ omega (arith, high, is)
+  | inr more ↦ elim more [ inl is ↦ omega (arith, high, is) | inr is ↦ omega (arith, high, is) ]
+]
+
 pub ran_fault : (a : Answer) {u w : View} → Runs a u w → Ran a 3 u w
-ran_fault a runs = record { answers = λ three six. absurd (three refl); stands = λ three. absurd (three refl); sound = runs_sound runs }
+ran_fault a runs = record { unread = λ five. absurd (omega (arith, five)); answers = λ answered. absurd (not_answered 3 (omega arith) answered); stands = λ three. absurd (three refl); sound = runs_sound runs }
+
+-- the input failed, and nothing was done
+pub ran_input : (a : Answer) {u w : View} → Runs a u w → w ≡ u → Ran a 5 u w
+ran_input a {u = u} runs same = record { unread = λ five. same; answers = λ answered. absurd (not_answered 5 (omega arith) answered); stands = λ three. subst (λ (x : View). Stands a u x) (sym same) (stood a unchanged); sound = runs_sound runs }
 
 pub ran_memory : (a : Answer) {u w : View} → Runs a u w → Stands a u w → Ran a 6 u w
-ran_memory a runs stands = record { answers = λ three six. absurd (six refl); stands = λ three. stands; sound = runs_sound runs }
+ran_memory a runs stands = record { unread = λ five. absurd (omega (arith, five)); answers = λ answered. absurd (not_answered 6 (omega arith) answered); stands = λ three. stands; sound = runs_sound runs }
+
+no_five : (r : Refusal) → status_of r ≡ 5 → ⊥
+no_five (BadWords index) is = omega (arith, is)
+no_five (NoSuchRemote remote) is = omega (arith, is)
+no_five (RemoteExists remote) is = omega (arith, is)
+no_five (PinExists pin) is = omega (arith, is)
+no_five (NoSuchPin pin) is = omega (arith, is)
+no_five (Limit what number) is = omega (arith, is)
+no_five (BadRecord line) is = omega (arith, is)
+no_five (Damaged path) is = omega (arith, is)
 
 pub ran_refused : (a : Answer) (r : Refusal) (status result : ℕ) {u v w : View} → a.refusal ≡ Some r → status ≡ status_of r → Completes a u v → Runs a u w → Refuses (refusal_text r) status result v w → Ran a result u w
 ran_refused a r status result {u = u} {w = w} is status_is done runs refuses = elim refuses [
   | inl said ↦ subst (λ (n : ℕ). Ran a n u w) (sym said.0) (record {
-    answers = λ three six. answers_all a r status is status_is done said.1;
+    answers = λ answered. answers_all a r status is status_is done said.1;
     stands = λ three. stands_all a r is done said.1;
+    unread = λ five. absurd (no_five r (sym status_is ∙ five));
     sound = runs_sound runs;
   })
   | inr other ↦ elim other [
@@ -178,20 +207,59 @@ op_plain (DropPin pin) s q is = none_plain (is_pinned s.pins pin) (NoSuchPin pin
 op_plain (AddRemote row) s q is = first_plain (has_name name_of s.remotes row.name) (nat_le 256 (length s.remotes)) (RemoteExists row.name) (Limit Remotes 257) q refl refl is
 op_plain (ModifyRemote row) s q is = none_plain (has_name name_of s.remotes row.name) (NoSuchRemote row.name) q refl is
 op_plain (DropRemote name) s q is = none_plain (has_name name_of s.remotes name) (NoSuchRemote name) q refl is
+op_plain Migrate s q is = absurd (cc is)
 
 unless_refusal : (op : Op) (o : Option Refusal) (r : Refusal) → (unless o (did op)).refusal ≡ Some r → o ≡ Some r
 unless_refusal op None r is = is
 unless_refusal op (Some q) r is = is
 
-act_plain : (op : Op) (s : State) (r : Refusal) → (act op s).refusal ≡ Some r → 1 ≡ status_of r
+-- each refusal of the answer has the status 1
+abbrev IsPlain : Answer → Type 0
+IsPlain a = (r : Refusal) → a.refusal ≡ Some r → 1 ≡ status_of r
+
+act_plain : (op : Op) (s : State) → IsPlain (act op s)
 act_plain op s r is = op_plain op s r (unless_refusal op (refusal_of s op) r is)
 
-pub command_plain : (command : Command) (o : Option State) (r : Refusal) → (over (answer_over command) o).refusal ≡ Some r → 1 ≡ status_of r
-command_plain command None r is = one_of_some (Damaged config) r is refl
-command_plain (Pin pin) (Some s) r is = act_plain (AddPin pin) s r is
-command_plain (Unpin pin) (Some s) r is = act_plain (DropPin pin) s r is
-command_plain (Adding row) (Some s) r is = act_plain (AddRemote row) s r is
-command_plain (Modifying row) (Some s) r is = act_plain (ModifyRemote row) s r is
-command_plain (DeleteRemote name) (Some s) r is = act_plain (DropRemote name) s r is
-command_plain ListPins (Some s) r is = absurd (cc is)
-command_plain ListRemotes (Some s) r is = absurd (cc is)
+change_plain : (o : Option Op) (s : State) → IsPlain (act_on o s)
+change_plain None s r is = absurd (cc is)
+change_plain (Some op) s r is = act_plain op s r is
+
+behind_plain : (pieces : List Piece) (o : Option Refusal) (b : Answer) → ((r : Refusal) → o ≡ Some r → 1 ≡ status_of r) → IsPlain b → IsPlain (behind pieces o b)
+behind_plain pieces None b first second r is = second r is
+behind_plain pieces (Some q) b first second r is = first r is
+
+turn_plain : (commands : List Command) (s : State) → IsPlain (in_turn commands s)
+turn_plain [] s r is = absurd (cc is)
+turn_plain (command ∷ commands) s r is = behind_plain (change_over command s).pieces (change_over command s).refusal (in_turn commands (after_all s (ops_of (change_over command s)))) (change_plain (op_of command) s) (turn_plain commands (after_all s (ops_of (change_over command s)))) r is
+
+migrating_plain : (layout : Layout) → IsPlain (migrating layout)
+migrating_plain One r is = absurd (cc is)
+migrating_plain Two r is = absurd (cc is)
+
+changing_plain : (commands : List Command) (s : State) → IsPlain (changing commands s)
+changing_plain commands s = behind_plain (migrating s.layout).pieces (migrating s.layout).refusal (in_turn commands (after_all s (ops_of (migrating s.layout)))) (migrating_plain s.layout) (turn_plain commands (after_all s (ops_of (migrating s.layout))))
+
+over_plain : (f : State → Answer) (shown : Result State Elements) → ((s : State) → IsPlain (f s)) → IsPlain (over f shown)
+over_plain f (Err path) plain r is = one_of_some (Damaged path) r is refl
+over_plain f (Ok s) plain r is = plain s r is
+
+batch_plain : (read : Result (List Command) ℕ) (shown : Result State Elements) → IsPlain (of_batch read shown)
+batch_plain (Err line) shown r is = one_of_some (BadRecord line) r is refl
+batch_plain (Ok commands) shown r is = over_plain (changing commands) shown (changing_plain commands) r is
+
+if_plain : (b : Bool) (x y : Answer) → IsPlain x → IsPlain y → IsPlain (if b then x else y)
+if_plain true x y first second = first
+if_plain false x y first second = second
+
+told_plain : (text : List ℕ) → IsPlain (told text)
+told_plain text r is = absurd (cc is)
+
+pub command_plain : (command : Command) (input : List ℕ) (shown : Result State Elements) → IsPlain (answer_over command input shown)
+command_plain (Pin pin) input shown = over_plain (changing (Pin pin ∷ [])) shown (changing_plain (Pin pin ∷ []))
+command_plain (Unpin pin) input shown = over_plain (changing (Unpin pin ∷ [])) shown (changing_plain (Unpin pin ∷ []))
+command_plain (RemoteAdd row) input shown = over_plain (changing (RemoteAdd row ∷ [])) shown (changing_plain (RemoteAdd row ∷ []))
+command_plain (RemoteModify row) input shown = over_plain (changing (RemoteModify row ∷ [])) shown (changing_plain (RemoteModify row ∷ []))
+command_plain (RemoteDelete name) input shown = over_plain (changing (RemoteDelete name ∷ [])) shown (changing_plain (RemoteDelete name ∷ []))
+command_plain ListPins input shown = over_plain told_pins shown (λ s. told_plain (pins_text s.pins))
+command_plain ListRemotes input shown = over_plain told_remotes shown (λ s. told_plain (remotes_text s.remotes))
+command_plain Batch input shown = if_plain (nat_le (length input) input_most) (of_batch (batch_of input) shown) (refused (Limit Input (input_most + 1))) (batch_plain (batch_of input) shown) (λ r is. one_of_some (Limit Input (input_most + 1)) r is refl)

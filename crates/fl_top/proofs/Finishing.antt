@@ -1,63 +1,288 @@
 -- The last part of a run.
-use Rattle.std.proofs.Common.{◌≡◌, ℕ, List, Option, Some, None, Ok, Err, refl, sym, ◌∙◌, ap, subst}
+use Rattle.std.proofs.Common.{◌≡◌, ◌⊎◌, inl, inr, ℕ, List, [], ◌∷◌, Bool, true, false, nat_le, length, ◌≤◌, ◌<◌, ◌+◌, arith, IsErrOf, Option, Some, None, Result, Ok, Err, IsErrAnd, if◌then◌else◌, refl, sym, ◌∙◌, ap, subst}
+use Rattle.std.proofs.lemmas.Result.{err_from_is_err_and}
 use Rattle.fp_host.specs.View.{View}
 use Rattle.fp_host.specs.Outcome.{shows}
+use Rattle.fp_host.specs.Causes.{IsCaused}
 use Rattle.fp_host.specs.Moments.{Moments, Goes}
 use Rattle.fp_host.proofs.Framed.{IsTold}
 use Rattle.fp_host.proofs.Goes.{begins, stays, goes_on}
 use Rattle.fp_small.specs.declared.state.State.{State}
 use Rattle.fp_small.specs.declared.refusal.Refusal.{Refusal}
-use Rattle.fp_small.specs.declared.refusal.Refusal.TheVariants.{BadWords}
+use Rattle.fp_small.specs.declared.refusal.Refusal.TheVariants.{BadWords, BadRecord, Limit}
+use Rattle.fp_small.specs.declared.refusal.What.TheVariants.{Input}
+use Rattle.dep_states.specs.Shown.{seen}
 use Rattle.fl_words.specs.Lines.{refusal_text}
 use Rattle.fl_words.specs.Words.{command_of, bad_index}
 use Rattle.fl_words.specs.declared.command.Command.{Command}
-use Rattle.fl_top.specs.Answer.{Answer, answer, answer_to, answer_over, refused, state_at}
-use Rattle.fl_top.specs.Runs.{Runs, Ran, RunsBy, RanBy}
-use Rattle.fl_top.specs.Performs.{RunsOver, EndedOver, RanOver, over_view}
+use Rattle.fl_words.specs.declared.command.Command.TheVariants.{Pin, Unpin, RemoteAdd, RemoteModify, RemoteDelete, ListPins, ListRemotes, Batch}
+use Rattle.fl_words.specs.declared.batch.BatchError.{BatchError}
+use Rattle.fl_words.specs.declared.batch.BatchError.TheVariants as batch
+use Rattle.fl_words.specs.Batch.{batch_of, IsBadBatch}
+use Rattle.fl_top.specs.Answer.{Answer, answer, answer_to, answer_over, refused, over, changing, of_batch}
+use Rattle.fl_top.specs.Runs.{Runs, Ran, RunsBy, RanBy, IsGiven, Looks, IsReady, Serves, WasTaken}
+use Rattle.fl_top.specs.Performs.{RunsOver, LooksOver, EndedOver, RunsOn, EndedOn, RanOn, Ended, Closed, Takes, TakenBy, over_view}
 use Rattle.fl_top.specs.Says.{Says, Refuses}
-use Rattle.fl_top.specs.declared.end.RunEnd.TheVariants.{Refused, Fault, NoMemory}
+use Rattle.fl_top.specs.Status.{only_looks, reads_input, IsAnswered}
+use Rattle.fl_top.specs.declared.end.RunEnd.{RunEnd}
+use Rattle.fl_top.specs.declared.end.RunEnd.TheVariants as run
+use Rattle.fl_top.specs.declared.command_end.CommandEnd.{CommandEnd}
+use Rattle.fl_top.specs.declared.command_end.CommandEnd.TheVariants.{Refused, Fault, InputFault, NoMemory}
+use Rattle.fl_top.specs.declared.input.InputEnd.{InputEnd}
+use Rattle.fl_top.specs.declared.input.InputEnd.TheVariants as input
+use Rattle.fl_top.specs.Input.{input_most, IsWhole, IsTaken, IsDrained, InputStops}
+use Rattle.fl_top.specs.Ends.{end_of_run, end_of_input, end_of_batch}
 use Rattle.fl_top.proofs.Starting.{begun, stood, unchanged, refused_at_once}
-use Rattle.fl_top.proofs.Ending.{refusing, ran_done, ran_fault, ran_memory, ran_refused, command_plain}
+use Rattle.fl_top.proofs.Ending.{refusing, ran_done, ran_fault, ran_input, ran_memory, ran_refused, command_plain}
 
 -- ---- a command
 
-pub goes_done : {a b : Option Moments} (f : State → Answer) → IsTold a → Goes a b (RunsOver f) (EndedOver f (Ok tt)) → Goes a b (RunsOver f) (RanOver f 0)
-goes_done f known goes = begins known goes (λ u w t r. r) (λ u w t r q. ran_done (over_view f u) r q)
+-- the error of a `?`
+pub is_end : (r : Result (Unit {0}) CommandEnd) (e : CommandEnd) → IsErrAnd r (λ end. end ≡ e) → r ≡ Err e
+is_end r e is = let p = err_from_is_err_and r is in p.1 ∙ ap (λ (x : CommandEnd). Err x) p.2
 
-pub goes_fault : {a b : Option Moments} (f : State → Answer) → IsTold a → Goes a b (RunsOver f) (EndedOver f (Err Fault)) → Goes a b (RunsOver f) (RanOver f 3)
-goes_fault f known goes = begins known goes (λ u w t r. r) (λ u w t r q. ran_fault (over_view f u) r)
+-- the answer to a command over a view
+abbrev on_view : Command → List ℕ → View → Answer
+on_view command input u = answer_over command input (seen (shows u))
 
-pub goes_memory : {a b : Option Moments} (f : State → Answer) → IsTold a → Goes a b (RunsOver f) (EndedOver f (Err NoMemory)) → Goes a b (RunsOver f) (RanOver f 6)
-goes_memory f known goes = begins known goes (λ u w t r. r) (λ u w t r q. ran_memory (over_view f u) r q)
+-- an end of the work on the installation is one of the command
+closed : (a : Answer) (e : RunEnd) (u w : View) → Ended a (Err e) u w → Closed a (Err (end_of_run e)) u w
+closed a (run.Refused refusal) u w is = is
+closed a run.Fault u w is = tt
+closed a run.NoMemory u w is = is
 
-pub goes_refused : {a b c : Option Moments} (command : Command) (r : Refusal) (result : ℕ) → IsTold b → Goes a b (RunsOver (answer_over command)) (EndedOver (answer_over command) (Err (Refused r)))
-    → Goes b c (Says (refusal_text r)) (Refuses (refusal_text r) 1 result) → Goes a c (RunsOver (answer_over command)) (RanOver (answer_over command) result)
-goes_refused command r result known_b first second =
+-- the answer to it is this over the state
+abbrev pub IsAnswer : Command → Option (List ℕ) → (State → Answer) → Type 0
+IsAnswer command left f = (input : List ℕ) → IsGiven left (Some command) input → (u : View) → over_view f u ≡ on_view command input u
+
+runs_change : (command : Command) (left : Option (List ℕ)) (f : State → Answer) (u w : View) → only_looks command ≡ false → IsAnswer command left f → RunsOver f u w → RunsOn command left u w
+runs_change command left f u w changes is p = record {
+  runs = λ input given. subst (λ (x : Answer). Runs x u w) (is input given u) p;
+  untouched = λ looks. absurd (let both : true ≡ false = sym looks ∙ changes in cc both);
+}
+
+-- one that changes something
+pub goes_change : {a b : Option Moments} (command : Command) (left : Option (List ℕ)) (f : State → Answer) → IsTold a → only_looks command ≡ false → IsAnswer command left f
+    → Goes a b (RunsOver f) (EndedOver f (Ok tt)) → Goes a b (RunsOn command left) (EndedOn command left (Ok tt))
+goes_change command left f known changes is goes = begins known goes
+    (λ u w t p. runs_change command left f u w changes is p)
+    (λ u w t p q input given. subst (λ (x : Answer). Closed x (Ok tt) u w) (is input given u) q)
+
+pub goes_not_changed : {a b : Option Moments} (command : Command) (left : Option (List ℕ)) (f : State → Answer) (e : RunEnd) (r : Result (Unit {0}) CommandEnd) → IsTold a → only_looks command ≡ false → IsAnswer command left f
+    → Goes a b (RunsOver f) (EndedOver f (Err e)) → IsErrAnd r (λ end. end ≡ end_of_run e) → Goes a b (RunsOn command left) (EndedOn command left r)
+goes_not_changed {a = a} {b = b} command left f e r known changes is goes err =
+    subst (λ (x : Result (Unit {0}) CommandEnd). Goes a b (RunsOn command left) (EndedOn command left x)) (sym (is_end r (end_of_run e) err))
+    (begins known goes (λ u w t p. runs_change command left f u w changes is p) (λ u w t p q input given. subst (λ (x : Answer). Closed x (Err (end_of_run e)) u w) (is input given u) (closed (over_view f u) e u w q)))
+
+runs_look : (command : Command) (left : Option (List ℕ)) (f : State → Answer) (u w : View) → IsAnswer command left f → LooksOver f u w → RunsOn command left u w
+runs_look command left f u w is p = record { runs = λ input given. subst (λ (x : Answer). Runs x u w) (is input given u) p.runs; untouched = λ looks. p.untouched }
+
+-- one that looks
+pub goes_look : {a b : Option Moments} (command : Command) (left : Option (List ℕ)) (f : State → Answer) → IsTold a → IsAnswer command left f
+    → Goes a b (LooksOver f) (EndedOver f (Ok tt)) → Goes a b (RunsOn command left) (EndedOn command left (Ok tt))
+goes_look command left f known is goes = begins known goes
+    (λ u w t p. runs_look command left f u w is p)
+    (λ u w t p q input given. subst (λ (x : Answer). Closed x (Ok tt) u w) (is input given u) q)
+
+pub goes_not_looked : {a b : Option Moments} (command : Command) (left : Option (List ℕ)) (f : State → Answer) (e : RunEnd) (r : Result (Unit {0}) CommandEnd) → IsTold a → IsAnswer command left f
+    → Goes a b (LooksOver f) (EndedOver f (Err e)) → IsErrAnd r (λ end. end ≡ end_of_run e) → Goes a b (RunsOn command left) (EndedOn command left r)
+goes_not_looked {a = a} {b = b} command left f e r known is goes err =
+    subst (λ (x : Result (Unit {0}) CommandEnd). Goes a b (RunsOn command left) (EndedOn command left x)) (sym (is_end r (end_of_run e) err))
+    (begins known goes (λ u w t p. runs_look command left f u w is p) (λ u w t p q input given. subst (λ (x : Answer). Closed x (Err (end_of_run e)) u w) (is input given u) (closed (over_view f u) e u w q)))
+
+-- a fault of the command is one of the work
+pub run_fault : (r : Result (Unit {0}) RunEnd) (s : Result (Unit {0}) CommandEnd) (e : RunEnd) → r ≡ Err e → IsErrAnd s (λ end. end ≡ end_of_run e) → IsErrOf s Fault → IsErrOf r run.Fault
+run_fault r s e is err fault = is ∙ ap (λ (x : RunEnd). Err x) (of_run e (let both : Err (end_of_run e) ≡ Err Fault = sym (is_end s (end_of_run e) err) ∙ fault in cc both))
+  where
+    of_run : (e : RunEnd) → end_of_run e ≡ Fault → e ≡ run.Fault
+    of_run (run.Refused refusal) same = absurd (cc same)
+    of_run run.Fault same = refl
+    of_run run.NoMemory same = absurd (cc same)
+
+-- and its end is no failure of the input
+pub run_input : (s : Result (Unit {0}) CommandEnd) (e : RunEnd) → IsErrAnd s (λ end. end ≡ end_of_run e) → IsErrOf s InputFault → ⊥
+run_input s e err fault = of_run e (let both : Err (end_of_run e) ≡ Err InputFault = sym (is_end s (end_of_run e) err) ∙ fault in cc both)
+  where
+    of_run : (e : RunEnd) → end_of_run e ≡ InputFault → ⊥
+    of_run (run.Refused refusal) same = cc same
+    of_run run.Fault same = cc same
+    of_run run.NoMemory same = cc same
+
+-- ---- its cause
+
+serves_change : (command : Command) (v : View) → only_looks command ≡ false → Serves (Some command) v → IsReady v
+serves_change command v changes serves = elim serves [
+  | inl looks ↦ absurd (let both : true ≡ false = sym looks ∙ changes in cc both)
+  | inr ready ↦ ready
+]
+
+-- the cause of what changes something, and of what passes its fault on
+pub caused_change : {a : Option Moments} {F G : Type 0} (command : Command) (before now : ℕ) → only_looks command ≡ false → IsCaused F a IsReady before now → (G → F) → IsCaused G a (Serves (Some command)) before now
+caused_change command before now changes cause passes = record { later = cause.later; fault = λ is m told serves. cause.fault (passes is) m told (serves_change command m.now changes serves) }
+
+-- nothing was done
+pub not_begun : (command : Command) (left : Option (List ℕ)) (u : View) → RunsOn command left u u
+not_begun command left u = record { runs = λ input given. begun (on_view command input u) unchanged; untouched = λ looks. record { names = λ q. refl; shown = λ q. refl } }
+
+-- what ends a command before the installation is looked at
+pub goes_none : {a : Option Moments} (command : Command) (left : Option (List ℕ)) (e : CommandEnd) (r : Result (Unit {0}) CommandEnd) → IsTold a → IsErrAnd r (λ end. end ≡ e)
+    → ((input : List ℕ) → IsGiven left (Some command) input → (u : View) → Closed (on_view command input u) (Err e) u u) → Goes a a (RunsOn command left) (EndedOn command left r)
+goes_none {a = a} command left e r known err ends =
+    subst (λ (x : Result (Unit {0}) CommandEnd). Goes a a (RunsOn command left) (EndedOn command left x)) (sym (is_end r e err)) (stays known (not_begun command left) (λ u t input given. ends input given u))
+
+-- it is refused
+closed_refused : (refusal : Refusal) (x : Answer) (u : View) → refused refusal ≡ x → Closed x (Err (Refused refusal)) u u
+closed_refused refusal x u is = subst (λ (y : Answer). Closed y (Err (Refused refusal)) u u) is (refl, refused_at_once refusal u)
+
+-- ---- a batch
+
+too_long : (input : List ℕ) → input_most < length input → nat_le (length input) input_most ≡ false
+too_long input more = grind arith
+
+not_long : (input : List ℕ) → length input ≤ input_most → nat_le (length input) input_most ≡ true
+not_long input few = grind arith
+
+pub input_ends : (left : Option (List ℕ)) (before now : ℕ) (e : InputEnd) → InputStops left before now e → (input : List ℕ) → IsGiven left (Some Batch) input → (u : View) → Closed (on_view Batch input u) (Err (end_of_input e)) u u
+input_ends left before now input.TooLong stops given_input given u = elim given [
+  | inl none ↦ absurd (cc none)
+  | inr told ↦ closed_refused (Limit Input (input_most + 1)) (on_view Batch given_input u) u (ap (λ (b : Bool). if b then of_batch (batch_of given_input) (seen (shows u)) else refused (Limit Input (input_most + 1))) (sym (too_long given_input (stops given_input told))))
+]
+input_ends left before now input.Fault stops given_input given u = refl
+input_ends left before now input.NoMemory stops given_input given u = stood (on_view Batch given_input u) unchanged
+
+-- the answer to a batch whose bytes were read
+batch_is : (left : Option (List ℕ)) (bytes : List ℕ) → IsWhole left bytes → (input : List ℕ) → IsGiven left (Some Batch) input → (u : View) → of_batch (batch_of bytes) (seen (shows u)) ≡ on_view Batch input u
+batch_is left bytes whole input given u = elim given [
+  | inl none ↦ absurd (cc none)
+  | inr told ↦
+      let is = whole input told in
+      ap (λ (x : List ℕ). of_batch (batch_of x) (seen (shows u))) is.0 ∙ ap (λ (b : Bool). if b then of_batch (batch_of input) (seen (shows u)) else refused (Limit Input (input_most + 1))) (sym (not_long input is.1))
+]
+
+pub batch_ends : (left : Option (List ℕ)) (bytes : List ℕ) (e : BatchError) → IsWhole left bytes → IsBadBatch bytes e → (input : List ℕ) → IsGiven left (Some Batch) input → (u : View) → Closed (on_view Batch input u) (Err (end_of_batch e)) u u
+batch_ends left bytes (batch.BadRecord line) whole bad input given u = closed_refused (BadRecord line) (on_view Batch input u) u (ap (λ (x : Result (List Command) ℕ). of_batch x (seen (shows u))) (sym bad) ∙ batch_is left bytes whole input given u)
+batch_ends left bytes batch.NoMemory whole bad input given u = stood (on_view Batch input u) unchanged
+
+pub batch_answers : (left : Option (List ℕ)) (bytes : List ℕ) (commands : List Command) → IsWhole left bytes → batch_of bytes ≡ Ok commands → IsAnswer Batch left (changing commands)
+batch_answers left bytes commands whole is input given u = ap (λ (x : Result (List Command) ℕ). of_batch x (seen (shows u))) (sym is) ∙ batch_is left bytes whole input given u
+
+-- ---- another command that changes something
+
+pub other_changes : (command : Command) → (command ≡ ListPins → ⊥) → (command ≡ ListRemotes → ⊥) → only_looks command ≡ false
+other_changes (Pin pin) p r = refl
+other_changes (Unpin pin) p r = refl
+other_changes (RemoteAdd row) p r = refl
+other_changes (RemoteModify row) p r = refl
+other_changes (RemoteDelete name) p r = refl
+other_changes ListPins p r = absurd (p refl)
+other_changes ListRemotes p r = absurd (r refl)
+other_changes Batch p r = refl
+
+pub other_answers : (left : Option (List ℕ)) (command : Command) → (command ≡ ListPins → ⊥) → (command ≡ ListRemotes → ⊥) → (command ≡ Batch → ⊥) → IsAnswer command left (changing (command ∷ []))
+other_answers left (Pin pin) p r b input given u = refl
+other_answers left (Unpin pin) p r b input given u = refl
+other_answers left (RemoteAdd row) p r b input given u = refl
+other_answers left (RemoteModify row) p r b input given u = refl
+other_answers left (RemoteDelete name) p r b input given u = refl
+other_answers left ListPins p r b input given u = absurd (p refl)
+other_answers left ListRemotes p r b input given u = absurd (r refl)
+other_answers left Batch p r b input given u = absurd (b refl)
+
+-- ---- what it takes of the input
+
+pub drained_by : (r : Result (Unit {0}) CommandEnd) (old new : Option (List ℕ)) → IsTaken old new → TakenBy r old new
+drained_by (Ok t) old new taken = λ all told few. taken all told
+drained_by (Err (Refused refusal)) old new taken = λ all told few. taken all told
+drained_by (Err Fault) old new taken = tt
+drained_by (Err InputFault) old new taken = tt
+drained_by (Err NoMemory) old new taken = tt
+
+stopped_by : (e : InputEnd) (old new : Option (List ℕ)) (before now : ℕ) → InputStops old before now e → TakenBy (Err (end_of_input e)) old new
+stopped_by input.TooLong old new before now stops = λ all told few. absurd (let more = stops all told in omega (arith, more, few))
+stopped_by input.Fault old new before now stops = tt
+stopped_by input.NoMemory old new before now stops = tt
+
+pub not_taken : (e : InputEnd) (r : Result (Unit {0}) CommandEnd) (old new : Option (List ℕ)) (before now : ℕ) → IsErrAnd r (λ end. end ≡ end_of_input e) → InputStops old before now e → TakenBy r old new
+not_taken e r old new before now err stops = subst (λ (x : Result (Unit {0}) CommandEnd). TakenBy x old new) (sym (is_end r (end_of_input e) err)) (stopped_by e old new before now stops)
+
+-- a command that reads nothing takes nothing
+pub takes_none : (command : Command) (r : Result (Unit {0}) CommandEnd) (left : Option (List ℕ)) → reads_input command ≡ false → Takes command r left left
+takes_none command r left is = record { read = λ reads. absurd (let both : true ≡ false = sym reads ∙ is in cc both); left = λ none. refl }
+
+pub takes_all : (command : Command) (r : Result (Unit {0}) CommandEnd) (old new : Option (List ℕ)) → reads_input command ≡ true → TakenBy r old new → Takes command r old new
+takes_all command r old new is taken = record { read = λ reads. taken; left = λ none. absurd (let both : true ≡ false = sym is ∙ none in cc both) }
+
+pub other_reads : (command : Command) → (command ≡ Batch → ⊥) → reads_input command ≡ false
+other_reads (Pin pin) b = refl
+other_reads (Unpin pin) b = refl
+other_reads (RemoteAdd row) b = refl
+other_reads (RemoteModify row) b = refl
+other_reads (RemoteDelete name) b = refl
+other_reads ListPins b = refl
+other_reads ListRemotes b = refl
+other_reads Batch b = absurd (b refl)
+
+pub taken_at : (command : Command) (r : Result (Unit {0}) CommandEnd) (status : ℕ) (old new : Option (List ℕ)) → Takes command r old new → (TakenBy r old new → IsAnswered status → IsDrained old new) → WasTaken (Some command) status old new
+taken_at command r status old new takes drained = (λ reads answered. drained (takes.read reads) answered, takes.left)
+
+-- ---- its status
+
+pub goes_done : {a b : Option Moments} (command : Command) (left : Option (List ℕ)) → IsTold a → Goes a b (RunsOn command left) (EndedOn command left (Ok tt)) → Goes a b (RunsOn command left) (RanOn command left 0)
+goes_done command left known goes = begins known goes (λ u w t r. r) (λ u w t r q input given. ran_done (on_view command input u) (r.runs input given) (q input given))
+
+pub goes_fault : {a b : Option Moments} (command : Command) (left : Option (List ℕ)) → IsTold a → Goes a b (RunsOn command left) (EndedOn command left (Err Fault)) → Goes a b (RunsOn command left) (RanOn command left 3)
+goes_fault command left known goes = begins known goes (λ u w t r. r) (λ u w t r q input given. ran_fault (on_view command input u) (r.runs input given))
+
+pub goes_input : {a b : Option Moments} (command : Command) (left : Option (List ℕ)) → IsTold a → Goes a b (RunsOn command left) (EndedOn command left (Err InputFault)) → Goes a b (RunsOn command left) (RanOn command left 5)
+goes_input command left known goes = begins known goes (λ u w t r. r) (λ u w t r q input given. ran_input (on_view command input u) (r.runs input given) (q input given))
+
+pub goes_memory : {a b : Option Moments} (command : Command) (left : Option (List ℕ)) → IsTold a → Goes a b (RunsOn command left) (EndedOn command left (Err NoMemory)) → Goes a b (RunsOn command left) (RanOn command left 6)
+goes_memory command left known goes = begins known goes (λ u w t r. r) (λ u w t r q input given. ran_memory (on_view command input u) (r.runs input given) (q input given))
+
+pub goes_refused : {a b c : Option Moments} (command : Command) (left : Option (List ℕ)) (r : Refusal) (result : ℕ) → IsTold b → Goes a b (RunsOn command left) (EndedOn command left (Err (Refused r)))
+    → Goes b c (Says (refusal_text r)) (Refuses (refusal_text r) 1 result) → Goes a c (RunsOn command left) (RanOn command left result)
+goes_refused command left r result known_b first second =
     goes_on known_b first second
-    (λ u v w t p q s. refusing (over_view (answer_over command) u) r q.0 p q.1 s)
-    (λ u v w t p q s e. ran_refused (over_view (answer_over command) u) r 1 result q.0 (command_plain command (state_at (shows u)) r q.0) q.1 (refusing (over_view (answer_over command) u) r q.0 p q.1 s) e)
+    (λ u v w t p q s. record {
+      runs = λ input given. let e = q input given in refusing (on_view command input u) r e.0 (p.runs input given) e.1 s;
+      untouched = λ looks. let is = p.untouched looks in record { names = λ x. s.names x ∙ is.names x; shown = λ x. s.shown x ∙ is.shown x };
+    })
+    (λ u v w t p q s last input given.
+    let e = q input given in
+    ran_refused (on_view command input u) r 1 result e.0 (command_plain command input (seen (shows u)) r e.0) e.1 (refusing (on_view command input u) r e.0 (p.runs input given) e.1 s) last)
 
 -- ---- the words
 
-answer_is : (words : List (List ℕ)) (command : Command) (u : View) → command_of words ≡ Some command → over_view (answer_over command) u ≡ answer words (shows u)
-answer_is words command u is = ap (λ (o : Option Command). answer_to words o (state_at (shows u))) (sym is)
+answer_is : (words : List (List ℕ)) (command : Command) (input : List ℕ) (u : View) → command_of words ≡ Some command → on_view command input u ≡ answer words input (shows u)
+answer_is words command input u is = ap (λ (o : Option Command). answer_to words o input (seen (shows u))) (sym is)
 
-no_answer : (words : List (List ℕ)) (index : ℕ) (u : View) → command_of words ≡ None → index ≡ bad_index words → refused (BadWords index) ≡ answer words (shows u)
-no_answer words index u none is = ap (λ (i : ℕ). refused (BadWords i)) is ∙ ap (λ (o : Option Command). answer_to words o (state_at (shows u))) (sym none)
+no_answer : (words : List (List ℕ)) (index : ℕ) (input : List ℕ) (u : View) → command_of words ≡ None → index ≡ bad_index words → refused (BadWords index) ≡ answer words input (shows u)
+no_answer words index input u none is = ap (λ (i : ℕ). refused (BadWords i)) is ∙ ap (λ (o : Option Command). answer_to words o input (seen (shows u))) (sym none)
 
-pub goes_command : {a b : Option Moments} (words : List (List ℕ)) (command : Command) (status : ℕ) → IsTold a → command_of words ≡ Some command → Goes a b (RunsOver (answer_over command)) (RanOver (answer_over command) status) → Goes a b (RunsBy words) (RanBy words status)
-goes_command words command status known is goes = begins known goes
-    (λ u w t r. subst (λ (a : Answer). Runs a u w) (answer_is words command u is) r)
-    (λ u w t r q. subst (λ (a : Answer). Ran a status u w) (answer_is words command u is) q)
+given_to : (words : List (List ℕ)) (command : Command) (left : Option (List ℕ)) (input : List ℕ) → command_of words ≡ Some command → IsGiven left (command_of words) input → IsGiven left (Some command) input
+given_to words command left input is given = subst (λ (o : Option Command). IsGiven left o input) is given
 
-pub goes_no_command : {a b : Option Moments} (words : List (List ℕ)) (index result : ℕ) → IsTold a → command_of words ≡ None → index ≡ bad_index words → Goes a b (Says (refusal_text (BadWords index))) (Refuses (refusal_text (BadWords index)) 2 result) → Goes a b (RunsBy words) (RanBy words result)
-goes_no_command words index result known none is goes = begins known goes
-    (λ u w t s. subst (λ (a : Answer). Runs a u w) (no_answer words index u none is) (runs u w s))
-    (λ u w t s e. subst (λ (a : Answer). Ran a result u w) (no_answer words index u none is) (ran_refused (refused (BadWords index)) (BadWords index) 2 result refl refl (refused_at_once (BadWords index) u) (runs u w s) e))
+pub goes_command : {a b : Option Moments} (words : List (List ℕ)) (left : Option (List ℕ)) (command : Command) (status : ℕ) → IsTold a → command_of words ≡ Some command → Goes a b (RunsOn command left) (RanOn command left status) → Goes a b (RunsBy words left) (RanBy words left status)
+goes_command words left command status known is goes = begins known goes
+    (λ u w t r. record {
+      runs = λ input given. subst (λ (a : Answer). Runs a u w) (answer_is words command input u is) (r.runs input (given_to words command left input is given));
+      untouched = λ looks. r.untouched (subst Looks is looks);
+    })
+    (λ u w t r q input given. subst (λ (a : Answer). Ran a status u w) (answer_is words command input u is) (q input (given_to words command left input is given)))
+
+pub goes_no_command : {a b : Option Moments} (words : List (List ℕ)) (left : Option (List ℕ)) (index result : ℕ) → IsTold a → command_of words ≡ None → index ≡ bad_index words → Goes a b (Says (refusal_text (BadWords index))) (Refuses (refusal_text (BadWords index)) 2 result) → Goes a b (RunsBy words left) (RanBy words left result)
+goes_no_command words left index result known none is goes = begins known goes
+    (λ u w t s. record {
+      runs = λ input given. subst (λ (a : Answer). Runs a u w) (no_answer words index input u none is) (runs u w s);
+      untouched = λ looks. record { names = s.names; shown = s.shown };
+    })
+    (λ u w t s e input given. subst (λ (a : Answer). Ran a result u w) (no_answer words index input u none is) (ran_refused (refused (BadWords index)) (BadWords index) 2 result refl refl (refused_at_once (BadWords index) u) (runs u w s) e))
   where
     runs : (u w : View) → Says (refusal_text (BadWords index)) u w → Runs (refused (BadWords index)) u w
     runs u w s = refusing (refused (BadWords index)) (BadWords index) refl (begun (refused (BadWords index)) unchanged) (refused_at_once (BadWords index) u) s
 
 -- want of memory for the words
-pub goes_unread : {a : Option Moments} (words : List (List ℕ)) → IsTold a → Goes a a (RunsBy words) (RanBy words 6)
-goes_unread words known = stays known (λ u. begun (answer words (shows u)) unchanged) (λ u t. ran_memory (answer words (shows u)) (begun (answer words (shows u)) unchanged) (stood (answer words (shows u)) unchanged))
+pub goes_unread : {a : Option Moments} (words : List (List ℕ)) (left : Option (List ℕ)) → IsTold a → Goes a a (RunsBy words left) (RanBy words left 6)
+goes_unread words left known = stays known
+    (λ u. record { runs = λ input given. begun (answer words input (shows u)) unchanged; untouched = λ looks. record { names = λ q. refl; shown = λ q. refl } })
+    (λ u t input given. ran_memory (answer words input (shows u)) (begun (answer words input (shows u)) unchanged) (stood (answer words input (shows u)) unchanged))

@@ -1,9 +1,13 @@
+pub mod Same
+pub mod Changing
 pub mod Saying
 pub mod Starting
 pub mod Doing
 pub mod Trying
+pub mod Turning
 pub mod Composing
 pub mod Listing
 pub mod Finishing
 pub mod Joining
 pub mod Ending
+pub mod Reading

@@ -2,6 +2,7 @@
 use Rattle.std.proofs.Common.{◌≡◌, inl, inr, ℕ, List, [], ◌∷◌, ◌++◌, Option, None, Result, Ok, Err, IsErrAnd, refl, sym, ◌∙◌, ap, subst}
 use Rattle.std.proofs.lemmas.List.{append-nil}
 use Rattle.fp_host.specs.View.{View}
+use Rattle.fp_host.specs.Outcome.{shows}
 use Rattle.fp_host.specs.Calls.{says, Step}
 use Rattle.fp_host.specs.Causes.{end_of}
 use Rattle.fp_host.specs.Moments.{Moments, Makes, Goes}
@@ -12,20 +13,19 @@ use Rattle.fp_host.proofs.Framed.{IsTold}
 use Rattle.fp_host.proofs.Goes.{begins, goes_on, makes_goes}
 use Rattle.fp_host.proofs.Ending.{goes_known}
 use Rattle.fp_small.specs.declared.state.State.{State}
-use Rattle.dep_states.specs.Names.{config}
-use Rattle.dep_states.proofs.Law.{same_shown}
 use Rattle.dep_open.specs.Open.{Opened, Reads}
 use Rattle.dep_open.specs.declared.open_end.OpenEnd.{OpenEnd}
 use Rattle.dep_open.specs.declared.open_end.OpenEnd.TheVariants as open_end
 use Rattle.fl_top.specs.Answer.{Answer, Piece, told}
 use Rattle.fl_top.specs.Ends.{end_of_host, end_of_open}
 use Rattle.fl_top.specs.Runs.{Runs, Printed}
-use Rattle.fl_top.specs.Performs.{RunsOver, Ended, EndedOver, over_view, Completes}
+use Rattle.fl_top.specs.Performs.{RunsOver, LooksOver, Ended, EndedOver, over_view, Completes}
 use Rattle.fl_top.specs.Says.{Says, WasSaid}
 use Rattle.fl_top.specs.declared.end.RunEnd.{RunEnd}
 use Rattle.fl_top.specs.declared.end.RunEnd.TheVariants.{NoMemory}
 use Rattle.fl_top.proofs.Saying.{says_step, was_said}
-use Rattle.fl_top.proofs.Starting.{Keeping, begun, stood, unchanged, ended_open, shows_before, view_is}
+use Rattle.fl_top.proofs.Same.{same_shown}
+use Rattle.fl_top.proofs.Starting.{Keeping, begun, stood, unchanged, ended_open, shows_before, view_is, same_tidy}
 use Rattle.fl_top.proofs.Composing.{is_err}
 
 -- ---- a text that acknowledges nothing
@@ -43,6 +43,7 @@ telling text {u = u} {w = w} says_it = elim (says_it.printed) [
     said = piece_of text ∷ [];
     so_far = told_printed text u w more;
     prefix = λ sound disk left. let just = shows_before says_it.follows sound disk left in record { done = []; undone = []; prefix = refl; more = []; holds = refl; shown = just.shown; sound = just.sound };
+    names = λ q. inl (says_it.names q);
     untouched = λ none q. says_it.names q;
   }
 ]
@@ -51,7 +52,8 @@ tells : (text : List ℕ) {u w : View} → WasSaid text u w → Completes (told 
 tells text {u = u} {w = w} said_it = record {
   printed = (told_printed text u w said_it.printed).printed;
   just = λ sound disk left. shows_before said_it.follows sound disk left;
-  shown = λ sound s at. same_shown (said_it.shown config) at;
+  shown = λ sound s at. same_shown said_it.shown at;
+  tidied = λ sound why. elim why [ inl tidy ↦ same_tidy said_it.names tidy | inr some ↦ absurd (some refl) ];
 }
 
 -- ---- what was read
@@ -64,29 +66,34 @@ reads_opened open_end.NoMemory u w is = tt
 keeping : {u w : View} → w ≡ u → Keeping u w
 keeping {u = u} same = subst (Keeping u) (sym same) unchanged
 
-pub goes_not_read : {a b : Option Moments} (f : State → Answer) (e : OpenEnd) (r : Result (Unit {0}) RunEnd) → IsTold a → Still a b → Ends (λ u w. Reads u (Err e)) a b → IsErrAnd r (λ end. end ≡ end_of_open e) → Goes a b (RunsOver f) (EndedOver f r)
+-- nothing is done yet
+looks : (f : State → Answer) {u w : View} → w ≡ u → LooksOver f u w
+looks f {u = u} same = record { runs = begun (over_view f u) (keeping same); untouched = record { names = (keeping same).names; shown = λ q. ap (λ (x : View). shows x q) same } }
+
+pub goes_not_read : {a b : Option Moments} (f : State → Answer) (e : OpenEnd) (r : Result (Unit {0}) RunEnd) → IsTold a → Still a b → Ends (λ u w. Reads u (Err e)) a b → IsErrAnd r (λ end. end ≡ end_of_open e) → Goes a b (LooksOver f) (EndedOver f r)
 goes_not_read {a = a} {b = b} f e r known still tell is =
-    subst (λ (x : Result (Unit {0}) RunEnd). Goes a b (RunsOver f) (EndedOver f x)) (sym (is_err r (end_of_open e) is))
-    (begins known (goes_known still.goes tell) (λ u w t same. begun (over_view f u) (keeping same)) (λ u w t same q. ended_open f e (keeping same) (reads_opened e u w q.1)))
+    subst (λ (x : Result (Unit {0}) RunEnd). Goes a b (LooksOver f) (EndedOver f x)) (sym (is_err r (end_of_open e) is))
+    (begins known (goes_known still.goes tell) (λ u w t same. looks f same) (λ u w t same q. ended_open f e (keeping same) (reads_opened e u w q.1)))
 
 -- want of memory for what is to be printed
-pub goes_read_halted : {a b : Option Moments} (f : State → Answer) (r : Result (Unit {0}) RunEnd) → IsTold a → Still a b → IsErrAnd r (λ end. end ≡ NoMemory) → Goes a b (RunsOver f) (EndedOver f r)
+pub goes_read_halted : {a b : Option Moments} (f : State → Answer) (r : Result (Unit {0}) RunEnd) → IsTold a → Still a b → IsErrAnd r (λ end. end ≡ NoMemory) → Goes a b (LooksOver f) (EndedOver f r)
 goes_read_halted {a = a} {b = b} f r known still is =
-    subst (λ (x : Result (Unit {0}) RunEnd). Goes a b (RunsOver f) (EndedOver f x)) (sym (is_err r NoMemory is))
-    (begins known still.goes (λ u w t same. begun (over_view f u) (keeping same)) (λ u w t same q. stood (over_view f u) (keeping same)))
+    subst (λ (x : Result (Unit {0}) RunEnd). Goes a b (LooksOver f) (EndedOver f x)) (sym (is_err r NoMemory is))
+    (begins known still.goes (λ u w t same. looks f same) (λ u w t same q. stood (over_view f u) (keeping same)))
 
 -- ---- and what is said of it
 
 abbrev HasRead : State → View → View → Type 0
 HasRead s u w = ((w ≡ u) × Unit {0}) × Reads u (Ok s)
 
-read : {a b : Option Moments} (f : State → Answer) (s : State) → IsTold a → Still a b → Ends (λ u w. Reads u (Ok s)) a b → Goes a b (RunsOver f) (HasRead s)
-read f s known still tell = begins known (goes_known still.goes tell) (λ u w t same. begun (over_view f u) (keeping same)) (λ u w t same q. q)
+read : {a b : Option Moments} (f : State → Answer) (s : State) → IsTold a → Still a b → Ends (λ u w. Reads u (Ok s)) a b → Goes a b (LooksOver f) (HasRead s)
+read f s known still tell = begins known (goes_known still.goes tell) (λ u w t same. looks f same) (λ u w t same q. q)
 
 -- what is told of the state that was read
-is_told : (f : State → Answer) (s : State) (text : List ℕ) {u v w : View} → f s ≡ told text → HasRead s u v → Says text v w → RunsOver f u w
+is_told : (f : State → Answer) (s : State) (text : List ℕ) {u v w : View} → f s ≡ told text → HasRead s u v → Says text v w → LooksOver f u w
 is_told f s text {u = u} {w = w} is read_it says_it =
-    subst (λ (a : Answer). Runs a u w) (sym is ∙ view_is f u s read_it.1.0) (telling text (subst (λ (x : View). Says text x w) read_it.0.0 says_it))
+    let from : Says text u w = subst (λ (x : View). Says text x w) read_it.0.0 says_it in
+    record { runs = subst (λ (a : Answer). Runs a u w) (sym is ∙ view_is f u s read_it.1.0) (telling text from); untouched = record { names = from.names; shown = from.shown } }
 
 was_told : (f : State → Answer) (s : State) (text : List ℕ) {u v w : View} → f s ≡ told text → HasRead s u v → WasSaid text v w → EndedOver f (Ok tt) u w
 was_told f s text {u = u} {w = w} is read_it said_it =
@@ -98,12 +105,12 @@ not_told f text error.Clash u v w step = tt
 not_told f text error.NoMemory u v w step = absurd step.how
 
 pub goes_not_told : {a b c : Option Moments} (f : State → Answer) (s : State) (text : List ℕ) (e : HostError) (r : Result (Unit {0}) RunEnd) → IsTold a → IsTold b → Still a b → Ends (λ u w. Reads u (Ok s)) a b → f s ≡ told text
-    → Makes (Step (says text) (Err e)) b c → IsErrAnd r (λ end. end ≡ end_of_host (end_of e)) → Goes a c (RunsOver f) (EndedOver f r)
+    → Makes (Step (says text) (Err e)) b c → IsErrAnd r (λ end. end ≡ end_of_host (end_of e)) → Goes a c (LooksOver f) (EndedOver f r)
 goes_not_told {a = a} {c = c} f s text e r known known_b still tell is call err =
-    subst (λ (x : Result (Unit {0}) RunEnd). Goes a c (RunsOver f) (EndedOver f x)) (sym (is_err r (end_of_host (end_of e)) err))
+    subst (λ (x : Result (Unit {0}) RunEnd). Goes a c (LooksOver f) (EndedOver f x)) (sym (is_err r (end_of_host (end_of e)) err))
     (goes_on known_b (read f s known still tell) (makes_goes call) (λ u v w t p q step. is_told f s text is q (says_step step)) (λ u v w t p q step last. not_told f text e u v w last))
 
 pub goes_told : {a b c : Option Moments} (f : State → Answer) (s : State) (text : List ℕ) → IsTold a → IsTold b → Still a b → Ends (λ u w. Reads u (Ok s)) a b → f s ≡ told text
-    → Makes (Step (says text) (Ok tt)) b c → Goes a c (RunsOver f) (EndedOver f (Ok tt))
+    → Makes (Step (says text) (Ok tt)) b c → Goes a c (LooksOver f) (EndedOver f (Ok tt))
 goes_told f s text known known_b still tell is call =
     goes_on known_b (read f s known still tell) (makes_goes call) (λ u v w t p q step. is_told f s text is q (says_step step)) (λ u v w t p q step last. was_told f s text is q (was_said last))

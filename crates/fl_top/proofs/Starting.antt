@@ -1,31 +1,31 @@
 -- What a run is before anything is done, and what it is once the installation was opened.
 use Rattle.std.proofs.Common.{◌≡◌, inl, inr, ℕ, List, [], ◌∷◌, ◌++◌, Option, Some, None, Result, Ok, Err, refl, sym, ◌∙◌, ap, subst}
 use Rattle.std.proofs.lemmas.List.{append-nil}
-use Rattle.std.specs.Option.{option_map}
 use Rattle.fp_host.specs.Paths.{Elements}
 use Rattle.fp_host.specs.View.{View}
 use Rattle.fp_host.specs.Outcome.{Disk, Leaves, Follows, Nothing, shows}
 use Rattle.fp_host.specs.Frame.{Keeps, NoPath}
 use Rattle.fp_host.proofs.Follow.{follows_refl}
-use Rattle.fp_small.specs.declared.config.Settings.{Settings}
 use Rattle.fp_small.specs.declared.state.State.{State}
 use Rattle.fp_small.specs.declared.op.Op.{Op}
 use Rattle.fp_small.specs.declared.refusal.Refusal.{Refusal}
 use Rattle.fp_small.specs.declared.refusal.Refusal.TheVariants.{Damaged}
-use Rattle.dep_states.specs.Names.{config}
-use Rattle.dep_states.specs.Shown.{Shows, settings_at, settings_of, state_of}
+use Rattle.dep_states.specs.Names.{config, remotes_conf, pins_file}
+use Rattle.dep_states.specs.Shown.{Shows, seen}
 use Rattle.dep_states.specs.Sound.{IsSound}
 use Rattle.dep_states.specs.After.{after_all}
-use Rattle.dep_states.proofs.Law.{one_state, same_shown, spared, spared_sound, spares_nothing, now_left}
 use Rattle.dep_open.specs.Open.{NotShown, NoName, IsOpened, Opened}
+use Rattle.dep_open.specs.Tidy.{IsTidy}
 use Rattle.dep_open.specs.declared.open_end.OpenEnd.{OpenEnd}
 use Rattle.dep_open.specs.declared.open_end.OpenEnd.TheVariants as open_end
-use Rattle.fl_top.specs.Answer.{Answer, Piece, lines_of, joined, ops_in, ops_of, over, state_at, refused}
+use Rattle.fl_top.specs.Answer.{Answer, Piece, lines_of, joined, ops_in, ops_of, over, refused}
 use Rattle.fl_top.specs.Ends.{end_of_open}
 use Rattle.fl_top.specs.Runs.{ShowsAfter, IsPrefix, IsJust, Printed, Runs, Stands}
 use Rattle.fl_top.specs.Performs.{Performs, IsDone, IsHalted, Performed, over_view, RunsOver, Completes, Ended, EndedOver}
 use Rattle.fl_top.specs.declared.end.RunEnd.{RunEnd}
 use Rattle.fl_top.specs.declared.end.RunEnd.TheVariants.{Refused, Fault, NoMemory}
+use Rattle.fl_top.proofs.Changing.{change_on}
+use Rattle.fl_top.proofs.Same.{unmoved, same_shown, same_sound, now_left, one_state, not_shown}
 
 -- ---- nothing is printed and nothing shown changes
 
@@ -46,8 +46,8 @@ shows_before follows sound disk left =
     let from = follows.from disk left in
     let was = sound.shown from.0 from.1 in
     record {
-      shown = (from.0, from.1, was.state, was.shows, same_shown (spared spares_nothing from.2) was.shows);
-      sound = spared_sound spares_nothing.permits from.2 (sound.sound from.0 from.1);
+      shown = (from.0, from.1, was.state, was.shows, same_shown (unmoved from.2) was.shows);
+      sound = same_sound (unmoved from.2) (sound.sound from.0 from.1);
     }
 
 -- none of the operations is done or acknowledged
@@ -56,6 +56,7 @@ prefix_none a just = record { done = []; undone = ops_of a; prefix = refl; more 
 
 pub begun : (a : Answer) {u w : View} → Keeping u w → Runs a u w
 begun a keeping = record {
+  names = λ q. inl (keeping.names q);
   said = [];
   so_far = none_yet a keeping.printed;
   prefix = λ sound disk left. prefix_none a (shows_before keeping.follows sound disk left);
@@ -67,24 +68,19 @@ stood a keeping = record { said = []; so_far = none_yet a keeping.printed; just 
 
 -- ---- the state that stood at the start
 
-some_state : (o : Option Settings) (s : State) → o ≡ Some (settings_of s) → s ≡ state_of (settings_of s) → option_map state_of o ≡ Some s
-some_state o s is rest = ap (option_map state_of) is ∙ ap Some (sym rest)
-
-pub state_is : (disk : Disk) (s : State) → Shows disk s → state_at disk ≡ Some s
-state_is disk s shown = some_state (settings_at (disk config)) s shown.settings shown.rest
-
 pub view_is : (f : State → Answer) (u : View) (s : State) → Shows (shows u) s → f s ≡ over_view f u
-view_is f u s shown = ap (over f) (sym (state_is (shows u) s shown))
+view_is f u s shown = ap (over f) (sym shown.is)
 
-none_state : (o : Option Settings) → ((s : Settings) → o ≡ Some s → ⊥) → option_map state_of o ≡ None
-none_state None never = refl
-none_state (Some s) never = absurd (never s refl)
+pub view_damaged : (f : State → Answer) (u : View) (path : Elements) → seen (shows u) ≡ Err path → over_view f u ≡ refused (Damaged path)
+view_damaged f u path is = ap (over f) is
 
-pub state_none : (disk : Disk) → NotShown disk → state_at disk ≡ None
-state_none disk none = none_state (settings_at (disk config)) (λ s is. none (state_of s) (record { settings = is; rest = refl }))
+-- ---- what is tidy stays tidy where no name changes
 
-pub view_damaged : (f : State → Answer) (u : View) → NotShown (shows u) → over_view f u ≡ refused (Damaged config)
-view_damaged f u none = ap (over f) (state_none (shows u) none)
+pub same_tidy : {u w : View} → ((q : Elements) → w.names q ≡ u.names q) → IsTidy u → IsTidy w
+same_tidy same tidy = record {
+  work = λ q below. same q ∙ tidy.work q below;
+  old = λ there. let gone = tidy.old (λ none. there (same config ∙ none)) in (same remotes_conf ∙ gone.0, same pins_file ∙ gone.1);
+}
 
 -- ---- once it was opened
 
@@ -96,7 +92,8 @@ moved : {a : Answer} {said : List Piece} {u v w : View} → v.printed ≡ u.prin
 moved {said = said} same printed = record { left = printed.left; pieces = printed.pieces; printed = printed.printed ∙ ap (λ (p : List ℕ). p ++ joined said) same }
 
 runs_opened : (a : Answer) (s : State) {u v w : View} → IsOpened s u v → Keeping u v → Performs a s v w → Runs a u w
-runs_opened a s {u = u} opened keeping performs = record {
+runs_opened a s {u = u} {v = v} {w = w} opened keeping performs = record {
+  names = change_on u v w (λ q. inl (keeping.names q)) performs.names;
   said = performs.said;
   so_far = moved keeping.printed performs.so_far;
   prefix = λ sound disk left.
@@ -125,6 +122,7 @@ completes a s {u = u} {w = w} opened keeping is = record {
   shown = λ sound t at.
       let same : s ≡ t = one_state (shows u) s t opened.shown at in
       subst (λ (x : State). Shows (shows w) (after_all x (ops_of a))) same ((is.opens (opened.opens sound)).shown (shows w) (now_left w));
+  tidied = λ sound why. is.tidied (opened.opens sound) (elim why [ inl tidy ↦ inl (same_tidy keeping.names tidy) | inr some ↦ inr some ]);
 }
 
 stands : (a : Answer) (s : State) {u v w : View} → IsOpened s u v → Keeping u v → IsHalted a s v w → Stands a u w
@@ -136,14 +134,16 @@ stands a s {u = u} opened keeping is = record {
       record { shown = shown_after u s (ops_in is.said) disk opened.shown (opens.shown disk left); sound = opens.sound disk left };
 }
 
-ended : (a : Answer) (s : State) (r : Result (Unit {0}) RunEnd) {u v : View} (w : View) → IsOpened s u v → Keeping u v → Performed a s r v w → Ended a r u w
-ended a s (Ok t) w opened keeping is = (is.0, completes a s opened keeping is.1)
-ended a s (Err (Refused refusal)) w opened keeping is = (is.0, completes a s opened keeping is.1)
-ended a s (Err Fault) w opened keeping is = tt
-ended a s (Err NoMemory) w opened keeping is = stands a s opened keeping is
+ended : (a : Answer) (s : State) (e : RunEnd) {u v : View} (w : View) → IsOpened s u v → Keeping u v → Performed a s (Err e) v w → Ended a (Err e) u w
+ended a s (Refused refusal) w opened keeping is = (is.0, completes a s opened keeping is.1)
+ended a s Fault w opened keeping is = tt
+ended a s NoMemory w opened keeping is = stands a s opened keeping is
 
-pub ended_over : (f : State → Answer) (s : State) (r : Result (Unit {0}) RunEnd) {u v : View} (w : View) → IsOpened s u v → Keeping u v → Performed (f s) s r v w → EndedOver f r u w
-ended_over f s r {u = u} w opened keeping is = subst (λ (a : Answer). Ended a r u w) (view_is f u s opened.shown) (ended (f s) s r w opened keeping is)
+pub failed_over : (f : State → Answer) (s : State) (e : RunEnd) {u v : View} (w : View) → IsOpened s u v → Keeping u v → Performed (f s) s (Err e) v w → EndedOver f (Err e) u w
+failed_over f s e {u = u} w opened keeping is = subst (λ (a : Answer). Ended a (Err e) u w) (view_is f u s opened.shown) (ended (f s) s e w opened keeping is)
+
+pub done_over : (f : State → Answer) (s t : State) {u v : View} (w : View) → IsOpened s u v → Keeping u v → Performed (f s) s (Ok t) v w → EndedOver f (Ok tt) u w
+done_over f s t {u = u} w opened keeping is = subst (λ (a : Answer). Ended a (Ok tt) u w) (view_is f u s opened.shown) (is.0, completes (f s) s opened keeping is.2)
 
 -- ---- where it wasn't opened
 
@@ -152,11 +152,12 @@ damaged path {u = u} keeping none = record {
   printed = keeping.printed ∙ sym (append-nil u.printed);
   just = shows_before keeping.follows;
   shown = λ sound s at. absurd (none s at);
+  tidied = λ sound why. elim why [ inl tidy ↦ same_tidy keeping.names tidy | inr some ↦ absurd (some refl) ];
 }
 
 pub ended_open : (f : State → Answer) (e : OpenEnd) {u w : View} → Keeping u w → Opened (Err e) u w → EndedOver f (Err (end_of_open e)) u w
 ended_open f (open_end.Damaged path) {u = u} {w = w} keeping is =
-    subst (λ (a : Answer). Ended a (Err (Refused (Damaged path))) u w) (sym (view_damaged f u is.1)) (ap (λ (p : Elements). Some (Damaged p)) (sym is.0), damaged config keeping is.1)
+    subst (λ (a : Answer). Ended a (Err (Refused (Damaged path))) u w) (sym (view_damaged f u path is)) (refl, damaged path keeping (not_shown is))
 ended_open f open_end.Fault keeping is = tt
 ended_open f open_end.NoMemory {u = u} keeping is = stood (over_view f u) keeping
 
@@ -170,4 +171,5 @@ refused_at_once refusal u = record {
   printed = sym (append-nil u.printed);
   just = shows_before follows_refl;
   shown = λ sound s at. at;
+  tidied = λ sound why. elim why [ inl tidy ↦ tidy | inr some ↦ absurd (some refl) ];
 }

@@ -1,17 +1,20 @@
 -- What speaks against an operation.
-use Rattle.std.proofs.Common.{◌≡◌, ◌<◌, ◌≤◌, ℕ, List, Bool, true, false, nat_le, length, Some, None, if◌then◌else◌, Contains, IsTrue, ◌↔◌, refl, arith}
+use Rattle.std.proofs.Common.{◌≡◌, ◌<◌, ◌≤◌, ℕ, List, Bool, true, false, nat_le, length, Option, Some, None, if◌then◌else◌, Contains, IsTrue, ◌↔◌, refl, sym, ◌∙◌, subst, arith}
 use Rattle.fp_small.proofs.Ordered.{contains, is_contained, lacks}
 use Rattle.fp_small.specs.Config.{name_of}
 use Rattle.fp_small.specs.Order.{has_name}
 use Rattle.fp_small.specs.declared.state.State.{State}
 use Rattle.fp_small.specs.declared.state.RemoteRow.{RemoteRow}
 use Rattle.fp_small.specs.declared.op.Op.{Op}
-use Rattle.fp_small.specs.declared.op.Op.TheVariants.{AddPin, DropPin, AddRemote, ModifyRemote, DropRemote}
+use Rattle.fp_small.specs.declared.op.Op.TheVariants.{AddPin, DropPin, AddRemote, ModifyRemote, DropRemote, Migrate}
 use Rattle.fp_small.specs.declared.refusal.Refusal.{Refusal}
 use Rattle.fp_small.specs.declared.refusal.Refusal.TheVariants.{PinExists, NoSuchPin, NoSuchRemote, RemoteExists, Limit}
 use Rattle.fp_small.specs.declared.refusal.What.TheVariants.{Pins, Remotes}
-use Rattle.dep_states.specs.After.{May}
-use Rattle.fl_top.specs.Answer.{refusal_of, is_pinned, add_pin_refusal, drop_pin_refusal, add_remote_refusal}
+use Rattle.fp_small.specs.declared.state.Layout.TheVariants.{Two}
+use Rattle.dep_states.specs.After.{after, May, Allows, layout_for}
+use Rattle.fl_words.specs.declared.command.Command.{Command}
+use Rattle.fl_words.specs.declared.command.Command.TheVariants.{Pin, Unpin, RemoteAdd, RemoteModify, RemoteDelete, ListPins, ListRemotes, Batch}
+use Rattle.fl_top.specs.Answer.{refusal_of, op_of, is_pinned, add_pin_refusal, drop_pin_refusal, add_remote_refusal}
 use Rattle.fl_top.specs.Status.{IsOp}
 
 -- ---- from the code's tests to the refusals
@@ -61,13 +64,41 @@ found : (first : Bool) (a : Refusal) → (if first then None else Some a) ≡ No
 found true a is = refl
 found false a is = absurd (cc is)
 
-pub may : (s : State) (op : Op) → IsOp op → refusal_of s op ≡ None → May s op
-may s (AddPin pin) good none =
+allows : (s : State) (op : Op) → IsOp op → refusal_of s op ≡ None → Allows s op
+allows s (AddPin pin) good none =
     let is = none_of (is_pinned s.pins pin) (nat_le 1024 (length s.pins)) (PinExists pin) (Limit Pins 1025) none in
     (good, (λ has. let yes_is = is_contained s.pins pin has in cc (yes_is, is.0)), few 1024 (length s.pins) is.1)
-may s (DropPin pin) good none = contains s.pins pin (found (is_pinned s.pins pin) (NoSuchPin pin) none)
-may s (AddRemote row) good none =
+allows s (DropPin pin) good none = contains s.pins pin (found (is_pinned s.pins pin) (NoSuchPin pin) none)
+allows s (AddRemote row) good none =
     let is = none_of (has_name name_of s.remotes row.name) (nat_le 256 (length s.remotes)) (RemoteExists row.name) (Limit Remotes 257) none in
     (good, is.0, few 256 (length s.remotes) is.1)
-may s (ModifyRemote row) good none = (good, found (has_name name_of s.remotes row.name) (NoSuchRemote row.name) none)
-may s (DropRemote name) good none = found (has_name name_of s.remotes name) (NoSuchRemote name) none
+allows s (ModifyRemote row) good none = (good, found (has_name name_of s.remotes row.name) (NoSuchRemote row.name) none)
+allows s (DropRemote name) good none = found (has_name name_of s.remotes name) (NoSuchRemote name) none
+allows s Migrate good none = tt
+
+pub may : (s : State) (op : Op) → s.layout ≡ layout_for op → IsOp op → refusal_of s op ≡ None → May s op
+may s op layout good none = record { layout = layout; allows = allows s op good none }
+
+-- ---- what is done in layout 2
+
+pub for_two : (o : Option Op) (op : Op) → ((command : Command) × (o ≡ op_of command)) → o ≡ Some op → layout_for op ≡ Two
+for_two o op asked is = of_command asked.0 op (sym asked.1 ∙ is)
+  where
+    of_command : (command : Command) (op : Op) → op_of command ≡ Some op → layout_for op ≡ Two
+    of_command (Pin pin) op is = let same : AddPin pin ≡ op = cc is in subst (λ (x : Op). layout_for x ≡ Two) same refl
+    of_command (Unpin pin) op is = let same : DropPin pin ≡ op = cc is in subst (λ (x : Op). layout_for x ≡ Two) same refl
+    of_command (RemoteAdd row) op is = let same : AddRemote row ≡ op = cc is in subst (λ (x : Op). layout_for x ≡ Two) same refl
+    of_command (RemoteModify row) op is = let same : ModifyRemote row ≡ op = cc is in subst (λ (x : Op). layout_for x ≡ Two) same refl
+    of_command (RemoteDelete name) op is = let same : DropRemote name ≡ op = cc is in subst (λ (x : Op). layout_for x ≡ Two) same refl
+    of_command ListPins op is = absurd (cc is)
+    of_command ListRemotes op is = absurd (cc is)
+    of_command Batch op is = absurd (cc is)
+
+-- and stays so
+pub after_two : (s : State) (op : Op) → May s op → (after s op).layout ≡ Two
+after_two s (AddPin pin) may = may.layout
+after_two s (DropPin pin) may = may.layout
+after_two s (AddRemote row) may = may.layout
+after_two s (ModifyRemote row) may = may.layout
+after_two s (DropRemote name) may = may.layout
+after_two s Migrate may = refl

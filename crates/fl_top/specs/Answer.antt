@@ -1,23 +1,27 @@
 -- What a run answers: what it prints, and the operations that this acknowledges.
-use Rattle.std.specs.Prelude.{ℕ, List, [], ◌∷◌, ◌++◌, Bool, length, nat_le, Option, Some, None, flat_map, filter_map, if◌then◌else◌}
+use Rattle.std.specs.Prelude.{ℕ, ◌*◌, ◌+◌, List, [], ◌∷◌, ◌++◌, Bool, length, nat_le, Option, Some, None, Result, Ok, Err, flat_map, filter_map, if◌then◌else◌}
 use Rattle.std.specs.List.{list_any}
-use Rattle.std.specs.Option.{option_map}
 use Rattle.std.specs.Str.{bytes_eq}
+use Rattle.fp_host.specs.Paths.{Elements}
 use Rattle.fp_host.specs.Outcome.{Disk}
 use Rattle.fp_small.specs.declared.state.State.{State}
+use Rattle.fp_small.specs.declared.state.Layout.{Layout}
+use Rattle.fp_small.specs.declared.state.Layout.TheVariants.{One, Two}
 use Rattle.fp_small.specs.declared.state.RemoteRow.{RemoteRow}
 use Rattle.fp_small.specs.declared.op.Op.{Op}
-use Rattle.fp_small.specs.declared.op.Op.TheVariants.{AddPin, DropPin, AddRemote, ModifyRemote, DropRemote}
+use Rattle.fp_small.specs.declared.op.Op.TheVariants.{AddPin, DropPin, AddRemote, ModifyRemote, DropRemote, Migrate}
 use Rattle.fp_small.specs.declared.refusal.Refusal.{Refusal}
-use Rattle.fp_small.specs.declared.refusal.Refusal.TheVariants.{BadWords, NoSuchRemote, RemoteExists, PinExists, NoSuchPin, Limit, Damaged}
-use Rattle.fp_small.specs.declared.refusal.What.TheVariants.{Pins, Remotes}
+use Rattle.fp_small.specs.declared.refusal.Refusal.TheVariants.{BadWords, NoSuchRemote, RemoteExists, PinExists, NoSuchPin, Limit, BadRecord, Damaged}
+use Rattle.fp_small.specs.declared.refusal.What.TheVariants.{Pins, Remotes, Input}
 use Rattle.fp_small.specs.Config.{name_of}
 use Rattle.fp_small.specs.Order.{has_name}
-use Rattle.dep_states.specs.Names.{config}
-use Rattle.dep_states.specs.Shown.{settings_at, state_of}
+use Rattle.dep_states.specs.Shown.{seen}
+use Rattle.dep_states.specs.After.{after_all}
 use Rattle.fl_words.specs.declared.command.Command.{Command}
-use Rattle.fl_words.specs.declared.command.Command.TheVariants.{Pin, Unpin, AddRemote as Adding, ModifyRemote as Modifying, DeleteRemote, ListPins, ListRemotes}
+use Rattle.fl_words.specs.declared.command.Command.TheVariants.{Pin, Unpin, RemoteAdd, RemoteModify, RemoteDelete, ListPins, ListRemotes, Batch}
 use Rattle.fl_words.specs.Words.{command_of, bad_index}
+use Rattle.fl_words.specs.Batch.{batch_of}
+use Rattle.fl_top.specs.Input.{input_most}
 use Rattle.fl_words.specs.Lines.{op_text, pins_text, remotes_text, refusal_text}
 
 -- what is printed at once, with the operation that it acknowledges, if it does
@@ -53,6 +57,10 @@ ops_of a = ops_in a.pieces
 
 -- ---- answers
 
+-- nothing is printed or done
+abbrev pub nothing : Answer
+nothing = record { pieces = []; refusal = None }
+
 abbrev pub refused : Refusal → Answer
 refused refusal = record { pieces = []; refusal = Some refusal }
 
@@ -61,6 +69,14 @@ did op = record { pieces = record { text = op_text op; op = Some op } ∷ []; re
 
 abbrev pub told : List ℕ → Answer
 told text = record { pieces = record { text = text; op = None } ∷ []; refusal = None }
+
+abbrev pub behind : List Piece → Option Refusal → Answer → Answer
+behind pieces None next = record { pieces = pieces ++ next.pieces; refusal = next.refusal }
+behind pieces (Some refusal) next = record { pieces = pieces; refusal = Some refusal }
+
+-- the one answer, and the next behind it, unless the one is a refusal
+abbrev pub followed : Answer → Answer → Answer
+followed a next = behind a.pieces a.refusal next
 
 -- ---- what speaks against an operation
 
@@ -87,39 +103,86 @@ refusal_of s (DropPin pin) = drop_pin_refusal s.pins pin
 refusal_of s (AddRemote row) = add_remote_refusal s.remotes row.name
 refusal_of s (ModifyRemote row) = remote_refusal s.remotes row.name
 refusal_of s (DropRemote name) = remote_refusal s.remotes name
+refusal_of s Migrate = None
 
 abbrev pub unless : Option Refusal → Answer → Answer
 unless None a = a
 unless (Some refusal) a = refused refusal
 
--- ---- what a command answers over a state
+-- ---- what commands answer over a state
 
 abbrev pub act : Op → State → Answer
 act op s = unless (refusal_of s op) (did op)
 
-abbrev pub answer_over : Command → State → Answer
-answer_over (Pin pin) s = act (AddPin pin) s
-answer_over (Unpin pin) s = act (DropPin pin) s
-answer_over (Adding row) s = act (AddRemote row) s
-answer_over (Modifying row) s = act (ModifyRemote row) s
-answer_over (DeleteRemote name) s = act (DropRemote name) s
-answer_over ListPins s = told (pins_text s.pins)
-answer_over ListRemotes s = told (remotes_text s.remotes)
+-- the operation that a command asks for
+abbrev pub op_of : Command → Option Op
+op_of (Pin pin) = Some (AddPin pin)
+op_of (Unpin pin) = Some (DropPin pin)
+op_of (RemoteAdd row) = Some (AddRemote row)
+op_of (RemoteModify row) = Some (ModifyRemote row)
+op_of (RemoteDelete name) = Some (DropRemote name)
+op_of ListPins = None
+op_of ListRemotes = None
+op_of Batch = None
 
--- ---- what words answer over an image
+abbrev pub act_on : Option Op → State → Answer
+act_on None s = nothing
+act_on (Some op) s = act op s
 
--- the state that an image shows
-abbrev pub state_at : Disk → Option State
-state_at disk = option_map state_of (settings_at (disk config))
+abbrev pub change_over : Command → State → Answer
+change_over command s = act_on (op_of command) s
 
-abbrev pub over : (State → Answer) → Option State → Answer
-over f None = refused (Damaged config)
-over f (Some s) = f s
+-- commands one after another, up to the first refusal
+abbrev pub in_turn : List Command → State → Answer
+in_turn [] s = nothing
+in_turn (command ∷ commands) s = followed (change_over command s) (in_turn commands (after_all s (ops_of (change_over command s))))
 
-abbrev pub answer_to : List (List ℕ) → Option Command → Option State → Answer
-answer_to words None s = refused (BadWords (bad_index words))
-answer_to words (Some command) s = over (answer_over command) s
+-- an installation of layout 1 is migrated before anything else is done with it
+abbrev pub migrating : Layout → Answer
+migrating One = did Migrate
+migrating Two = nothing
 
--- the first refusal of these: the words, an image that shows no state, and those of the command
-abbrev pub answer : List (List ℕ) → Disk → Answer
-answer words disk = answer_to words (command_of words) (state_at disk)
+abbrev pub changing : List Command → State → Answer
+changing commands s = followed (migrating s.layout) (in_turn commands (after_all s (ops_of (migrating s.layout))))
+
+-- ---- what a command prints of a state
+
+abbrev pub told_pins : State → Answer
+told_pins s = told (pins_text s.pins)
+
+abbrev pub told_remotes : State → Answer
+told_remotes s = told (remotes_text s.remotes)
+
+-- ---- what words answer over an input and an image
+
+-- by what the image shows: a state, or the first path that doesn't read
+abbrev pub over : (State → Answer) → Result State Elements → Answer
+over f (Err path) = refused (Damaged path)
+over f (Ok s) = f s
+
+abbrev pub of_batch : Result (List Command) ℕ → Result State Elements → Answer
+of_batch (Err line) shown = refused (BadRecord line)
+of_batch (Ok commands) shown = over (changing commands) shown
+
+-- the whole input is read before anything is done
+abbrev pub batch_over : List ℕ → Result State Elements → Answer
+batch_over input shown = if nat_le (length input) input_most then of_batch (batch_of input) shown else refused (Limit Input (input_most + 1))
+
+abbrev pub answer_over : Command → List ℕ → Result State Elements → Answer
+answer_over (Pin pin) input shown = over (changing (Pin pin ∷ [])) shown
+answer_over (Unpin pin) input shown = over (changing (Unpin pin ∷ [])) shown
+answer_over (RemoteAdd row) input shown = over (changing (RemoteAdd row ∷ [])) shown
+answer_over (RemoteModify row) input shown = over (changing (RemoteModify row ∷ [])) shown
+answer_over (RemoteDelete name) input shown = over (changing (RemoteDelete name ∷ [])) shown
+answer_over ListPins input shown = over told_pins shown
+answer_over ListRemotes input shown = over told_remotes shown
+answer_over Batch input shown = batch_over input shown
+
+abbrev pub answer_to : List (List ℕ) → Option Command → List ℕ → Result State Elements → Answer
+answer_to words None input shown = refused (BadWords (bad_index words))
+answer_to words (Some command) input shown = answer_over command input shown
+
+-- The first refusal of these: the words; an input that is too long, and its first bad line; an image that shows no state;
+-- and those of the commands.
+abbrev pub answer : List (List ℕ) → List ℕ → Disk → Answer
+answer words input disk = answer_to words (command_of words) input (seen disk)

@@ -1,13 +1,21 @@
 -- The ends of the layers below as ends of a run.
-use Rattle.std.specs.Prelude.{◌≡◌, Option, Some, None, Result, Ok, Err}
+use Rattle.std.specs.Prelude.{◌≡◌, ◌+◌, Option, Some, None, Result, Ok, Err}
 use Rattle.fp_host.specs.declared.host.HostEnd.{HostEnd}
 use Rattle.fp_host.specs.declared.host.HostEnd.TheVariants as host
 use Rattle.dep_open.specs.declared.open_end.OpenEnd.{OpenEnd}
 use Rattle.dep_open.specs.declared.open_end.OpenEnd.TheVariants as open_end
 use Rattle.fp_small.specs.declared.refusal.Refusal.{Refusal}
-use Rattle.fp_small.specs.declared.refusal.Refusal.TheVariants.{Damaged}
+use Rattle.fp_small.specs.declared.refusal.Refusal.TheVariants.{Damaged, BadRecord, Limit}
+use Rattle.fp_small.specs.declared.refusal.What.TheVariants.{Input}
+use Rattle.fl_words.specs.declared.batch.BatchError.{BatchError}
+use Rattle.fl_words.specs.declared.batch.BatchError.TheVariants as batch
+use Rattle.fl_top.specs.Input.{input_most}
+use Rattle.fl_top.specs.declared.input.InputEnd.{InputEnd}
+use Rattle.fl_top.specs.declared.input.InputEnd.TheVariants as input
 use Rattle.fl_top.specs.declared.end.RunEnd.{RunEnd}
 use Rattle.fl_top.specs.declared.end.RunEnd.TheVariants.{Refused, Fault, NoMemory}
+use Rattle.fl_top.specs.declared.command_end.CommandEnd.{CommandEnd}
+use Rattle.fl_top.specs.declared.command_end.CommandEnd.TheVariants as command
 
 abbrev pub end_of_host : HostEnd → RunEnd
 end_of_host host.Fault = Fault
@@ -17,6 +25,22 @@ abbrev pub end_of_open : OpenEnd → RunEnd
 end_of_open (open_end.Damaged path) = Refused (Damaged path)
 end_of_open open_end.Fault = Fault
 end_of_open open_end.NoMemory = NoMemory
+
+-- ---- as ends of a command
+
+abbrev pub end_of_run : RunEnd → CommandEnd
+end_of_run (Refused refusal) = command.Refused refusal
+end_of_run Fault = command.Fault
+end_of_run NoMemory = command.NoMemory
+
+abbrev pub end_of_input : InputEnd → CommandEnd
+end_of_input input.TooLong = command.Refused (Limit Input (input_most + 1))
+end_of_input input.Fault = command.InputFault
+end_of_input input.NoMemory = command.NoMemory
+
+abbrev pub end_of_batch : BatchError → CommandEnd
+end_of_batch (batch.BadRecord line) = command.Refused (BadRecord line)
+end_of_batch batch.NoMemory = command.NoMemory
 
 -- What speaks against an operation, exactly.
 abbrev pub IsTried : Option Refusal → Result (Unit {0}) RunEnd → Type 0

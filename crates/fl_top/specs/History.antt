@@ -8,7 +8,7 @@ use Rattle.fp_small.specs.declared.op.Op.{Op}
 use Rattle.dep_states.specs.Shown.{Shows}
 use Rattle.dep_states.specs.After.{after_all}
 use Rattle.fl_top.specs.Answer.{answer, ops_in, ops_of}
-use Rattle.fl_top.specs.Runs.{RunsBy}
+use Rattle.fl_top.specs.Runs.{Runs}
 
 -- the operations of a run, and those that it acknowledged
 pub record Stretch : Type 0 where
@@ -27,7 +27,7 @@ pub record Reopens (w v : View) : Type 0 where
 -- stop left. The latest run comes first.
 pub data History (u : View) : List Stretch → View → Type 0 where
   begins : History u [] u
-  runs : (stretches : List Stretch) (v w : View) (words : List (List ℕ)) → History u stretches v → (run : RunsBy words v w) → History u (record { ops = ops_of (answer words (shows v)); acknowledged = ops_in run.said } ∷ stretches) w
+  runs : (stretches : List Stretch) (v w : View) (words : List (List ℕ)) (input : List ℕ) → History u stretches v → (run : Runs (answer words input (shows v)) v w) → History u (record { ops = ops_of (answer words input (shows v)); acknowledged = ops_in run.said } ∷ stretches) w
   stops : (stretches : List Stretch) (v w : View) → History u stretches w → Reopens w v → History u stretches v
 
 -- a prefix of a run's operations that holds the acknowledged ones leads from the one state to the other

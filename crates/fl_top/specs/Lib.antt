@@ -1,7 +1,9 @@
 pub mod Answer
 pub mod Status
+pub mod Changes
 pub mod Runs
 pub mod Performs
 pub mod Ends
 pub mod Says
 pub mod History
+pub mod Input

@@ -1,17 +1,25 @@
 -- What a command does over an installation that was opened.
-use Rattle.std.specs.Prelude.{◌≡◌, ℕ, ◌⊎◌, ◌++◌, List, Some, None, Result, Ok, Err}
+use Rattle.std.specs.Prelude.{◌≡◌, ◌≢◌, ℕ, true, false, ◌⊎◌, [], Option, ◌++◌, List, Some, None, Result, Ok, Err}
+use Rattle.fp_host.specs.Paths.{Elements}
 use Rattle.fp_host.specs.View.{View}
 use Rattle.fp_host.specs.Outcome.{Disk, Leaves, shows}
 use Rattle.fp_small.specs.declared.state.State.{State}
 use Rattle.fp_small.specs.declared.op.Op.{Op}
-use Rattle.dep_states.specs.Shown.{Shows}
+use Rattle.dep_states.specs.Shown.{Shows, seen}
 use Rattle.dep_states.specs.Sound.{Sound, Opens, IsSound}
-use Rattle.dep_states.specs.After.{after_all}
-use Rattle.dep_open.specs.Open.{NotShown}
-use Rattle.fl_top.specs.Answer.{Answer, Piece, joined, ops_in, ops_of, over, state_at}
-use Rattle.fl_top.specs.Runs.{Printed, Runs, Ran, Stands, IsJust}
+use Rattle.dep_states.specs.After.{after, after_all}
+use Rattle.fl_words.specs.Lines.{op_text}
+use Rattle.dep_open.specs.Tidy.{IsTidy}
+use Rattle.fl_words.specs.declared.command.Command.{Command}
+use Rattle.fl_top.specs.Answer.{Answer, Piece, joined, ops_in, ops_of, over, answer_over, did}
+use Rattle.fl_top.specs.Runs.{Printed, Runs, Ran, Stands, IsJust, IsGiven}
+use Rattle.fl_top.specs.Changes.{Changes, IsUntouched}
+use Rattle.fl_top.specs.Input.{IsDrained}
+use Rattle.fl_top.specs.Status.{only_looks, reads_input}
 use Rattle.fl_top.specs.declared.end.RunEnd.{RunEnd}
 use Rattle.fl_top.specs.declared.end.RunEnd.TheVariants.{Refused, Fault, NoMemory}
+use Rattle.fl_top.specs.declared.command_end.CommandEnd.{CommandEnd}
+use Rattle.fl_top.specs.declared.command_end.CommandEnd.TheVariants as command
 
 -- the image shows the state after a prefix of the operations that holds the acknowledged ones
 pub record IsSome (a : Answer) (acknowledged : List Op) (s : State) (disk : Disk) : Type 0 where
@@ -27,12 +35,16 @@ pub record IsSome (a : Answer) (acknowledged : List Op) (s : State) (disk : Disk
 pub record Performs (a : Answer) (s : State) (v w : View) : Type 0 where
   pub said : List Piece
   pub so_far : Printed a said v w
+  pub names : Changes v w
   pub some : Opens s v → (disk : Disk) → Leaves w disk → IsSome a (ops_in said) s disk
 
--- all that isn't the line of a refusal was printed, and every stop leaves the state after all operations
+-- all that isn't the line of a refusal was printed, every stop leaves the state after all operations, and all is tidy, where
+-- it was or an operation was done
 pub record IsDone (a : Answer) (s : State) (v w : View) : Type 0 where
   pub printed : w.printed ≡ v.printed ++ joined a.pieces
+  pub names : Changes v w
   pub opens : Opens s v → Opens (after_all s (ops_of a)) w
+  pub tidied : Opens s v → IsTidy v ⊎ (ops_of a ≢ []) → IsTidy w
 
 -- every stop leaves the state after the acknowledged operations
 pub record IsHalted (a : Answer) (s : State) (v w : View) : Type 0 where
@@ -40,30 +52,37 @@ pub record IsHalted (a : Answer) (s : State) (v w : View) : Type 0 where
   pub so_far : Printed a said v w
   pub opens : Opens s v → Opens (after_all s (ops_in said)) w
 
-abbrev pub Performed : Answer → State → Result (Unit {0}) RunEnd → View → View → Type 0
-Performed a s (Ok u) v w = (a.refusal ≡ None) × IsDone a s v w
+abbrev pub Performed : Answer → State → Result State RunEnd → View → View → Type 0
+Performed a s (Ok t) v w = (a.refusal ≡ None) × (t ≡ after_all s (ops_of a)) × IsDone a s v w
 Performed a s (Err (Refused refusal)) v w = (a.refusal ≡ Some refusal) × IsDone a s v w
 Performed a s (Err Fault) v w = Unit {0}
 Performed a s (Err NoMemory) v w = IsHalted a s v w
 
--- ---- the same for a run that opens the installation
+-- An operation is done and its line printed; it isn't tidied behind it.
+abbrev pub WasDone : Op → State → Result State RunEnd → View → View → Type 0
+WasDone op s (Ok t) v w = (w.printed ≡ v.printed ++ op_text op) × (Opens s v → Opens (after s op) w) × Changes v w
+WasDone op s (Err e) v w = Performed (did op) s (Err e) v w
 
--- a fault has a cause over what is sound, and over what shows no state
-abbrev pub IsReady : View → Type 0
-IsReady v = IsSound v ⊎ NotShown (shows v)
+-- ---- the same for a run that opens the installation
 
 -- this is the answer over the state that stood at the start
 abbrev pub over_view : (State → Answer) → View → Answer
-over_view f u = over f (state_at (shows u))
+over_view f u = over f (seen (shows u))
 
 abbrev pub RunsOver : (State → Answer) → View → View → Type 0
 RunsOver f u w = Runs (over_view f u) u w
+
+-- and nothing changes
+pub record LooksOver (f : State → Answer) (u w : View) : Type 0 where
+  pub runs : RunsOver f u w
+  pub untouched : IsUntouched u w
 
 -- all that isn't the line of a refusal was printed, and what stands is the state after the operations
 pub record Completes (a : Answer) (u w : View) : Type 0 where
   pub printed : w.printed ≡ u.printed ++ joined a.pieces
   pub just : IsSound u → (disk : Disk) → Leaves w disk → IsJust (ops_of a) u disk
   pub shown : IsSound u → (s : State) → Shows (shows u) s → Shows (shows w) (after_all s (ops_of a))
+  pub tidied : IsSound u → IsTidy u ⊎ (ops_of a ≢ []) → IsTidy w
 
 abbrev pub Ended : Answer → Result (Unit {0}) RunEnd → View → View → Type 0
 Ended a (Ok t) u w = (a.refusal ≡ None) × Completes a u w
@@ -74,5 +93,35 @@ Ended a (Err NoMemory) u w = Stands a u w
 abbrev pub EndedOver : (State → Answer) → Result (Unit {0}) RunEnd → View → View → Type 0
 EndedOver f result u w = Ended (over_view f u) result u w
 
-abbrev pub RanOver : (State → Answer) → ℕ → View → View → Type 0
-RanOver f status u w = Ran (over_view f u) status u w
+-- ---- the same for a command and what is left of the input
+
+-- a command that only looks changes nothing
+pub record RunsOn (asked : Command) (left : Option (List ℕ)) (u w : View) : Type 0 where
+  pub runs : (input : List ℕ) → IsGiven left (Some asked) input → Runs (answer_over asked input (seen (shows u))) u w
+  pub untouched : only_looks asked ≡ true → IsUntouched u w
+
+-- so a command ends; where the input failed, nothing was done
+abbrev pub Closed : Answer → Result (Unit {0}) CommandEnd → View → View → Type 0
+Closed a (Ok t) u w = (a.refusal ≡ None) × Completes a u w
+Closed a (Err (command.Refused refusal)) u w = (a.refusal ≡ Some refusal) × Completes a u w
+Closed a (Err command.Fault) u w = Unit {0}
+Closed a (Err command.InputFault) u w = w ≡ u
+Closed a (Err command.NoMemory) u w = Stands a u w
+
+-- a command that reads the input reads it to its end, unless that was too long, failed, or the run came to no end
+abbrev pub TakenBy : Result (Unit {0}) CommandEnd → Option (List ℕ) → Option (List ℕ) → Type 0
+TakenBy (Ok t) old new = IsDrained old new
+TakenBy (Err (command.Refused refusal)) old new = IsDrained old new
+TakenBy (Err command.Fault) old new = Unit {0}
+TakenBy (Err command.InputFault) old new = Unit {0}
+TakenBy (Err command.NoMemory) old new = Unit {0}
+
+pub record Takes (asked : Command) (result : Result (Unit {0}) CommandEnd) (old new : Option (List ℕ)) : Type 0 where
+  pub read : reads_input asked ≡ true → TakenBy result old new
+  pub left : reads_input asked ≡ false → new ≡ old
+
+abbrev pub EndedOn : Command → Option (List ℕ) → Result (Unit {0}) CommandEnd → View → View → Type 0
+EndedOn asked left result u w = (input : List ℕ) → IsGiven left (Some asked) input → Closed (answer_over asked input (seen (shows u))) result u w
+
+abbrev pub RanOn : Command → Option (List ℕ) → ℕ → View → View → Type 0
+RanOn asked left status u w = (input : List ℕ) → IsGiven left (Some asked) input → Ran (answer_over asked input (seen (shows u))) status u w

@@ -1,5 +1,5 @@
 -- What a run leaves at every moment and at its return.
-use Rattle.std.specs.Prelude.{◌≡◌, ◌⊎◌, ℕ, List, [], ◌∷◌, ◌++◌, Option, Some, None}
+use Rattle.std.specs.Prelude.{◌≡◌, ◌≢◌, ◌⊎◌, ℕ, true, false, List, [], ◌∷◌, ◌++◌, Option, Some, None}
 use Rattle.fp_host.specs.Paths.{Elements}
 use Rattle.fp_host.specs.View.{View}
 use Rattle.fp_host.specs.Outcome.{Disk, Leaves, shows}
@@ -9,10 +9,13 @@ use Rattle.dep_states.specs.Shown.{Shows}
 use Rattle.dep_states.specs.Sound.{Sound, IsSound}
 use Rattle.dep_states.specs.After.{after_all}
 use Rattle.dep_open.specs.Open.{NotShown}
+use Rattle.dep_open.specs.Tidy.{IsTidy}
 use Rattle.fl_words.specs.declared.command.Command.{Command}
-use Rattle.fl_words.specs.declared.command.Command.TheVariants.{Pin, Unpin, AddRemote, ModifyRemote, DeleteRemote, ListPins, ListRemotes}
+use Rattle.fl_words.specs.Words.{command_of}
 use Rattle.fl_top.specs.Answer.{Answer, Piece, lines_of, joined, ops_in, ops_of, answer}
-use Rattle.fl_top.specs.Status.{status_at}
+use Rattle.fl_top.specs.Input.{IsDrained}
+use Rattle.fl_top.specs.Changes.{Changes, IsUntouched}
+use Rattle.fl_top.specs.Status.{status_at, IsAnswered, only_looks, reads_input}
 
 -- The image shows what these operations make of the state that stood at the start; where there are none, a state that a stop
 -- at the start would have left.
@@ -42,12 +45,13 @@ pub record Printed (a : Answer) (said : List Piece) (u w : View) : Type 0 where
   pub printed : w.printed ≡ u.printed ++ joined said
 
 -- At every moment: the bytes printed since the start are the first pieces of the answer; every stop leaves the installation
--- after a prefix of its operations that holds those that these pieces acknowledge. Where no state stood at the start, no name
--- changes.
+-- after a prefix of its operations that holds those that these pieces acknowledge; and no name changed but `config`, those of
+-- work, and the files of layout 1, which went. Where no state stood at the start, no name changed.
 pub record Runs (a : Answer) (u w : View) : Type 0 where
   pub said : List Piece
   pub so_far : Printed a said u w
   pub prefix : IsSound u → (disk : Disk) → Leaves w disk → IsPrefix a (ops_in said) u disk
+  pub names : Changes u w
   pub untouched : NotShown (shows u) → (q : Elements) → w.names q ≡ u.names q
 
 -- every stop leaves the installation after the acknowledged operations
@@ -56,33 +60,50 @@ pub record Stands (a : Answer) (u w : View) : Type 0 where
   pub so_far : Printed a said u w
   pub just : IsSound u → (disk : Disk) → Leaves w disk → IsJust (ops_in said) u disk
 
--- the whole answer was printed; what stands now is the state after its operations
+-- The whole answer was printed; what stands now is the state after its operations. Where one was done, or all was tidy before,
+-- all is tidy.
 pub record Answers (a : Answer) (status : ℕ) (u w : View) : Type 0 where
   pub status_is : status ≡ status_at a
   pub printed : w.printed ≡ u.printed ++ joined (lines_of a)
   pub shown : IsSound u → (s : State) → Shows (shows u) s → Shows (shows w) (after_all s (ops_of a))
+  pub tidied : IsSound u → IsTidy u ⊎ (ops_of a ≢ []) → IsTidy w
 
--- At the return. 3 says that the host failed, and 6 that memory was wanting.
+-- At the return. 3 says that the host failed, 5 that the input did, and nothing was done then, and 6 that memory was wanting.
 pub record Ran (a : Answer) (status : ℕ) (u w : View) : Type 0 where
-  pub answers : (status ≡ 3 → ⊥) → (status ≡ 6 → ⊥) → Answers a status u w
+  pub answers : IsAnswered status → Answers a status u w
   pub stands : (status ≡ 3 → ⊥) → Stands a u w
+  pub unread : status ≡ 5 → w ≡ u
   pub sound : IsSound u → IsSound w
+
+-- ---- for these words, and what is left of the input, where it is told
+
+-- words that are no command, or a command that only looks
+abbrev pub Looks : Option Command → Type 0
+Looks None = Unit {0}
+Looks (Some command) = only_looks command ≡ true
+
+-- the command is given this input: all that is left; a command that doesn't read it may be given any
+abbrev pub IsGiven : Option (List ℕ) → Option Command → List ℕ → Type 0
+IsGiven left None input = Unit {0}
+IsGiven left (Some command) input = (reads_input command ≡ false) ⊎ (left ≡ Some input)
+
+pub record RunsBy (words : List (List ℕ)) (left : Option (List ℕ)) (u w : View) : Type 0 where
+  pub runs : (input : List ℕ) → IsGiven left (command_of words) input → Runs (answer words input (shows u)) u w
+  pub untouched : Looks (command_of words) → IsUntouched u w
+
+abbrev pub RanBy : List (List ℕ) → Option (List ℕ) → ℕ → View → View → Type 0
+RanBy words left status u w = (input : List ℕ) → IsGiven left (command_of words) input → Ran (answer words input (shows u)) status u w
+
+-- A command that reads the input was given all of it, where the whole answer was given and the input wasn't too long; another
+-- takes nothing of it.
+abbrev pub WasTaken : Option Command → ℕ → Option (List ℕ) → Option (List ℕ) → Type 0
+WasTaken None status old new = new ≡ old
+WasTaken (Some command) status old new = (reads_input command ≡ true → IsAnswered status → IsDrained old new) × (reads_input command ≡ false → new ≡ old)
+
+-- a fault has a cause over what is sound, and over what shows no state
+abbrev pub IsReady : View → Type 0
+IsReady v = IsSound v ⊎ NotShown (shows v)
 
 -- where a fault has a cause: a command that changes something may end with 3 over an installation that isn't sound
 abbrev pub Serves : Option Command → View → Type 0
-Serves None v = Unit {0}
-Serves (Some (Pin pin)) v = IsSound v ⊎ NotShown (shows v)
-Serves (Some (Unpin pin)) v = IsSound v ⊎ NotShown (shows v)
-Serves (Some (AddRemote row)) v = IsSound v ⊎ NotShown (shows v)
-Serves (Some (ModifyRemote row)) v = IsSound v ⊎ NotShown (shows v)
-Serves (Some (DeleteRemote name)) v = IsSound v ⊎ NotShown (shows v)
-Serves (Some ListPins) v = Unit {0}
-Serves (Some ListRemotes) v = Unit {0}
-
--- ---- for these words
-
-abbrev pub RunsBy : List (List ℕ) → View → View → Type 0
-RunsBy words u w = Runs (answer words (shows u)) u w
-
-abbrev pub RanBy : List (List ℕ) → ℕ → View → View → Type 0
-RanBy words status u w = Ran (answer words (shows u)) status u w
+Serves command v = Looks command ⊎ IsReady v

@@ -1,51 +1,158 @@
 // Commands that change the installation.
-ghost use Rattle.std.specs.Prelude.{◌≡◌, OnOk, IfErr, IsErrOf};
+ghost use Rattle.std.specs.Prelude.{◌≡◌, OnOk, IfOk, IfErr, IsErrOf};
 ghost use Rattle.fp_host.specs.Causes.{IsCaused};
 ghost use Rattle.fp_host.specs.Moments.{Goes};
-ghost use Rattle.dep_states.specs.After.{May, IsGood};
+ghost use Rattle.fp_small.specs.declared.state.Layout.TheVariants.{Two};
+ghost use Rattle.dep_states.specs.After.{after, layout_for, May, IsGood};
 ghost use Rattle.dep_states.specs.Sound.{Opens};
 ghost use Rattle.fl_words.specs.Lines.{op_text};
-ghost use Rattle.fl_top.specs.Answer.{act, did, refusal_of, add_pin_refusal, drop_pin_refusal, add_remote_refusal, remote_refusal};
+ghost use Rattle.fl_top.specs.Answer.{op_of as op_asked, act, did, migrating, change_over, in_turn, changing, refusal_of, add_pin_refusal, drop_pin_refusal, add_remote_refusal, remote_refusal};
 ghost use Rattle.fl_top.specs.Ends.{IsTried};
-ghost use Rattle.fl_top.specs.Performs.{Performs, Performed, RunsOver, EndedOver, IsReady};
-ghost use Rattle.fl_top.specs.Status.{IsOp};
+ghost use Rattle.fl_top.specs.Performs.{Performs, Performed, WasDone, RunsOver, EndedOver};
+ghost use Rattle.fl_top.specs.Runs.{IsReady};
+ghost use Rattle.fl_top.specs.Status.{IsOp, IsOpAsked};
 
 use crate::end::RunEnd;
-use dep_open::open;
+use dep_open::{open, tidy};
 use dep_states::Opened;
-use fl_words::op_line;
+use fl_words::{Command, op_line};
 use fp_host::Host;
 use fp_name::{PinPattern, RemoteName};
-use fp_small::{Op, Refusal, RemoteRow, State, What, has_pin, has_remote};
+use fp_small::{
+    Layout, MOST_PINS, MOST_REMOTES, Op, Refusal, RemoteRow, State, What, has_pin, has_remote,
+};
 use op_change::apply;
-use std::alloc::Global;
+use std::alloc::{AllocError, Global};
 
-/// The most pins that there may be.
-const MOST_PINS: usize = 1024;
-
-/// The most remotes that there may be.
-const MOST_REMOTES: usize = 256;
-
-/// Opens the installation and does one operation where nothing speaks against it.
-pub(crate) fn change<H: Host>(alloc: Global, host: &mut H, op: &Op) -> Result<(), RunEnd>
-    requires { IsOp op.now }
-    ensures moments { Goes (H.moments host.old) (H.moments host.new) (RunsOver (act op.now)) (EndedOver (act op.now) result) }
+/// Opens the installation and does the commands on it, one after another up to the first refusal.
+pub(crate) fn change<H: Host>(
+    alloc: Global,
+    host: &mut H,
+    commands: &[Command],
+) -> Result<(), RunEnd>
+    ensures moments { Goes (H.moments host.old) (H.moments host.new) (RunsOver (changing commands.now)) (EndedOver (changing commands.now) result) }
     ensures cause { IsCaused (IsErrOf result RunEnd.Fault) (H.moments host.old) IsReady (H.faults host.old) (H.faults host.new) }
 {
     let opened = open(alloc, host)?;
-    try_and_do(alloc, host, opened, op)
+    do_all(alloc, host, opened, commands)?;
+    Ok(())
 }
 
-/// Does one operation on an opened installation where nothing speaks against it. Its line is made before.
-fn try_and_do<H: Host>(alloc: Global, host: &mut H, opened: Opened, op: &Op) -> Result<(), RunEnd>
-    requires op { IsOp op.now }
+/// Does the commands on an opened installation. It is tidied and migrated before.
+fn do_all<H: Host>(
+    alloc: Global,
+    host: &mut H,
+    opened: Opened,
+    commands: &[Command],
+) -> Result<Opened, RunEnd>
     requires good { IsGood opened }
+    ensures moments { Goes (H.moments host.old) (H.moments host.new) (Performs (changing commands.now opened) opened) (Performed (changing commands.now opened) opened result) }
+    ensures cause { IsCaused (IsErrOf result RunEnd.Fault) (H.moments host.old) (Opens opened) (H.faults host.old) (H.faults host.new) }
+{
+    let tidied = tidy(alloc, host, opened)?;
+    let current = migrate(alloc, host, tidied)?;
+    do_each(alloc, host, current, commands)
+}
+
+/// Migrates an installation of layout 1.
+fn migrate<H: Host>(alloc: Global, host: &mut H, opened: Opened) -> Result<Opened, RunEnd>
+    requires good { IsGood opened }
+    ensures good { IfOk result IsGood }
+    ensures layout { IfOk result (λ o. o.layout ≡ Two) }
+    ensures moments { Goes (H.moments host.old) (H.moments host.new) (Performs (migrating opened.layout) opened) (Performed (migrating opened.layout) opened result) }
+    ensures cause { IsCaused (IsErrOf result RunEnd.Fault) (H.moments host.old) (Opens opened) (H.faults host.old) (H.faults host.new) }
+{
+    match opened.state().layout {
+        Layout::One => do_op(alloc, host, opened, &Op::Migrate),
+        Layout::Two => Ok(opened),
+    }
+}
+
+/// Does the commands one after another, up to the first refusal.
+fn do_each<H: Host>(
+    alloc: Global,
+    host: &mut H,
+    opened: Opened,
+    commands: &[Command],
+) -> Result<Opened, RunEnd>
+    requires good { IsGood opened }
+    requires layout { opened.layout ≡ Two }
+    ensures moments { Goes (H.moments host.old) (H.moments host.new) (Performs (in_turn commands.now opened) opened) (Performed (in_turn commands.now opened) opened result) }
+    ensures cause { IsCaused (IsErrOf result RunEnd.Fault) (H.moments host.old) (Opens opened) (H.faults host.old) (H.faults host.new) }
+{
+    let mut current = opened;
+    for command in commands {
+        current = do_command(alloc, host, current, command)?;
+    }
+    Ok(current)
+}
+
+/// Does one command, where nothing speaks against it.
+fn do_command<H: Host>(
+    alloc: Global,
+    host: &mut H,
+    opened: Opened,
+    command: &Command,
+) -> Result<Opened, RunEnd>
+    requires good { IsGood opened }
+    requires layout { opened.layout ≡ Two }
+    ensures good { IfOk result IsGood }
+    ensures layout { IfOk result (λ o. o.layout ≡ Two) }
+    ensures moments { Goes (H.moments host.old) (H.moments host.new) (Performs (change_over command.now opened) opened) (Performed (change_over command.now opened) opened result) }
+    ensures cause { IsCaused (IsErrOf result RunEnd.Fault) (H.moments host.old) (Opens opened) (H.faults host.old) (H.faults host.new) }
+{
+    match op_of(command)? {
+        Some(op) => try_and_do(alloc, host, opened, &op),
+        None => Ok(opened),
+    }
+}
+
+/// The operation that a command asks for.
+fn op_of(command: &Command) -> Result<Option<Op>, AllocError>
+    ensures is { IfOk result (λ asked. asked ≡ op_asked command.now) }
+    ensures good { IfOk result IsOpAsked }
+{
+    Ok(match command {
+        Command::Pin(pin) => Some(Op::AddPin(pin.copy()?)),
+        Command::Unpin(pin) => Some(Op::DropPin(pin.copy()?)),
+        Command::RemoteAdd(row) => Some(Op::AddRemote(row.copy()?)),
+        Command::RemoteModify(row) => Some(Op::ModifyRemote(row.copy()?)),
+        Command::RemoteDelete(name) => Some(Op::DropRemote(name.copy()?)),
+        Command::ListPins | Command::ListRemotes | Command::Batch => None,
+    })
+}
+
+/// Does one operation, where nothing speaks against it.
+fn try_and_do<H: Host>(
+    alloc: Global,
+    host: &mut H,
+    opened: Opened,
+    op: &Op,
+) -> Result<Opened, RunEnd>
+    requires op { IsOp op.now }
+    requires layout { opened.layout ≡ layout_for op.now }
+    requires good { IsGood opened }
+    ensures good { IfOk result IsGood }
+    ensures layout { IfOk result (λ o. o.layout ≡ Two) }
     ensures moments { Goes (H.moments host.old) (H.moments host.new) (Performs (act op.now opened) opened) (Performed (act op.now opened) opened result) }
     ensures cause { IsCaused (IsErrOf result RunEnd.Fault) (H.moments host.old) (Opens opened) (H.faults host.old) (H.faults host.new) }
 {
     try_op(opened.state(), op)?;
+    do_op(alloc, host, opened, op)
+}
+
+/// Does one operation, says its line once it is done, and tidies behind it. The line is made before.
+fn do_op<H: Host>(alloc: Global, host: &mut H, opened: Opened, op: &Op) -> Result<Opened, RunEnd>
+    requires may { May opened op.now }
+    requires good { IsGood opened }
+    ensures good { IfOk result IsGood }
+    ensures layout { IfOk result (λ o. o.layout ≡ Two) }
+    ensures moments { Goes (H.moments host.old) (H.moments host.new) (Performs (did op.now) opened) (Performed (did op.now) opened result) }
+    ensures cause { IsCaused (IsErrOf result RunEnd.Fault) (H.moments host.old) (Opens opened) (H.faults host.old) (H.faults host.new) }
+{
     let line = op_line(alloc, op)?;
-    do_and_say(alloc, host, opened, op, line.as_str().as_bytes())
+    let done = do_and_say(alloc, host, opened, op, line.as_str().as_bytes())?;
+    Ok(tidy(alloc, host, done)?)
 }
 
 /// Does one operation, and says its line once it is done.
@@ -55,16 +162,18 @@ fn do_and_say<H: Host>(
     opened: Opened,
     op: &Op,
     line: &[u8],
-) -> Result<(), RunEnd>
+) -> Result<Opened, RunEnd>
     requires may { May opened op.now }
     requires good { IsGood opened }
     requires line { line.now ≡ op_text op.now }
-    ensures moments { Goes (H.moments host.old) (H.moments host.new) (Performs (did op.now) opened) (Performed (did op.now) opened result) }
+    ensures state { IfOk result (λ o. o ≡ after opened op.now) }
+    ensures good { IfOk result IsGood }
+    ensures moments { Goes (H.moments host.old) (H.moments host.new) (Performs (did op.now) opened) (WasDone op.now opened result) }
     ensures cause { IsCaused (IsErrOf result RunEnd.Fault) (H.moments host.old) (Opens opened) (H.faults host.old) (H.faults host.new) }
 {
-    apply(alloc, host, opened, op)?;
+    let done = apply(alloc, host, opened, op)?;
     host.say(line)?;
-    Ok(())
+    Ok(done)
 }
 
 /// The refusals of an operation, in their order.
@@ -79,6 +188,7 @@ fn try_op(state: &State, op: &Op) -> Result<(), RunEnd>
         Op::AddRemote(row) => try_add_remote(remotes, &row.name),
         Op::ModifyRemote(row) => try_remote(remotes, &row.name),
         Op::DropRemote(name) => try_remote(remotes, name),
+        Op::Migrate => Ok(()),
     }
 }
 

@@ -1,4 +1,4 @@
-// How a command ends where it isn't done.
+// How work on an installation ends where it isn't done.
 ghost use Rattle.std.specs.Prelude.{◌≡◌};
 
 use dep_open::OpenEnd;
@@ -6,10 +6,11 @@ use fp_host::{HostEnd, HostError};
 use fp_small::Refusal;
 use std::alloc::AllocError;
 
-/// How a command ends where it isn't done.
+/// How work on an installation ends where it isn't done.
 #[derive(Drop)]
 pub(crate) enum RunEnd {
     Refused(Refusal),
+    /// A call of the host failed.
     Fault,
     NoMemory,
 }

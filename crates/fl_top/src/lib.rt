@@ -2,7 +2,9 @@
 #![tactic(auto)]
 
 mod change;
+mod command_end;
 mod end;
+mod input;
 pub mod laws;
 mod running;
 

@@ -1,47 +1,55 @@
 // The run of a command.
-ghost use Rattle.std.specs.Prelude.{◌≡◌, ◌≢◌, ◌⊎◌, Some, map, string_bytes, IsErrOf};
+ghost use Rattle.std.specs.Prelude.{◌≡◌, ◌≢◌, ◌≤◌, ◌⊎◌, true, Some, map, string_bytes, IsErrOf};
 ghost use Rattle.fp_host.specs.Causes.{IsCaused};
 ghost use Rattle.fp_host.specs.Frame.{Ends};
-ghost use Rattle.fp_host.specs.Moments.{Goes};
+ghost use Rattle.fp_host.specs.Moments.{Goes, Rose};
 ghost use Rattle.fl_words.specs.Lines.{refusal_text};
 ghost use Rattle.fl_words.specs.Words.{command_of};
-ghost use Rattle.fl_words.specs.declared.command.Command.TheVariants.{ListPins, ListRemotes};
-ghost use Rattle.fl_top.specs.Answer.{answer_over};
-ghost use Rattle.fl_top.specs.Performs.{RunsOver, EndedOver, RanOver};
-ghost use Rattle.fl_top.specs.Runs.{RunsBy, RanBy, Serves};
+ghost use Rattle.fl_words.specs.declared.command.Command.TheVariants.{Batch};
+ghost use Rattle.fl_top.specs.Answer.{told_pins, told_remotes};
+ghost use Rattle.fl_top.specs.Performs.{LooksOver, EndedOver, RunsOn, EndedOn, RanOn, Takes, TakenBy};
+ghost use Rattle.fl_top.specs.Runs.{RunsBy, RanBy, WasTaken, IsReady, Serves};
 ghost use Rattle.fl_top.specs.Says.{Says, SaidBy, Refuses};
-ghost use Rattle.fl_top.specs.Status.{IsStatus, IsOfWords};
+ghost use Rattle.fl_top.specs.Status.{IsStatus, IsOfWords, IsOfCommand, reads_input};
 
 use crate::change::change;
+use crate::command_end::CommandEnd;
 use crate::end::RunEnd;
+use crate::input::read_input;
 use dep_open::read_state;
-use fl_words::{Command, WordsError, pins_text, read_words, refusal_line, remotes_text};
+use fl_words::{
+    Command, WordsError, pins_text, read_batch, read_words, refusal_line, remotes_text,
+};
 use fp_host::{Host, HostEnd, Remotes, Source};
-use fp_small::{Op, Refusal};
+use fp_small::Refusal;
 use std::alloc::Global;
 use std::thread::Threads;
 
 /// Runs the command of these words on the installation in the host, and prints what it answers there. The status is 0 where
-/// it was done, 1 where it was refused, 2 where the words are no command, 3 where the host failed, 6 where memory was wanting.
+/// it was done, 1 where it was refused, 2 where the words are no command, 3 where the host failed, 5 where the input failed,
+/// 6 where memory was wanting.
 pub fn run<H: Host, R: Remotes, I: Source>(
     _rt: &(impl Threads + Sync),
     alloc: Global,
     words: &[String],
-    _input: &mut I,
+    input: &mut I,
     host: &mut H,
-    _remotes: &mut R,
+    remotes: &mut R,
 ) -> u8
     ensures status { IsStatus result }
     ensures words { IsOfWords (command_of (map string_bytes words.now)) result }
     // Wherever the host stops: what was printed are the first pieces of the answer, and the installation is the one after a
     // prefix of its operations that holds each acknowledged one.
-    ensures moments { Goes (H.moments host.old) (H.moments host.new) (RunsBy (map string_bytes words.now)) (RunsBy (map string_bytes words.now)) }
+    ensures moments { Goes (H.moments host.old) (H.moments host.new) (RunsBy (map string_bytes words.now) (I.left input.old)) (RunsBy (map string_bytes words.now) (I.left input.old)) }
     // What was printed, the status and the state are the answer's; every stop leaves the acknowledged operations.
-    ensures at_return { Ends (RanBy (map string_bytes words.now) result) (H.moments host.old) (H.moments host.new) }
+    ensures at_return { Ends (RanBy (map string_bytes words.now) (I.left input.old) result) (H.moments host.old) (H.moments host.new) }
     ensures cause { IsCaused (result ≡ 3) (H.moments host.old) (Serves (command_of (map string_bytes words.now))) (H.faults host.old) (H.faults host.new) }
+    ensures input { result ≡ 5 → Rose (I.faults input.old) (I.faults input.new) }
+    ensures taken { WasTaken (command_of (map string_bytes words.now)) result (I.left input.old) (I.left input.new) }
+    ensures later { (I.faults input.old ≤ I.faults input.new) × (R.faults remotes.old ≤ R.faults remotes.new) }
 {
     match read_words(alloc, words) {
-        Ok(command) => run_command(alloc, host, command),
+        Ok(command) => run_command(alloc, input, host, command),
         Err(WordsError::BadWords { index }) => {
             refuse(alloc, host, &Refusal::BadWords { index }, 2)
         }
@@ -50,38 +58,65 @@ pub fn run<H: Host, R: Remotes, I: Source>(
 }
 
 /// Runs a command, and prints the line of its refusal.
-fn run_command<H: Host>(alloc: Global, host: &mut H, command: Command) -> u8
-    ensures status { (result ≡ 0) ⊎ ((result ≡ 1) ⊎ ((result ≡ 3) ⊎ (result ≡ 6))) }
-    ensures moments { Goes (H.moments host.old) (H.moments host.new) (RunsOver (answer_over command)) (RanOver (answer_over command) result) }
+fn run_command<H: Host, I: Source>(
+    alloc: Global,
+    input: &mut I,
+    host: &mut H,
+    command: Command,
+) -> u8
+    ensures status { IsOfCommand command result }
+    ensures moments { Goes (H.moments host.old) (H.moments host.new) (RunsOn command (I.left input.old)) (RanOn command (I.left input.old) result) }
     ensures cause { IsCaused (result ≡ 3) (H.moments host.old) (Serves (Some command)) (H.faults host.old) (H.faults host.new) }
+    ensures input { result ≡ 5 → Rose (I.faults input.old) (I.faults input.new) }
+    ensures taken { WasTaken (Some command) result (I.left input.old) (I.left input.new) }
+    ensures later { I.faults input.old ≤ I.faults input.new }
 {
-    match perform(alloc, host, command) {
+    match perform(alloc, input, host, command) {
         Ok(()) => 0,
-        Err(RunEnd::Refused(refusal)) => refuse(alloc, host, &refusal, 1),
-        Err(RunEnd::Fault) => 3,
-        Err(RunEnd::NoMemory) => 6,
+        Err(CommandEnd::Refused(refusal)) => refuse(alloc, host, &refusal, 1),
+        Err(CommandEnd::Fault) => 3,
+        Err(CommandEnd::InputFault) => 5,
+        Err(CommandEnd::NoMemory) => 6,
     }
 }
 
 /// Does a command, up to the line of its refusal.
-fn perform<H: Host>(alloc: Global, host: &mut H, command: Command) -> Result<(), RunEnd>
-    ensures moments { Goes (H.moments host.old) (H.moments host.new) (RunsOver (answer_over command)) (EndedOver (answer_over command) result) }
-    ensures cause { IsCaused (IsErrOf result RunEnd.Fault) (H.moments host.old) (Serves (Some command)) (H.faults host.old) (H.faults host.new) }
+fn perform<H: Host, I: Source>(
+    alloc: Global,
+    input: &mut I,
+    host: &mut H,
+    command: Command,
+) -> Result<(), CommandEnd>
+    ensures moments { Goes (H.moments host.old) (H.moments host.new) (RunsOn command (I.left input.old)) (EndedOn command (I.left input.old) result) }
+    ensures cause { IsCaused (IsErrOf result CommandEnd.Fault) (H.moments host.old) (Serves (Some command)) (H.faults host.old) (H.faults host.new) }
+    ensures input { IsErrOf result CommandEnd.InputFault → (reads_input command ≡ true) × Rose (I.faults input.old) (I.faults input.new) }
+    ensures taken { Takes command result (I.left input.old) (I.left input.new) }
+    ensures later { I.faults input.old ≤ I.faults input.new }
 {
     match command {
-        Command::Pin(pin) => change(alloc, host, &Op::AddPin(pin)),
-        Command::Unpin(pin) => change(alloc, host, &Op::DropPin(pin)),
-        Command::AddRemote(row) => change(alloc, host, &Op::AddRemote(row)),
-        Command::ModifyRemote(row) => change(alloc, host, &Op::ModifyRemote(row)),
-        Command::DeleteRemote(name) => change(alloc, host, &Op::DropRemote(name)),
-        Command::ListPins => list_pins(alloc, host),
-        Command::ListRemotes => list_remotes(alloc, host),
+        Command::ListPins => Ok(list_pins(alloc, host)?),
+        Command::ListRemotes => Ok(list_remotes(alloc, host)?),
+        Command::Batch => batch(alloc, input, host),
+        command => Ok(change(alloc, host, &[command])?),
     }
+}
+
+/// Reads the commands of the input, and does them one after another.
+fn batch<H: Host, I: Source>(alloc: Global, input: &mut I, host: &mut H) -> Result<(), CommandEnd>
+    ensures moments { Goes (H.moments host.old) (H.moments host.new) (RunsOn Batch (I.left input.old)) (EndedOn Batch (I.left input.old) result) }
+    ensures cause { IsCaused (IsErrOf result CommandEnd.Fault) (H.moments host.old) IsReady (H.faults host.old) (H.faults host.new) }
+    ensures input { IsErrOf result CommandEnd.InputFault → Rose (I.faults input.old) (I.faults input.new) }
+    ensures taken { TakenBy result (I.left input.old) (I.left input.new) }
+    ensures later { I.faults input.old ≤ I.faults input.new }
+{
+    let bytes = read_input(alloc, input)?;
+    let commands = read_batch(alloc, bytes.as_slice())?;
+    Ok(change(alloc, host, commands.as_slice())?)
 }
 
 /// Prints each pin on a line.
 fn list_pins<H: Host>(alloc: Global, host: &mut H) -> Result<(), RunEnd>
-    ensures moments { Goes (H.moments host.old) (H.moments host.new) (RunsOver (answer_over ListPins)) (EndedOver (answer_over ListPins) result) }
+    ensures moments { Goes (H.moments host.old) (H.moments host.new) (LooksOver told_pins) (EndedOver told_pins result) }
     ensures cause { IsCaused (IsErrOf result RunEnd.Fault) (H.moments host.old) (λ v. Unit {0}) (H.faults host.old) (H.faults host.new) }
 {
     let state = read_state(alloc, host)?;
@@ -92,7 +127,7 @@ fn list_pins<H: Host>(alloc: Global, host: &mut H) -> Result<(), RunEnd>
 
 /// Prints each remote on a line.
 fn list_remotes<H: Host>(alloc: Global, host: &mut H) -> Result<(), RunEnd>
-    ensures moments { Goes (H.moments host.old) (H.moments host.new) (RunsOver (answer_over ListRemotes)) (EndedOver (answer_over ListRemotes) result) }
+    ensures moments { Goes (H.moments host.old) (H.moments host.new) (LooksOver told_remotes) (EndedOver told_remotes result) }
     ensures cause { IsCaused (IsErrOf result RunEnd.Fault) (H.moments host.old) (λ v. Unit {0}) (H.faults host.old) (H.faults host.new) }
 {
     let state = read_state(alloc, host)?;

@@ -7,7 +7,7 @@ use Rattle.fp_name.specs.Pins.{is_pin}
 use Rattle.fl_words.specs.declared.verb.Verb.{Verb}
 use Rattle.fl_words.specs.declared.verb.Verb.TheVariants as verbs
 use Rattle.fl_words.specs.declared.command.Command.{Command}
-use Rattle.fl_words.specs.declared.command.Command.TheVariants.{Pin, Unpin, AddRemote, ModifyRemote, DeleteRemote, ListPins, ListRemotes}
+use Rattle.fl_words.specs.declared.command.Command.TheVariants.{Pin, Unpin, RemoteAdd, RemoteModify, RemoteDelete, ListPins, ListRemotes}
 use Rattle.fp_small.specs.declared.state.RemoteRow.{RemoteRow}
 use Rattle.std.specs.Str.{bytes_eq}
 use Rattle.std.specs.Option.{option_map}
@@ -69,6 +69,8 @@ goes_on (Some verbs.RemoteDelete) (n ∷ u ∷ more) h = absurd (cc)
 goes_on (Some verbs.List) [] h = (codes "--pins" ∷ [], search rules)
 goes_on (Some verbs.List) (word ∷ []) h = ([], listed (bytes_eq word (codes "--pins")) (bytes_eq word (codes "--remotes")) h)
 goes_on (Some verbs.List) (word ∷ next ∷ more) h = absurd (cc)
+goes_on (Some verbs.Batch) [] h = ([], search rules)
+goes_on (Some verbs.Batch) (word ∷ more) h = absurd (cc)
 
 -- what is looked for is there only if the test passed
 passed_map : {A B : Type 0} (f : A → B) (b : Bool) (x : A) → IsSome (option_map f (cond b (Some x) None)) → b ≡ true
@@ -102,16 +104,18 @@ began (Some verbs.Unpin) [] more h = refl
 began (Some verbs.Unpin) (p ∷ []) [] h = passed_map Unpin (is_pin p) p h
 began (Some verbs.Unpin) (p ∷ []) (m ∷ more) h = absurd (search rules)
 began (Some verbs.Unpin) (p ∷ q ∷ words) more h = absurd (search rules)
-began (Some verbs.RemoteAdd) words more h = began_remote AddRemote words more h
-began (Some verbs.RemoteModify) words more h = began_remote ModifyRemote words more h
+began (Some verbs.RemoteAdd) words more h = began_remote RemoteAdd words more h
+began (Some verbs.RemoteModify) words more h = began_remote RemoteModify words more h
 began (Some verbs.RemoteDelete) [] more h = refl
-began (Some verbs.RemoteDelete) (n ∷ []) [] h = passed_map DeleteRemote (is_remote_name n) n h
+began (Some verbs.RemoteDelete) (n ∷ []) [] h = passed_map RemoteDelete (is_remote_name n) n h
 began (Some verbs.RemoteDelete) (n ∷ []) (m ∷ more) h = absurd (search rules)
 began (Some verbs.RemoteDelete) (n ∷ u ∷ words) more h = absurd (search rules)
 began (Some verbs.List) [] more h = refl
 began (Some verbs.List) (word ∷ []) [] h = was_listed (bytes_eq word (codes "--pins")) (bytes_eq word (codes "--remotes")) h
 began (Some verbs.List) (word ∷ []) (m ∷ more) h = absurd (search rules)
 began (Some verbs.List) (word ∷ next ∷ words) more h = absurd (search rules)
+began (Some verbs.Batch) [] more h = refl
+began (Some verbs.Batch) (word ∷ words) more h = absurd (search rules)
 
 -- the test is right
 pub begins_right : (words : List (List ℕ)) → (begins words ≡ true → Begins words) × (Begins words → begins words ≡ true)

@@ -1,5 +1,5 @@
 -- Words behind a verb that don't read.
-use Rattle.std.proofs.Common.{◌≡◌, ℕ, ◌+◌, Bool, ◌&&◌, ◌||◌, true, false, List, [], ◌∷◌, map, length, None, refl, eqb}
+use Rattle.std.proofs.Common.{◌≡◌, ℕ, ◌+◌, ◌||◌, true, false, List, [], ◌∷◌, map, length, None, refl, eqb}
 use Rattle.std.specs.Prelude.{codes}
 use Rattle.std.specs.Str.{bytes_eq}
 use Rattle.fp_name.specs.Grammar.{is_remote_name, is_url}

@@ -1,5 +1,5 @@
 -- Words that are a command are the words of that command.
-use Rattle.std.proofs.Common.{◌≡◌, ◌⊎◌, ℕ, Bool, true, false, cond, ◌&&◌, List, [], ◌∷◌, Option, Some, None, refl, ap, sym, ◌∙◌, subst, inl, inr}
+use Rattle.std.proofs.Common.{◌≡◌, ℕ, Bool, true, false, cond, ◌&&◌, List, [], ◌∷◌, Option, Some, None, refl, ap, sym, ◌∙◌, subst}
 use Rattle.std.specs.Prelude.{codes, option_and_then}
 use Rattle.std.specs.Option.{option_map}
 use Rattle.std.specs.Str.{bytes_eq}
@@ -10,9 +10,9 @@ use Rattle.fp_small.specs.declared.state.RemoteRow.{RemoteRow}
 use Rattle.fl_words.specs.declared.verb.Verb.{Verb}
 use Rattle.fl_words.specs.declared.verb.Verb.TheVariants as verbs
 use Rattle.fl_words.specs.declared.command.Command.{Command}
-use Rattle.fl_words.specs.declared.command.Command.TheVariants.{Pin, Unpin, AddRemote, ModifyRemote, DeleteRemote, ListPins, ListRemotes}
+use Rattle.fl_words.specs.declared.command.Command.TheVariants.{Pin, Unpin, RemoteAdd, RemoteModify, RemoteDelete, ListPins, ListRemotes, Batch}
 use Rattle.fl_words.specs.Verbs.{verb_of}
-use Rattle.fl_words.specs.Words.{pattern_of, remote_of, name_of, list_of, behind, command_of, words_of, is_command}
+use Rattle.fl_words.specs.Words.{pattern_of, remote_of, name_of, list_of, alone, behind, command_of, words_of, is_command}
 
 -- ---- the verb
 
@@ -23,6 +23,7 @@ word_of verbs.RemoteAdd = codes "remote-add"
 word_of verbs.RemoteModify = codes "remote-modify"
 word_of verbs.RemoteDelete = codes "remote-delete"
 word_of verbs.List = codes "list"
+word_of verbs.Batch = codes "batch"
 
 -- a choice gave this
 picked : (word text : List ℕ) (x v : Verb) (rest : Option Verb) → word_of x ≡ text → (rest ≡ Some v → word ≡ word_of v) → (b : Bool) → bytes_eq word text ≡ b → cond b (Some x) rest ≡ Some v → word ≡ word_of v
@@ -36,7 +37,9 @@ verb_is word v h =
     picked word (codes "remote-add") verbs.RemoteAdd v _ refl (λ h3.
     picked word (codes "remote-modify") verbs.RemoteModify v _ refl (λ h4.
     picked word (codes "remote-delete") verbs.RemoteDelete v _ refl (λ h5.
-    picked word (codes "list") verbs.List v None refl (λ h6. absurd (cc h6)) (bytes_eq word (codes "list")) refl h5)
+    picked word (codes "list") verbs.List v _ refl (λ h6.
+    picked word (codes "batch") verbs.Batch v None refl (λ h7. absurd (cc h7)) (bytes_eq word (codes "batch")) refl h6)
+    (bytes_eq word (codes "list")) refl h5)
     (bytes_eq word (codes "remote-delete")) refl h4)
     (bytes_eq word (codes "remote-modify")) refl h3)
     (bytes_eq word (codes "remote-add")) refl h2)
@@ -86,6 +89,10 @@ list_back [] c h = absurd (cc h)
 list_back (word ∷ []) c h = listed word c (bytes_eq word (codes "--pins")) (bytes_eq word (codes "--remotes")) refl refl h
 list_back (word ∷ next ∷ words) c h = absurd (cc h)
 
+alone_back : (words : List (List ℕ)) (c : Command) → alone words ≡ Some c → (words ≡ []) × (Batch ≡ c)
+alone_back [] c h = (refl, cc h)
+alone_back (word ∷ words) c h = absurd (cc h)
+
 -- the words of a verb's command
 abbrev Speaks : Verb → List (List ℕ) → Command → Type 0
 Speaks v words c = (word_of v ∷ words ≡ words_of c) × (is_command c ≡ true)
@@ -93,10 +100,11 @@ Speaks v words c = (word_of v ∷ words ≡ words_of c) × (is_command c ≡ tru
 behind_back : (v : Verb) (words : List (List ℕ)) (c : Command) → behind v words ≡ Some c → Speaks v words c
 behind_back verbs.Pin words c h = let m = mapped Pin (pattern_of words) c h in let p = pattern_back words m.0 m.1 in subst (Speaks verbs.Pin words) m.2 (ap (λ (ws : List (List ℕ)). codes "pin" ∷ ws) p.0, p.1)
 behind_back verbs.Unpin words c h = let m = mapped Unpin (pattern_of words) c h in let p = pattern_back words m.0 m.1 in subst (Speaks verbs.Unpin words) m.2 (ap (λ (ws : List (List ℕ)). codes "unpin" ∷ ws) p.0, p.1)
-behind_back verbs.RemoteAdd words c h = let m = mapped AddRemote (remote_of words) c h in let p = remote_back words m.0 m.1 in subst (Speaks verbs.RemoteAdd words) m.2 (ap (λ (ws : List (List ℕ)). codes "remote-add" ∷ ws) p.0, p.1)
-behind_back verbs.RemoteModify words c h = let m = mapped ModifyRemote (remote_of words) c h in let p = remote_back words m.0 m.1 in subst (Speaks verbs.RemoteModify words) m.2 (ap (λ (ws : List (List ℕ)). codes "remote-modify" ∷ ws) p.0, p.1)
-behind_back verbs.RemoteDelete words c h = let m = mapped DeleteRemote (name_of words) c h in let p = name_back words m.0 m.1 in subst (Speaks verbs.RemoteDelete words) m.2 (ap (λ (ws : List (List ℕ)). codes "remote-delete" ∷ ws) p.0, p.1)
+behind_back verbs.RemoteAdd words c h = let m = mapped RemoteAdd (remote_of words) c h in let p = remote_back words m.0 m.1 in subst (Speaks verbs.RemoteAdd words) m.2 (ap (λ (ws : List (List ℕ)). codes "remote-add" ∷ ws) p.0, p.1)
+behind_back verbs.RemoteModify words c h = let m = mapped RemoteModify (remote_of words) c h in let p = remote_back words m.0 m.1 in subst (Speaks verbs.RemoteModify words) m.2 (ap (λ (ws : List (List ℕ)). codes "remote-modify" ∷ ws) p.0, p.1)
+behind_back verbs.RemoteDelete words c h = let m = mapped RemoteDelete (name_of words) c h in let p = name_back words m.0 m.1 in subst (Speaks verbs.RemoteDelete words) m.2 (ap (λ (ws : List (List ℕ)). codes "remote-delete" ∷ ws) p.0, p.1)
 behind_back verbs.List words c h = list_back words c h
+behind_back verbs.Batch words c h = let a = alone_back words c h in subst (Speaks verbs.Batch words) a.1 (ap (λ (ws : List (List ℕ)). codes "batch" ∷ ws) a.0, refl)
 
 -- ---- a command line
 

@@ -1,14 +1,15 @@
 -- Worked rows, closed by computing.
-use Rattle.std.proofs.Common.{◌≡◌, [], ◌∷◌, Some, refl}
+use Rattle.std.proofs.Common.{◌≡◌, [], ◌∷◌, Some, Ok, Err, refl}
 use Rattle.std.specs.Prelude.{codes}
 use Rattle.std.specs.Fmt.{digits}
 use Rattle.fp_name.specs.Grammar.{is_id, is_branch}
 use Rattle.fp_name.specs.Pins.{is_pin}
-use Rattle.fp_small.specs.declared.refusal.Refusal.TheVariants.{BadWords, PinExists, NoSuchPin, Limit, Damaged}
-use Rattle.fp_small.specs.declared.refusal.What.TheVariants.{Pins}
-use Rattle.fp_small.specs.declared.op.Op.TheVariants.{AddPin, DropPin}
-use Rattle.fl_words.specs.declared.command.Command.TheVariants.{Pin, Unpin, ListPins}
+use Rattle.fp_small.specs.declared.refusal.Refusal.TheVariants.{BadWords, PinExists, NoSuchPin, Limit, BadRecord, Damaged}
+use Rattle.fp_small.specs.declared.refusal.What.TheVariants.{Pins, Input}
+use Rattle.fp_small.specs.declared.op.Op.TheVariants.{AddPin, DropPin, Migrate}
+use Rattle.fl_words.specs.declared.command.Command.TheVariants.{Pin, Unpin, ListPins, Batch}
 use Rattle.fl_words.specs.Words.{command_of, bad_index}
+use Rattle.fl_words.specs.Batch.{batch_command, batch_of}
 use Rattle.fl_words.specs.Lines.{refusal_text, op_text}
 
 pub pin_all : command_of (codes "pin" ∷ codes "app/*/*/*" ∷ []) ≡ Some (Pin (codes "app/*/*/*"))
@@ -77,3 +78,50 @@ pinned_line = refl
 
 pub unpinned_line : op_text (DropPin (codes "app/*/*/*")) ≡ codes "unpinned app/*/*/*\n"
 unpinned_line = refl
+
+pub migrated_line : op_text Migrate ≡ codes "migrated layout 2\n"
+migrated_line = refl
+
+pub record_line : refusal_text (BadRecord 2) ≡ codes "error: record 2\n"
+unfolding digits
+record_line = refl
+
+pub input_line : refusal_text (Limit Input 67108865) ≡ codes "error: limit input 67108865\n"
+unfolding digits
+input_line = refl
+
+pub batch_alone : command_of (codes "batch" ∷ []) ≡ Some Batch
+batch_alone = refl
+
+pub batch_and_more : bad_index (codes "batch" ∷ [] ∷ []) ≡ 1
+batch_and_more = refl
+
+-- ---- batches
+
+pub no_lines : batch_of [] ≡ Ok []
+unfolding batch_of
+no_lines = refl
+
+pub one_line : batch_of (codes "pin app/*/*/*") ≡ Ok (Pin (codes "app/*/*/*") ∷ [])
+unfolding batch_of batch_command is_pin
+one_line = refl
+
+pub two_lines : batch_of (codes "pin app/*/*/*\nunpin app/*/*/*\n") ≡ Ok (Pin (codes "app/*/*/*") ∷ Unpin (codes "app/*/*/*") ∷ [])
+unfolding batch_of batch_command is_pin
+two_lines = refl
+
+pub empty_line : batch_of (codes "\n") ≡ Err 1
+unfolding batch_of batch_command
+empty_line = refl
+
+pub list_line : batch_of (codes "pin app/*/*/*\nlist --pins\n") ≡ Err 2
+unfolding batch_of batch_command is_pin
+list_line = refl
+
+pub two_spaces : batch_of (codes "pin  app/*/*/*\n") ≡ Err 1
+unfolding batch_of batch_command is_pin
+two_spaces = refl
+
+pub space_behind : batch_of (codes "pin app/*/*/* \n") ≡ Err 1
+unfolding batch_of batch_command is_pin
+space_behind = refl

@@ -2,3 +2,4 @@ pub mod Verbs
 pub mod Words
 pub mod Behind
 pub mod Lines
+pub mod Batch

@@ -3,12 +3,12 @@ use Rattle.std.specs.Prelude.{ℕ, ◌/◌, ◌%◌, ◌==◌, ◌||◌, List, [
 use Rattle.std.specs.Fmt.{digit_glyph}
 use Rattle.fp_host.specs.Paths.{path_text}
 use Rattle.fp_small.specs.declared.refusal.Refusal.{Refusal}
-use Rattle.fp_small.specs.declared.refusal.Refusal.TheVariants.{BadWords, NoSuchRemote, RemoteExists, PinExists, NoSuchPin, Limit, Damaged}
+use Rattle.fp_small.specs.declared.refusal.Refusal.TheVariants.{BadWords, NoSuchRemote, RemoteExists, PinExists, NoSuchPin, Limit, BadRecord, Damaged}
 use Rattle.fp_small.specs.declared.refusal.What.{What}
-use Rattle.fp_small.specs.declared.refusal.What.TheVariants.{Pins, Remotes}
+use Rattle.fp_small.specs.declared.refusal.What.TheVariants.{Pins, Remotes, Input}
 use Rattle.fp_small.specs.declared.op.Op.{Op}
 use Rattle.fp_small.specs.declared.state.RemoteRow.{RemoteRow}
-use Rattle.fp_small.specs.declared.op.Op.TheVariants.{AddPin, DropPin, AddRemote, ModifyRemote, DropRemote}
+use Rattle.fp_small.specs.declared.op.Op.TheVariants.{AddPin, DropPin, AddRemote, ModifyRemote, DropRemote, Migrate}
 
 -- ---- a text that we didn't make
 
@@ -36,6 +36,7 @@ line text = text ++ 10 ∷ []
 abbrev pub what_word : What → List ℕ
 what_word Pins = codes "pins"
 what_word Remotes = codes "remotes"
+what_word Input = codes "input"
 
 -- the line of a refusal
 abbrev pub refusal_text : Refusal → List ℕ
@@ -45,6 +46,7 @@ refusal_text (RemoteExists remote) = line (codes "error: remote exists " ++ remo
 refusal_text (PinExists pin) = line (codes "error: pin exists " ++ pin)
 refusal_text (NoSuchPin pin) = line (codes "error: no pin " ++ pin)
 refusal_text (Limit what number) = line (codes "error: limit " ++ what_word what ++ codes " " ++ decimal number)
+refusal_text (BadRecord number) = line (codes "error: record " ++ decimal number)
 refusal_text (Damaged path) = line (codes "error: damaged " ++ escaped (path_text path))
 
 -- the line that acknowledges an operation
@@ -54,6 +56,7 @@ op_text (DropPin pin) = line (codes "unpinned " ++ pin)
 op_text (AddRemote row) = line (codes "remote added " ++ row.name)
 op_text (ModifyRemote row) = line (codes "remote modified " ++ row.name)
 op_text (DropRemote name) = line (codes "remote deleted " ++ name)
+op_text Migrate = line (codes "migrated layout 2")
 
 -- a line for each pattern
 abbrev pub pins_text : List (List ℕ) → List ℕ

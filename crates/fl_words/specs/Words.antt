@@ -5,8 +5,9 @@
 --     remote-add N U
 --     remote-modify N U
 --     remote-delete N
---     list --pins
 --     list --remotes
+--     list --pins
+--     batch
 use Rattle.std.specs.Prelude.{ℕ, ◌+◌, List, [], ◌∷◌, ◌++◌, ◌&&◌, ◌||◌, Bool, true, false, Option, Some, None, option_and_then, IsSome, codes, if◌then◌else◌}
 use Rattle.std.specs.Option.{option_map}
 use Rattle.std.specs.Str.{bytes_eq}
@@ -16,7 +17,7 @@ use Rattle.fp_small.specs.declared.state.RemoteRow.{RemoteRow}
 use Rattle.fl_words.specs.declared.verb.Verb.{Verb}
 use Rattle.fl_words.specs.declared.verb.Verb.TheVariants as verbs
 use Rattle.fl_words.specs.declared.command.Command.{Command}
-use Rattle.fl_words.specs.declared.command.Command.TheVariants.{Pin, Unpin, AddRemote, ModifyRemote, DeleteRemote, ListPins, ListRemotes}
+use Rattle.fl_words.specs.declared.command.Command.TheVariants.{Pin, Unpin, RemoteAdd, RemoteModify, RemoteDelete, ListRemotes, ListPins, Batch}
 use Rattle.fl_words.specs.Verbs.{verb_of}
 
 -- ---- which words are a command
@@ -41,14 +42,20 @@ abbrev pub list_of : List (List ℕ) → Option Command
 list_of (word ∷ []) = if bytes_eq word (codes "--pins") then Some ListPins else (if bytes_eq word (codes "--remotes") then Some ListRemotes else None)
 list_of _ = None
 
+-- nothing behind `batch`
+abbrev pub alone : List (List ℕ) → Option Command
+alone [] = Some Batch
+alone (word ∷ words) = None
+
 -- the command of the words behind a verb
 abbrev pub behind : Verb → List (List ℕ) → Option Command
 behind verbs.Pin words = option_map Pin (pattern_of words)
 behind verbs.Unpin words = option_map Unpin (pattern_of words)
-behind verbs.RemoteAdd words = option_map AddRemote (remote_of words)
-behind verbs.RemoteModify words = option_map ModifyRemote (remote_of words)
-behind verbs.RemoteDelete words = option_map DeleteRemote (name_of words)
+behind verbs.RemoteAdd words = option_map RemoteAdd (remote_of words)
+behind verbs.RemoteModify words = option_map RemoteModify (remote_of words)
+behind verbs.RemoteDelete words = option_map RemoteDelete (name_of words)
 behind verbs.List words = list_of words
+behind verbs.Batch words = alone words
 
 -- the command of the words of a command line, where they are one
 abbrev pub command_of : List (List ℕ) → Option Command
@@ -78,6 +85,10 @@ begins_list [] = true
 begins_list (word ∷ []) = bytes_eq word (codes "--pins") || bytes_eq word (codes "--remotes")
 begins_list (word ∷ next ∷ more) = false
 
+abbrev pub begins_alone : List (List ℕ) → Bool
+begins_alone [] = true
+begins_alone (word ∷ words) = false
+
 abbrev pub begins_behind : Option Verb → List (List ℕ) → Bool
 begins_behind None words = false
 begins_behind (Some verbs.Pin) words = begins_pattern words
@@ -86,6 +97,7 @@ begins_behind (Some verbs.RemoteAdd) words = begins_remote words
 begins_behind (Some verbs.RemoteModify) words = begins_remote words
 begins_behind (Some verbs.RemoteDelete) words = begins_name words
 begins_behind (Some verbs.List) words = begins_list words
+begins_behind (Some verbs.Batch) words = begins_alone words
 
 -- the words are a command, or are one with more words behind them
 abbrev pub begins : List (List ℕ) → Bool
@@ -113,18 +125,20 @@ bad_index words = first_bad begins words
 abbrev pub words_of : Command → List (List ℕ)
 words_of (Pin p) = codes "pin" ∷ p ∷ []
 words_of (Unpin p) = codes "unpin" ∷ p ∷ []
-words_of (AddRemote row) = codes "remote-add" ∷ row.name ∷ row.url ∷ []
-words_of (ModifyRemote row) = codes "remote-modify" ∷ row.name ∷ row.url ∷ []
-words_of (DeleteRemote name) = codes "remote-delete" ∷ name ∷ []
+words_of (RemoteAdd row) = codes "remote-add" ∷ row.name ∷ row.url ∷ []
+words_of (RemoteModify row) = codes "remote-modify" ∷ row.name ∷ row.url ∷ []
+words_of (RemoteDelete name) = codes "remote-delete" ∷ name ∷ []
 words_of ListPins = codes "list" ∷ codes "--pins" ∷ []
 words_of ListRemotes = codes "list" ∷ codes "--remotes" ∷ []
+words_of Batch = codes "batch" ∷ []
 
 -- its patterns are patterns, as they are in each value of the type
 abbrev pub is_command : Command → Bool
 is_command (Pin p) = is_pin p
 is_command (Unpin p) = is_pin p
-is_command (AddRemote row) = is_remote_name row.name && is_url row.url
-is_command (ModifyRemote row) = is_remote_name row.name && is_url row.url
-is_command (DeleteRemote name) = is_remote_name name
+is_command (RemoteAdd row) = is_remote_name row.name && is_url row.url
+is_command (RemoteModify row) = is_remote_name row.name && is_url row.url
+is_command (RemoteDelete name) = is_remote_name name
 is_command ListPins = true
 is_command ListRemotes = true
+is_command Batch = true

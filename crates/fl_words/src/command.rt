@@ -16,15 +16,17 @@ pub enum Command {
     /// `unpin P`: takes the pattern away.
     Unpin(PinPattern),
     /// `remote-add N U`: adds a remote.
-    AddRemote(RemoteRow),
+    RemoteAdd(RemoteRow),
     /// `remote-modify N U`: gives a remote another URL.
-    ModifyRemote(RemoteRow),
+    RemoteModify(RemoteRow),
     /// `remote-delete N`: takes the remote away.
-    DeleteRemote(RemoteName),
-    /// `list --pins`: prints the patterns.
-    ListPins,
+    RemoteDelete(RemoteName),
     /// `list --remotes`: prints the remotes.
     ListRemotes,
+    /// `list --pins`: prints the patterns.
+    ListPins,
+    /// `batch`: does the commands that the lines of the input hold.
+    Batch,
 }
 
 /// Why words weren't read as a command.

@@ -1,6 +1,7 @@
 // What holds of all words, by their definitions. Nothing is done here: each contract is a law.
-ghost use Rattle.std.specs.Prelude.{◌≡◌, ◌↔◌, ◌<◌, ◌≤◌, ◌+◌, ℕ, List, Some, true, not, length, take};
+ghost use Rattle.std.specs.Prelude.{◌≡◌, ◌↔◌, ◌<◌, ◌≤◌, ◌+◌, ℕ, List, Some, Ok, true, not, length, take};
 ghost use Rattle.std.specs.List.{list_all};
+ghost use Rattle.fl_words.specs.Batch.{is_allowed, batch_of};
 ghost use Rattle.fl_words.specs.Lines.{is_control, escaped};
 ghost use Rattle.fl_words.specs.Words.{command_of, begins, Begins, bad_index, words_of, is_command};
 
@@ -29,4 +30,10 @@ pub fn bad_index_is_least()
 pub fn escapes_tell_texts()
     ensures printable { (text : List ℕ) → list_all (λ b. not (is_control b)) (escaped text) ≡ true }
     ensures apart { (a b : List ℕ) → escaped a ≡ escaped b → a ≡ b }
+{}
+
+/// Each command of a batch changes the installation, and its patterns are patterns.
+pub fn batches_hold_changes()
+    ensures allowed { (bytes : List ℕ) (commands : List Command) → batch_of bytes ≡ Ok commands → list_all is_allowed commands ≡ true }
+    ensures good { (bytes : List ℕ) (commands : List Command) → batch_of bytes ≡ Ok commands → list_all is_command commands ≡ true }
 {}

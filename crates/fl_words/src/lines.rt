@@ -34,6 +34,7 @@ pub fn refusal_line(alloc: Global, refusal: &Refusal) -> Result<Text, AllocError
             let word = word_of(*what);
             format!(in alloc; "error: limit {word} {number}\n")?
         }
+        Refusal::BadRecord { line } => format!(in alloc; "error: record {line}\n")?,
         Refusal::Damaged { path } => {
             let path = escape(alloc, path.text())?;
             format!(in alloc; "error: damaged {path}\n")?
@@ -49,6 +50,7 @@ fn word_of(what: What) -> &'static str
     match what {
         What::Pins => "pins",
         What::Remotes => "remotes",
+        What::Input => "input",
     }
 }
 
@@ -77,6 +79,7 @@ pub fn op_line(alloc: Global, op: &Op) -> Result<Text, AllocError>
             let name = name.as_str();
             format!(in alloc; "remote deleted {name}\n")?
         }
+        Op::Migrate => "migrated layout 2\n".to_string(alloc)?,
     };
     Ok(Text::from_string(line))
 }

@@ -1,6 +1,6 @@
 // Reading the words of a command line.
 ghost use Rattle.std.specs.Prelude.{◌≡◌, Some, IfOk, IfErr, map, string_bytes};
-ghost use Rattle.fl_words.specs.Words.{command_of, pattern_of, begins_pattern, remote_of, begins_remote, name_of, begins_name, list_of, begins_list};
+ghost use Rattle.fl_words.specs.Words.{command_of, pattern_of, begins_pattern, remote_of, begins_remote, name_of, begins_name, list_of, begins_list, alone, begins_alone};
 ghost use Rattle.fl_words.specs.Behind.{IsNoCommand, GoesWrong};
 
 use crate::command::{Command, WordsError};
@@ -20,10 +20,11 @@ pub fn read_words(alloc: Global, words: &[String]) -> Result<Command, WordsError
     match Verb::of_word(first) {
         Some(Verb::Pin) => Ok(Command::Pin(read_pattern(alloc, rest)?)),
         Some(Verb::Unpin) => Ok(Command::Unpin(read_pattern(alloc, rest)?)),
-        Some(Verb::RemoteAdd) => Ok(Command::AddRemote(read_remote(alloc, rest)?)),
-        Some(Verb::RemoteModify) => Ok(Command::ModifyRemote(read_remote(alloc, rest)?)),
-        Some(Verb::RemoteDelete) => Ok(Command::DeleteRemote(read_name(alloc, rest)?)),
+        Some(Verb::RemoteAdd) => Ok(Command::RemoteAdd(read_remote(alloc, rest)?)),
+        Some(Verb::RemoteModify) => Ok(Command::RemoteModify(read_remote(alloc, rest)?)),
+        Some(Verb::RemoteDelete) => Ok(Command::RemoteDelete(read_name(alloc, rest)?)),
         Some(Verb::List) => read_list(rest),
+        Some(Verb::Batch) => read_alone(rest),
         None => Err(WordsError::BadWords { index: 0 }),
     }
 }
@@ -45,6 +46,17 @@ fn read_pattern(alloc: Global, words: &[String]) -> Result<PinPattern, WordsErro
         return Err(WordsError::BadWords { index: 2 });
     }
     Ok(pin)
+}
+
+// A verb with nothing behind it.
+fn read_alone(words: &[String]) -> Result<Command, WordsError>
+    ensures ok { IfOk result (λ command. alone (map string_bytes words.now) ≡ Some command) }
+    ensures bad { IfErr result (GoesWrong alone begins_alone (map string_bytes words.now)) }
+{
+    if words.split_first().is_some() {
+        return Err(WordsError::BadWords { index: 1 });
+    }
+    Ok(Command::Batch)
 }
 
 // What to list.

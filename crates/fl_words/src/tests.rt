@@ -5,6 +5,8 @@ use fp_small::{Op, Refusal, RemoteRow, What};
 use std::alloc::{AllocError, Global};
 use std::test::Fail;
 
+mod batches;
+
 /// What the words read as, in one text.
 fn told(alloc: Global, words: &[&str]) -> Result<String, AllocError> {
     let mut owned = Vec::new(alloc);
@@ -12,14 +14,22 @@ fn told(alloc: Global, words: &[&str]) -> Result<String, AllocError> {
         owned.push(String::from_str(alloc, word)?)?;
     }
     match read_words(alloc, &owned) {
-        Ok(Command::Pin(pin)) => format!(in alloc; "Pin {}", pin.as_str()),
-        Ok(Command::Unpin(pin)) => format!(in alloc; "Unpin {}", pin.as_str()),
-        Ok(Command::AddRemote(row)) => told_remote(alloc, "AddRemote", &row),
-        Ok(Command::ModifyRemote(row)) => told_remote(alloc, "ModifyRemote", &row),
-        Ok(Command::DeleteRemote(name)) => { format!(in alloc; "DeleteRemote {}", name.as_str()) }
-        Ok(Command::ListPins) => "ListPins".to_string(alloc),
-        Ok(Command::ListRemotes) => "ListRemotes".to_string(alloc),
+        Ok(command) => told_command(alloc, &command),
         Err(error) => format!(in alloc; "{error}"),
+    }
+}
+
+/// A command in one text.
+fn told_command(alloc: Global, command: &Command) -> Result<String, AllocError> {
+    match command {
+        Command::Pin(pin) => format!(in alloc; "Pin {}", pin.as_str()),
+        Command::Unpin(pin) => format!(in alloc; "Unpin {}", pin.as_str()),
+        Command::RemoteAdd(row) => told_remote(alloc, "RemoteAdd", row),
+        Command::RemoteModify(row) => told_remote(alloc, "RemoteModify", row),
+        Command::RemoteDelete(name) => format!(in alloc; "RemoteDelete {}", name.as_str()),
+        Command::ListRemotes => "ListRemotes".to_string(alloc),
+        Command::ListPins => "ListPins".to_string(alloc),
+        Command::Batch => "Batch".to_string(alloc),
     }
 }
 
@@ -32,13 +42,13 @@ fn words_on_remotes(rt: HostRuntime) -> Result<(), Fail> {
     let table: [(&[&str], &str); 15] = [
         (
             &["remote-add", "lab", "file:///lab"],
-            "AddRemote lab file:///lab",
+            "RemoteAdd lab file:///lab",
         ),
         (
             &["remote-modify", "lab", "file:///l"],
-            "ModifyRemote lab file:///l",
+            "RemoteModify lab file:///l",
         ),
-        (&["remote-delete", "lab"], "DeleteRemote lab"),
+        (&["remote-delete", "lab"], "RemoteDelete lab"),
         (&["list", "--remotes"], "ListRemotes"),
         (&["remote-add"], "bad words at 1"),
         (&["remote-add", ""], "bad words at 1"),
@@ -63,7 +73,11 @@ fn words_on_remotes(rt: HostRuntime) -> Result<(), Fail> {
 
 #[test]
 fn words(rt: HostRuntime) -> Result<(), Fail> {
-    let table: [(&[&str], &str); 32] = [
+    let table: [(&[&str], &str); 36] = [
+        (&["batch"], "Batch"),
+        (&["batch", ""], "bad words at 1"),
+        (&["batch", "pin", "app/*/*/*"], "bad words at 1"),
+        (&["batches"], "bad words at 0"),
         (&["pin", "app/*/*/*"], "Pin app/*/*/*"),
         (
             &["pin", "runtime/org.x.Y/x86_64/1.0"],
@@ -135,6 +149,19 @@ fn refusals(rt: HostRuntime) -> Result<(), Fail> {
 }
 
 #[test]
+fn refused_input(rt: HostRuntime) -> Result<(), Fail> {
+    let alloc = rt.alloc();
+    let long = Refusal::Limit {
+        what: What::Input,
+        number: 67_108_865,
+    };
+    let record = Refusal::BadRecord { line: 2 };
+    assert!(rt; is_line(alloc, &long, "error: limit input 67108865\n")?);
+    assert!(rt; is_line(alloc, &record, "error: record 2\n")?);
+    Ok(())
+}
+
+#[test]
 fn refused_pins(rt: HostRuntime) -> Result<(), Fail> {
     let alloc = rt.alloc();
     let pin = pattern(alloc, "app/*/*/*")?;
@@ -177,6 +204,12 @@ fn operations(rt: HostRuntime) -> Result<(), Fail> {
     assert!(rt; says(rt.alloc(), &added, "pinned app/*/*/*\n")?);
     let dropped = Op::DropPin(pattern(rt.alloc(), "app/org.x.Y/*/*")?);
     assert!(rt; says(rt.alloc(), &dropped, "unpinned app/org.x.Y/*/*\n")?);
+    Ok(())
+}
+
+#[test]
+fn migration(rt: HostRuntime) -> Result<(), Fail> {
+    assert!(rt; says(rt.alloc(), &Op::Migrate, "migrated layout 2\n")?);
     Ok(())
 }
 

@@ -11,6 +11,7 @@ pub enum Verb {
     RemoteModify,
     RemoteDelete,
     List,
+    Batch,
 }
 
 impl Verb {
@@ -25,6 +26,7 @@ impl Verb {
             "remote-modify" => Some(Verb::RemoteModify),
             "remote-delete" => Some(Verb::RemoteDelete),
             "list" => Some(Verb::List),
+            "batch" => Some(Verb::Batch),
             _ => None,
         }
     }

@@ -150,7 +150,7 @@ count_remotes_is (g ∷ file) = counted (remote_of g) (count_remotes_is file)
     counted None e = e
     counted (Some row) e = ap suc e
 
-rows_good : (file : List Group) → list_all is_row (remotes_in file) ≡ true
+pub rows_good : (file : List Group) → list_all is_row (remotes_in file) ≡ true
 rows_good [] = refl
 rows_good (g ∷ file) = each (remote_of g) refl (rows_good file)
   where
@@ -171,7 +171,7 @@ name_apart g row (k ∷ file) is h =
     each None e differ rest = rest
     each (Some more) e differ rest = rw (other_name g.name k.name row more (remote_of-some g row is) (remote_of-some k more e) differ) rest
 
-names_distinct : (file : List Group) → are_distinct (names_of file) ≡ true → are_distinct (map name_of (remotes_in file)) ≡ true
+pub names_distinct : (file : List Group) → are_distinct (names_of file) ≡ true → are_distinct (map name_of (remotes_in file)) ≡ true
 names_distinct [] h = refl
 names_distinct (g ∷ file) h =
     let a = and_parts _ (are_distinct (names_of file)) h in

@@ -1,4 +1,5 @@
 pub mod Making
+pub mod Emptying
 pub mod NamingLemmas
 pub mod Remoting
 pub mod Replacement
@@ -9,4 +10,6 @@ pub mod Pinning
 pub mod ConfigReads
 pub mod ConfigTexts
 mod ConfigRows
+mod OldRows
 mod SmallFiles
+pub mod OldReads

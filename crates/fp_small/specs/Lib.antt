@@ -5,6 +5,8 @@ pub mod Folders
 pub mod Stage
 pub mod Move
 pub mod Replace
+pub mod Clear
 pub mod Order
 pub mod Config
 pub mod ConfigFaults
+pub mod Old

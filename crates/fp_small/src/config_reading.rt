@@ -17,10 +17,11 @@ use fp_name::{PinPattern, RemoteName, RemoteUrl, is_pin, is_remote_name, is_url}
 use std::alloc::Global;
 use std::str;
 
-/// The most remotes and the most pins that there may be.
-const MOST_REMOTES: usize = 256;
+/// The most remotes that there may be.
+pub const MOST_REMOTES: usize = 256;
 
-const MOST_PINS: usize = 1024;
+/// The most pins that there may be.
+pub const MOST_PINS: usize = 1024;
 
 /// Whether the pairs are this one.
 fn is_pair(pairs: &[Pair], key: &str, value: &str) -> bool
@@ -103,7 +104,7 @@ fn said_by(group: &Group) -> Option<Said<'_>>
 }
 
 /// Whether the group says a remote.
-fn is_remote(group: &Group) -> bool
+pub(crate) fn is_remote(group: &Group) -> bool
     ensures { result ≡ is_some (spec.remote_of group.now) }
 {
     said_by(group).is_some()
@@ -128,7 +129,7 @@ fn are_parts(groups: &[Group]) -> bool
     groups.iter().all(|group| is_part(group))
 }
 
-fn count_remotes(groups: &[Group]) -> usize
+pub(crate) fn count_remotes(groups: &[Group]) -> usize
     ensures { result ≡ length (remotes_in groups.now) }
 {
     groups.iter().filter(|group| is_remote(group)).count()
@@ -175,7 +176,7 @@ fn row_of(alloc: Global, name: &str, url: &str) -> Result<RemoteRow, ConfigFault
 }
 
 /// The remotes that the groups say, ascending.
-fn read_remotes(alloc: Global, groups: &[Group]) -> Result<Vec<RemoteRow>, ConfigFault>
+pub(crate) fn remote_rows(alloc: Global, groups: &[Group]) -> Result<Vec<RemoteRow>, ConfigFault>
     ensures ok { IfOk result (λ rows. rows.items ≡ sorted_by spec.name_of (remotes_in groups.now)) }
     ensures memory { IsErrOf result ConfigFault.Bad → ⊥ }
 {
@@ -190,7 +191,7 @@ fn read_remotes(alloc: Global, groups: &[Group]) -> Result<Vec<RemoteRow>, Confi
 }
 
 /// The pins that the pairs say, ascending.
-fn read_pins(alloc: Global, pairs: &[Pair]) -> Result<Vec<PinPattern>, ConfigFault>
+fn pin_keys(alloc: Global, pairs: &[Pair]) -> Result<Vec<PinPattern>, ConfigFault>
     requires { list_all spec.is_pin_pair pairs.now ≡ true }
     ensures ok { IfOk result (λ pins. pins.items ≡ sorted_by (λ pin. pin) (keys_of pairs.now)) }
     ensures memory { IsErrOf result ConfigFault.Bad → ⊥ }
@@ -210,7 +211,7 @@ fn pins_of(alloc: Global, groups: &[Group]) -> Result<Vec<PinPattern>, ConfigFau
     ensures memory { IsErrOf result ConfigFault.Bad → ⊥ }
 {
     match pins_group(groups) {
-        Some(group) => read_pins(alloc, group.pairs.as_slice()),
+        Some(group) => pin_keys(alloc, group.pairs.as_slice()),
         None => Ok(Vec::new(alloc)),
     }
 }
@@ -224,7 +225,7 @@ fn settings_of(alloc: Global, groups: &[Group]) -> Result<Settings, ConfigFault>
         return Err(ConfigFault::Bad);
     }
     Ok(Settings {
-        remotes: Items::from_vec(read_remotes(alloc, groups)?),
+        remotes: Items::from_vec(remote_rows(alloc, groups)?),
         pins: Items::from_vec(pins_of(alloc, groups)?),
     })
 }

@@ -5,6 +5,7 @@ ghost use Rattle.std.specs.Prelude.{◌≡◌, ◌≢◌, ◌↔◌, ◌⊎◌, 
 ghost use Rattle.fp_name.specs.Pins.{is_pin};
 ghost use Rattle.fp_small.specs.Order.{inserted, removed, replaced, has_name};
 ghost use Rattle.fp_small.specs.Config.{IsSettings, config_of, config_text, is_row, name_of};
+ghost use Rattle.fp_small.specs.Old.{remotes_of, pins_of, AreRows, ArePatterns};
 ghost use Rattle.fp_small.specs.declared.config.Settings.{Settings};
 ghost use Rattle.fp_small.specs.declared.state.RemoteRow.{RemoteRow};
 
@@ -16,6 +17,12 @@ pub fn written_config_reads_back()
 /// What a `config` says can be written.
 pub fn read_config_is_good()
     ensures { (bytes : List ℕ) (s : Settings) → config_of bytes ≡ Some s → IsSettings s }
+{}
+
+/// What the two files of layout 1 say can be written.
+pub fn read_old_files_are_good()
+    ensures remotes { (bytes : List ℕ) (rows : List RemoteRow) → remotes_of bytes ≡ Some rows → AreRows rows }
+    ensures pins { (bytes : List ℕ) (pins : List (List ℕ)) → pins_of bytes ≡ Some pins → ArePatterns pins }
 {}
 
 /// With one more pin the settings can be written, and have this pin besides those that they had.

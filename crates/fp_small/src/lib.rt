@@ -1,21 +1,27 @@
 //! The small files of an installation, and what it holds apart from its objects.
 #![tactic(auto)]
 
+mod clearing;
 mod config;
 mod config_reading;
 mod config_writing;
 pub mod laws;
 mod loading;
+mod old_pins;
+mod old_remotes;
 mod op;
 mod ordering;
 mod refusal;
 mod replacing;
 mod state;
 
+pub use clearing::{clear, clear_below};
 pub use config::{ConfigFault, Settings};
-pub use config_reading::read_config;
+pub use config_reading::{MOST_PINS, MOST_REMOTES, read_config};
 pub use config_writing::write_config;
 pub use loading::{Loaded, load};
+pub use old_pins::read_pins;
+pub use old_remotes::read_remotes;
 pub use op::Op;
 pub use ordering::{has_pin, has_remote, insert_pin, insert_remote, remove_pin, remove_remote};
 pub use refusal::{Refusal, What};

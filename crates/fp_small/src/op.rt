@@ -10,4 +10,6 @@ pub enum Op {
     AddRemote(RemoteRow),
     ModifyRemote(RemoteRow),
     DropRemote(RemoteName),
+    /// From the two files of layout 1 to `config`.
+    Migrate,
 }

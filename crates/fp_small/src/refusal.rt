@@ -7,6 +7,8 @@ use fp_name::{PinPattern, RemoteName};
 pub enum What {
     Pins,
     Remotes,
+    /// The standard input, in bytes.
+    Input,
 }
 
 /// Why a command is refused.
@@ -24,6 +26,8 @@ pub enum Refusal {
     NoSuchPin { pin: PinPattern },
     /// There would be so many of something, beyond its limit.
     Limit { what: What, number: u64 },
+    /// This line of the input, counted from 1, isn't one that may stand there.
+    BadRecord { line: u64 },
     /// The installation doesn't read at this path.
     Damaged { path: Path },
 }

@@ -1,5 +1,6 @@
 use crate::{
-    ConfigFault, RemoteRow, Settings, has_pin, insert_pin, read_config, remove_pin, write_config,
+    ConfigFault, RemoteRow, Settings, has_pin, insert_pin, read_config, read_pins, read_remotes,
+    remove_pin, write_config,
 };
 use fp_name::PinPattern;
 use std::alloc::{AllocError, Global};
@@ -127,5 +128,143 @@ fn pins_come_and_go(rt: HostRuntime) -> Result<(), Fail> {
     assert!(rt; has_pin(&pins, &pin));
     remove_pin(&mut pins, &pin);
     assert!(rt; pins.is_empty());
+    Ok(())
+}
+
+// The remotes of a `remotes.conf`, in order.
+fn old_rows(alloc: Global, text: &str) -> Result<String, ConfigFault> {
+    let rows = read_remotes(alloc, text.as_bytes())?;
+    let mut said = String::new(alloc);
+    add_remotes(&mut said, rows.as_slice())?;
+    Ok(said)
+}
+
+// A `remotes.conf`, and what it says.
+const OLD_REMOTES: [(&str, &str); 4] = [
+    ("", ""),
+    ("# none\n\n", ""),
+    ("[remote \"lab\"]\nurl=file:///lab", "lab=file:///lab "),
+    (
+        "[remote \"b\"]\nurl=file:///b\n[remote \"a\"]\nurl=file:///a\n",
+        "a=file:///a b=file:///b ",
+    ),
+];
+
+#[test]
+fn old_remotes_that_read(rt: HostRuntime) -> Result<(), Fail> {
+    for (text, want) in OLD_REMOTES {
+        assert_eq!(rt; old_rows(rt.alloc(), text)?.as_str(), want);
+    }
+    Ok(())
+}
+
+const BAD_OLD_REMOTES: [&str; 9] = [
+    "url=file:///lab\n",
+    "[installation]\nlayout=2\n",
+    "[pins]\n",
+    "[remote \"lab\"]\n",
+    "[remote \"lab\"]\nurl=lab\n",
+    "[remote \"lab\"]\nurl=file:///lab\nmore=1\n",
+    "[remote \"\"]\nurl=file:///lab\n",
+    "[remote lab]\nurl=file:///lab\n",
+    "[remote \"lab\"]\nurl=file:///lab\n[other]\n",
+];
+
+fn is_bad_old_remotes(alloc: Global, text: &str) -> bool {
+    matches!(read_remotes(alloc, text.as_bytes()), Err(ConfigFault::Bad))
+}
+
+#[test]
+fn old_remotes_that_do_not_read(rt: HostRuntime) {
+    for text in BAD_OLD_REMOTES {
+        assert!(rt; is_bad_old_remotes(rt.alloc(), text), "{text:?}");
+    }
+}
+
+// A `remotes.conf` of so many remotes.
+fn many_remotes(alloc: Global, count: u32) -> Result<String, AllocError> {
+    let mut text = String::new(alloc);
+    for number in 0..count {
+        let group = format!(in alloc; "[remote \"r{number}\"]\nurl=file:///r\n")?;
+        text.push_str(&group)?;
+    }
+    Ok(text)
+}
+
+#[test]
+fn many_old_remotes(rt: HostRuntime) -> Result<(), Fail> {
+    let alloc = rt.alloc();
+    let text = many_remotes(alloc, 256)?;
+    assert_eq!(rt; read_remotes(alloc, text.as_bytes())?.as_slice().len(), 256);
+    let text = many_remotes(alloc, 257)?;
+    assert!(rt; is_bad_old_remotes(alloc, &text));
+    Ok(())
+}
+
+// The pins of a `pins`, in order.
+fn old_pins(alloc: Global, text: &str) -> Result<String, ConfigFault> {
+    let pins = read_pins(alloc, text.as_bytes())?;
+    let mut said = String::new(alloc);
+    add_pins(&mut said, pins.as_slice())?;
+    Ok(said)
+}
+
+// A `pins`, and what it says.
+const OLD_PINS: [(&str, &str); 3] = [
+    ("", ""),
+    ("app/*/*/*\n", "app/*/*/* "),
+    (
+        "app/*/*/*\nruntime/org.x.Platform/*/*\n",
+        "app/*/*/* runtime/org.x.Platform/*/* ",
+    ),
+];
+
+#[test]
+fn old_pins_that_read(rt: HostRuntime) -> Result<(), Fail> {
+    for (text, want) in OLD_PINS {
+        assert_eq!(rt; old_pins(rt.alloc(), text)?.as_str(), want);
+    }
+    Ok(())
+}
+
+const BAD_OLD_PINS: [&str; 8] = [
+    "app/*/*/*",
+    "\n",
+    "app/*/*/*\n\n",
+    "app/*/*/*\r\n",
+    "app/*/*/*\napp/*/*/*\n",
+    "runtime/org.x.Platform/*/*\napp/*/*/*\n",
+    "app/*/*/*\nruntime/org.x.Platform/*/*",
+    "app/*/*\n",
+];
+
+fn is_bad_old_pins(alloc: Global, text: &str) -> bool {
+    matches!(read_pins(alloc, text.as_bytes()), Err(ConfigFault::Bad))
+}
+
+#[test]
+fn old_pins_that_do_not_read(rt: HostRuntime) {
+    for text in BAD_OLD_PINS {
+        assert!(rt; is_bad_old_pins(rt.alloc(), text), "{text:?}");
+    }
+}
+
+// A `pins` of so many patterns.
+fn many_pins(alloc: Global, count: u32) -> Result<String, AllocError> {
+    let mut text = String::new(alloc);
+    for number in 0..count {
+        let line = format!(in alloc; "app/org.x.A{number:04}/*/*\n")?;
+        text.push_str(&line)?;
+    }
+    Ok(text)
+}
+
+#[test]
+fn many_old_pins(rt: HostRuntime) -> Result<(), Fail> {
+    let alloc = rt.alloc();
+    let text = many_pins(alloc, 1024)?;
+    assert_eq!(rt; read_pins(alloc, text.as_bytes())?.as_slice().len(), 1024);
+    let text = many_pins(alloc, 1025)?;
+    assert!(rt; is_bad_old_pins(alloc, &text));
     Ok(())
 }

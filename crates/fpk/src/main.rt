@@ -19,6 +19,7 @@ fpk unpin PATTERN            takes the pin away
 fpk remote-add NAME URL      adds a remote
 fpk remote-modify NAME URL   gives a remote another URL
 fpk remote-delete NAME       takes the remote away
+fpk batch                    does the commands of standard input, one a line
 fpk list --pins              prints the patterns that are pinned
 fpk list --remotes           prints the remotes
 fpk --help                   prints this
@@ -42,7 +43,7 @@ fn start(
         Err(error) => {
             return match error.kind() {
                 ErrorKind::OutOfMemory => wanting(rt),
-                _ => complain(rt, "fpk: a word is no UTF-8", 2),
+                _ => no_text(rt),
             };
         }
     };
@@ -60,6 +61,14 @@ fn start(
         Err(VarError::NotPresent) => run_on(rt, alloc, "installation", words),
         Err(VarError::NotUnicode) => complain(rt, "fpk: FPK_INSTALLATION is no UTF-8", 3),
         Err(VarError::OutOfMemory) => wanting(rt),
+    }
+}
+
+/// A word that is no UTF-8 begins no command.
+fn no_text(rt: &(impl Print + Eprint)) -> u8 {
+    match print!(rt; "error: words 0\n") {
+        Ok(()) => complain(rt, HELP, 2),
+        Err(_) => 3,
     }
 }
 
@@ -94,6 +103,12 @@ fn run_on(
                 let _said = eprintln!(rt; "fpk: {error}");
             }
             3
+        }
+        5 => {
+            if let Some(error) = input.last_error() {
+                let _said = eprintln!(rt; "fpk: {error}");
+            }
+            5
         }
         6 => wanting(rt),
         _ => status,

@@ -6,6 +6,8 @@ use std::alloc::{AllocError, Global};
 use std::test::Fail;
 use std::thread::Threads;
 
+mod batch_stops;
+mod batches;
 mod glib;
 mod gvariant;
 mod specification;
@@ -20,11 +22,22 @@ fn run_words(
     host: &mut MemHost,
     words: &[&str],
 ) -> Result<u8, AllocError> {
+    run_input(rt, alloc, host, words, b"")
+}
+
+// Runs the words over this input, without remotes.
+fn run_input(
+    rt: &(impl Threads + Sync),
+    alloc: Global,
+    host: &mut MemHost,
+    words: &[&str],
+    bytes: &[u8],
+) -> Result<u8, AllocError> {
     let mut owned = Vec::new(alloc);
     for word in words {
         owned.push(String::from_str(alloc, word)?)?;
     }
-    let mut input = MemSource::new(Blob::from_vec(Vec::new(alloc)), 1, None);
+    let mut input = MemSource::new(Blob::from_vec(bytes.to_vec(alloc)?), 7, None);
     let mut remotes = MemRemotes::new(alloc)?;
     Ok(run(rt, alloc, &owned, &mut input, host, &mut remotes))
 }

@@ -8,7 +8,7 @@ use Rattle.fp_small.specs.declared.state.State.{State}
 use Rattle.fp_small.specs.declared.op.Op.{Op}
 use Rattle.dep_states.specs.Names.{config}
 use Rattle.dep_states.specs.Shown.{Shows}
-use Rattle.dep_states.specs.Sound.{Sound, Opens}
+use Rattle.dep_states.specs.Sound.{Sound, Opens, HasConfig}
 use Rattle.dep_states.specs.After.{after}
 
 -- every outcome shows the one state or the other, and is Sound
@@ -23,7 +23,8 @@ pub record Applies (s : State) (op : Op) (u w : View) : Type 0 where
   pub names : (q : Elements) → (w.names q ≡ u.names q) ⊎ ReplacesName config u q (w.names q)
   pub printed : w.printed ≡ u.printed
 
--- behind it the state after, and all settled
+-- behind it the state after, in `config`, and all settled
 pub record WasApplied (s : State) (op : Op) (u w : View) : Type 0 where
   pub opens : Opens s u → Opens (after s op) w
+  pub config : HasConfig w
   pub settled : IsSettled w

@@ -14,12 +14,13 @@ ghost use Rattle.op_change.specs.Applied.{Applies, WasApplied};
 use dep_states::Opened;
 use fp_host::{Host, HostEnd, Items, Path};
 use fp_small::{
-    Op, State, insert_pin, insert_remote, remove_pin, remove_remote, replace, write_config,
+    Layout, Op, State, insert_pin, insert_remote, remove_pin, remove_remote, replace, write_config,
 };
 use std::alloc::{AllocError, Global};
 
 /// Does one operation on an opened installation: every stop leaves the state of before or the one after, and once it is
-/// done, the one after. Whatever the end but Ok, the installation is opened again before anything else is done with it.
+/// done, the one after. A migration writes `config`, and leaves the files of layout 1 where they are. Whatever the end but
+/// Ok, the installation is opened again before anything else is done with it.
 pub fn apply<H: Host>(
     alloc: Global,
     host: &mut H,
@@ -29,6 +30,7 @@ pub fn apply<H: Host>(
     requires may { May opened op.now }
     requires good { IsGood opened }
     ensures state { IfOk result (λ o. o ≡ after opened op.now) }
+    ensures good { IfOk result IsGood }
     // A stop at any moment leaves the one state or the other.
     ensures moments { Goes (H.moments host.old) (H.moments host.new) (Applies opened op.now) (Applies opened op.now) }
     ensures done { OnOk result (Ends (WasApplied opened op.now) (H.moments host.old) (H.moments host.new)) }
@@ -46,6 +48,7 @@ fn changed(state: State, op: &Op) -> Result<State, AllocError>
 {
     let mut pins = state.pins.into_vec();
     let mut remotes = state.remotes.into_vec();
+    let mut layout = state.layout;
     match op {
         Op::AddPin(pin) => insert_pin(&mut pins, pin.copy()?)?,
         Op::DropPin(pin) => remove_pin(&mut pins, pin),
@@ -55,9 +58,10 @@ fn changed(state: State, op: &Op) -> Result<State, AllocError>
             insert_remote(&mut remotes, row.copy()?)?;
         }
         Op::DropRemote(name) => remove_remote(&mut remotes, name),
+        Op::Migrate => layout = Layout::Two,
     }
     Ok(State {
-        layout: state.layout,
+        layout,
         refs: state.refs,
         remotes: Items::from_vec(remotes),
         pins: Items::from_vec(pins),

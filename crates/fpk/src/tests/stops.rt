@@ -1,6 +1,6 @@
 // A script of commands that is stopped at every moment and by every failure of the host.
 use crate::tests::{PLATFORM, run_words};
-use fp_host::{Blob, Items, Path};
+use fp_host::{Blob, Host, Items, Path, Stat};
 use fp_memhost::{Choice, Image, MemHost};
 use std::alloc::{AllocError, Global};
 use std::test::Fail;
@@ -47,30 +47,55 @@ fn acknowledged(ends: &[u64], calls: u64) -> usize {
     ends.iter().filter(|end| **end <= calls).count()
 }
 
-// Opens what a stop left, and answers after how many commands of the script it shows the installation. The next command
-// works on it.
+// Whether there is a file `config`.
+fn has_config(alloc: Global, host: &mut MemHost) -> Result<bool, AllocError> {
+    let Ok(path) = Path::parse(alloc, "config") else {
+        return Ok(false);
+    };
+    Ok(matches!(host.stat(&path), Ok(Stat::File { .. })))
+}
+
+// The place of what was printed among the texts that may be: the first place without `config`, and the last with it. Two
+// texts are equal only before and behind a migration.
+fn place_of(texts: &[&str], printed: &[u8], has_config: bool) -> Option<usize> {
+    let is_it = |text: &&str| text.as_bytes() == printed;
+    if has_config {
+        texts.iter().rposition(is_it)
+    } else {
+        texts.iter().position(is_it)
+    }
+}
+
+// Opens what a stop left, and answers at which of the texts it shows the installation. The next command works on it.
 fn shown(
     rt: &(impl Threads + Sync),
     alloc: Global,
     image: Image,
+    texts: &[&str],
 ) -> Result<Option<usize>, AllocError> {
     if !image.is_good() {
         return Ok(None);
     }
     let mut host = MemHost::from_image(alloc, image)?;
+    let is_new = has_config(alloc, &mut host)?;
     if run_words(rt, alloc, &mut host, &["list", "--pins"])? != 0 {
         return Ok(None);
     }
     if run_words(rt, alloc, &mut host, &["list", "--remotes"])? != 0 {
         return Ok(None);
     }
-    let place = SHOWN
-        .iter()
-        .position(|text| text.as_bytes() == host.printed());
+    let place = place_of(texts, host.printed(), is_new);
     if run_words(rt, alloc, &mut host, &["pin", "app/org.x.Next/*/*"])? != 0 {
         return Ok(None);
     }
     Ok(place)
+}
+
+/// What a stop may leave: the texts that the installation may show, and the first of them that it still may.
+#[derive(Clone, Copy)]
+pub struct Bounds<'a> {
+    pub texts: &'a [&'a str],
+    pub least: usize,
 }
 
 // Whether the image shows a prefix of the script that holds so many commands, and at most one more.
@@ -78,12 +103,13 @@ fn holds(
     rt: &(impl Threads + Sync),
     alloc: Global,
     image: Option<Image>,
-    least: usize,
+    bounds: Bounds<'_>,
 ) -> Result<bool, AllocError> {
     let Some(image) = image else {
         return Ok(false);
     };
-    Ok(match shown(rt, alloc, image)? {
+    let least = bounds.least;
+    Ok(match shown(rt, alloc, image, bounds.texts)? {
         Some(place) => least <= place && place - least <= 1,
         None => false,
     })
@@ -121,14 +147,14 @@ fn names_hold(
     alloc: Global,
     host: &MemHost,
     calls: u64,
-    least: usize,
+    bounds: Bounds<'_>,
 ) -> Result<bool, AllocError> {
     let choices = host.choices(calls)?;
     for (path, entries) in choices.as_slice() {
         for entry in 1..=*entries {
             let mut names = Vec::new(alloc);
             names.push((path.copy()?, entry))?;
-            if !holds(rt, alloc, left(alloc, host, calls, names)?, least)? {
+            if !holds(rt, alloc, left(alloc, host, calls, names)?, bounds)? {
                 return Ok(false);
             }
         }
@@ -143,7 +169,7 @@ fn file_holds(
     host: &MemHost,
     calls: u64,
     file: (u64, Blob),
-    least: usize,
+    bounds: Bounds<'_>,
 ) -> Result<bool, AllocError> {
     let mut files = Vec::new(alloc);
     files.push(file)?;
@@ -153,7 +179,7 @@ fn file_holds(
     };
     match host.image_after(calls, &choice)? {
         None => Ok(true),
-        image => holds(rt, alloc, image, least),
+        image => holds(rt, alloc, image, bounds),
     }
 }
 
@@ -163,18 +189,18 @@ fn files_hold(
     alloc: Global,
     host: &MemHost,
     calls: u64,
-    least: usize,
+    bounds: Bounds<'_>,
 ) -> Result<bool, AllocError> {
     let Some(image) = left(alloc, host, calls, Vec::new(alloc))? else {
         return Ok(false);
     };
     for row in image.files.as_slice() {
         let empty = Blob::from_vec(Vec::new(alloc));
-        if !file_holds(rt, alloc, host, calls, (row.id, empty), least)? {
+        if !file_holds(rt, alloc, host, calls, (row.id, empty), bounds)? {
             return Ok(false);
         }
         let turned = Blob::from_vec(vec![in alloc; 0xff; row.bytes.len()]?);
-        if !file_holds(rt, alloc, host, calls, (row.id, turned), least)? {
+        if !file_holds(rt, alloc, host, calls, (row.id, turned), bounds)? {
             return Ok(false);
         }
     }
@@ -182,18 +208,22 @@ fn files_hold(
 }
 
 // Whether each of these outcomes after so many calls shows a prefix that holds so many commands at least.
-fn all_hold(
+pub fn all_hold(
     rt: &(impl Threads + Sync),
     alloc: Global,
     host: &MemHost,
     calls: u64,
-    least: usize,
+    bounds: Bounds<'_>,
 ) -> Result<bool, AllocError> {
     Ok(
-        holds(rt, alloc, left(alloc, host, calls, Vec::new(alloc))?, least)?
-            && holds(rt, alloc, oldest(alloc, host, calls)?, least)?
-            && names_hold(rt, alloc, host, calls, least)?
-            && files_hold(rt, alloc, host, calls, least)?,
+        holds(
+            rt,
+            alloc,
+            left(alloc, host, calls, Vec::new(alloc))?,
+            bounds,
+        )? && holds(rt, alloc, oldest(alloc, host, calls)?, bounds)?
+            && names_hold(rt, alloc, host, calls, bounds)?
+            && files_hold(rt, alloc, host, calls, bounds)?,
     )
 }
 
@@ -204,7 +234,11 @@ fn a_stop_at_any_moment_leaves_what_was_acknowledged(rt: HostRuntime) -> Result<
     assert_eq!(rt; ends.len(), SCRIPT.len());
     for calls in 0..=host.calls() {
         let least = acknowledged(&ends, calls);
-        assert!(rt; all_hold(&rt, rt.alloc(), &host, calls, least)?, "{calls}");
+        let bounds = Bounds {
+            texts: &SHOWN,
+            least,
+        };
+        assert!(rt; all_hold(&rt, rt.alloc(), &host, calls, bounds)?, "{calls}");
     }
     Ok(())
 }
@@ -232,13 +266,28 @@ fn a_failure_of_any_call_leaves_what_was_acknowledged(rt: HostRuntime) -> Result
             assert!(rt; host.calls() > call, "{call}");
             let lines = host.printed().iter().filter(|byte| **byte == b'\n').count();
             let calls = host.calls();
+            let bounds = Bounds {
+                texts: &SHOWN,
+                least: lines,
+            };
             assert!(rt;
-                all_hold(&rt, rt.alloc(), &host, calls, lines)?,
+                all_hold(&rt, rt.alloc(), &host, calls, bounds)?,
                 "{call} {done}"
             );
         }
     }
     Ok(())
+}
+
+// The last moment at which a stop may bring something back, which is behind the rename.
+fn last_open(host: &MemHost) -> Result<u64, AllocError> {
+    let mut last = 0;
+    for calls in 0..=host.calls() {
+        if host.choices(calls)?.len() > 0 {
+            last = calls;
+        }
+    }
+    Ok(last)
 }
 
 #[test]
@@ -248,8 +297,7 @@ fn a_stop_behind_the_rename_leaves_both(rt: HostRuntime) -> Result<(), Fail> {
         run_words(&rt, rt.alloc(), &mut host, &["pin", PLATFORM])?,
         0
     );
-    // Behind the rename come the sync and the line.
-    let calls = host.calls().saturating_sub(2);
+    let calls = last_open(&host)?;
     let choices = host.choices(calls)?;
     let mut texts = Vec::new(rt.alloc());
     for (path, entries) in choices.as_slice() {
@@ -260,12 +308,16 @@ fn a_stop_behind_the_rename_leaves_both(rt: HostRuntime) -> Result<(), Fail> {
         [("config", 1), ("repo/tmp/new0", 1)].as_slice()
     );
     let new = left(rt.alloc(), &host, calls, Vec::new(rt.alloc()))?;
-    assert!(rt; holds(&rt, rt.alloc(), new, 1)?);
+    let bounds = Bounds {
+        texts: &SHOWN,
+        least: 1,
+    };
+    assert!(rt; holds(&rt, rt.alloc(), new, bounds)?);
     let mut names = Vec::new(rt.alloc());
     names.push((Path::parse(rt.alloc(), "config")?, 1))?;
     let Some(old) = left(rt.alloc(), &host, calls, names)? else {
         return Err(Fail::from("config has no earlier entry"));
     };
-    assert_eq!(rt; shown(&rt, rt.alloc(), old)?, Some(0));
+    assert_eq!(rt; shown(&rt, rt.alloc(), old, &SHOWN)?, Some(0));
     Ok(())
 }

@@ -1,4 +1,3 @@
-use Rattle.std.proofs.Common.{◌≡◌}
 use Rattle.fp_host.specs.Causes.{end_of}
 use Rattle.fp_host.specs.Frame.{NoPath}
 use Rattle.fp_host.specs.Outcome.{Nothing}

@@ -2,15 +2,12 @@ use Rattle.std.proofs.Common.{◌≡◌, None, subst, Err}
 use Rattle.fp_small.specs.declared.state.State.{State}
 use Rattle.fl_top.specs.Ends.{IsTried}
 use Rattle.fl_top.specs.Answer.{refusal_of}
-use Rattle.fl_top.proofs.Composing.{goes_tried, goes_halted}
+use Rattle.fl_top.proofs.Composing.{goes_tried}
 use Rattle.fl_top.proofs.Trying.{may}
 use Rattle.fl_top.proofs.change.try_and_do.Goals as goal
 
 pub returns-in_err-try_op-clause-moments : goal.returns-in_err-try_op-clause-moments
 returns-in_err-try_op-clause-moments g c = goes_tried c.args.op.now c.args.opened c.in_err-try_op.field-0.0 c.from_residual.result (g.met.H.Host.is_tree c.args.host.now) (subst (λ (s : State). IsTried (refusal_of s c.args.op.now) (Err c.in_err-try_op.field-0.0)) c.state.ensures c.in_err-try_op.ensures) c.from_residual.ensures.1
 
-pub returns-in_err-line-clause-moments : goal.returns-in_err-line-clause-moments
-returns-in_err-line-clause-moments g c = goes_halted c.args.op.now c.args.opened c.from_residual-in_err-line.result (g.met.H.Host.is_tree c.args.host.now) c.from_residual-in_err-line.ensures.1
-
-pub do_and_say-requires-clause-may : goal.do_and_say-requires-clause-may
-do_and_say-requires-clause-may g c = may c.args.opened c.args.op.now c.requires.op (subst (λ (s : State). refusal_of s c.args.op.now ≡ None) c.state.ensures c.in_ok-try_op.ensures)
+pub do_op-requires-clause-may : goal.do_op-requires-clause-may
+do_op-requires-clause-may g c = may c.args.opened c.args.op.now c.requires.layout c.requires.op (subst (λ (s : State). refusal_of s c.args.op.now ≡ None) c.state.ensures c.in_ok-try_op.ensures)

@@ -1,26 +1,88 @@
-use Rattle.std.proofs.Common.{sym, subst}
+use Rattle.std.proofs.Common.{◌≡◌, [], ◌∷◌, Ok, refl, sym, subst, false, ap, arith}
 use Rattle.fp_host.specs.Moments.{Goes}
 use Rattle.fl_words.specs.declared.command.Command.{Command}
-use Rattle.fl_top.specs.Answer.{answer_over}
-use Rattle.fl_top.specs.Performs.{RunsOver, EndedOver}
+use Rattle.fl_words.specs.declared.command.Command.TheVariants.{ListPins, ListRemotes, Batch}
+use Rattle.fl_top.specs.Answer.{changing, told_pins, told_remotes}
+use Rattle.fl_top.specs.Performs.{RunsOn, EndedOn}
+use Rattle.fl_top.specs.Status.{only_looks, reads_input}
+use Rattle.fl_top.proofs.Finishing.{goes_look, goes_not_looked, goes_change, goes_not_changed, caused_change, run_fault, run_input, other_changes, other_answers, takes_none, takes_all, other_reads}
 use Rattle.fl_top.proofs.running.perform.Goals as goal
 
-pub returns-in-Pin-clause-moments : goal.returns-in-Pin-clause-moments
-returns-in-Pin-clause-moments g c =
-    subst (λ (k : Command). Goes (g.H.Host.moments c.args.host.now) (g.H.Host.moments c.change.new.host) (RunsOver (answer_over k)) (EndedOver (answer_over k) c.change.result)) (sym c.in-Pin.is) c.change.ensures.moments
+pub returns-in_err-list_pins-in-ListPins-clause-moments : goal.returns-in_err-list_pins-in-ListPins-clause-moments
+returns-in_err-list_pins-in-ListPins-clause-moments g c =
+    let left = g.I.Source.left c.args.input.now in
+    let a = g.H.Host.moments c.args.host.now in
+    let b = g.H.Host.moments c.list_pins.new.host in
+    subst (λ (k : Command). Goes a b (RunsOn k left) (EndedOn k left c.from_residual.result)) (sym c.in-ListPins.is)
+    (goes_not_looked ListPins left told_pins c.in_err-list_pins-in-ListPins.field-0.0 c.from_residual.result (g.met.H.Host.is_tree c.args.host.now) (λ input given u. refl) c.in_err-list_pins-in-ListPins.ensures.moments c.from_residual.ensures.1)
 
-pub returns-in-Unpin-clause-moments : goal.returns-in-Unpin-clause-moments
-returns-in-Unpin-clause-moments g c =
-    subst (λ (k : Command). Goes (g.H.Host.moments c.args.host.now) (g.H.Host.moments c.change-in-Unpin.new.host) (RunsOver (answer_over k)) (EndedOver (answer_over k) c.change-in-Unpin.result)) (sym c.in-Unpin.is) c.change-in-Unpin.ensures.moments
+pub returns-in_ok-list_pins-in-ListPins-clause-moments : goal.returns-in_ok-list_pins-in-ListPins-clause-moments
+returns-in_ok-list_pins-in-ListPins-clause-moments g c =
+    let left = g.I.Source.left c.args.input.now in
+    let a = g.H.Host.moments c.args.host.now in
+    let b = g.H.Host.moments c.list_pins.new.host in
+    subst (λ (k : Command). Goes a b (RunsOn k left) (EndedOn k left (Ok tt))) (sym c.in-ListPins.is)
+    (goes_look ListPins left told_pins (g.met.H.Host.is_tree c.args.host.now) (λ input given u. refl) c.in_ok-list_pins-in-ListPins.ensures.moments)
 
-pub returns-in-AddRemote-clause-moments : goal.returns-in-AddRemote-clause-moments
-returns-in-AddRemote-clause-moments g c =
-    subst (λ (k : Command). Goes (g.H.Host.moments c.args.host.now) (g.H.Host.moments c.change-in-AddRemote.new.host) (RunsOver (answer_over k)) (EndedOver (answer_over k) c.change-in-AddRemote.result)) (sym c.in-AddRemote.is) c.change-in-AddRemote.ensures.moments
+pub returns-in_err-list_remotes-in-ListRemotes-clause-moments : goal.returns-in_err-list_remotes-in-ListRemotes-clause-moments
+returns-in_err-list_remotes-in-ListRemotes-clause-moments g c =
+    let left = g.I.Source.left c.args.input.now in
+    let a = g.H.Host.moments c.args.host.now in
+    let b = g.H.Host.moments c.list_remotes.new.host in
+    subst (λ (k : Command). Goes a b (RunsOn k left) (EndedOn k left c.from_residual-in_err-list_remotes-in-ListRemotes.result)) (sym c.in-ListRemotes.is)
+    (goes_not_looked ListRemotes left told_remotes c.in_err-list_remotes-in-ListRemotes.field-0.0 c.from_residual-in_err-list_remotes-in-ListRemotes.result (g.met.H.Host.is_tree c.args.host.now) (λ input given u. refl) c.in_err-list_remotes-in-ListRemotes.ensures.moments c.from_residual-in_err-list_remotes-in-ListRemotes.ensures.1)
 
-pub returns-in-ModifyRemote-clause-moments : goal.returns-in-ModifyRemote-clause-moments
-returns-in-ModifyRemote-clause-moments g c =
-    subst (λ (k : Command). Goes (g.H.Host.moments c.args.host.now) (g.H.Host.moments c.change-in-ModifyRemote.new.host) (RunsOver (answer_over k)) (EndedOver (answer_over k) c.change-in-ModifyRemote.result)) (sym c.in-ModifyRemote.is) c.change-in-ModifyRemote.ensures.moments
+pub returns-in_ok-list_remotes-in-ListRemotes-clause-moments : goal.returns-in_ok-list_remotes-in-ListRemotes-clause-moments
+returns-in_ok-list_remotes-in-ListRemotes-clause-moments g c =
+    let left = g.I.Source.left c.args.input.now in
+    let a = g.H.Host.moments c.args.host.now in
+    let b = g.H.Host.moments c.list_remotes.new.host in
+    subst (λ (k : Command). Goes a b (RunsOn k left) (EndedOn k left (Ok tt))) (sym c.in-ListRemotes.is)
+    (goes_look ListRemotes left told_remotes (g.met.H.Host.is_tree c.args.host.now) (λ input given u. refl) c.in_ok-list_remotes-in-ListRemotes.ensures.moments)
 
-pub returns-in-DeleteRemote-clause-moments : goal.returns-in-DeleteRemote-clause-moments
-returns-in-DeleteRemote-clause-moments g c =
-    subst (λ (k : Command). Goes (g.H.Host.moments c.args.host.now) (g.H.Host.moments c.change-in-DeleteRemote.new.host) (RunsOver (answer_over k)) (EndedOver (answer_over k) c.change-in-DeleteRemote.result)) (sym c.in-DeleteRemote.is) c.change-in-DeleteRemote.ensures.moments
+pub returns-in-Batch-clause-cause : goal.returns-in-Batch-clause-cause
+returns-in-Batch-clause-cause g c = caused_change c.args.command _ _ (ap only_looks c.in-Batch.is) c.batch.ensures.cause (λ is. is)
+
+pub returns-in_err-change-in_default : goal.returns-in_err-change-in_default
+returns-in_err-change-in_default g c =
+    let command = c.args.command in
+    let left = g.I.Source.left c.args.input.now in
+    let changes : only_looks command ≡ false = other_changes command c.in_default.not-ListPins c.in_default.not-ListRemotes in
+    let e = c.in_err-change-in_default.field-0.0 in
+    let r = c.from_residual-in_err-change-in_default.result in
+    let err = c.from_residual-in_err-change-in_default.ensures.1 in
+    record {
+      moments = goes_not_changed command left (changing (command ∷ [])) e r (g.met.H.Host.is_tree c.args.host.now) changes (other_answers left command c.in_default.not-ListPins c.in_default.not-ListRemotes c.in_default.not-Batch) c.in_err-change-in_default.ensures.moments err;
+      cause = caused_change command _ _ changes c.change.ensures.cause (run_fault c.change.result r e c.in_err-change-in_default.was err);
+      input = λ is. absurd (run_input r e err is);
+      taken = takes_none command r left (other_reads command c.in_default.not-Batch);
+      later = omega arith;
+    }
+
+pub returns-in_ok-change-in_default : goal.returns-in_ok-change-in_default
+returns-in_ok-change-in_default g c =
+    let command = c.args.command in
+    let left = g.I.Source.left c.args.input.now in
+    let changes : only_looks command ≡ false = other_changes command c.in_default.not-ListPins c.in_default.not-ListRemotes in
+    record {
+      moments = goes_change command left (changing (command ∷ [])) (g.met.H.Host.is_tree c.args.host.now) changes (other_answers left command c.in_default.not-ListPins c.in_default.not-ListRemotes c.in_default.not-Batch) c.in_ok-change-in_default.ensures.moments;
+      cause = record { later = c.change.ensures.cause.later; fault = λ is. absurd (cc is) };
+      input = λ is. absurd (cc is);
+      taken = takes_none command (Ok tt) left (other_reads command c.in_default.not-Batch);
+      later = omega arith;
+    }
+
+pub returns-in_err-list_pins-in-ListPins-clause-taken : goal.returns-in_err-list_pins-in-ListPins-clause-taken
+returns-in_err-list_pins-in-ListPins-clause-taken g c = takes_none c.args.command c.from_residual.result (g.I.Source.left c.args.input.now) (ap reads_input c.in-ListPins.is)
+
+pub returns-in_ok-list_pins-in-ListPins-clause-taken : goal.returns-in_ok-list_pins-in-ListPins-clause-taken
+returns-in_ok-list_pins-in-ListPins-clause-taken g c = takes_none c.args.command (Ok tt) (g.I.Source.left c.args.input.now) (ap reads_input c.in-ListPins.is)
+
+pub returns-in_err-list_remotes-in-ListRemotes-clause-taken : goal.returns-in_err-list_remotes-in-ListRemotes-clause-taken
+returns-in_err-list_remotes-in-ListRemotes-clause-taken g c = takes_none c.args.command c.from_residual-in_err-list_remotes-in-ListRemotes.result (g.I.Source.left c.args.input.now) (ap reads_input c.in-ListRemotes.is)
+
+pub returns-in_ok-list_remotes-in-ListRemotes-clause-taken : goal.returns-in_ok-list_remotes-in-ListRemotes-clause-taken
+returns-in_ok-list_remotes-in-ListRemotes-clause-taken g c = takes_none c.args.command (Ok tt) (g.I.Source.left c.args.input.now) (ap reads_input c.in-ListRemotes.is)
+
+pub returns-in-Batch-clause-taken : goal.returns-in-Batch-clause-taken
+returns-in-Batch-clause-taken g c = takes_all c.args.command c.batch.result (g.I.Source.left c.args.input.now) (g.I.Source.left c.batch.new.input) (ap reads_input c.in-Batch.is) c.batch.ensures.taken

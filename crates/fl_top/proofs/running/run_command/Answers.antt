@@ -1,12 +1,62 @@
-use Rattle.std.proofs.Common.{Err, subst}
+use Rattle.std.proofs.Common.{◌≡◌, ◌∙◌, Result, Ok, Err, subst, ap, arith}
 use Rattle.fp_host.specs.Moments.{Goes}
-use Rattle.fl_top.specs.Answer.{answer_over}
-use Rattle.fl_top.specs.Performs.{RunsOver, EndedOver}
-use Rattle.fl_top.specs.declared.end.RunEnd.{RunEnd}
-use Rattle.fl_top.proofs.Finishing.{goes_refused}
+use Rattle.fl_top.specs.Performs.{RunsOn, EndedOn}
+use Rattle.fl_top.specs.declared.command_end.CommandEnd.{CommandEnd}
+use Rattle.fl_top.specs.declared.command_end.CommandEnd.TheVariants.{Refused}
+use Rattle.fl_top.proofs.Finishing.{goes_done, goes_fault, goes_input, goes_memory, goes_refused, taken_at}
+use Rattle.fl_top.proofs.Ending.{not_answered}
+use Rattle.fl_top.specs.Performs.{Takes}
 use Rattle.fl_top.proofs.running.run_command.Goals as goal
+
+pub returns-in-Ok-clause-moments : goal.returns-in-Ok-clause-moments
+returns-in-Ok-clause-moments g c = goes_done c.args.command (g.I.Source.left c.args.input.now) (g.met.H.Host.is_tree c.args.host.now) c.in-Ok.ensures.moments
 
 pub returns-in-Err-Refused-clause-moments : goal.returns-in-Err-Refused-clause-moments
 returns-in-Err-Refused-clause-moments g c =
-    let performed = subst (λ (e : RunEnd). Goes (g.H.Host.moments c.args.host.now) (g.H.Host.moments c.perform.new.host) (RunsOver (answer_over c.args.command)) (EndedOver (answer_over c.args.command) (Err e))) c.in-Err-Refused.field-0-is c.in-Err-Refused.ensures.moments in
-    goes_refused c.args.command c.in-Err-Refused.refusal c.refuse.result (g.met.H.Host.is_tree c.perform.new.host) performed c.refuse.ensures.moments
+    let left = g.I.Source.left c.args.input.now in
+    let performed = subst (λ (e : CommandEnd). Goes (g.H.Host.moments c.args.host.now) (g.H.Host.moments c.perform.new.host) (RunsOn c.args.command left) (EndedOn c.args.command left (Err e))) c.in-Err-Refused.field-0-is c.in-Err-Refused.ensures.moments in
+    goes_refused c.args.command left c.in-Err-Refused.refusal c.refuse.result (g.met.H.Host.is_tree c.perform.new.host) performed c.refuse.ensures.moments
+
+pub returns-in-Err-Fault-clause-moments : goal.returns-in-Err-Fault-clause-moments
+returns-in-Err-Fault-clause-moments g c =
+    let left = g.I.Source.left c.args.input.now in
+    goes_fault c.args.command left (g.met.H.Host.is_tree c.args.host.now) (subst (λ (e : CommandEnd). Goes (g.H.Host.moments c.args.host.now) (g.H.Host.moments c.perform.new.host) (RunsOn c.args.command left) (EndedOn c.args.command left (Err e))) c.in-Err-Fault.field-0-is c.in-Err-Fault.ensures.moments)
+
+pub returns-in-Err-Fault-clause-cause : goal.returns-in-Err-Fault-clause-cause
+returns-in-Err-Fault-clause-cause g c = record {
+  later = c.perform.ensures.cause.later;
+  fault = λ same. c.perform.ensures.cause.fault (c.in-Err-Fault.is ∙ ap (λ (e : CommandEnd). Err e) c.in-Err-Fault.field-0-is);
+}
+
+pub returns-in-Err-InputFault-clause-moments : goal.returns-in-Err-InputFault-clause-moments
+returns-in-Err-InputFault-clause-moments g c =
+    let left = g.I.Source.left c.args.input.now in
+    goes_input c.args.command left (g.met.H.Host.is_tree c.args.host.now) (subst (λ (e : CommandEnd). Goes (g.H.Host.moments c.args.host.now) (g.H.Host.moments c.perform.new.host) (RunsOn c.args.command left) (EndedOn c.args.command left (Err e))) c.in-Err-InputFault.field-0-is c.in-Err-InputFault.ensures.moments)
+
+pub returns-in-Err-NoMemory-clause-moments : goal.returns-in-Err-NoMemory-clause-moments
+returns-in-Err-NoMemory-clause-moments g c =
+    let left = g.I.Source.left c.args.input.now in
+    goes_memory c.args.command left (g.met.H.Host.is_tree c.args.host.now) (subst (λ (e : CommandEnd). Goes (g.H.Host.moments c.args.host.now) (g.H.Host.moments c.perform.new.host) (RunsOn c.args.command left) (EndedOn c.args.command left (Err e))) c.in-Err-NoMemory.field-0-is c.in-Err-NoMemory.ensures.moments)
+
+pub returns-in-Ok-clause-taken : goal.returns-in-Ok-clause-taken
+returns-in-Ok-clause-taken g c =
+    let old = g.I.Source.left c.args.input.now in
+    let new = g.I.Source.left c.perform.new.input in
+    let is : c.perform.result ≡ Ok tt = c.in-Ok.is in
+    taken_at c.args.command (Ok tt) 0 old new (subst (λ (r : Result (Unit {0}) CommandEnd). Takes c.args.command r old new) is c.perform.ensures.taken) (λ taken answered. taken)
+
+pub returns-in-Err-Refused-clause-taken : goal.returns-in-Err-Refused-clause-taken
+returns-in-Err-Refused-clause-taken g c =
+    let old = g.I.Source.left c.args.input.now in
+    let new = g.I.Source.left c.perform.new.input in
+    let is = c.in-Err-Refused.is ∙ ap (λ (e : CommandEnd). Err e) c.in-Err-Refused.field-0-is in
+    taken_at c.args.command (Err (Refused c.in-Err-Refused.refusal)) c.refuse.result old new (subst (λ (r : Result (Unit {0}) CommandEnd). Takes c.args.command r old new) is c.perform.ensures.taken) (λ taken answered. taken)
+
+pub returns-in-Err-Fault-clause-taken : goal.returns-in-Err-Fault-clause-taken
+returns-in-Err-Fault-clause-taken g c = taken_at c.args.command c.perform.result 3 (g.I.Source.left c.args.input.now) (g.I.Source.left c.perform.new.input) c.perform.ensures.taken (λ taken answered. absurd (not_answered 3 (omega arith) answered))
+
+pub returns-in-Err-InputFault-clause-taken : goal.returns-in-Err-InputFault-clause-taken
+returns-in-Err-InputFault-clause-taken g c = taken_at c.args.command c.perform.result 5 (g.I.Source.left c.args.input.now) (g.I.Source.left c.perform.new.input) c.perform.ensures.taken (λ taken answered. absurd (not_answered 5 (omega arith) answered))
+
+pub returns-in-Err-NoMemory-clause-taken : goal.returns-in-Err-NoMemory-clause-taken
+returns-in-Err-NoMemory-clause-taken g c = taken_at c.args.command c.perform.result 6 (g.I.Source.left c.args.input.now) (g.I.Source.left c.perform.new.input) c.perform.ensures.taken (λ taken answered. absurd (not_answered 6 (omega arith) answered))

@@ -9,18 +9,18 @@ use Rattle.dep_states.specs.Shown.{settings_of}
 use Rattle.dep_states.specs.Names.{config}
 use Rattle.dep_states.specs.Sound.{Opens}
 use Rattle.fp_small.proofs.ConfigTexts.{written_back}
-use Rattle.op_change.proofs.Either.{good_after, moments_applied, ends_applied, can_replace}
+use Rattle.op_change.proofs.Either.{IsNext, next_after, next_good, moments_applied, ends_applied, can_replace}
 use Rattle.op_change.proofs.applying.apply.Goals as goal
 
 pub write_state-requires : goal.write_state-requires
 write_state-requires g c =
     let is : c.in_ok-state.state ≡ after c.args.opened c.args.op.now = c.in_ok-state.ensures ∙ ap (λ (s : State). after s c.args.op.now) c.take.ensures in
-    (subst IsGood (sym is) (good_after c.args.opened c.args.op.now c.requires.may c.requires.good)).settings
+    (subst IsNext (sym is) (next_after c.args.opened c.args.op.now c.requires.may c.requires.good)).settings
 
 pub returns-in_err-write_state-clause-moments : goal.returns-in_err-write_state-clause-moments
 returns-in_err-write_state-clause-moments g c =
     let is : c.in_ok-state.state ≡ after c.args.opened c.args.op.now = c.in_ok-state.ensures ∙ ap (λ (s : State). after s c.args.op.now) c.take.ensures in
-    let good = subst IsGood (sym is) (good_after c.args.opened c.args.op.now c.requires.may c.requires.good) in
+    let good = subst IsNext (sym is) (next_after c.args.opened c.args.op.now c.requires.may c.requires.good) in
     moments_applied (g.met.H.Host.is_tree c.args.host.now) is good (written_back (settings_of c.in_ok-state.state) good.settings) c.write_state.ensures.moments
 
 pub returns-in_err-write_state-clause-cause : goal.returns-in_err-write_state-clause-cause
@@ -33,11 +33,16 @@ returns-in_err-write_state-clause-cause g c =
 pub returns-clause-moments : goal.returns-clause-moments
 returns-clause-moments g c =
     let is : c.in_ok-state.state ≡ after c.args.opened c.args.op.now = c.in_ok-state.ensures ∙ ap (λ (s : State). after s c.args.op.now) c.take.ensures in
-    let good = subst IsGood (sym is) (good_after c.args.opened c.args.op.now c.requires.may c.requires.good) in
+    let good = subst IsNext (sym is) (next_after c.args.opened c.args.op.now c.requires.may c.requires.good) in
     moments_applied (g.met.H.Host.is_tree c.args.host.now) is good (written_back (settings_of c.in_ok-state.state) good.settings) c.write_state.ensures.moments
 
 pub returns-clause-done : goal.returns-clause-done
 returns-clause-done g c =
     let is : c.in_ok-state.state ≡ after c.args.opened c.args.op.now = c.in_ok-state.ensures ∙ ap (λ (s : State). after s c.args.op.now) c.take.ensures in
-    let good = subst IsGood (sym is) (good_after c.args.opened c.args.op.now c.requires.may c.requires.good) in
+    let good = subst IsNext (sym is) (next_after c.args.opened c.args.op.now c.requires.may c.requires.good) in
     ends_applied (g.met.H.Host.is_tree c.args.host.now) is good (written_back (settings_of c.in_ok-state.state) good.settings) c.write_state.ensures.moments c.in_ok-write_state.ensures.done
+
+pub returns-clause-good : goal.returns-clause-good
+returns-clause-good g c =
+    let is : c.in_ok-state.state ≡ after c.args.opened c.args.op.now = c.in_ok-state.ensures ∙ ap (λ (s : State). after s c.args.op.now) c.take.ensures in
+    subst IsGood (sym c.of.ensures) (next_good (subst IsNext (sym is) (next_after c.args.opened c.args.op.now c.requires.may c.requires.good)))

@@ -1,0 +1,5 @@
+use Rattle.dep_states.proofs.Law.{settled_config}
+use Rattle.dep_states.proofs.laws.settled_config_stays.Goals as goal
+
+pub returns : goal.returns
+returns c = settled_config

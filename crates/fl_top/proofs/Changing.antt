@@ -1,0 +1,41 @@
+-- Which names the parts of a run change.
+use Rattle.std.proofs.Common.{◌≡◌, ◌⊎◌, inl, inr, [], ◌∷◌, Contains, refl, sym, ◌∙◌, subst, arith}
+use Rattle.std.proofs.lemmas.List.Elements.{Contains-push_cases}
+use Rattle.fp_host.specs.Paths.{Elements, Slot, absent, IsAbove}
+use Rattle.fp_host.specs.View.{View}
+use Rattle.fp_small.specs.Places.{repo, tmp}
+use Rattle.fp_small.specs.Replace.{ReplacesName, folders_of}
+use Rattle.fp_small.specs.declared.state.State.{State}
+use Rattle.fp_small.specs.declared.op.Op.{Op}
+use Rattle.dep_states.specs.Names.{config}
+use Rattle.dep_open.specs.Tidy.{Tidies, TakenAway, left_work, old_file}
+use Rattle.op_change.specs.Applied.{Applies}
+use Rattle.fl_top.specs.Changes.{MayHold, new_config, work_folder, some_work, old_gone, Changes}
+
+pub change_on : (u v w : View) → Changes u v → Changes v w → Changes u w
+change_on u v w first second q = elim (second q) [
+  | inl same ↦ elim (first q) [ inl was ↦ inl (same ∙ was) | inr may ↦ inr (subst (MayHold q) (sym same) may) ]
+  | inr may ↦ inr may
+]
+
+which : (q : Elements) → Contains (folders_of config) q → (q ≡ repo) ⊎ (q ≡ tmp)
+which q has = elim (Contains-push_cases (repo ∷ []) tmp q has) [
+  | inl first ↦ elim (Contains-push_cases [] repo q first) [ inl none ↦ absurd (omega (arith, none.1)) | inr is ↦ inl (sym is) ]
+  | inr is ↦ inr (sym is)
+]
+
+may_replace : (u : View) (q : Elements) (e : Slot) → ReplacesName config u q e → MayHold q e
+may_replace u q e put = elim put [
+  | inl new ↦ new_config new.0 new.1
+  | inr other ↦ elim other [ inl made ↦ work_folder (which q made.0) made.1 | inr work ↦ some_work (subst (IsAbove tmp) (sym work.is) (inl refl)) ]
+]
+
+pub applied_changes : (s : State) (op : Op) (u w : View) → Applies s op u w → Changes u w
+applied_changes s op u w applies q = elim (applies.names q) [ inl same ↦ inl same | inr put ↦ inr (may_replace u q (w.names q) put) ]
+
+may_take : (u : View) (q : Elements) (e : Slot) → TakenAway u q → e ≡ absent → MayHold q e
+may_take u q e (left_work above) gone = some_work above
+may_take u q e (old_file there old) gone = old_gone old gone
+
+pub tidied_changes : (s : State) (u w : View) → Tidies s u w → Changes u w
+tidied_changes s u w tidies q = elim (tidies.names q) [ inl same ↦ inl same | inr taken ↦ inr (may_take u q (w.names q) taken.0 taken.1) ]

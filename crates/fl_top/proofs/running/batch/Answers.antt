@@ -1,0 +1,55 @@
+use Rattle.std.proofs.Common.{◌≡◌, ◌∙◌, refl, sym, subst, List, ℕ, Ok, Err}
+use Rattle.fp_host.specs.Moments.{Goes}
+use Rattle.fl_words.specs.Batch.{IsBadBatch, batch_of}
+use Rattle.fl_words.specs.declared.command.Command.{Command}
+use Rattle.fl_words.specs.declared.command.Command.TheVariants.{Batch}
+use Rattle.fl_top.specs.Answer.{changing}
+use Rattle.fl_top.specs.Ends.{end_of_input, end_of_batch}
+use Rattle.fl_top.specs.Performs.{RunsOver, EndedOver}
+use Rattle.fl_top.proofs.Finishing.{goes_none, input_ends, batch_ends, batch_answers, goes_change, goes_not_changed, run_fault, drained_by, not_taken}
+use Rattle.fl_top.proofs.running.batch.Goals as goal
+
+pub returns-in_err-bytes-clause-moments : goal.returns-in_err-bytes-clause-moments
+returns-in_err-bytes-clause-moments g c =
+    let left = g.I.Source.left c.args.input.now in
+    goes_none Batch left (end_of_input c.in_err-bytes.field-0.0) c.from_residual.result (g.met.H.Host.is_tree c.args.host.now) c.from_residual.ensures.1 (input_ends left (g.I.Source.faults c.args.input.now) (g.I.Source.faults c.read_input.new.input) c.in_err-bytes.field-0.0 c.in_err-bytes.ensures.stops)
+
+pub returns-in_err-commands-clause-moments : goal.returns-in_err-commands-clause-moments
+returns-in_err-commands-clause-moments g c =
+    let left = g.I.Source.left c.args.input.now in
+    let bad : IsBadBatch c.in_ok-bytes.bytes c.in_err-commands.field-0.0 = subst (λ (b : List ℕ). IsBadBatch b c.in_err-commands.field-0.0) c.as_slice.ensures c.in_err-commands.ensures.bad in
+    goes_none Batch left (end_of_batch c.in_err-commands.field-0.0) c.from_residual-in_err-commands.result (g.met.H.Host.is_tree c.args.host.now) c.from_residual-in_err-commands.ensures.1 (batch_ends left c.in_ok-bytes.bytes c.in_err-commands.field-0.0 c.in_ok-bytes.ensures.ok bad)
+
+pub returns-in_err-change-clause-moments : goal.returns-in_err-change-clause-moments
+returns-in_err-change-clause-moments g c =
+    let left = g.I.Source.left c.args.input.now in
+    let commands : c.as_slice-2.result.now ≡ c.in_ok-commands.commands = c.as_slice-2.ensures in
+    let read : batch_of c.in_ok-bytes.bytes ≡ Ok c.in_ok-commands.commands = subst (λ (b : List ℕ). batch_of b ≡ Ok c.in_ok-commands.commands) c.as_slice.ensures c.in_ok-commands.ensures.ok in
+    let changed = subst (λ (l : List Command). Goes (g.H.Host.moments c.args.host.now) (g.H.Host.moments c.change.new.host) (RunsOver (changing l)) (EndedOver (changing l) (Err c.in_err-change.field-0.0))) commands c.in_err-change.ensures.moments in
+    goes_not_changed Batch left (changing c.in_ok-commands.commands) c.in_err-change.field-0.0 c.from_residual-in_err-change.result (g.met.H.Host.is_tree c.args.host.now) refl (batch_answers left c.in_ok-bytes.bytes c.in_ok-commands.commands c.in_ok-bytes.ensures.ok read) changed c.from_residual-in_err-change.ensures.1
+
+pub returns-in_err-change-clause-cause : goal.returns-in_err-change-clause-cause
+returns-in_err-change-clause-cause g c = record {
+  later = c.change.ensures.cause.later;
+  fault = λ is. c.change.ensures.cause.fault (run_fault c.change.result c.from_residual-in_err-change.result c.in_err-change.field-0.0 c.in_err-change.was c.from_residual-in_err-change.ensures.1 is);
+}
+
+pub returns-clause-moments : goal.returns-clause-moments
+returns-clause-moments g c =
+    let left = g.I.Source.left c.args.input.now in
+    let commands : c.as_slice-2.result.now ≡ c.in_ok-commands.commands = c.as_slice-2.ensures in
+    let read : batch_of c.in_ok-bytes.bytes ≡ Ok c.in_ok-commands.commands = subst (λ (b : List ℕ). batch_of b ≡ Ok c.in_ok-commands.commands) c.as_slice.ensures c.in_ok-commands.ensures.ok in
+    let changed = subst (λ (l : List Command). Goes (g.H.Host.moments c.args.host.now) (g.H.Host.moments c.change.new.host) (RunsOver (changing l)) (EndedOver (changing l) (Ok tt))) commands c.in_ok-change.ensures.moments in
+    goes_change Batch left (changing c.in_ok-commands.commands) (g.met.H.Host.is_tree c.args.host.now) refl (batch_answers left c.in_ok-bytes.bytes c.in_ok-commands.commands c.in_ok-bytes.ensures.ok read) changed
+
+pub returns-in_err-bytes-clause-taken : goal.returns-in_err-bytes-clause-taken
+returns-in_err-bytes-clause-taken g c = not_taken c.in_err-bytes.field-0.0 c.from_residual.result (g.I.Source.left c.args.input.now) (g.I.Source.left c.read_input.new.input) (g.I.Source.faults c.args.input.now) (g.I.Source.faults c.read_input.new.input) c.from_residual.ensures.1 c.in_err-bytes.ensures.stops
+
+pub returns-in_err-commands-clause-taken : goal.returns-in_err-commands-clause-taken
+returns-in_err-commands-clause-taken g c = drained_by c.from_residual-in_err-commands.result (g.I.Source.left c.args.input.now) (g.I.Source.left c.read_input.new.input) c.in_ok-bytes.ensures.taken
+
+pub returns-in_err-change-clause-taken : goal.returns-in_err-change-clause-taken
+returns-in_err-change-clause-taken g c = drained_by c.from_residual-in_err-change.result (g.I.Source.left c.args.input.now) (g.I.Source.left c.read_input.new.input) c.in_ok-bytes.ensures.taken
+
+pub returns-clause-taken : goal.returns-clause-taken
+returns-clause-taken g c = drained_by (Ok tt) (g.I.Source.left c.args.input.now) (g.I.Source.left c.read_input.new.input) c.in_ok-bytes.ensures.taken

@@ -1,0 +1,65 @@
+// How a command ends where it isn't done.
+ghost use Rattle.std.specs.Prelude.{◌≡◌};
+
+use crate::end::RunEnd;
+use crate::input::InputEnd;
+use fl_words::BatchError;
+use fp_small::{Refusal, What};
+
+/// How a command ends where it isn't done.
+#[derive(Drop)]
+pub(crate) enum CommandEnd {
+    Refused(Refusal),
+    /// A call of the host failed.
+    Fault,
+    /// The input failed.
+    InputFault,
+    NoMemory,
+}
+
+impl From<RunEnd> for CommandEnd {
+    ghost use Rattle.std.specs.Prelude.{◌≡◌};
+    ghost use Rattle.fl_top.specs.Ends.{end_of_run};
+
+    ghost from_gives = { λ run end. end ≡ end_of_run run };
+
+    fn from(end: RunEnd) -> CommandEnd {
+        match end {
+            RunEnd::Refused(refusal) => CommandEnd::Refused(refusal),
+            RunEnd::Fault => CommandEnd::Fault,
+            RunEnd::NoMemory => CommandEnd::NoMemory,
+        }
+    }
+}
+
+impl From<InputEnd> for CommandEnd {
+    ghost use Rattle.std.specs.Prelude.{◌≡◌};
+    ghost use Rattle.fl_top.specs.Ends.{end_of_input};
+
+    ghost from_gives = { λ input end. end ≡ end_of_input input };
+
+    fn from(end: InputEnd) -> CommandEnd {
+        match end {
+            InputEnd::TooLong => CommandEnd::Refused(Refusal::Limit {
+                what: What::Input,
+                number: 67_108_865,
+            }),
+            InputEnd::Fault => CommandEnd::InputFault,
+            InputEnd::NoMemory => CommandEnd::NoMemory,
+        }
+    }
+}
+
+impl From<BatchError> for CommandEnd {
+    ghost use Rattle.std.specs.Prelude.{◌≡◌};
+    ghost use Rattle.fl_top.specs.Ends.{end_of_batch};
+
+    ghost from_gives = { λ error end. end ≡ end_of_batch error };
+
+    fn from(error: BatchError) -> CommandEnd {
+        match error {
+            BatchError::BadRecord { line } => CommandEnd::Refused(Refusal::BadRecord { line }),
+            BatchError::NoMemory => CommandEnd::NoMemory,
+        }
+    }
+}

@@ -1,0 +1,170 @@
+// Reading a batch.
+ghost use Rattle.std.specs.Prelude.{◌≡◌, ◌<◌, ◌∷◌, ◌==◌, Ok, Some, None, IfOk, IfErr, IfSome, OnOk, ◌++◌, [], map, length, string_bytes};
+ghost use Rattle.std.specs.List.{position};
+ghost use Rattle.fp_keyfile.specs.Lines.{lines_of};
+ghost use Rattle.fl_words.specs.Words.{command_of};
+ghost use Rattle.fl_words.specs.Batch.{words_in, words_left, allowed, batch_command, IsNoRecord, IsNoWords, IsNoText, batch_of, IsBadBatch};
+ghost use Rattle.fl_words.specs.declared.batch.BatchError.TheVariants.{NoMemory};
+
+use crate::command::{Command, WordsError};
+use crate::reading::read_words;
+use fp_host::Items;
+use std::alloc::{AllocError, Global};
+use std::error::Error;
+use std::{fmt, str};
+
+/// Why a batch wasn't read.
+#[derive(Clone, Copy, Debug, PartialEq, Eq)]
+pub enum BatchError {
+    /// This line, counted from 1, is the first that holds no command that may stand in a batch.
+    BadRecord { line: u64 },
+    NoMemory,
+}
+
+impl fmt::Display for BatchError {
+    fn fmt<W: fmt::Write>(&self, f: &mut fmt::Formatter<W>) -> fmt::Result {
+        match self {
+            BatchError::BadRecord { line } => write!(f, "bad record at {line}"),
+            BatchError::NoMemory => write!(f, "out of memory"),
+        }
+    }
+}
+
+impl Error for BatchError {}
+
+impl From<AllocError> for BatchError {
+    ghost from_gives = { λ _ e. e ≡ NoMemory };
+
+    fn from(_: AllocError) -> BatchError {
+        BatchError::NoMemory
+    }
+}
+
+/// The most words that a command has.
+const MOST_WORDS: usize = 3;
+
+/// The commands of a batch, one of each line. `BadRecord` comes exactly where a line holds none.
+pub fn read_batch(alloc: Global, bytes: &[u8]) -> Result<Items<Command>, BatchError>
+    ensures ok { IfOk result (λ commands. batch_of bytes.now ≡ Ok commands) }
+    ensures bad { IfErr result (IsBadBatch bytes.now) }
+{
+    let mut commands = Vec::new(alloc);
+    let mut rest = bytes;
+    let mut number = 0u64;
+    while !rest.is_empty() {
+        let (line, after) = first_line(rest);
+        number += 1;
+        rest = after;
+        match read_record(alloc, line) {
+            Ok(command) => add_command(&mut commands, command)?,
+            Err(WordsError::BadWords { index: _ }) => {
+                return Err(BatchError::BadRecord { line: number });
+            }
+            Err(WordsError::NoMemory) => return Err(BatchError::NoMemory),
+        }
+    }
+    Ok(Items::from_vec(commands))
+}
+
+/// Puts a command behind the others.
+fn add_command(commands: &mut Vec<Command>, command: Command) -> Result<(), AllocError>
+    ensures { OnOk result (commands.new.items ≡ commands.old.items ++ command ∷ []) }
+{
+    commands.push(command)?;
+    Ok(())
+}
+
+/// The place of the first newline.
+fn newline_place(bytes: &[u8]) -> Option<usize>
+    ensures { result ≡ position (λ b. b == 10) bytes.now }
+{
+    bytes.iter().position(|byte| *byte == b'\n')
+}
+
+/// The first line, without its newline, and what stands behind it.
+fn first_line(bytes: &[u8]) -> (&[u8], &[u8])
+    requires { 0 < length bytes.now }
+    ensures lines { lines_of bytes.now ≡ result.0.now ∷ lines_of result.1.now }
+    ensures shorter { length result.1.now < length bytes.now }
+{
+    match newline_place(bytes) {
+        Some(end) => (&bytes[..end], &bytes[end + 1..]),
+        None => (bytes, &[]),
+    }
+}
+
+/// The command of a line.
+#[tactic(auto, using(crate::proofs::LineWords::no_record, crate::proofs::LineWords::no_command, crate::proofs::LineWords::is_record))]
+fn read_record(alloc: Global, line: &[u8]) -> Result<Command, WordsError>
+    ensures ok { IfOk result (λ command. batch_command line.now ≡ Some command) }
+    ensures bad { IfErr result (IsNoRecord line.now) }
+{
+    let words = read_line(alloc, line)?;
+    let command = read_words(alloc, &words)?;
+    match allowed(command) {
+        Some(command) => Ok(command),
+        None => Err(WordsError::BadWords { index: 0 }),
+    }
+}
+
+/// The command, where it changes the installation.
+fn allowed(command: Command) -> Option<Command>
+    ensures { result ≡ allowed (Some command) }
+{
+    match command {
+        Command::ListRemotes | Command::ListPins | Command::Batch => None,
+        command => Some(command),
+    }
+}
+
+/// The words of a line, where they may be a command.
+#[tactic(auto, using(crate::proofs::LineWords::bad_word))]
+fn read_line(alloc: Global, line: &[u8]) -> Result<Vec<String>, WordsError>
+    ensures ok { IfOk result (λ words. map string_bytes words.items ≡ words_in line.now) }
+    ensures bad { IfErr result (IsNoWords line.now) }
+{
+    let mut words = Vec::new(alloc);
+    let mut rest = Some(line);
+    while let Some(text) = rest {
+        if words.len() == MOST_WORDS {
+            return Err(WordsError::BadWords { index: 0 });
+        }
+        let (word, after) = first_word(text);
+        add_word(alloc, &mut words, word)?;
+        rest = after;
+    }
+    Ok(words)
+}
+
+/// Puts a word behind the others, where it is a text.
+fn add_word(alloc: Global, words: &mut Vec<String>, word: &[u8]) -> Result<(), WordsError>
+    ensures ok { OnOk result (map string_bytes words.new.items ≡ map string_bytes words.old.items ++ word.now ∷ []) }
+    ensures bad { IfErr result (IsNoText word.now) }
+{
+    let Ok(text) = str::from_utf8(word) else {
+        return Err(WordsError::BadWords { index: 0 });
+    };
+    let text = String::from_str(alloc, text)?;
+    if words.push(text).is_err() {
+        return Err(WordsError::NoMemory);
+    }
+    Ok(())
+}
+
+/// The place of the first space.
+fn space_place(bytes: &[u8]) -> Option<usize>
+    ensures { result ≡ position (λ b. b == 32) bytes.now }
+{
+    bytes.iter().position(|byte| *byte == b' ')
+}
+
+/// The first word, and what stands behind the space that ends it.
+fn first_word(text: &[u8]) -> (&[u8], Option<&[u8]>)
+    ensures words { words_in text.now ≡ result.0.now ∷ words_left result.1 }
+    ensures shorter { IfSome result.1 (λ rest. length rest.now < length text.now) }
+{
+    match space_place(text) {
+        Some(end) => (&text[..end], Some(&text[end + 1..])),
+        None => (text, None),
+    }
+}

@@ -1,0 +1,42 @@
+use Rattle.std.proofs.Common.{◌≡◌, ◌∙◌, Ok, ap, sym, subst}
+use Rattle.std.proofs.lemmas.Result.{on_ok_weaker}
+use Rattle.fp_host.specs.View.{View}
+use Rattle.fp_host.specs.Paths.{dir}
+use Rattle.fp_host.specs.Reads.{StatOf}
+use Rattle.fp_host.proofs.Framed.{frame_start, frame_stat, frame_within}
+use Rattle.fp_host.proofs.Ending.{ends_call, ends_on, ends_to, ends_in_tree, fault_caused}
+use Rattle.fp_small.specs.Clear.{CanEmpty, Reaches}
+use Rattle.fp_small.proofs.Making.{stat_dir, stat_no_dir}
+use Rattle.fp_small.proofs.Emptying.{reaches_most, emptied_no_dir}
+use Rattle.fp_small.proofs.clearing.clear_below.Goals as goal
+
+pub returns-in_err-stat-clause-frame : goal.returns-in_err-stat-clause-frame
+returns-in_err-stat-clause-frame g c = let t = g.met.H.Host.is_tree in frame_stat c.stat.ensures.step (frame_start (t c.args.host.now)) (t c.args.host.now)
+
+pub returns-in-Dir-clause-frame : goal.returns-in-Dir-clause-frame
+returns-in-Dir-clause-frame g c =
+    let t = g.met.H.Host.is_tree in
+    frame_within c.clear_names.ensures.frame (frame_stat c.stat.ensures.step (frame_start (t c.args.host.now)) (t c.args.host.now)) (t c.stat.new.self) (λ q spot h. h) (λ q e h. h) (λ q h. h) (λ q id h put. h)
+
+pub returns-in-Dir-clause-done : goal.returns-in-Dir-clause-done
+returns-in-Dir-clause-done g c =
+    let t = g.met.H.Host.is_tree in
+    on_ok_weaker c.clear_names.result (λ done. ends_on done (ends_call (t c.args.host.now) c.stat.ensures.step) (t c.stat.new.self) (λ u v w tree q s. s)) c.clear_names.ensures.done
+
+pub returns-in-Dir-clause-cause : goal.returns-in-Dir-clause-cause
+returns-in-Dir-clause-cause g c =
+    let t = g.met.H.Host.is_tree in
+    let p = c.args.path.now in
+    let seen = ends_to {Q' = λ u w. (w ≡ u) × (u.names p ≡ dir)} (ends_call (t c.args.host.now) c.in_ok-stat.ensures.step) (λ u w s. (s.same, stat_dir (subst (λ r. StatOf p (Ok r) u w) c.in-Dir.is s))) in
+    fault_caused (CanEmpty p) (λ v. (v.names p ≡ dir) × Reaches p 128 v) _ _ _ _ _ (t c.args.host.now) c.stat.ensures.cause.later seen c.clear_names.ensures.cause (λ e. e)
+    (λ u v tree q can. (ap (λ (x : View). x.names p) q.0 ∙ q.1, subst (Reaches p 128) (sym q.0) (reaches_most can)))
+
+pub returns-in_default : goal.returns-in_default
+returns-in_default g c =
+    let t = g.met.H.Host.is_tree in
+    let p = c.args.path.now in
+    record {
+      frame = frame_stat c.stat.ensures.step (frame_start (t c.args.host.now)) (t c.args.host.now);
+      done = ends_in_tree (t c.stat.new.self) (ends_call (t c.args.host.now) c.in_ok-stat.ensures.step) (λ u w tree s. emptied_no_dir tree (λ there. stat_no_dir s c.in_default.not-Dir (sym (ap (λ (x : View). x.names p) s.same) ∙ there)));
+      cause = record { later = c.stat.ensures.cause.later; fault = λ is. absurd (cc is) };
+    }

@@ -1,0 +1,75 @@
+// Names that are taken away, with all that is below them.
+ghost use Rattle.std.specs.Prelude.{◌≡◌, OnOk, IsErrOf};
+ghost use Rattle.fp_host.specs.Paths.{dir};
+ghost use Rattle.fp_host.specs.Causes.{IsCaused};
+ghost use Rattle.fp_host.specs.Frame.{Frame, Ends, NoPath};
+ghost use Rattle.fp_small.specs.Clear.{GoneWithin, AbsentWithin, GoneBelow, AbsentBelow, IsCleared, IsEmptied, CanClear, CanEmpty, Reaches, ReachesDown};
+
+use fp_host::{Host, HostEnd, Path, Stat};
+use std::alloc::Global;
+
+/// No path of an installation has more elements.
+const MOST_ELEMENTS: u32 = 128;
+
+/// Takes the path away, and all that is below it. Where it is absent, nothing is done. It isn't for the root, nor for paths
+/// of more than 128 elements.
+pub fn clear<H: Host>(alloc: Global, host: &mut H, path: &Path) -> Result<(), HostEnd>
+    ensures frame { Frame (GoneWithin path.now) (AbsentWithin path.now) NoPath (H.moments host.old) (H.moments host.new) }
+    ensures done { OnOk result (Ends (λ u w. IsCleared path.now w) (H.moments host.old) (H.moments host.new)) }
+    ensures cause { IsCaused (IsErrOf result HostEnd.Fault) (H.moments host.old) (CanClear path.now) (H.faults host.old) (H.faults host.new) }
+{
+    clear_within(alloc, host, path, MOST_ELEMENTS)
+}
+
+/// Takes away all that is below the path, and leaves the path itself. Where it is no folder, nothing is done. It isn't for
+/// paths of more than 128 elements.
+pub fn clear_below<H: Host>(alloc: Global, host: &mut H, path: &Path) -> Result<(), HostEnd>
+    ensures frame { Frame (GoneBelow path.now) (AbsentBelow path.now) NoPath (H.moments host.old) (H.moments host.new) }
+    ensures done { OnOk result (Ends (λ u w. IsEmptied path.now w) (H.moments host.old) (H.moments host.new)) }
+    ensures cause { IsCaused (IsErrOf result HostEnd.Fault) (H.moments host.old) (CanEmpty path.now) (H.faults host.old) (H.faults host.new) }
+{
+    match host.stat(path)? {
+        Stat::Dir => clear_names(alloc, host, path, MOST_ELEMENTS),
+        _ => Ok(()),
+    }
+}
+
+/// Takes away the path, and what is at most so many folders below it.
+#[cycle(clear)]
+fn clear_within<H: Host>(
+    alloc: Global,
+    host: &mut H,
+    path: &Path,
+    depth: u32,
+) -> Result<(), HostEnd>
+    ensures frame { Frame (GoneWithin path.now) (AbsentWithin path.now) NoPath (H.moments host.old) (H.moments host.new) }
+    ensures done { OnOk result (Ends (λ u w. IsCleared path.now w) (H.moments host.old) (H.moments host.new)) }
+    ensures cause { IsCaused (IsErrOf result HostEnd.Fault) (H.moments host.old) (ReachesDown path.now depth) (H.faults host.old) (H.faults host.new) }
+{
+    match host.stat(path)? {
+        Stat::Absent => Ok(()),
+        Stat::Dir => {
+            clear_names(alloc, host, path, depth)?;
+            Ok(host.remove_dir(path)?)
+        }
+        Stat::File { .. } | Stat::Link => Ok(host.unlink(path)?),
+    }
+}
+
+/// Takes away what is in the folder, at most so many folders below it.
+#[cycle(clear)]
+fn clear_names<H: Host>(alloc: Global, host: &mut H, path: &Path, depth: u32) -> Result<(), HostEnd>
+    ensures frame { Frame (GoneBelow path.now) (AbsentBelow path.now) NoPath (H.moments host.old) (H.moments host.new) }
+    ensures done { OnOk result (Ends (λ u w. IsEmptied path.now w) (H.moments host.old) (H.moments host.new)) }
+    ensures cause { IsCaused (IsErrOf result HostEnd.Fault) (H.moments host.old) (λ v. (v.names path.now ≡ dir) × Reaches path.now depth v) (H.faults host.old) (H.faults host.new) }
+{
+    let names = host.list(alloc, path)?;
+    for name in names.as_slice() {
+        if depth == 0 {
+            return Err(HostEnd::Fault);
+        }
+        let child = path.child(name.as_str())?;
+        clear_within(alloc, host, &child, depth - 1)?;
+    }
+    Ok(())
+}

@@ -1,0 +1,93 @@
+// The file `pins` of layout 1, as it is read.
+ghost use Rattle.std.specs.Prelude.{◌≡◌, ◌<◌, ◌∷◌, ◌==◌, length, true, false, Some, None, IfOk, OnOk, IsErrOf};
+ghost use Rattle.std.specs.List.{list_all, position};
+ghost use Rattle.std.specs.Ordering.{is_lt, nat_cmp};
+ghost use Rattle.std.specs.Cmp.Lexicographic.{slice_cmp};
+ghost use Rattle.fp_host.specs.Reads.{is_ascending};
+ghost use Rattle.fp_name.specs.Pins as names;
+ghost use Rattle.fp_keyfile.specs.Lines.{lines_of};
+ghost use Rattle.fp_small.specs.Old as spec;
+ghost use Rattle.fp_small.specs.Old.{ArePatterns, pins_of};
+
+use crate::config::ConfigFault;
+use crate::config_reading::MOST_PINS;
+use fp_host::Items;
+use fp_name::PinPattern;
+use std::alloc::Global;
+
+/// Whether the last byte ends a line.
+fn is_ended(bytes: &[u8]) -> bool
+    ensures { result ≡ spec.is_ended bytes.now }
+{
+    bytes.is_empty() || bytes[bytes.len() - 1] == b'\n'
+}
+
+/// The place of the first newline.
+fn newline_place(bytes: &[u8]) -> Option<usize>
+    ensures { result ≡ position (λ b. b == 10) bytes.now }
+{
+    bytes.iter().position(|byte| *byte == b'\n')
+}
+
+/// The first line, without its newline, and what stands behind it.
+fn first_line(bytes: &[u8]) -> (&[u8], &[u8])
+    requires { 0 < length bytes.now }
+    ensures lines { lines_of bytes.now ≡ result.0.now ∷ lines_of result.1.now }
+    ensures shorter { length result.1.now < length bytes.now }
+{
+    match newline_place(bytes) {
+        Some(end) => (&bytes[..end], &bytes[end + 1..]),
+        None => (bytes, &[]),
+    }
+}
+
+/// The pattern of each line.
+fn patterns_of(alloc: Global, bytes: &[u8]) -> Result<Vec<PinPattern>, ConfigFault>
+    ensures ok { IfOk result (λ pins. pins.items ≡ lines_of bytes.now) }
+    ensures good { OnOk result (list_all names.is_pin (lines_of bytes.now) ≡ true) }
+    ensures bad { IsErrOf result ConfigFault.Bad → list_all names.is_pin (lines_of bytes.now) ≡ false }
+{
+    let mut pins = Vec::new(alloc);
+    let mut rest = bytes;
+    while !rest.is_empty() {
+        let (line, behind) = first_line(rest);
+        rest = behind;
+        pins.push(PinPattern::parse(alloc, line)?)?;
+    }
+    Ok(pins)
+}
+
+fn comes_before(a: &PinPattern, b: &PinPattern) -> bool
+    ensures { result ≡ is_lt (slice_cmp nat_cmp a.now b.now) }
+{
+    a.as_str() < b.as_str()
+}
+
+/// Whether each pattern comes before the next.
+fn are_ascending(pins: &[PinPattern]) -> bool
+    ensures { result ≡ is_ascending pins.now }
+{
+    for i in 1..pins.len() {
+        if !comes_before(&pins[i - 1], &pins[i]) {
+            return false;
+        }
+    }
+    true
+}
+
+/// Reads a `pins`: one pattern a line, strictly ascending by bytes, at most 1,024, and each line with its newline. The
+/// bytes are Bad where they are anything else.
+pub fn read_pins(alloc: Global, bytes: &[u8]) -> Result<Items<PinPattern>, ConfigFault>
+    ensures ok { IfOk result (λ pins. pins_of bytes.now ≡ Some pins) }
+    ensures good { IfOk result (λ pins. ArePatterns pins) }
+    ensures bad { IsErrOf result ConfigFault.Bad → pins_of bytes.now ≡ None }
+{
+    if !is_ended(bytes) {
+        return Err(ConfigFault::Bad);
+    }
+    let pins = patterns_of(alloc, bytes)?;
+    if !are_ascending(&pins) || pins.len() > MOST_PINS {
+        return Err(ConfigFault::Bad);
+    }
+    Ok(Items::from_vec(pins))
+}

@@ -1,0 +1,50 @@
+// The file `remotes.conf` of layout 1, as it is read.
+ghost use Rattle.std.specs.Prelude.{◌≡◌, Some, None, IfOk, IsErrOf};
+ghost use Rattle.std.specs.List.{list_all};
+ghost use Rattle.std.specs.Option.{is_some};
+ghost use Rattle.fp_small.specs.Config.{remote_of};
+ghost use Rattle.fp_small.specs.Old as spec;
+ghost use Rattle.fp_small.specs.Old.{AreRows, remotes_of, remotes_seen};
+
+use crate::config::ConfigFault;
+use crate::config_reading::{MOST_REMOTES, count_remotes, is_remote, remote_rows};
+use crate::state::RemoteRow;
+use fp_host::Items;
+use fp_keyfile::{Group, KeyFile};
+use std::alloc::Global;
+
+/// Whether each group says a remote.
+fn all_say_remotes(groups: &[Group]) -> bool
+    ensures { result ≡ list_all (λ g. is_some (remote_of g)) groups.now }
+{
+    groups.iter().all(|group| is_remote(group))
+}
+
+/// Whether the groups are those of a `remotes.conf`.
+fn are_remotes(groups: &[Group]) -> bool
+    ensures { result ≡ spec.are_remotes groups.now }
+{
+    all_say_remotes(groups) && count_remotes(groups) <= MOST_REMOTES
+}
+
+/// The remotes that the groups say, ascending.
+fn rows_of(alloc: Global, groups: &[Group]) -> Result<Items<RemoteRow>, ConfigFault>
+    ensures ok { IfOk result (λ rows. remotes_seen groups.now ≡ Some rows) }
+    ensures bad { IsErrOf result ConfigFault.Bad → remotes_seen groups.now ≡ None }
+{
+    if !are_remotes(groups) {
+        return Err(ConfigFault::Bad);
+    }
+    Ok(Items::from_vec(remote_rows(alloc, groups)?))
+}
+
+/// Reads a `remotes.conf`: a key file whose groups are `remote "NAME"` with the one key `url`, at most 256 and in any
+/// order. The bytes are Bad where they are anything else.
+pub fn read_remotes(alloc: Global, bytes: &[u8]) -> Result<Items<RemoteRow>, ConfigFault>
+    ensures ok { IfOk result (λ rows. remotes_of bytes.now ≡ Some rows) }
+    ensures good { IfOk result (λ rows. AreRows rows) }
+    ensures bad { IsErrOf result ConfigFault.Bad → remotes_of bytes.now ≡ None }
+{
+    let file = KeyFile::parse(alloc, bytes)?;
+    rows_of(alloc, file.groups().as_slice())
+}
