@@ -1,7 +1,13 @@
 pub mod Bound
+pub mod Copied
 pub mod Eight
+pub mod Lengths
 pub mod Merging
 pub mod Names
+pub mod OneCommit
+pub mod OneTree
+pub mod OneValue
 pub mod Rows
 pub mod Shapes
 pub mod Trees
+pub mod Written

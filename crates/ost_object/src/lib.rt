@@ -1,4 +1,4 @@
-//! The metadata objects of OSTree's repositories: commits, dirtrees and dirmetas, read exactly.
+//! The metadata objects of OSTree's repositories: commits, dirtrees and dirmetas, read and written exactly.
 #![tactic(auto)]
 
 mod bindings;
@@ -7,6 +7,7 @@ mod digests;
 mod dirmeta;
 mod dirtree;
 mod error;
+mod field_values;
 mod fields;
 mod reading_commits;
 mod reading_metas;
@@ -14,11 +15,16 @@ mod reading_rows;
 mod reading_trees;
 #[cfg(test)]
 mod real;
+mod row_values;
+mod spelling;
 #[cfg(test)]
 mod tests;
 mod tree_rules;
 mod types;
 mod values;
+mod writing_commits;
+mod writing_metas;
+mod writing_trees;
 
 pub use bindings::binding;
 pub use commit::Commit;
@@ -28,3 +34,6 @@ pub use error::ObjectError;
 pub use reading_commits::read_commit;
 pub use reading_metas::read_dirmeta;
 pub use reading_trees::read_dirtree;
+pub use writing_commits::write_commit;
+pub use writing_metas::write_dirmeta;
+pub use writing_trees::write_dirtree;

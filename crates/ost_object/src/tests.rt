@@ -1,7 +1,12 @@
 use crate::error::ObjectError;
 use crate::real::OBJECTS;
-use crate::{binding, read_commit, read_dirmeta, read_dirtree};
-use gv_value::Text;
+use crate::{
+    Commit, DirEntry, DirMeta, DirTree, FileEntry, binding, read_commit, read_dirmeta,
+    read_dirtree, write_commit, write_dirmeta, write_dirtree,
+};
+use fp_host::Items;
+use fp_name::Digest;
+use gv_value::{GvValue, Text};
 use ost_model::Rule;
 use std::alloc::Global;
 use std::test::Fail;
@@ -244,5 +249,130 @@ fn the_last_binding_decides(rt: HostRuntime) -> Result<(), Fail> {
     for (digits, bound) in BOUND {
         assert_eq!(rt; is_bound_to(rt.alloc(), digits, "b")?, bound);
     }
+    Ok(())
+}
+
+/// Whether a real object is written as it was read, by the end of its name.
+fn is_written_back(alloc: Global, name: &str, digits: &str) -> Result<bool, Fail> {
+    if name.ends_with(".dirtree") {
+        return tree_is_written_back(alloc, digits);
+    }
+    if name.ends_with(".dirmeta") {
+        return meta_is_written_back(alloc, digits);
+    }
+    commit_is_written_back(alloc, digits)
+}
+
+/// Whether a commit is written as it was read.
+fn commit_is_written_back(alloc: Global, digits: &str) -> Result<bool, Fail> {
+    let bytes = hex::decode(alloc, digits)?;
+    let commit = read_commit(alloc, &bytes)?;
+    Ok(write_commit(alloc, &commit)?.as_slice() == bytes.as_slice())
+}
+
+/// Whether a dirtree is written as it was read.
+fn tree_is_written_back(alloc: Global, digits: &str) -> Result<bool, Fail> {
+    let bytes = hex::decode(alloc, digits)?;
+    let tree = read_dirtree(alloc, &bytes)?;
+    Ok(write_dirtree(alloc, &tree)?.as_slice() == bytes.as_slice())
+}
+
+/// Whether a dirmeta is written as it was read.
+fn meta_is_written_back(alloc: Global, digits: &str) -> Result<bool, Fail> {
+    let bytes = hex::decode(alloc, digits)?;
+    let meta = read_dirmeta(alloc, &bytes)?;
+    Ok(write_dirmeta(alloc, &meta)?.as_slice() == bytes.as_slice())
+}
+
+#[test]
+fn writes_real_objects_back(rt: HostRuntime) -> Result<(), Fail> {
+    for (name, digits) in OBJECTS {
+        assert!(rt; is_written_back(rt.alloc(), name, digits)?);
+    }
+    Ok(())
+}
+
+/// The rule that the writing of a dirmeta of this mode names.
+fn written_meta_rule(alloc: Global, mode: u32) -> Result<Option<Rule>, Fail> {
+    Ok(rule_of(write_dirmeta(alloc, &DirMeta { mode }))?)
+}
+
+#[test]
+fn writes_the_modes_of_directories_alone(rt: HostRuntime) -> Result<(), Fail> {
+    assert_eq!(rt; written_meta_rule(rt.alloc(), 0o40755)?, None);
+    assert_eq!(rt; written_meta_rule(rt.alloc(), 0o100755)?, Some(Rule::Kind));
+    Ok(())
+}
+
+/// The rule that the writing of a dirtree of files of these names and one directory `d` names.
+fn written_tree_rule(alloc: Global, names: &[&str]) -> Result<Option<Rule>, Fail> {
+    let digest = Digest::from_bytes([1; 32]);
+    let mut files = Vec::new(alloc);
+    for name in names {
+        let name = Text::from_string(String::from_str(alloc, name)?);
+        files.push(FileEntry { name, digest })?;
+    }
+    let name = Text::from_string(String::from_str(alloc, "d")?);
+    let mut dirs = Vec::new(alloc);
+    dirs.push(DirEntry {
+        name,
+        tree: digest,
+        meta: digest,
+    })?;
+    let tree = DirTree {
+        files: Items::from_vec(files),
+        dirs: Items::from_vec(dirs),
+    };
+    Ok(rule_of(write_dirtree(alloc, &tree))?)
+}
+
+#[test]
+fn writes_good_names_alone(rt: HostRuntime) -> Result<(), Fail> {
+    let alloc = rt.alloc();
+    assert_eq!(rt; written_tree_rule(alloc, &["a", "b"])?, None);
+    assert_eq!(rt; written_tree_rule(alloc, &["a/b"])?, Some(Rule::Name));
+    assert_eq!(rt; written_tree_rule(alloc, &["b", "a"])?, Some(Rule::Order));
+    assert_eq!(rt; written_tree_rule(alloc, &["d"])?, Some(Rule::Both));
+    Ok(())
+}
+
+/// A commit with nothing in it but its subject.
+fn bare_commit(alloc: Global, subject: &str) -> Result<Commit, Fail> {
+    let subject = Text::from_string(String::from_str(alloc, subject)?);
+    Ok(Commit {
+        metadata: GvValue::Array(Vec::new(alloc)),
+        parent: None,
+        related: GvValue::Array(Vec::new(alloc)),
+        subject,
+        body: Text::from_string(String::new(alloc)),
+        timestamp: 0,
+        tree: Digest::from_bytes([1; 32]),
+        meta: Digest::from_bytes([1; 32]),
+    })
+}
+
+/// Whether a bare commit is written as these bytes.
+fn bare_is(alloc: Global, digits: &str) -> Result<bool, Fail> {
+    let bytes = hex::decode(alloc, digits)?;
+    let commit = bare_commit(alloc, "")?;
+    Ok(write_commit(alloc, &commit)?.as_slice() == bytes.as_slice())
+}
+
+#[test]
+fn writes_a_bare_commit(rt: HostRuntime) -> Result<(), Fail> {
+    assert!(rt; bare_is(rt.alloc(), COMMITS[0].0)?);
+    Ok(())
+}
+
+/// The rule that the writing of a commit of this subject names.
+fn written_commit_rule(alloc: Global, subject: &str) -> Result<Option<Rule>, Fail> {
+    let commit = bare_commit(alloc, subject)?;
+    Ok(rule_of(write_commit(alloc, &commit))?)
+}
+
+#[test]
+fn writes_no_text_with_a_zero_byte(rt: HostRuntime) -> Result<(), Fail> {
+    assert_eq!(rt; written_commit_rule(rt.alloc(), "a subject")?, None);
+    assert_eq!(rt; written_commit_rule(rt.alloc(), "a\0b")?, Some(Rule::Value));
     Ok(())
 }

@@ -1,7 +1,7 @@
 // The types of metadata objects.
 ghost use Rattle.std.specs.Prelude.{◌≡◌, IfOk, IsErr};
 ghost use Rattle.gv_value.specs.Views.{shape_of};
-ghost use Rattle.ost_model.specs.Types.{commit_shape, tree_shape, meta_shape};
+ghost use Rattle.ost_model.specs.Types.{commit_shape, dictionary_shape, related_shape, tree_shape, meta_shape};
 
 use gv_value::{GvType, TypeError};
 use std::alloc::{AllocError, Global};
@@ -33,6 +33,28 @@ pub fn meta_type(alloc: Global) -> Result<GvType, AllocError>
     ensures { IfOk result (λ of. shape_of of ≡ meta_shape) }
 {
     match GvType::parse(alloc, b"(uuua(ayay))") {
+        Ok(of) => Ok(of),
+        Err(TypeError::NoMemory) => Err(AllocError),
+        Err(TypeError::Bad) => unreachable!(),
+    }
+}
+
+/// The type of a commit's metadata.
+pub fn dictionary_type(alloc: Global) -> Result<GvType, AllocError>
+    ensures { IfOk result (λ of. shape_of of ≡ dictionary_shape) }
+{
+    match GvType::parse(alloc, b"a{sv}") {
+        Ok(of) => Ok(of),
+        Err(TypeError::NoMemory) => Err(AllocError),
+        Err(TypeError::Bad) => unreachable!(),
+    }
+}
+
+/// The type of what a commit is related to.
+pub fn related_type(alloc: Global) -> Result<GvType, AllocError>
+    ensures { IfOk result (λ of. shape_of of ≡ related_shape) }
+{
+    match GvType::parse(alloc, b"a(say)") {
         Ok(of) => Ok(of),
         Err(TypeError::NoMemory) => Err(AllocError),
         Err(TypeError::Bad) => unreachable!(),

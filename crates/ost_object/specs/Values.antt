@@ -1,0 +1,41 @@
+-- The values that objects are, by what they say.
+use Rattle.std.specs.Prelude.{ℕ, List, map}
+use Rattle.std.specs.Int.{w32, w64, swap_bytes}
+use Rattle.gv_value.specs.declared.basic.Basic.TheVariants as basics
+use Rattle.gv_value.specs.Tree.{Content, Tree, Trees, no_trees, tree, byte_trees}
+use Rattle.gv_value.specs.Views.{trees_from}
+use Rattle.ost_model.specs.Fields.{CommitView, FileRow, DirRow, TreeView, MetaView}
+
+-- of type `u`, as OSTree keeps it: big endian
+abbrev pub number_value : ℕ → Tree
+number_value n = Tree.leaf basics.Uint32 (Content.number (swap_bytes w32 n))
+
+-- of type `t`, big endian too
+abbrev pub time_value : ℕ → Tree
+time_value n = Tree.leaf basics.Uint64 (Content.number (swap_bytes w64 n))
+
+abbrev pub text_value : List ℕ → Tree
+text_value text = Tree.leaf basics.Str (Content.text text)
+
+abbrev pub bytes_value : List ℕ → Tree
+bytes_value bytes = Tree.array (byte_trees bytes)
+
+abbrev pub each_value : {A : Type 0} → (A → Tree) → List A → Trees
+each_value one xs = trees_from (map one xs)
+
+-- without extended attributes
+abbrev pub meta_value : MetaView → Tree
+meta_value m = Tree.tuple (tree (number_value m.uid) (tree (number_value m.gid) (tree (number_value m.mode) (tree (Tree.array no_trees) no_trees))))
+
+abbrev pub file_value : FileRow → Tree
+file_value f = Tree.tuple (tree (text_value f.name) (tree (bytes_value f.digest) no_trees))
+
+abbrev pub dir_value : DirRow → Tree
+dir_value d = Tree.tuple (tree (text_value d.name) (tree (bytes_value d.tree) (tree (bytes_value d.meta) no_trees)))
+
+abbrev pub tree_value : TreeView → Tree
+tree_value v = Tree.tuple (tree (Tree.array (each_value file_value v.files)) (tree (Tree.array (each_value dir_value v.dirs)) no_trees))
+
+abbrev pub commit_value : CommitView → Tree
+commit_value c = Tree.tuple (tree c.metadata (tree (bytes_value c.parent) (tree c.related (tree (text_value c.subject) (tree (text_value c.body)
+    (tree (time_value c.timestamp) (tree (bytes_value c.tree) (tree (bytes_value c.meta) no_trees))))))))

@@ -1,0 +1,41 @@
+// Dirmetas, as they are written.
+ghost use Rattle.std.specs.Prelude.{◌≡◌, ◌<◌, ◌^◌, IfOk};
+ghost use Rattle.gv_value.specs.Views.{plain};
+ghost use Rattle.ost_model.specs.Readers.{meta_breaks, meta_read};
+ghost use Rattle.ost_object.specs.Writes.{Writes};
+ghost use Rattle.ost_object.specs.Values.{meta_value};
+ghost use Rattle.ost_object.specs.Views.{meta_view};
+
+use crate::dirmeta::DirMeta;
+use crate::error::ObjectError;
+use crate::spelling::spelled;
+use crate::types::meta_type;
+use gv_value::{Blob, GvValue};
+use ost_model::Rule;
+use std::alloc::{AllocError, Global};
+
+/// The bytes that read as a dirmeta. `Malformed` comes exactly where there are none.
+pub fn write_dirmeta(alloc: Global, meta: &DirMeta) -> Result<Blob, ObjectError>
+    ensures { Writes meta_read meta_breaks result (meta_view meta.now) }
+{
+    let meta = *meta;
+    if meta.mode / 0o10000 != 0o4 {
+        return Err(ObjectError::Malformed(Rule::Kind));
+    }
+    let of = meta_type(alloc)?;
+    let value = value_of(alloc, meta)?;
+    spelled(alloc, &of, &value)
+}
+
+/// The value of a dirmeta: owner, group, mode and extended attributes.
+fn value_of(alloc: Global, meta: DirMeta) -> Result<GvValue, AllocError>
+    ensures value { IfOk result (λ value. plain value ≡ meta_value (meta_view meta)) }
+    ensures small { meta.mode < 2 ^ 32 }
+{
+    Ok(GvValue::Tuple(vec![in alloc;
+        GvValue::Uint32(0),
+        GvValue::Uint32(0),
+        GvValue::Uint32(meta.mode.swap_bytes()),
+        GvValue::Array(Vec::new(alloc)),
+    ]?))
+}
