@@ -11,7 +11,7 @@ use Rattle.fp_small.specs.declared.state.Layout.TheVariants.{One, Two}
 use Rattle.fp_small.specs.declared.op.Op.{Op}
 use Rattle.fp_small.specs.declared.op.Op.TheVariants.{AddPin, DropPin, AddRemote, ModifyRemote, DropRemote, Migrate}
 use Rattle.fp_small.specs.declared.refusal.Refusal.{Refusal}
-use Rattle.fp_small.specs.declared.refusal.Refusal.TheVariants.{BadWords, NoSuchRemote, RemoteExists, PinExists, NoSuchPin, Limit, BadRecord, Damaged}
+use Rattle.fp_small.specs.declared.refusal.Refusal.TheVariants.{BadWords, NoSuchRemote, RemoteExists, MalformedObject, PinExists, NoSuchPin, Limit, BadRecord, Damaged}
 use Rattle.fp_small.specs.declared.refusal.What.TheVariants.{Pins, Remotes, Input}
 use Rattle.fp_small.specs.Config.{name_of}
 use Rattle.fp_small.specs.Order.{has_name}
@@ -21,8 +21,17 @@ use Rattle.dep_states.specs.After.{after_all}
 use Rattle.fl_words.specs.Lines.{refusal_text, pins_text, remotes_text}
 use Rattle.fl_words.specs.Batch.{batch_of}
 use Rattle.fl_words.specs.declared.command.Command.{Command}
-use Rattle.fl_words.specs.declared.command.Command.TheVariants.{Pin, Unpin, RemoteAdd, RemoteModify, RemoteDelete, ListPins, ListRemotes, Batch}
-use Rattle.fl_top.specs.Answer.{Answer, Piece, lines_of, last_of, joined, ops_in, ops_of, did, told, refused, behind, refusal_of, unless, act, act_on, op_of, change_over, in_turn, migrating, changing, told_pins, told_remotes, over, of_batch, answer_over, is_pinned}
+use Rattle.fl_words.specs.declared.command.Command.TheVariants.{Pin, Unpin, RemoteAdd, RemoteModify, RemoteDelete, ListPins, ListRemotes, Batch, ShowCommit, ShowDirTree, ShowDirMeta, ShowValue}
+use Rattle.fl_top.specs.Answer.{Answer, Piece, lines_of, last_of, joined, ops_in, ops_of, did, told, refused, behind, refusal_of, unless, act, act_on, op_of, change_over, in_turn, migrating, changing, told_pins, told_remotes, over, of_batch, answer_over, is_pinned, by_read, by_value, by_type, commit_shown, tree_shown, meta_shown, value_shown, shown_by, show_over}
+use Rattle.fl_top.specs.Objects.{commit_lines, tree_lines, meta_lines, rule_word}
+use Rattle.gv_value.specs.Shape.{Shape}
+use Rattle.gv_value.specs.Tree.{Tree}
+use Rattle.gv_value.specs.TypeText.{type_of}
+use Rattle.gv_value.specs.Reading.{value_of}
+use Rattle.ost_model.specs.declared.rule.Rule.{Rule}
+use Rattle.ost_model.specs.Contents.{meta_digest}
+use Rattle.ost_model.specs.Readers.{commit_read, tree_read, meta_read}
+use Rattle.std.specs.Prelude.{codes}
 use Rattle.fl_top.specs.Input.{input_most}
 use Rattle.fl_top.specs.Runs.{ShowsAfter, IsPrefix, IsJust, Printed, Runs, Stands, Answers, Ran}
 use Rattle.fl_top.specs.Performs.{Completes, Ended}
@@ -167,6 +176,7 @@ no_five : (r : Refusal) → status_of r ≡ 5 → ⊥
 no_five (BadWords index) is = omega (arith, is)
 no_five (NoSuchRemote remote) is = omega (arith, is)
 no_five (RemoteExists remote) is = omega (arith, is)
+no_five (MalformedObject digest kind rule) is = omega (arith, is)
 no_five (PinExists pin) is = omega (arith, is)
 no_five (NoSuchPin pin) is = omega (arith, is)
 no_five (Limit what number) is = omega (arith, is)
@@ -254,6 +264,36 @@ if_plain false x y first second = second
 told_plain : (text : List ℕ) → IsPlain (told text)
 told_plain text r is = absurd (cc is)
 
+read_plain : {A : Type 0} (digest kind : List ℕ) (lines : A → List ℕ) (read : Result A Rule) → IsPlain (by_read digest kind lines read)
+read_plain digest kind lines (Ok a) r is = absurd (cc is)
+read_plain digest kind lines (Err rule) r is = one_of_some (MalformedObject digest kind (rule_word rule)) r is refl
+
+value_plain : (bytes : List ℕ) (value : Option Tree) → IsPlain (by_value bytes value)
+value_plain bytes None r is = one_of_some (MalformedObject (meta_digest bytes) (codes "value") (codes "value")) r is refl
+value_plain bytes (Some value) r is = absurd (cc is)
+
+type_plain : (of : Option Shape) (bytes : List ℕ) → IsPlain (by_type of bytes)
+type_plain None bytes = value_plain bytes None
+type_plain (Some of) bytes = value_plain bytes (value_of of bytes)
+
+shown_plain : (command : Command) (bytes : List ℕ) → IsPlain (shown_by command bytes)
+unfolding commit_shown tree_shown meta_shown value_shown
+shown_plain (Pin pin) bytes = told_plain []
+shown_plain (Unpin pin) bytes = told_plain []
+shown_plain (RemoteAdd row) bytes = told_plain []
+shown_plain (RemoteModify row) bytes = told_plain []
+shown_plain (RemoteDelete name) bytes = told_plain []
+shown_plain ListPins bytes = told_plain []
+shown_plain ListRemotes bytes = told_plain []
+shown_plain Batch bytes = told_plain []
+shown_plain ShowCommit bytes = read_plain (meta_digest bytes) (codes "commit") commit_lines (commit_read bytes)
+shown_plain ShowDirTree bytes = read_plain (meta_digest bytes) (codes "dirtree") tree_lines (tree_read bytes)
+shown_plain ShowDirMeta bytes = read_plain (meta_digest bytes) (codes "dirmeta") meta_lines (meta_read bytes)
+shown_plain (ShowValue of) bytes = type_plain (type_of of) bytes
+
+show_plain : (command : Command) (input : List ℕ) → IsPlain (show_over command input)
+show_plain command input = if_plain (nat_le (length input) input_most) (shown_by command input) (refused (Limit Input (input_most + 1))) (shown_plain command input) (λ r is. one_of_some (Limit Input (input_most + 1)) r is refl)
+
 pub command_plain : (command : Command) (input : List ℕ) (shown : Result State Elements) → IsPlain (answer_over command input shown)
 command_plain (Pin pin) input shown = over_plain (changing (Pin pin ∷ [])) shown (changing_plain (Pin pin ∷ []))
 command_plain (Unpin pin) input shown = over_plain (changing (Unpin pin ∷ [])) shown (changing_plain (Unpin pin ∷ []))
@@ -263,3 +303,7 @@ command_plain (RemoteDelete name) input shown = over_plain (changing (RemoteDele
 command_plain ListPins input shown = over_plain told_pins shown (λ s. told_plain (pins_text s.pins))
 command_plain ListRemotes input shown = over_plain told_remotes shown (λ s. told_plain (remotes_text s.remotes))
 command_plain Batch input shown = if_plain (nat_le (length input) input_most) (of_batch (batch_of input) shown) (refused (Limit Input (input_most + 1))) (batch_plain (batch_of input) shown) (λ r is. one_of_some (Limit Input (input_most + 1)) r is refl)
+command_plain ShowCommit input shown = show_plain ShowCommit input
+command_plain ShowDirTree input shown = show_plain ShowDirTree input
+command_plain ShowDirMeta input shown = show_plain ShowDirMeta input
+command_plain (ShowValue of) input shown = show_plain (ShowValue of) input

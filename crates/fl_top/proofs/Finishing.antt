@@ -15,7 +15,7 @@ use Rattle.dep_states.specs.Shown.{seen}
 use Rattle.fl_words.specs.Lines.{refusal_text}
 use Rattle.fl_words.specs.Words.{command_of, bad_index}
 use Rattle.fl_words.specs.declared.command.Command.{Command}
-use Rattle.fl_words.specs.declared.command.Command.TheVariants.{Pin, Unpin, RemoteAdd, RemoteModify, RemoteDelete, ListPins, ListRemotes, Batch}
+use Rattle.fl_words.specs.declared.command.Command.TheVariants.{Pin, Unpin, RemoteAdd, RemoteModify, RemoteDelete, ListPins, ListRemotes, Batch, ShowCommit, ShowDirTree, ShowDirMeta, ShowValue}
 use Rattle.fl_words.specs.declared.batch.BatchError.{BatchError}
 use Rattle.fl_words.specs.declared.batch.BatchError.TheVariants as batch
 use Rattle.fl_words.specs.Batch.{batch_of, IsBadBatch}
@@ -23,7 +23,7 @@ use Rattle.fl_top.specs.Answer.{Answer, answer, answer_to, answer_over, refused,
 use Rattle.fl_top.specs.Runs.{Runs, Ran, RunsBy, RanBy, IsGiven, Looks, IsReady, Serves, WasTaken}
 use Rattle.fl_top.specs.Performs.{RunsOver, LooksOver, EndedOver, RunsOn, EndedOn, RanOn, Ended, Closed, Takes, TakenBy, over_view}
 use Rattle.fl_top.specs.Says.{Says, Refuses}
-use Rattle.fl_top.specs.Status.{only_looks, reads_input, IsAnswered}
+use Rattle.fl_top.specs.Status.{only_looks, is_show, reads_input, IsAnswered}
 use Rattle.fl_top.specs.declared.end.RunEnd.{RunEnd}
 use Rattle.fl_top.specs.declared.end.RunEnd.TheVariants as run
 use Rattle.fl_top.specs.declared.command_end.CommandEnd.{CommandEnd}
@@ -42,7 +42,7 @@ pub is_end : (r : Result (Unit {0}) CommandEnd) (e : CommandEnd) → IsErrAnd r 
 is_end r e is = let p = err_from_is_err_and r is in p.1 ∙ ap (λ (x : CommandEnd). Err x) p.2
 
 -- the answer to a command over a view
-abbrev on_view : Command → List ℕ → View → Answer
+abbrev pub on_view : Command → List ℕ → View → Answer
 on_view command input u = answer_over command input (seen (shows u))
 
 -- an end of the work on the installation is one of the command
@@ -131,15 +131,15 @@ goes_none {a = a} command left e r known err ends =
     subst (λ (x : Result (Unit {0}) CommandEnd). Goes a a (RunsOn command left) (EndedOn command left x)) (sym (is_end r e err)) (stays known (not_begun command left) (λ u t input given. ends input given u))
 
 -- it is refused
-closed_refused : (refusal : Refusal) (x : Answer) (u : View) → refused refusal ≡ x → Closed x (Err (Refused refusal)) u u
+pub closed_refused : (refusal : Refusal) (x : Answer) (u : View) → refused refusal ≡ x → Closed x (Err (Refused refusal)) u u
 closed_refused refusal x u is = subst (λ (y : Answer). Closed y (Err (Refused refusal)) u u) is (refl, refused_at_once refusal u)
 
 -- ---- a batch
 
-too_long : (input : List ℕ) → input_most < length input → nat_le (length input) input_most ≡ false
+pub too_long : (input : List ℕ) → input_most < length input → nat_le (length input) input_most ≡ false
 too_long input more = grind arith
 
-not_long : (input : List ℕ) → length input ≤ input_most → nat_le (length input) input_most ≡ true
+pub not_long : (input : List ℕ) → length input ≤ input_most → nat_le (length input) input_most ≡ true
 not_long input few = grind arith
 
 pub input_ends : (left : Option (List ℕ)) (before now : ℕ) (e : InputEnd) → InputStops left before now e → (input : List ℕ) → IsGiven left (Some Batch) input → (u : View) → Closed (on_view Batch input u) (Err (end_of_input e)) u u
@@ -168,25 +168,33 @@ batch_answers left bytes commands whole is input given u = ap (λ (x : Result (L
 
 -- ---- another command that changes something
 
-pub other_changes : (command : Command) → (command ≡ ListPins → ⊥) → (command ≡ ListRemotes → ⊥) → only_looks command ≡ false
-other_changes (Pin pin) p r = refl
-other_changes (Unpin pin) p r = refl
-other_changes (RemoteAdd row) p r = refl
-other_changes (RemoteModify row) p r = refl
-other_changes (RemoteDelete name) p r = refl
-other_changes ListPins p r = absurd (p refl)
-other_changes ListRemotes p r = absurd (r refl)
-other_changes Batch p r = refl
+pub other_changes : (command : Command) → is_show command ≡ false → (command ≡ ListPins → ⊥) → (command ≡ ListRemotes → ⊥) → only_looks command ≡ false
+other_changes (Pin pin) s p r = refl
+other_changes (Unpin pin) s p r = refl
+other_changes (RemoteAdd row) s p r = refl
+other_changes (RemoteModify row) s p r = refl
+other_changes (RemoteDelete name) s p r = refl
+other_changes ListPins s p r = absurd (p refl)
+other_changes ListRemotes s p r = absurd (r refl)
+other_changes Batch s p r = refl
+other_changes ShowCommit s p r = absurd (cc s)
+other_changes ShowDirTree s p r = absurd (cc s)
+other_changes ShowDirMeta s p r = absurd (cc s)
+other_changes (ShowValue of) s p r = absurd (cc s)
 
-pub other_answers : (left : Option (List ℕ)) (command : Command) → (command ≡ ListPins → ⊥) → (command ≡ ListRemotes → ⊥) → (command ≡ Batch → ⊥) → IsAnswer command left (changing (command ∷ []))
-other_answers left (Pin pin) p r b input given u = refl
-other_answers left (Unpin pin) p r b input given u = refl
-other_answers left (RemoteAdd row) p r b input given u = refl
-other_answers left (RemoteModify row) p r b input given u = refl
-other_answers left (RemoteDelete name) p r b input given u = refl
-other_answers left ListPins p r b input given u = absurd (p refl)
-other_answers left ListRemotes p r b input given u = absurd (r refl)
-other_answers left Batch p r b input given u = absurd (b refl)
+pub other_answers : (left : Option (List ℕ)) (command : Command) → is_show command ≡ false → (command ≡ ListPins → ⊥) → (command ≡ ListRemotes → ⊥) → (command ≡ Batch → ⊥) → IsAnswer command left (changing (command ∷ []))
+other_answers left (Pin pin) s p r b input given u = refl
+other_answers left (Unpin pin) s p r b input given u = refl
+other_answers left (RemoteAdd row) s p r b input given u = refl
+other_answers left (RemoteModify row) s p r b input given u = refl
+other_answers left (RemoteDelete name) s p r b input given u = refl
+other_answers left ListPins s p r b input given u = absurd (p refl)
+other_answers left ListRemotes s p r b input given u = absurd (r refl)
+other_answers left Batch s p r b input given u = absurd (b refl)
+other_answers left ShowCommit s p r b input given u = absurd (cc s)
+other_answers left ShowDirTree s p r b input given u = absurd (cc s)
+other_answers left ShowDirMeta s p r b input given u = absurd (cc s)
+other_answers left (ShowValue of) s p r b input given u = absurd (cc s)
 
 -- ---- what it takes of the input
 
@@ -212,15 +220,19 @@ takes_none command r left is = record { read = λ reads. absurd (let both : true
 pub takes_all : (command : Command) (r : Result (Unit {0}) CommandEnd) (old new : Option (List ℕ)) → reads_input command ≡ true → TakenBy r old new → Takes command r old new
 takes_all command r old new is taken = record { read = λ reads. taken; left = λ none. absurd (let both : true ≡ false = sym is ∙ none in cc both) }
 
-pub other_reads : (command : Command) → (command ≡ Batch → ⊥) → reads_input command ≡ false
-other_reads (Pin pin) b = refl
-other_reads (Unpin pin) b = refl
-other_reads (RemoteAdd row) b = refl
-other_reads (RemoteModify row) b = refl
-other_reads (RemoteDelete name) b = refl
-other_reads ListPins b = refl
-other_reads ListRemotes b = refl
-other_reads Batch b = absurd (b refl)
+pub other_reads : (command : Command) → is_show command ≡ false → (command ≡ Batch → ⊥) → reads_input command ≡ false
+other_reads (Pin pin) s b = refl
+other_reads (Unpin pin) s b = refl
+other_reads (RemoteAdd row) s b = refl
+other_reads (RemoteModify row) s b = refl
+other_reads (RemoteDelete name) s b = refl
+other_reads ListPins s b = refl
+other_reads ListRemotes s b = refl
+other_reads Batch s b = absurd (b refl)
+other_reads ShowCommit s b = absurd (cc s)
+other_reads ShowDirTree s b = absurd (cc s)
+other_reads ShowDirMeta s b = absurd (cc s)
+other_reads (ShowValue of) s b = absurd (cc s)
 
 pub taken_at : (command : Command) (r : Result (Unit {0}) CommandEnd) (status : ℕ) (old new : Option (List ℕ)) → Takes command r old new → (TakenBy r old new → IsAnswered status → IsDrained old new) → WasTaken (Some command) status old new
 taken_at command r status old new takes drained = (λ reads answered. drained (takes.read reads) answered, takes.left)

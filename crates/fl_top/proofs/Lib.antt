@@ -11,3 +11,5 @@ pub mod Finishing
 pub mod Joining
 pub mod Ending
 pub mod Reading
+pub mod ShowInput
+pub mod Shown

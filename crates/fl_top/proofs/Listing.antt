@@ -36,7 +36,7 @@ piece_of text = record { text = text; op = None }
 told_printed : (text : List ℕ) (u w : View) → w.printed ≡ u.printed ++ text → Printed (told text) (piece_of text ∷ []) u w
 told_printed text u w more = record { left = []; pieces = refl; printed = more ∙ ap (λ (t : List ℕ). u.printed ++ t) (sym (append-nil text)) }
 
-telling : (text : List ℕ) {u w : View} → Says text u w → Runs (told text) u w
+pub telling : (text : List ℕ) {u w : View} → Says text u w → Runs (told text) u w
 telling text {u = u} {w = w} says_it = elim (says_it.printed) [
   | inl none ↦ begun (told text) (record { printed = none; follows = says_it.follows; names = says_it.names })
   | inr more ↦ record {
@@ -48,7 +48,7 @@ telling text {u = u} {w = w} says_it = elim (says_it.printed) [
   }
 ]
 
-tells : (text : List ℕ) {u w : View} → WasSaid text u w → Completes (told text) u w
+pub tells : (text : List ℕ) {u w : View} → WasSaid text u w → Completes (told text) u w
 tells text {u = u} {w = w} said_it = record {
   printed = (told_printed text u w said_it.printed).printed;
   just = λ sound disk left. shows_before said_it.follows sound disk left;

@@ -113,6 +113,8 @@ fn allowed(command: Command) -> Option<Command>
 {
     match command {
         Command::ListRemotes | Command::ListPins | Command::Batch => None,
+        Command::ShowCommit | Command::ShowDirTree | Command::ShowDirMeta => None,
+        Command::ShowValue(_) => None,
         command => Some(command),
     }
 }

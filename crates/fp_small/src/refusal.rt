@@ -1,6 +1,6 @@
 // Why a command is refused.
-use fp_host::Path;
-use fp_name::{PinPattern, RemoteName};
+use fp_host::{Path, Text};
+use fp_name::{Digest, PinPattern, RemoteName};
 
 /// What has a limit.
 #[derive(Clone, Copy, Debug, PartialEq, Eq)]
@@ -20,6 +20,12 @@ pub enum Refusal {
     NoSuchRemote { remote: RemoteName },
     /// There is a remote of this name already.
     RemoteExists { remote: RemoteName },
+    /// The bytes with this digest aren't an object of this kind, by this rule. Kind and rule are the words that are printed.
+    MalformedObject {
+        digest: Digest,
+        kind: Text,
+        rule: Text,
+    },
     /// The pattern is pinned already.
     PinExists { pin: PinPattern },
     /// The pattern isn't pinned.

@@ -10,6 +10,7 @@ mod batch_stops;
 mod batches;
 mod glib;
 mod gvariant;
+mod shows;
 mod specification;
 mod stops;
 
