@@ -7,6 +7,7 @@ use Rattle.ost_model.specs.Objects.{Have, Fault}
 use Rattle.ost_model.specs.Order.{Place, Agree, order, first_fault, first_of, tree_at}
 use Rattle.ost_model.specs.Look.{look, directory, file_at, Reached, FileReached}
 use Rattle.ost_model.specs.Standing.{Stands, SameBelow, SameObjects}
+use Rattle.ost_model.specs.Stores.{IsStore, SameStore}
 use Rattle.ost_model.specs.Walk.{Open, pending, opened, own_places, Walked}
 
 -- the order of a commit depends on the objects of the order alone
@@ -36,6 +37,10 @@ FilesAreReached = (have : Have) (commit : List ℕ) → first_fault have commit 
 abbrev pub StandingIsLocal : Type 0
 StandingIsLocal = (reads : List ℕ → Bool) (root : Elements) (i j : Disk) (commit : List ℕ) (dir : Elements)
     → Stands reads root i commit dir → SameBelow dir i j → SameObjects root commit i j → Stands reads root j commit dir
+
+-- a store goes on being one where the names below `objects` stay
+abbrev pub StoreIsLocal : Type 0
+StoreIsLocal = (root : Elements) (i j : Disk) → SameStore root i j → IsStore root i → IsStore root j
 
 -- a walk goes on by one directory
 abbrev pub WalkGoesOn : Type 0
