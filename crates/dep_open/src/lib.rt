@@ -11,3 +11,6 @@ pub use open_end::OpenEnd;
 pub use opening::open;
 pub use reading::read_state;
 pub use tidying::tidy;
+
+#[cfg(test)]
+mod tests;
