@@ -177,7 +177,7 @@ fn commands_on_remotes_print_their_lines(rt: HostRuntime) -> Result<(), Fail> {
 
 #[test]
 fn commands_write_config(rt: HostRuntime) -> Result<(), Fail> {
-    let table: [(&[&str], &str); 8] = [
+    let table: [(&[&str], &str); 10] = [
         (
             &["pin", PLATFORM],
             "[installation]\nlayout=2\n[pins]\nruntime/org.x.Platform/*/*=true\n",
@@ -203,6 +203,14 @@ fn commands_write_config(rt: HostRuntime) -> Result<(), Fail> {
             "[installation]\nlayout=2\n[remote \"lab\"]\nurl=file:///l\n[pins]\napp/*/*/*=true\n",
         ),
         (
+            &["remote-add", "art", "file:///art"],
+            "[installation]\nlayout=2\n[remote \"art\"]\nurl=file:///art\n[remote \"lab\"]\nurl=file:///l\n[pins]\napp/*/*/*=true\n",
+        ),
+        (
+            &["remote-delete", "art"],
+            "[installation]\nlayout=2\n[remote \"lab\"]\nurl=file:///l\n[pins]\napp/*/*/*=true\n",
+        ),
+        (
             &["unpin", "app/*/*/*"],
             "[installation]\nlayout=2\n[remote \"lab\"]\nurl=file:///l\n",
         ),
@@ -219,8 +227,10 @@ fn commands_write_config(rt: HostRuntime) -> Result<(), Fail> {
 
 #[test]
 fn a_config_that_does_not_read_is_damaged(rt: HostRuntime) -> Result<(), Fail> {
-    let table: [&str; 6] = [
+    let table: [&str; 8] = [
         "[installation]\nlayout=2\n[pins]\nx\n",
+        "[installation]\nlayout=2\n[remote \"lab\"]\nurl=file:///lab\nx\n",
+        "[installation]\nlayout=2\n[remote \"lab\"]\nx=y\n",
         "[installation]\nlayout=2\n[pins]\nx=true\n",
         "[installation]\nlayout=3\n",
         "[pins]\n",
