@@ -7,6 +7,7 @@ pub mod Framed
 pub mod Goes
 pub mod Keep
 pub mod Kept
+pub mod LinkTexts
 pub mod Looking
 pub mod PathTexts
 pub mod Separate

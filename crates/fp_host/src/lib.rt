@@ -13,7 +13,7 @@ pub use items::Items;
 pub use path::{Path, PathFault, is_element};
 pub use remotes::{NoRemotes, Node, RemoteError, Remotes};
 pub use source::{Source, Taken};
-pub use text::{Blob, Text};
+pub use text::{Blob, Text, is_link_text};
 
 #[cfg(test)]
 mod tests;

@@ -1,4 +1,4 @@
-use crate::{Blob, NoRemotes, Node, Path, PathFault, Remotes, Text, is_element};
+use crate::{Blob, NoRemotes, Node, Path, PathFault, Remotes, Text, is_element, is_link_text};
 use std::alloc::{AllocError, Global};
 use std::test::Fail;
 
@@ -24,6 +24,26 @@ fn elements(rt: HostRuntime) -> Result<(), Fail> {
     ];
     for (text, good) in cases {
         assert_eq!(rt; is_element(text), good, "{text:?}");
+    }
+    Ok(())
+}
+
+#[test]
+fn texts_of_links(rt: HostRuntime) -> Result<(), Fail> {
+    let long = "x".repeat(rt.alloc(), 4_095)?;
+    let longer = "x".repeat(rt.alloc(), 4_096)?;
+    for (text, good) in [
+        ("a", true),
+        ("..", true),
+        ("/", true),
+        ("\u{e4} b", true),
+        ("", false),
+        ("a\0b", false),
+        ("\0", false),
+        (long.as_str(), true),
+        (longer.as_str(), false),
+    ] {
+        assert_eq!(rt; is_link_text(text), good, "{text:?}");
     }
     Ok(())
 }

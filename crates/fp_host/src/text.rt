@@ -1,5 +1,7 @@
 // Texts and bytes that contracts see as their bytes.
-ghost use Rattle.std.specs.Prelude.{◌≡◌, ◌↔◌, [], string_bytes, IfOk, IsTrue, length};
+ghost use Rattle.std.specs.Prelude.{◌≡◌, ◌↔◌, ◌==◌, [], not, string_bytes, IfOk, IsTrue, length};
+ghost use Rattle.std.specs.List.{list_all};
+ghost use Rattle.fp_host.specs.Paths as spec;
 
 use std::alloc::AllocError;
 use std::marker::Model;
@@ -108,4 +110,25 @@ impl Blob {
             bytes: self.bytes.clone()?,
         })
     }
+}
+
+/// The most bytes that the text of a link has.
+const MAX_LINK_TEXT: usize = 4095;
+
+/// Whether a text may be a link's: 1 to 4,095 bytes, none of them zero.
+pub fn is_link_text(text: &str) -> bool
+    ensures { result ≡ spec.is_link_text text.now }
+{
+    let bytes = text.as_bytes();
+    if bytes.is_empty() || bytes.len() > MAX_LINK_TEXT {
+        return false;
+    }
+    has_no_zero(bytes)
+}
+
+/// Whether no byte is zero.
+fn has_no_zero(bytes: &[u8]) -> bool
+    ensures { result ≡ list_all (λ b. not (b == 0)) bytes.now }
+{
+    bytes.iter().all(|b| *b != 0)
 }

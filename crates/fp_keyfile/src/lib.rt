@@ -22,7 +22,7 @@ pub use grammar::{is_group_name, is_pair_key, is_pair_value};
 pub use group::{Group, Pair};
 pub use items::Items;
 pub use key_file::KeyFile;
-pub use line::trim_front;
+pub use line::{first_line, trim_front};
 pub use text::Text;
 
 #[cfg(test)]

@@ -1,6 +1,6 @@
 //! One line of a key file.
 
-ghost use Rattle.std.specs.Prelude.{◌≡◌, ◌<◌, ◌∷◌, ◌==◌, length};
+ghost use Rattle.std.specs.Prelude.{◌≡◌, ◌<◌, ◌+◌, ◌∷◌, ◌==◌, drop, length};
 ghost use Rattle.std.specs.List.{position};
 ghost use Rattle.fp_keyfile.specs.Grammar as grammar;
 ghost use Rattle.fp_keyfile.specs.Lines.{lines_of, trimmed_front, trimmed_end, header_of, entry_of, marked, line_says};
@@ -27,10 +27,11 @@ fn newline_place(bytes: &[u8]) -> Option<usize>
     bytes.iter().position(|byte| *byte == b'\n')
 }
 
-/// The first line, without its newline, and what stands behind it.
-pub(crate) fn first_line(bytes: &[u8]) -> (&[u8], &[u8])
+/// The first line of bytes that aren't empty, without its newline, and what stands behind it.
+pub fn first_line(bytes: &[u8]) -> (&[u8], &[u8])
     requires { 0 < length bytes.now }
     ensures lines { lines_of bytes.now ≡ result.0.now ∷ lines_of result.1.now }
+    ensures rest { result.1.now ≡ drop (length result.0.now + 1) bytes.now }
     ensures shorter { length result.1.now < length bytes.now }
 {
     match newline_place(bytes) {

@@ -21,15 +21,6 @@ use Rattle.std.proofs.lemmas.Cmp.{nat_list_cmp_total, tied_itself}
 use Rattle.fp_host.specs.declared.host.Entry.TheVariants.{Dir, File, Link}
 use Rattle.fp_memhost.proofs.Ordered.{compare, less_no, less_from}
 
-pub link_text_is : (text : List ℕ) (b : Bool) → 1 ≤ length text → length text ≤ 4095 → is_utf8 text ≡ true → b ≡ list_all (λ b. not (b == 0)) text → b ≡ is_link_text text
-link_text_is text b low high utf8 is =
-    is ∙ sym (ap (λ c. c && (leb (length text) 4095 && (list_all (λ b. not (b == 0)) text && is_utf8 text))) (le-leb 1 (length text) low)
-    ∙ ap (λ c. c && (list_all (λ b. not (b == 0)) text && is_utf8 text)) (le-leb (length text) 4095 high) ∙ ap (λ c. list_all (λ b. not (b == 0)) text && c) utf8 ∙ and_true (list_all (λ b. not (b == 0)) text))
-  where
-    and_true : (a : Bool) → (a && true) ≡ a
-    and_true true = refl
-    and_true false = refl
-
 pub looked_up : (names xs : List Name) (p : Elements) (t : List ℕ) (e : Option Entry) → slot_of e ≡ names_of xs (elements_of t) → xs ≡ names → elements_of t ≡ p → slot_of e ≡ names_of names p
 looked_up names xs p t e tells same of = tells ∙ ap (λ (l : List Name). names_of l (elements_of t)) same ∙ ap (names_of names) of
 
@@ -116,10 +107,6 @@ can_remove_is names v p r shows tree asc is_dir ne tells = (
   λ t. (is_dir, ne, below_empty v p tree (λ x. ap (λ (f : Elements → Slot). f (x ∷ p)) shows ∙ no_child names p (sym tells ∙ not-true r t) x)),
   λ can. not_from_false r (false_from_ne_true r (λ t. let some = some_child names p asc (sym tells ∙ t) in some.1 (sym (ap (λ (f : Elements → Slot). f (some.0 ∷ p)) shows) ∙ can.2 (some.0 ∷ p) (inl refl)))),
 )
-
-pub not_short : (text : List ℕ) → false ≡ (length text == 0) → 1 ≤ length text
-not_short [] f = absurd (false≢true f)
-not_short (b ∷ rest) f = omega arith
 
 pub stat_is : (v : View) (slot : Slot) (id : ℕ) (c : Content) (s : Stat) → slot ≡ file id → v.files id ≡ inode_in (Some c) → c.id ≡ id → s ≡ StatFile c.id c.mode (length c.bytes.items) → IsStat v slot s
 stat_is v slot id c s is row same stat =

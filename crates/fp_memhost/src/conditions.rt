@@ -1,8 +1,7 @@
 // The conditions of the calls that change something.
 ghost use Rattle.std.specs.Prelude.{◌≡◌, ◌≢◌, ◌↔◌, ◌≤◌, ◌==◌, [], true, not, IsTrue};
-ghost use Rattle.std.specs.List.{list_all};
 ghost use Rattle.std.specs.Option.{option_copied};
-ghost use Rattle.fp_host.specs.Paths.{dir, is_link_text};
+ghost use Rattle.fp_host.specs.Paths.{dir};
 ghost use Rattle.fp_host.specs.View.{IsTree};
 ghost use Rattle.fp_host.specs.Calls.{HasFolder, IsFile, Can, CanCreate, makes_dir, appends, links, makes_link, renames, unlinks, removes_dir};
 ghost use Rattle.fp_memhost.specs.Names.{slot_of};
@@ -12,7 +11,7 @@ use crate::files::is_new;
 use crate::folders::{above, has_child};
 use crate::names::entry;
 use crate::scene::Scene;
-use fp_host::{Entry, Path};
+use fp_host::{Entry, Path, is_link_text};
 
 /// Whether the entry is a folder.
 pub fn is_dir(entry: Option<&Entry>) -> bool
@@ -56,24 +55,6 @@ pub fn can_link(scene: &Scene, from: &Path, to: &Path) -> bool
     ensures { IsTrue result ↔ Can (links from.now to.now) (seen scene.now) }
 {
     matches!(entry(&scene.names, from.text()), Some(Entry::File(_))) && can_make_dir(scene, to)
-}
-
-// Whether no byte is zero.
-fn has_no_zero(bytes: &[u8]) -> bool
-    ensures { result ≡ list_all (λ b. not (b == 0)) bytes.now }
-{
-    bytes.iter().all(|b| *b != 0)
-}
-
-/// Whether the text may be a symlink's.
-pub fn is_link_text(text: &str) -> bool
-    ensures { result ≡ is_link_text text.now }
-{
-    let bytes = text.as_bytes();
-    if bytes.is_empty() || bytes.len() > 4095 {
-        return false;
-    }
-    has_no_zero(bytes)
 }
 
 pub fn can_symlink(scene: &Scene, text: &str, path: &Path) -> bool

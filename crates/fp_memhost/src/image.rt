@@ -5,9 +5,8 @@ ghost use Rattle.fp_memhost.specs.Names.{slot_of};
 ghost use Rattle.fp_memhost.specs.Images.{slots_of, rows_of, IsImage};
 ghost use Rattle.fp_memhost.specs.Soundness.{row_in, is_good_slot, is_good_row, are_good_names, are_good_rows};
 
-use crate::conditions::is_link_text;
 use crate::opening::listed;
-use fp_host::{Blob, Entry, Items, Path};
+use fp_host::{Blob, Entry, Items, Path, is_link_text};
 
 /// A file of an image, by its id: its permission bits and its bytes.
 #[derive(Debug, Drop)]

@@ -1,4 +1,3 @@
-pub mod LinkTexts
 pub mod Spelled
 pub mod Told
 pub mod Values

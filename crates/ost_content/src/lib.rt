@@ -9,7 +9,7 @@ mod laws;
 #[cfg(test)]
 mod tests;
 
-pub use conditions::{is_link_text, is_permission};
+pub use conditions::is_permission;
 pub use digesting::{file_digest, link_digest, meta_digest};
 pub use hasher::ContentHasher;
 pub use headers::{header, link_header};

@@ -6,6 +6,7 @@ ghost use Rattle.ost_model.specs.Contents.{file_digest as digest_of_file, is_per
 mod made;
 
 use super::*;
+use fp_host::is_link_text;
 use fp_name::Digest;
 use made::{FILES, LINKS, LONG_LINKS, METADATA};
 use std::alloc::Global;
@@ -124,20 +125,5 @@ fn permissions(rt: HostRuntime) {
     }
     for mode in [0o2, 0o777, 0o646, 0o1755, 0o2755, 0o4755, 0o100644] {
         assert!(rt; !is_permission(mode), "{mode}");
-    }
-}
-
-#[test]
-fn texts_of_links(rt: HostRuntime) {
-    for (text, good) in [
-        ("a", true),
-        ("..", true),
-        ("/", true),
-        ("ä b", true),
-        ("", false),
-        ("a\0b", false),
-        ("\0", false),
-    ] {
-        assert!(rt; is_link_text(text) == good, "{text}");
     }
 }
