@@ -1,5 +1,5 @@
 // Folders of the system as remotes.
-ghost use Rattle.std.specs.Prelude.{◌≡◌, ◌≤◌, None, IfOk, IsErrOf, length};
+ghost use Rattle.std.specs.Prelude.{◌≡◌, ◌↔◌, ◌≤◌, None, IfOk, IsErrOf, length};
 ghost use Rattle.fp_host.specs.Remote.{HasNodeBits};
 ghost use Rattle.fp_realhost.specs.Counts.{RemoteCounts};
 
@@ -55,8 +55,10 @@ impl<'a, R> DirRemotes<'a, R> {
         self.faults.count()
     }
 
-    /// What the system refused last.
-    pub fn last_error(&self) -> Option<&SystemError> {
+    /// What the system refused last, which is there exactly where the count of faults is not 0.
+    pub fn last_error(&self) -> Option<&SystemError>
+        ensures { (result ≡ None) ↔ (self.now ≡ 0) }
+    {
         self.faults.last()
     }
 

@@ -1,5 +1,5 @@
 // What the system refused, and how often.
-ghost use Rattle.std.specs.Prelude.{◌≡◌, ◌≤◌};
+ghost use Rattle.std.specs.Prelude.{◌≡◌, ◌↔◌, ◌≤◌, None};
 ghost use Rattle.fp_realhost.specs.Counts.{one_more};
 
 use fp_host::Text;
@@ -95,6 +95,7 @@ impl fmt::Display for SystemError {
 pub(crate) struct Faults {
     count: u64,
     last: Option<SystemError>,
+    ghost kept: { (last ≡ None) ↔ (count ≡ 0) },
 }
 
 impl Model for Faults {
@@ -121,7 +122,9 @@ impl Faults {
         self.count
     }
 
-    pub(crate) fn last(&self) -> Option<&SystemError> {
+    pub(crate) fn last(&self) -> Option<&SystemError>
+        ensures { (result ≡ None) ↔ (self.now ≡ 0) }
+    {
         self.last.as_ref()
     }
 

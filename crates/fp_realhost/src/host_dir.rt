@@ -1,5 +1,5 @@
 // A real folder as a host.
-ghost use Rattle.std.specs.Prelude.{◌≡◌, ◌≢◌, ◌≤◌, [], None, length, IfOk, OnOk};
+ghost use Rattle.std.specs.Prelude.{◌≡◌, ◌≢◌, ◌↔◌, ◌≤◌, [], None, length, IfOk, OnOk};
 ghost use Rattle.fp_host.specs.Moments.{NeedsNoMemory};
 ghost use Rattle.fp_host.specs.Reads.{AreNames, HasBits};
 ghost use Rattle.fp_host.specs.declared.host.HostError.TheVariants.{Failed};
@@ -66,8 +66,10 @@ impl<'a, R> HostDir<'a, R> {
         self.faults.count()
     }
 
-    /// What the system refused last.
-    pub fn last_error(&self) -> Option<&SystemError> {
+    /// What the system refused last, which is there exactly where the count of faults is not 0.
+    pub fn last_error(&self) -> Option<&SystemError>
+        ensures { (result ≡ None) ↔ (self.now ≡ 0) }
+    {
         self.faults.last()
     }
 

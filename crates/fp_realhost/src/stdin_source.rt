@@ -1,5 +1,5 @@
 // The standard input as a source.
-ghost use Rattle.std.specs.Prelude.{◌≡◌, None, length};
+ghost use Rattle.std.specs.Prelude.{◌≡◌, ◌↔◌, None, length};
 ghost use Rattle.fp_host.specs.Remote.{IsWithin};
 ghost use Rattle.fp_realhost.specs.Counts.{TakenCounts};
 
@@ -44,8 +44,10 @@ impl<'a, R> StdinSource<'a, R> {
         self.faults.count()
     }
 
-    /// What the system refused last.
-    pub fn last_error(&self) -> Option<&SystemError> {
+    /// What the system refused last, which is there exactly where the count of faults is not 0.
+    pub fn last_error(&self) -> Option<&SystemError>
+        ensures { (result ≡ None) ↔ (self.now ≡ 0) }
+    {
         self.faults.last()
     }
 }

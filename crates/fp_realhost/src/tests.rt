@@ -3,10 +3,10 @@ use crate::{DirRemotes, HostDir, StdinSource, SystemError};
 use fp_host::{Host, HostEnd, HostError, Node, Path, RemoteError, Remotes, Source, Stat, Taken};
 use std::alloc::{Allocator, Global};
 use std::cell::Cell;
+use std::env::Env;
 use std::fs::Permissions;
 use std::io::{BufRead, ErrorKind, Input, Lines, Read};
 use std::os::unix::fs::{PermissionsExt, symlink};
-use std::process::Abort;
 use std::rt::Files;
 use std::test::Fail;
 use std::{fs, io};
@@ -123,27 +123,37 @@ const ASKED: [(Step, &str, &str); 22] = [
     (Step::Sync, "none/below", "absent"),
 ];
 
-fn ask<H: Host>(
-    rt: &impl Abort,
+fn shows<H: Host>(host: &mut H, alloc: Global, at: &str, want: &str) -> Result<bool, Fail> {
+    Ok(shown(host, alloc, at)?.as_str() == want)
+}
+
+// Makes the calls, up to the first behind which its path shows something else, and answers its row.
+fn first_other<H: Host>(
     host: &mut H,
     alloc: Global,
     rows: &[(Step, &str, &str)],
-) -> Result<(), Fail> {
-    for (step, at, want) in rows {
+) -> Result<Option<usize>, Fail> {
+    for (i, (step, at, want)) in rows.iter().enumerate() {
         change(host, alloc, *step)?;
-        assert_eq!(rt; shown(host, alloc, at)?.as_str(), *want);
+        if !shows(host, alloc, at, want)? {
+            return Ok(Some(i));
+        }
     }
-    Ok(())
+    Ok(None)
+}
+
+// The first row that shows something else, and the count of faults.
+fn asked<R: Files + Print + AllocGlobal>(rt: &R) -> Result<(Option<usize>, u64), Fail> {
+    let mut host = HostDir::new(rt, rt.alloc(), "asked/root")?;
+    prove_eq!(host.faults(), 0);
+    let other = first_other(&mut host, rt.alloc(), &ASKED)?;
+    Ok((other, host.faults()))
 }
 
 #[test]
 fn a_folder_does_what_it_is_asked(rt: HostRuntime) -> Result<(), Fail> {
     clear(&rt, "asked");
-    let alloc = rt.alloc();
-    let mut host = HostDir::new(&rt, alloc, "asked/root")?;
-    prove_eq!(host.faults(), 0);
-    ask(&rt, &mut host, alloc, &ASKED)?;
-    assert_eq!(rt; host.faults(), 0);
+    assert_eq!(rt; asked(&rt)?, (None, 0));
     clear(&rt, "asked");
     Ok(())
 }
@@ -189,49 +199,58 @@ const REFUSED: [Step; 28] = [
     Step::ReadLink("old"),
 ];
 
-fn refuse<H: Host>(rt: &impl Abort, host: &mut H, alloc: Global, steps: &[Step]) {
+// The first call that isn't answered as a fault.
+fn first_done<H: Host>(host: &mut H, alloc: Global, steps: &[Step]) -> Option<usize> {
     for (i, step) in steps.iter().enumerate() {
-        assert_eq!(rt; change(host, alloc, *step), Err(HostEnd::Fault), "step {i}");
+        if change(host, alloc, *step) != Err(HostEnd::Fault) {
+            return Some(i);
+        }
+    }
+    None
+}
+
+// The first row that shows something else, the first call that is no fault, and the count of faults.
+fn refuse<R: Files + Print + AllocGlobal>(
+    rt: &R,
+    host: &mut HostDir<'_, R>,
+) -> Result<(Option<usize>, Option<usize>, u64), Fail> {
+    let other = first_other(host, rt.alloc(), &MADE)?;
+    let done = first_done(host, rt.alloc(), &REFUSED);
+    Ok((other, done, host.faults()))
+}
+
+fn is_message(alloc: Global, error: Option<&SystemError>, want: &str) -> Result<bool, Fail> {
+    match error {
+        Some(error) => Ok(format!(in alloc; "{error}")?.as_str() == want),
+        None => Ok(false),
     }
 }
 
 #[test]
 fn what_breaks_a_condition_is_a_fault(rt: HostRuntime) -> Result<(), Fail> {
     clear(&rt, "refused");
-    let alloc = rt.alloc();
-    let mut host = HostDir::new(&rt, alloc, "refused")?;
-    ask(&rt, &mut host, alloc, &MADE)?;
-    refuse(&rt, &mut host, alloc, &REFUSED);
-    assert_eq!(rt; host.faults(), 28);
-    let last = message(alloc, host.last_error())?;
-    assert_eq!(rt;
-        last.as_str(),
-        "cannot read the link refused/old: Invalid argument (os error 22)"
-    );
+    let mut host = HostDir::new(&rt, rt.alloc(), "refused")?;
+    assert_eq!(rt; refuse(&rt, &mut host)?, (None, None, 28));
+    let last = "cannot read the link refused/old: Invalid argument (os error 22)";
+    assert!(rt; is_message(rt.alloc(), host.last_error(), last)?);
     clear(&rt, "refused");
     Ok(())
 }
 
-fn message(alloc: Global, error: Option<&SystemError>) -> Result<String, Fail> {
-    match error {
-        Some(error) => Ok(format!(in alloc; "{error}")?),
-        None => Err(Fail::from("there is no error")),
-    }
+// A folder with one file in it.
+fn make_file<R: Files>(rt: &R, folder: &str, file: &str, text: &str) -> io::Result<()> {
+    fs::create_dir(rt, folder)?;
+    fs::write(rt, file, text)
 }
 
 #[test]
 fn a_file_in_the_place_of_the_root_is_a_fault(rt: HostRuntime) -> Result<(), Fail> {
     clear(&rt, "above");
-    let alloc = rt.alloc();
-    fs::create_dir(&rt, "above")?;
-    fs::write(&rt, "above/file", "")?;
-    let mut host = HostDir::new(&rt, alloc, "above/file/root")?;
-    assert_eq!(rt; host.stat(&Path::root(alloc)), Err(HostError::Failed));
-    let last = message(alloc, host.last_error())?;
-    assert_eq!(rt;
-        last.as_str(),
-        "cannot make the folder above/file/root: not a directory"
-    );
+    make_file(&rt, "above", "above/file", "")?;
+    let mut host = HostDir::new(&rt, rt.alloc(), "above/file/root")?;
+    assert_eq!(rt; host.stat(&Path::root(rt.alloc())), Err(HostError::Failed));
+    let last = "cannot make the folder above/file/root: not a directory";
+    assert!(rt; is_message(rt.alloc(), host.last_error(), last)?);
     clear(&rt, "above");
     Ok(())
 }
@@ -242,18 +261,28 @@ const IDS: [(Step, &str, &str); 3] = [
     (Step::Link("a", "c"), "c", "644 0 "),
 ];
 
+fn stat_at<H: Host>(host: &mut H, alloc: Global, at: &str) -> Result<Stat, HostEnd> {
+    Ok(host.stat(&path(alloc, at)?)?)
+}
+
 fn are_same<H: Host>(host: &mut H, alloc: Global, a: &str, b: &str) -> Result<bool, HostEnd> {
-    Ok(host.stat(&path(alloc, a)?)? == host.stat(&path(alloc, b)?)?)
+    let there = stat_at(host, alloc, a)?;
+    Ok(there == stat_at(host, alloc, b)?)
+}
+
+// The first row that shows something else, and whether the linked names and the others are one file.
+fn linked<R: Files + Print + AllocGlobal>(rt: &R) -> Result<(Option<usize>, bool, bool), Fail> {
+    let alloc = rt.alloc();
+    let mut host = HostDir::new(rt, alloc, "ids")?;
+    let other = first_other(&mut host, alloc, &IDS)?;
+    let linked = are_same(&mut host, alloc, "a", "c")?;
+    Ok((other, linked, are_same(&mut host, alloc, "a", "b")?))
 }
 
 #[test]
 fn hard_links_have_one_id(rt: HostRuntime) -> Result<(), Fail> {
     clear(&rt, "ids");
-    let alloc = rt.alloc();
-    let mut host = HostDir::new(&rt, alloc, "ids")?;
-    ask(&rt, &mut host, alloc, &IDS)?;
-    assert!(rt; are_same(&mut host, alloc, "a", "c")?);
-    assert!(rt; !are_same(&mut host, alloc, "a", "b")?);
+    assert_eq!(rt; linked(&rt)?, (None, true, false));
     clear(&rt, "ids");
     Ok(())
 }
@@ -267,19 +296,28 @@ const PIECES: [(u64, usize, [u8; 4]); 5] = [
     (u64::MAX, 0, *b"...."),
 ];
 
+// The first place from which something else is read.
+fn first_other_piece<H: Host>(host: &mut H, file: &Path) -> Result<Option<u64>, HostError> {
+    for (at, n, want) in PIECES {
+        let mut into = *b"....";
+        if host.read_at(file, at, &mut into)? != n || into != want {
+            return Ok(Some(at));
+        }
+    }
+    Ok(None)
+}
+
+fn pieces<R: Files + Print + AllocGlobal>(rt: &R) -> Result<Option<u64>, Fail> {
+    let mut host = HostDir::new(rt, rt.alloc(), "pieces")?;
+    let file = path(rt.alloc(), "file")?;
+    Ok(first_other_piece(&mut host, &file)?)
+}
+
 #[test]
 fn bytes_are_read_in_pieces(rt: HostRuntime) -> Result<(), Fail> {
     clear(&rt, "pieces");
-    let alloc = rt.alloc();
-    fs::create_dir(&rt, "pieces")?;
-    fs::write(&rt, "pieces/file", "hello world")?;
-    let mut host = HostDir::new(&rt, alloc, "pieces")?;
-    let file = path(alloc, "file")?;
-    for (at, n, want) in PIECES {
-        let mut into = *b"....";
-        assert_eq!(rt; host.read_at(&file, at, &mut into)?, n);
-        assert_eq!(rt; into, want, "at {at}");
-    }
+    make_file(&rt, "pieces", "pieces/file", "hello world")?;
+    assert_eq!(rt; pieces(&rt)?, None);
     clear(&rt, "pieces");
     Ok(())
 }
@@ -302,25 +340,77 @@ const HELD: [(&str, &str, usize); 5] = [
     ("none", "absent", 0),
 ];
 
+fn make_remote<R: Files>(rt: &R) -> io::Result<()> {
+    make_file(rt, "remote", "remote/file", "hello world")?;
+    fs::set_permissions(rt, "remote/file", Permissions::from_mode(0o640))?;
+    symlink(rt, "file", "remote/link")
+}
+
+fn remote_url<R: Env + AllocGlobal>(rt: &R) -> Result<String, Fail> {
+    let here = std::env::current_dir(rt)?.into_string();
+    Ok(format!(in rt.alloc(); "file://{here}/remote")?)
+}
+
+// Whether this stands at the path of the remote.
+fn stands<M: Remotes>(
+    remotes: &mut M,
+    alloc: Global,
+    url: &str,
+    at: &Path,
+    want: &str,
+) -> Result<bool, Fail> {
+    let node = remotes.node(alloc, url, at)?;
+    Ok(node_text(alloc, &node)?.as_str() == want)
+}
+
+fn has_bytes<M: Remotes>(
+    remotes: &mut M,
+    url: &str,
+    at: &Path,
+    n: usize,
+) -> Result<bool, RemoteError> {
+    Ok(remotes.read_at(url, at, 6, &mut [0u8; 8])? == n)
+}
+
+fn is_held<M: Remotes>(
+    remotes: &mut M,
+    alloc: Global,
+    url: &str,
+    row: (&str, &str, usize),
+) -> Result<bool, Fail> {
+    let (at, want, n) = row;
+    let at = path(alloc, at)?;
+    Ok(stands(remotes, alloc, url, &at, want)? && has_bytes(remotes, url, &at, n)?)
+}
+
+// The first row that isn't so.
+fn first_not_held<M: Remotes>(
+    remotes: &mut M,
+    alloc: Global,
+    url: &str,
+) -> Result<Option<usize>, Fail> {
+    for (i, row) in HELD.iter().enumerate() {
+        if !is_held(remotes, alloc, url, *row)? {
+            return Ok(Some(i));
+        }
+    }
+    Ok(None)
+}
+
+// The first row that isn't so, and the count of faults.
+fn held<R: Files + AllocGlobal>(rt: &R, url: &str) -> Result<(Option<usize>, u64), Fail> {
+    let mut remotes = DirRemotes::new(rt, rt.alloc());
+    prove_eq!(remotes.faults(), 0);
+    let other = first_not_held(&mut remotes, rt.alloc(), url)?;
+    Ok((other, remotes.faults()))
+}
+
 #[test]
 fn folders_are_remotes(rt: HostRuntime) -> Result<(), Fail> {
     clear(&rt, "remote");
-    let alloc = rt.alloc();
-    fs::create_dir(&rt, "remote")?;
-    fs::write(&rt, "remote/file", "hello world")?;
-    fs::set_permissions(&rt, "remote/file", Permissions::from_mode(0o640))?;
-    symlink(&rt, "file", "remote/link")?;
-    let here = std::env::current_dir(&rt)?.into_string();
-    let url = format!(in alloc; "file://{here}/remote")?;
-    let mut remotes = DirRemotes::new(&rt, alloc);
-    prove_eq!(remotes.faults(), 0);
-    for (at, want, n) in HELD {
-        let at = path(alloc, at)?;
-        let node = remotes.node(alloc, &url, &at)?;
-        assert_eq!(rt; node_text(alloc, &node)?.as_str(), want);
-        assert_eq!(rt; remotes.read_at(&url, &at, 6, &mut [0u8; 8])?, n);
-    }
-    assert_eq!(rt; remotes.faults(), 0);
+    make_remote(&rt)?;
+    let url = remote_url(&rt)?;
+    assert_eq!(rt; held(&rt, &url)?, (None, 0));
     clear(&rt, "remote");
     Ok(())
 }
@@ -335,23 +425,31 @@ const OTHER_URLS: [&str; 7] = [
     "https:///",
 ];
 
+// Whether both calls fail there.
+fn fails<M: Remotes>(remotes: &mut M, alloc: Global, url: &str, root: &Path) -> bool {
+    let node = remotes.node(alloc, url, root);
+    let piece = remotes.read_at(url, root, 0, &mut [0u8; 8]);
+    matches!(node, Err(RemoteError::Failed)) && piece == Err(RemoteError::Failed)
+}
+
+// The first url at which a call doesn't fail.
+fn first_found<M: Remotes>(remotes: &mut M, alloc: Global) -> Option<&'static str> {
+    let root = Path::root(alloc);
+    for url in OTHER_URLS {
+        if !fails(remotes, alloc, url, &root) {
+            return Some(url);
+        }
+    }
+    None
+}
+
 #[test]
 fn other_urls_are_faults(rt: HostRuntime) -> Result<(), Fail> {
-    let alloc = rt.alloc();
-    let root = Path::root(alloc);
-    let mut remotes = DirRemotes::new(&rt, alloc);
-    for url in OTHER_URLS {
-        let node = remotes.node(alloc, url, &root);
-        assert!(rt; matches!(node, Err(RemoteError::Failed)), "{url}");
-        let piece = remotes.read_at(url, &root, 0, &mut [0u8; 8]);
-        assert_eq!(rt; piece, Err(RemoteError::Failed), "{url}");
-    }
+    let mut remotes = DirRemotes::new(&rt, rt.alloc());
+    assert_eq!(rt; first_found(&mut remotes, rt.alloc()), None);
     assert_eq!(rt; remotes.faults(), 14);
-    let last = message(alloc, remotes.last_error())?;
-    assert_eq!(rt;
-        last.as_str(),
-        "cannot find the remote https:///: a url is file:// and an absolute path"
-    );
+    let last = "cannot find the remote https:///: a url is file:// and an absolute path";
+    assert!(rt; is_message(rt.alloc(), remotes.last_error(), last)?);
     Ok(())
 }
 
@@ -403,22 +501,27 @@ impl<'a> Input for Turns<'a> {
     }
 }
 
+// Three takes with room for four bytes, and one without room.
+fn takes<S: Source>(source: &mut S) -> [Taken; 4] {
+    let mut into = [0u8; 4];
+    [
+        source.take(&mut into),
+        source.take(&mut into),
+        source.take(&mut into),
+        source.take(&mut []),
+    ]
+}
+
 #[test]
 fn an_input_is_a_source(rt: HostRuntime) -> Result<(), Fail> {
     let turn = Cell::new(0);
     let turns = Turns { turn: &turn };
     let mut source = StdinSource::new(&turns);
     prove_eq!(source.faults(), 0);
-    let mut into = [0u8; 4];
-    assert_eq!(rt; source.take(&mut into), Taken::Took(2));
-    assert_eq!(rt; source.take(&mut into), Taken::Failed);
-    assert_eq!(rt; source.take(&mut into), Taken::End);
-    assert_eq!(rt; source.take(&mut []), Taken::Took(0));
+    let taken = [Taken::Took(2), Taken::Failed, Taken::End, Taken::Took(0)];
+    assert_eq!(rt; takes(&mut source), taken);
     assert_eq!(rt; source.faults(), 1);
-    let last = message(rt.alloc(), source.last_error())?;
-    assert_eq!(rt;
-        last.as_str(),
-        "cannot read the standard input: the cable is out"
-    );
+    let last = "cannot read the standard input: the cable is out";
+    assert!(rt; is_message(rt.alloc(), source.last_error(), last)?);
     Ok(())
 }
