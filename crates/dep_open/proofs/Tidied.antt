@@ -19,6 +19,7 @@ use Rattle.fp_host.proofs.Settled.{at_tree}
 use Rattle.fp_small.specs.Places.{tmp}
 use Rattle.fp_small.specs.Clear.{GoneBelow, AbsentBelow, IsEmptied, CanEmpty}
 use Rattle.fp_small.specs.declared.state.State.{State}
+use Rattle.fp_small.proofs.Keeping.{files_stay, files_on, files_kept}
 use Rattle.fp_small.proofs.Making.{stat_absent, stat_there}
 use Rattle.dep_states.specs.Names.{config, remotes_conf, pins_file}
 use Rattle.dep_states.specs.Zones.{Zone, anything, a_file, a_folder, Fits, Allowed, IsFileOrGone}
@@ -120,7 +121,7 @@ work_goes v = record { avoids = λ p spot fixed given. fixed_no_work v p fixed g
 -- ---- step by step
 
 pub tidies_start : {s : State} {u : View} → Tidies s u u
-tidies_start = record { opens = λ o. o; sound = λ o. o; printed = refl; names = λ q. inl refl }
+tidies_start = record { opens = λ o. o; sound = λ o. o; printed = refl; names = λ q. inl refl; files = files_stay }
 
 tidies_keeps : {G : Elements → Spot → Type 0} {W : Elements → Slot → Type 0} {s : State} {u v w : View} → Spares v G → ((q : Elements) (e : Slot) → W q e → TakenAway u q × (e ≡ absent)) → Tidies s u v → Keeps G W NoPath v w → Tidies s u w
 tidies_keeps spares taken first keeps = record {
@@ -131,6 +132,7 @@ tidies_keeps spares taken first keeps = record {
     | inl same ↦ elim (first.names q) [ inl was ↦ inl (same ∙ was) | inr away ↦ inr (away.0, same ∙ away.1) ]
     | inr put ↦ inr (taken q _ put)
   ];
+  files = files_on first.files (files_kept keeps);
 }
 
 -- a sync

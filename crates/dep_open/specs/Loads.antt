@@ -9,6 +9,8 @@ use Rattle.fp_small.specs.declared.state.RemoteRow.{RemoteRow}
 use Rattle.fp_small.specs.declared.state.Layout.TheVariants.{Two}
 use Rattle.fp_small.specs.declared.loading.Loaded.{Loaded}
 use Rattle.fp_small.specs.declared.loading.Loaded.TheVariants.{Bytes, Absent, TooLong, NotFile}
+use Rattle.fp_small.specs.declared.config.ConfigFault.{ConfigFault}
+use Rattle.fp_small.specs.declared.config.ConfigFault.TheVariants as config
 use Rattle.dep_states.specs.After.{IsGood}
 use Rattle.dep_states.specs.Shown.{empty_settings, state_of, old_state}
 use Rattle.dep_open.specs.declared.open_end.OpenEnd.{OpenEnd}
@@ -49,6 +51,12 @@ IsPart says path (Ok a) = says ≡ Some a
 IsPart says path (Err (Damaged p)) = (p ≡ path) × (says ≡ None)
 IsPart says path (Err Fault) = ⊥
 IsPart says path (Err NoMemory) = Unit {0}
+
+-- what was read of a file at this path
+abbrev pub part_of : {A : Type 0} → Elements → Result A ConfigFault → Result A OpenEnd
+part_of path (Ok a) = Ok a
+part_of path (Err config.Bad) = Err (Damaged path)
+part_of path (Err config.NoMemory) = Err NoMemory
 
 -- the state that files say, or the first path that says nothing
 abbrev pub IsSaid : Result State Elements → Result State OpenEnd → Type 0

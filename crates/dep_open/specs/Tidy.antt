@@ -7,6 +7,7 @@ use Rattle.fp_host.specs.Calls.{IsNoDir}
 use Rattle.fp_host.specs.Outcome.{Spot, gone}
 use Rattle.fp_host.specs.Frame.{Keeps, NoPath}
 use Rattle.fp_small.specs.Places.{tmp}
+use Rattle.fp_small.specs.Files.{KeepsFiles}
 use Rattle.fp_small.specs.declared.state.State.{State}
 use Rattle.dep_states.specs.Names.{config, remotes_conf, pins_file}
 use Rattle.dep_states.specs.Sound.{Opens, IsSound, IsOld, OldGone}
@@ -16,13 +17,14 @@ pub data TakenAway (u : View) (q : Elements) : Type 0 where
   left_work : IsAbove tmp q → TakenAway u q
   old_file : u.names config ≢ absent → IsOld q → TakenAway u q
 
--- What holds at every moment: what every stop left before it leaves now, nothing is printed, and a name is what it was or
--- was taken away.
+-- What holds at every moment: what every stop left before it leaves now, nothing is printed, a name is what it was or was
+-- taken away, and each file that was there keeps its mode and its bytes.
 pub record Tidies (s : State) (u w : View) : Type 0 where
   pub opens : Opens s u → Opens s w
   pub sound : IsSound u → IsSound w
   pub printed : w.printed ≡ u.printed
   pub names : (q : Elements) → (w.names q ≡ u.names q) ⊎ (TakenAway u q × (w.names q ≡ absent))
+  pub files : KeepsFiles u w
 
 -- where `config` is there, no file of layout 1 is
 pub record HasNoOld (v : View) : Type 0 where

@@ -4,7 +4,7 @@ ghost use Rattle.fp_small.specs.Config.{IsSettings};
 ghost use Rattle.fp_small.specs.Old.{AreRows, ArePatterns};
 ghost use Rattle.dep_states.specs.Names.{config, remotes_conf, pins_file};
 ghost use Rattle.dep_states.specs.Shown.{state_of, new_state};
-ghost use Rattle.dep_open.specs.Loads.{is_away, settings_in, remotes_in, pins_in, old_said, IsPart, IsSaid};
+ghost use Rattle.dep_open.specs.Loads.{is_away, settings_in, remotes_in, pins_in, old_said, part_of, IsPart, IsSaid};
 
 use crate::open_end::OpenEnd;
 use fp_host::{Items, Path};
@@ -68,11 +68,7 @@ fn settings_said(alloc: Global, loaded: Loaded, path: Path) -> Result<Settings, 
             pins: Items::from_vec(Vec::new(alloc)),
         }),
         Loaded::TooLong(_) | Loaded::NotFile => Err(OpenEnd::Damaged(path)),
-        Loaded::Bytes(bytes) => match read_config(alloc, bytes.as_slice()) {
-            Ok(settings) => Ok(settings),
-            Err(ConfigFault::Bad) => Err(OpenEnd::Damaged(path)),
-            Err(ConfigFault::NoMemory) => Err(OpenEnd::NoMemory),
-        },
+        Loaded::Bytes(bytes) => part(read_config(alloc, bytes.as_slice()), path),
     }
 }
 
@@ -84,11 +80,7 @@ fn remotes_said(alloc: Global, loaded: Loaded, path: Path) -> Result<Items<Remot
     match loaded {
         Loaded::Absent => Ok(Items::from_vec(Vec::new(alloc))),
         Loaded::TooLong(_) | Loaded::NotFile => Err(OpenEnd::Damaged(path)),
-        Loaded::Bytes(bytes) => match read_remotes(alloc, bytes.as_slice()) {
-            Ok(remotes) => Ok(remotes),
-            Err(ConfigFault::Bad) => Err(OpenEnd::Damaged(path)),
-            Err(ConfigFault::NoMemory) => Err(OpenEnd::NoMemory),
-        },
+        Loaded::Bytes(bytes) => part(read_remotes(alloc, bytes.as_slice()), path),
     }
 }
 
@@ -100,11 +92,18 @@ fn pins_said(alloc: Global, loaded: Loaded, path: Path) -> Result<Items<PinPatte
     match loaded {
         Loaded::Absent => Ok(Items::from_vec(Vec::new(alloc))),
         Loaded::TooLong(_) | Loaded::NotFile => Err(OpenEnd::Damaged(path)),
-        Loaded::Bytes(bytes) => match read_pins(alloc, bytes.as_slice()) {
-            Ok(pins) => Ok(pins),
-            Err(ConfigFault::Bad) => Err(OpenEnd::Damaged(path)),
-            Err(ConfigFault::NoMemory) => Err(OpenEnd::NoMemory),
-        },
+        Loaded::Bytes(bytes) => part(read_pins(alloc, bytes.as_slice()), path),
+    }
+}
+
+/// What was read of the file at this path.
+fn part<T>(read: Result<T, ConfigFault>, path: Path) -> Result<T, OpenEnd>
+    ensures { result ≡ part_of path read }
+{
+    match read {
+        Ok(part) => Ok(part),
+        Err(ConfigFault::Bad) => Err(OpenEnd::Damaged(path)),
+        Err(ConfigFault::NoMemory) => Err(OpenEnd::NoMemory),
     }
 }
 

@@ -21,7 +21,8 @@ use Rattle.fp_small.specs.Folders.{ancestors, FoldersAt, DirsAt, AreDirs, IsLadd
 use Rattle.fp_small.specs.Stage.{IsReady, WasStaged, CanStage}
 use Rattle.fp_small.specs.Move.{Moves, WasMoved, CanMove}
 use Rattle.fp_small.specs.Naming.{IsFirstFree, ListsIn}
-use Rattle.fp_small.specs.Replace.{IsStaging, folders_of, Replaces, WasReplaced, CanReplace}
+use Rattle.fp_small.specs.Replace.{IsStaging, folders_of, ReplacesAt, ReplacesName, Replaces, WasReplaced, CanReplace}
+use Rattle.fp_small.proofs.Keeping.{files_framed}
 
 -- the names that are tried may be elements of a path
 good_byte : (b : ℕ) → b ≢ 47 → b ≢ 0 → is_name_byte b ≡ true
@@ -154,27 +155,28 @@ ladder p i x up low at = elim (cases_lt i (length (ancestors p))) [
 
 -- each step within the whole
 module _ (p : Elements) (bytes : List ℕ) where
+  -- the staging name holds no file, so a file that was there gets no bytes
+  within : {u w : View} → Keeps (ReplacesAt p bytes u) (ReplacesName p u) (IsStaging u) u w → Replaces p bytes u w
+  within k = record { keeps = k; files = files_framed (λ q id staging is. cc (staging.free, is)) k }
+
   pub still : {u w : View} → w ≡ u → Replaces p bytes u w
-  still same = record { keeps = keeps_same same }
+  still same = within (keeps_same same)
 
   pub with_folders : {folders : List Elements} {u w : View} → folders ≡ folders_of p → Keeps (FoldersAt folders) (DirsAt folders) NoPath u w → Replaces p bytes u w
-  with_folders is k = record {
-    keeps = keeps_to (λ q spot h. inr (inl (subst (λ (l : List Elements). Contains l q) is h.0, h.1))) (λ q e h. inr (inl (subst (λ (l : List Elements). Contains l q) is h.0, h.1))) (λ q h. absurd h) (λ q id a h. absurd (cc (h.1))) k;
-  }
+  with_folders is k =
+      within (keeps_to (λ q spot h. inr (inl (subst (λ (l : List Elements). Contains l q) is h.0, h.1))) (λ q e h. inr (inl (subst (λ (l : List Elements). Contains l q) is h.0, h.1))) (λ q h. absurd h) (λ q id a h. absurd (cc (h.1))) k)
 
   pub with_stage : {place : Elements} {u v w : View} → IsStaging u place → Replaces p bytes u v → Keeps (AnyAt place) (AnyHeld place) (Only place) v w → Replaces p bytes u w
-  with_stage {u = u} staging so_far k = record {
-    keeps = keeps_on so_far.keeps (keeps_to (λ q spot h. inr (inr (subst (IsStaging u) (sym h) staging))) (λ q e h. inr (inr (subst (IsStaging u) (sym h) staging))) (λ q h. inl (subst (IsStaging u) (sym h) staging)) (λ q id a h. h) k);
-  }
+  with_stage {u = u} staging so_far k =
+      within (keeps_on so_far.keeps (keeps_to (λ q spot h. inr (inr (subst (IsStaging u) (sym h) staging))) (λ q e h. inr (inr (subst (IsStaging u) (sym h) staging))) (λ q h. subst (IsStaging u) (sym h) staging) (λ q id a h. h) k))
 
   pub with_move : {place : Elements} {u v w : View} → IsStaging u place → Replaces p bytes u v → IsReady place bytes v → Moves place p v w → Replaces p bytes u w
-  with_move {place = place} {u = u} staging so_far ready moves = record {
-    keeps = keeps_on so_far.keeps (keeps_to
-        (λ q spot h. elim h [ inl new ↦ inl new | inr left ↦ inr (inr (subst (IsStaging u) (sym left.0) staging)) ])
-        (λ q e h. elim h [ inl new ↦ inl new | inr left ↦ inr (inr (subst (IsStaging u) (sym left.0) staging)) ])
-        (λ q h. elim h [ inl is ↦ inl (subst (IsStaging u) (sym is) staging) | inr is ↦ inr is ])
-        (λ q id a h. elim h [ inl new ↦ inr new.0 | inr left ↦ inl left.0 ]) (moves.keeps bytes ready));
-  }
+  with_move {place = place} {u = u} staging so_far ready moves =
+      within (keeps_on so_far.keeps (keeps_to
+      (λ q spot h. elim h [ inl new ↦ inl new | inr left ↦ inr (inr (subst (IsStaging u) (sym left.0) staging)) ])
+      (λ q e h. elim h [ inl new ↦ inl new | inr left ↦ inr (inr (subst (IsStaging u) (sym left.0) staging)) ])
+      (λ q h. subst (IsStaging u) (sym h) staging)
+      (λ q id a h. one_staging a staging) (moves.keeps bytes ready)))
 
 -- where the file may be written, its staging name and its own are none of the folders
 module _ (p place : Elements) (u : View) (can : CanReplace p u) (staging : IsStaging u place) where

@@ -81,7 +81,7 @@ rename_puts ready q e (inr h) = inr h
 
 pub moves_rename : {from to : Elements} {r : Result (Unit {0}) HostError} {v w : View} → IsTree v → Step (renames from to) r v w → Moves from to v w
 moves_rename tree step = record {
-  keeps = λ bytes ready. keeps_call tree (rename_gives ready) (rename_puts ready) (λ x i h. absurd h) (λ is. inl refl) tt (called step);
+  keeps = λ bytes ready. keeps_call tree (rename_gives ready) (rename_puts ready) (λ x i h. absurd h) (λ is. refl) tt (called step);
 }
 
 pub moves_sync : {from to : Elements} {r : Result (Unit {0}) HostError} {u v w : View} → IsTree v → Moves from to u v → Step syncs r v w → Moves from to u w

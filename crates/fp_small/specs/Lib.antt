@@ -1,4 +1,5 @@
 pub mod Places
+pub mod Files
 pub mod Load
 pub mod Naming
 pub mod Folders

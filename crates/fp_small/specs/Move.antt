@@ -4,7 +4,7 @@ use Rattle.fp_host.specs.Paths.{Elements, Slot, absent}
 use Rattle.fp_host.specs.View.{View}
 use Rattle.fp_host.specs.Calls.{HasFolder, IsFile, IsNoDir}
 use Rattle.fp_host.specs.Outcome.{Spot, gone, holds, Disk, Leaves, IsSettled}
-use Rattle.fp_host.specs.Frame.{Keeps}
+use Rattle.fp_host.specs.Frame.{Keeps, Only}
 use Rattle.fp_small.specs.Stage.{IsReady}
 
 -- a file with these bytes and the permission bits 0644
@@ -17,12 +17,9 @@ MovesAt from to bytes q spot = ((q ≡ to) × IsNew bytes spot) ⊎ ((q ≡ from
 abbrev pub MovesName : Elements → Elements → Elements → Slot → Type 0
 MovesName from to q e = ((q ≡ to) × IsFile e) ⊎ ((q ≡ from) × (e ≡ absent))
 
-abbrev pub OneOf : Elements → Elements → Elements → Type 0
-OneOf from to q = (q ≡ from) ⊎ (q ≡ to)
-
 -- Where the file is ready, it may come to its name, and from the one that it had.
 pub record Moves (from to : Elements) (u w : View) : Type 0 where
-  pub keeps : (bytes : List ℕ) → IsReady from bytes u → Keeps (MovesAt from to bytes) (MovesName from to) (OneOf from to) u w
+  pub keeps : (bytes : List ℕ) → IsReady from bytes u → Keeps (MovesAt from to bytes) (MovesName from to) (Only from) u w
 
 -- every stop leaves the file there
 pub record HasNew (p : Elements) (bytes : List ℕ) (v : View) : Type 0 where

@@ -7,6 +7,7 @@ use Rattle.fp_host.specs.Outcome.{Spot, folder, IsSettled}
 use Rattle.fp_host.specs.Frame.{Keeps}
 use Rattle.fp_small.specs.Places.{repo, tmp, new_name}
 use Rattle.fp_small.specs.Folders.{ancestors, AreFree}
+use Rattle.fp_small.specs.Files.{KeepsFiles}
 use Rattle.fp_small.specs.Move.{IsNew, HasNew}
 
 -- the first of the names new0, new1 and so on that nothing in tmp has
@@ -29,12 +30,11 @@ ReplacesAt p bytes u q spot = ((q ≡ p) × IsNew bytes spot) ⊎ ((Contains (fo
 abbrev pub ReplacesName : Elements → View → Elements → Slot → Type 0
 ReplacesName p u q e = ((q ≡ p) × IsFile e) ⊎ ((Contains (folders_of p) q × (e ≡ dir)) ⊎ IsStaging u q)
 
--- the names whose files may get bytes
-abbrev pub ReplacesFile : Elements → View → Elements → Type 0
-ReplacesFile p u q = IsStaging u q ⊎ (q ≡ p)
-
+-- Only the file of the staging name gets bytes, and it is a new one: each file that was there keeps its mode and its bytes,
+-- also the one that stood at the path.
 pub record Replaces (p : Elements) (bytes : List ℕ) (u w : View) : Type 0 where
-  pub keeps : Keeps (ReplacesAt p bytes u) (ReplacesName p u) (ReplacesFile p u) u w
+  pub keeps : Keeps (ReplacesAt p bytes u) (ReplacesName p u) (IsStaging u) u w
+  pub files : KeepsFiles u w
 
 -- On Ok every stop leaves the new file, and all that stands; the names in tmp are as they were.
 pub record WasReplaced (p : Elements) (bytes : List ℕ) (u w : View) : Type 0 where

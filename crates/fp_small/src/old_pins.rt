@@ -1,6 +1,6 @@
 // The file `pins` of layout 1, as it is read.
-ghost use Rattle.std.specs.Prelude.{◌≡◌, ◌<◌, ◌∷◌, ◌==◌, length, true, false, Some, None, IfOk, OnOk, IsErrOf};
-ghost use Rattle.std.specs.List.{list_all, position};
+ghost use Rattle.std.specs.Prelude.{◌≡◌, true, false, Some, None, IfOk, OnOk, IsErrOf};
+ghost use Rattle.std.specs.List.{list_all};
 ghost use Rattle.std.specs.Ordering.{is_lt, nat_cmp};
 ghost use Rattle.std.specs.Cmp.Lexicographic.{slice_cmp};
 ghost use Rattle.fp_host.specs.Reads.{is_ascending};
@@ -12,6 +12,7 @@ ghost use Rattle.fp_small.specs.Old.{ArePatterns, pins_of};
 use crate::config::ConfigFault;
 use crate::config_reading::MOST_PINS;
 use fp_host::Items;
+use fp_keyfile::first_line;
 use fp_name::PinPattern;
 use std::alloc::Global;
 
@@ -20,25 +21,6 @@ fn is_ended(bytes: &[u8]) -> bool
     ensures { result ≡ spec.is_ended bytes.now }
 {
     bytes.is_empty() || bytes[bytes.len() - 1] == b'\n'
-}
-
-/// The place of the first newline.
-fn newline_place(bytes: &[u8]) -> Option<usize>
-    ensures { result ≡ position (λ b. b == 10) bytes.now }
-{
-    bytes.iter().position(|byte| *byte == b'\n')
-}
-
-/// The first line, without its newline, and what stands behind it.
-fn first_line(bytes: &[u8]) -> (&[u8], &[u8])
-    requires { 0 < length bytes.now }
-    ensures lines { lines_of bytes.now ≡ result.0.now ∷ lines_of result.1.now }
-    ensures shorter { length result.1.now < length bytes.now }
-{
-    match newline_place(bytes) {
-        Some(end) => (&bytes[..end], &bytes[end + 1..]),
-        None => (bytes, &[]),
-    }
 }
 
 /// The pattern of each line.

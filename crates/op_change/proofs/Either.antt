@@ -8,7 +8,7 @@ use Rattle.fp_host.specs.Outcome.{Spot, Disk, gone, folder, holds, spot_of, hold
 use Rattle.fp_host.proofs.Settled.{at_tree}
 use Rattle.fp_small.specs.Places.{repo, tmp}
 use Rattle.fp_small.specs.Folders.{IsFree}
-use Rattle.fp_small.specs.Move.{IsNew}
+use Rattle.fp_small.specs.Move.{IsNew, HasNew}
 use Rattle.fp_small.specs.Replace.{IsStaging, folders_of, ReplacesAt, Replaces, WasReplaced, CanReplace}
 use Rattle.fp_small.specs.Config.{config_of, config_text, IsSettings}
 use Rattle.fp_small.specs.declared.config.Settings.{Settings}
@@ -175,14 +175,17 @@ pub applies : {s : State} {op : Op} {t : State} {u w : View} → t ≡ after s o
 applies {s = s} {w = w} is good reads replaces = record {
   either = λ opens. subst (λ x. IsOneOf s x w) is (either good reads replaces opens);
   names = replaces.keeps.names;
+  files = replaces.files;
   printed = replaces.keeps.printed;
 }
 
 pub was_applied : {s : State} {op : Op} {t : State} {u w : View} → t ≡ after s op → IsNext t → ReadsBack t → Replaces config (config_text (settings_of t)) u w → WasReplaced config (config_text (settings_of t)) u w → WasApplied s op u w
 was_applied {t = t} {w = w} is good reads replaces was = record {
   opens = λ opens. subst (λ x. Opens x w) is (opens_after good reads replaces was opens);
+  text = subst (λ x. HasNew config (config_text (settings_of x)) w) is was.new;
   config = λ disk left. is_there disk (config_text (settings_of t)) (was.new.each disk left);
   settled = was.settled;
+  work = was.work;
 }
 
 -- ---- where it may be written
