@@ -10,7 +10,11 @@ use Rattle.ost_model.specs.Types.{commit_shape, tree_shape, meta_shape}
 use Rattle.ost_model.specs.Fields.{TreeView, CommitView}
 use Rattle.ost_model.specs.Readers.{commit_breaks, tree_breaks, tree_read, meta_read}
 use Rattle.ost_model.specs.Binding.{binding_in}
+use Rattle.fp_host.specs.Outcome.{gone, folder, holds, points}
+use Rattle.ost_model.specs.declared.object.ObjKind.TheVariants as kinds
 use Rattle.ost_model.specs.Contents.{is_permission}
+use Rattle.ost_model.specs.Objects.{missing, refused_mode, object_at, name_fault, has_good_bits}
+use Rattle.ost_model.specs.Stores.{is_prefix}
 
 commit_type : type_text commit_shape ≡ codes "(a{sv}aya(say)sstayay)"
 commit_type = refl
@@ -118,3 +122,36 @@ others_may_write = refl
 
 sticky : is_permission 0x3ed ≡ false
 sticky = refl
+
+-- the names of the folders below `objects`
+two_digits : is_prefix (codes "0f") ≡ true
+two_digits = refl
+
+a_capital : is_prefix (codes "0F") ≡ false
+a_capital = refl
+
+one_digit : is_prefix (codes "0") ≡ false
+one_digit = refl
+
+three_digits : is_prefix (codes "0f0") ≡ false
+three_digits = refl
+
+no_digit : is_prefix (codes "tmp") ≡ false
+no_digit = refl
+
+-- what keeps a name from being that of an object
+module _ (d bytes text : List ℕ) (id : ℕ) where
+  missing_file : name_fault d kinds.File (object_at kinds.File gone) ≡ Some missing
+  missing_file = refl
+
+  folder_for_a_file : name_fault d kinds.File (object_at kinds.File folder) ≡ Some missing
+  folder_for_a_file = refl
+
+  link_for_a_commit : name_fault d kinds.Commit (object_at kinds.Commit (points text)) ≡ Some missing
+  link_for_a_commit = refl
+
+  file_that_others_may_write : name_fault d kinds.File (object_at kinds.File (holds id 0x1FF [])) ≡ Some (refused_mode 0x1FF)
+  file_that_others_may_write = refl
+
+  bits_of_a_commit : has_good_bits (holds id 0x1FF bytes) ≡ false
+  bits_of_a_commit = refl

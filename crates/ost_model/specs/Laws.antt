@@ -1,12 +1,15 @@
 -- What holds of all stores, commits and disks.
-use Rattle.std.specs.Prelude.{◌≡◌, ℕ, suc, List, [], ◌∷◌, ◌++◌, length, Bool, Option, Some, None}
+use Rattle.std.specs.Prelude.{◌≡◌, ◌⊎◌, true, ℕ, suc, List, [], ◌∷◌, ◌++◌, length, Bool, Option, Some, None}
 use Rattle.fp_host.specs.Paths.{Elements}
-use Rattle.fp_host.specs.Outcome.{Disk}
+use Rattle.fp_name.specs.Hex.{is_digest}
+use Rattle.fp_host.specs.Outcome.{Disk, gone}
+use Rattle.ost_model.specs.declared.object.ObjKind.{ObjKind}
 use Rattle.ost_model.specs.Fields.{DirRow, TreeView}
-use Rattle.ost_model.specs.Objects.{Have, Fault}
+use Rattle.ost_model.specs.Objects.{Have, Fault, Named, object_path}
 use Rattle.ost_model.specs.Order.{Place, Agree, order, first_fault, first_of, tree_at}
 use Rattle.ost_model.specs.Look.{look, directory, file_at, Reached, FileReached}
 use Rattle.ost_model.specs.Standing.{Stands, SameBelow, SameObjects}
+use Rattle.ost_model.specs.Stores.{objects_folder, IsStore, SameStore, KeepsStore}
 use Rattle.ost_model.specs.Walk.{Open, pending, opened, own_places, Walked}
 
 -- the order of a commit depends on the objects of the order alone
@@ -36,6 +39,29 @@ FilesAreReached = (have : Have) (commit : List ℕ) → first_fault have commit 
 abbrev pub StandingIsLocal : Type 0
 StandingIsLocal = (reads : List ℕ → Bool) (root : Elements) (i j : Disk) (commit : List ℕ) (dir : Elements)
     → Stands reads root i commit dir → SameBelow dir i j → SameObjects root commit i j → Stands reads root j commit dir
+
+-- a store goes on being one where what is below `objects` stays
+abbrev pub StoreIsLocal : Type 0
+StoreIsLocal = (root : Elements) (i j : Disk) → SameStore root i j → IsStore root i → IsStore root j
+
+-- and where only names go, or come as a store may have them
+abbrev pub StoreGoesOn : Type 0
+StoreGoesOn = (root : Elements) (i j : Disk) → KeepsStore root i j → IsStore root i → IsStore root j
+
+-- a store without a name below `objects` is one
+abbrev pub NothingIsAStore : Type 0
+NothingIsAStore = (root : Elements) (disk : Disk) → ((rest : Elements) (xx : List ℕ) → disk (rest ++ (xx ∷ objects_folder root)) ≡ gone)
+    → IsStore root disk
+
+-- what a store has at an object's name is that object
+abbrev pub ObjectsAreNamed : Type 0
+ObjectsAreNamed = (root : Elements) (disk : Disk) → IsStore root disk → (d : List ℕ) (kind : ObjKind) → is_digest d ≡ true
+    → (disk (object_path root d kind) ≡ gone) ⊎ Named d kind (disk (object_path root d kind))
+
+-- and below it there is nothing
+abbrev pub ObjectsAreNoFolders : Type 0
+ObjectsAreNoFolders = (root : Elements) (disk : Disk) → IsStore root disk → (x : List ℕ) (rest : Elements) (name xx : List ℕ)
+    → disk (x ∷ (rest ++ (name ∷ (xx ∷ objects_folder root)))) ≡ gone
 
 -- a walk goes on by one directory
 abbrev pub WalkGoesOn : Type 0

@@ -7,5 +7,6 @@ pub mod Objects
 pub mod Order
 pub mod Look
 pub mod Standing
+pub mod Stores
 pub mod Walk
 pub mod Laws

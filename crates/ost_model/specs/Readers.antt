@@ -1,10 +1,9 @@
 -- What a metadata object says, or the first rule that it breaks.
-use Rattle.std.specs.Prelude.{ℕ, List, [], ◌∷◌, length, map, Bool, true, false, not, ◌&&◌, ◌||◌, ◌==◌, ◌/◌, Option, Some, None, option_and_then, Result, Ok, Err, if◌then◌else◌}
+use Rattle.std.specs.Prelude.{ℕ, List, [], ◌∷◌, length, map, Bool, not, ◌&&◌, ◌||◌, ◌==◌, ◌/◌, Option, Some, None, option_and_then, Result, Ok, Err, if◌then◌else◌}
 use Rattle.std.specs.List.{list_all, list_any}
 use Rattle.std.specs.Str.{bytes_eq}
 use Rattle.fp_host.specs.Paths.{is_element}
 use Rattle.fp_host.specs.Reads.{is_ascending}
-use Rattle.gv_value.specs.Tree.{Trees, no_trees, tree}
 use Rattle.gv_value.specs.Reading.{value_of}
 use Rattle.ost_model.specs.declared.object.ObjKind.{ObjKind}
 use Rattle.ost_model.specs.declared.object.ObjKind.TheVariants as kinds
