@@ -4,7 +4,9 @@ use Rattle.std.proofs.lemmas.List.Elements.{Contains-push_cases}
 use Rattle.fp_host.specs.Paths.{Elements, Slot, absent, IsAbove}
 use Rattle.fp_host.specs.View.{View}
 use Rattle.fp_small.specs.Places.{repo, tmp}
+use Rattle.fp_small.specs.Files.{KeepsFiles}
 use Rattle.fp_small.specs.Replace.{ReplacesName, folders_of}
+use Rattle.fp_small.proofs.Keeping.{files_stay, files_on}
 use Rattle.fp_small.specs.declared.state.State.{State}
 use Rattle.fp_small.specs.declared.op.Op.{Op}
 use Rattle.dep_states.specs.Names.{config}
@@ -13,10 +15,20 @@ use Rattle.op_change.specs.Applied.{Applies}
 use Rattle.fl_top.specs.Changes.{MayHold, new_config, work_folder, some_work, old_gone, Changes}
 
 pub change_on : (u v w : View) → Changes u v → Changes v w → Changes u w
-change_on u v w first second q = elim (second q) [
-  | inl same ↦ elim (first q) [ inl was ↦ inl (same ∙ was) | inr may ↦ inr (subst (MayHold q) (sym same) may) ]
-  | inr may ↦ inr may
-]
+change_on u v w first second = record {
+  names = λ q. elim (second.names q) [
+    | inl same ↦ elim (first.names q) [ inl was ↦ inl (same ∙ was) | inr may ↦ inr (subst (MayHold q) (sym same) may) ]
+    | inr may ↦ inr may
+  ];
+  files = files_on first.files second.files;
+}
+
+pub change_none : {u w : View} → ((q : Elements) → w.names q ≡ u.names q) → KeepsFiles u w → Changes u w
+change_none names files = record { names = λ q. inl (names q); files = files }
+
+-- nothing is done
+pub change_not : {v : View} → Changes v v
+change_not = change_none (λ q. refl) files_stay
 
 which : (q : Elements) → Contains (folders_of config) q → (q ≡ repo) ⊎ (q ≡ tmp)
 which q has = elim (Contains-push_cases (repo ∷ []) tmp q has) [
@@ -31,11 +43,17 @@ may_replace u q e put = elim put [
 ]
 
 pub applied_changes : (s : State) (op : Op) (u w : View) → Applies s op u w → Changes u w
-applied_changes s op u w applies q = elim (applies.names q) [ inl same ↦ inl same | inr put ↦ inr (may_replace u q (w.names q) put) ]
+applied_changes s op u w applies = record {
+  names = λ q. elim (applies.names q) [ inl same ↦ inl same | inr put ↦ inr (may_replace u q (w.names q) put) ];
+  files = applies.files;
+}
 
 may_take : (u : View) (q : Elements) (e : Slot) → TakenAway u q → e ≡ absent → MayHold q e
 may_take u q e (left_work above) gone = some_work above
 may_take u q e (old_file there old) gone = old_gone old gone
 
 pub tidied_changes : (s : State) (u w : View) → Tidies s u w → Changes u w
-tidied_changes s u w tidies q = elim (tidies.names q) [ inl same ↦ inl same | inr taken ↦ inr (may_take u q (w.names q) taken.0 taken.1) ]
+tidied_changes s u w tidies = record {
+  names = λ q. elim (tidies.names q) [ inl same ↦ inl same | inr taken ↦ inr (may_take u q (w.names q) taken.0 taken.1) ];
+  files = tidies.files;
+}

@@ -23,7 +23,7 @@ use Rattle.dep_open.specs.declared.open_end.OpenEnd.{OpenEnd}
 use Rattle.op_change.specs.Applied.{Applies, WasApplied}
 use Rattle.fl_words.specs.Lines.{op_text}
 use Rattle.fl_words.specs.declared.command.Command.{Command}
-use Rattle.fl_top.specs.Answer.{Answer, did, act, nothing, ops_of, refusal_of, followed, change_over, in_turn}
+use Rattle.fl_top.specs.Answer.{Answer, IsAtOnce, did, act, nothing, ops_of, refusal_of, followed, change_over, in_turn}
 use Rattle.fl_top.specs.Ends.{IsTried, end_of_host, end_of_open}
 use Rattle.fl_top.specs.Performs.{Performs, Performed, WasDone, RunsOver, EndedOver, over_view}
 use Rattle.fl_top.specs.Says.{Says}
@@ -168,11 +168,11 @@ goes_not_opened {a = a} {b = b} f e r known frame tells is =
     subst (λ (x : Result (Unit {0}) RunEnd). Goes a b (RunsOver f) (EndedOver f x)) (sym (is_err r (end_of_open e) is))
     (begins known (opening f known frame tells) (λ u w t p. p) (λ u w t p q. ended_open f e q.0 q.1))
 
-pub goes_failed : {a b c : Option Moments} (f : State → Answer) (s : State) (e : RunEnd) (r : Result (Unit {0}) RunEnd) → IsTold a → IsTold b → Frame Nothing NoName NoPath a b → Ends (IsOpened s) a b → Goes b c (Performs (f s) s) (Performed (f s) s (Err e)) → IsErrAnd r (λ end. end ≡ e) → Goes a c (RunsOver f) (EndedOver f r)
-goes_failed {a = a} {c = c} f s e r known known_b frame tells goes is =
+pub goes_failed : {a b c : Option Moments} (f : State → Answer) (s : State) (e : RunEnd) (r : Result (Unit {0}) RunEnd) → (IsAtOnce (f s).refusal → ⊥) → IsTold a → IsTold b → Frame Nothing NoName NoPath a b → Ends (IsOpened s) a b → Goes b c (Performs (f s) s) (Performed (f s) s (Err e)) → IsErrAnd r (λ end. end ≡ e) → Goes a c (RunsOver f) (EndedOver f r)
+goes_failed {a = a} {c = c} f s e r late known known_b frame tells goes is =
     subst (λ (x : Result (Unit {0}) RunEnd). Goes a c (RunsOver f) (EndedOver f x)) (sym (is_err r e is))
-    (goes_on known_b (opening f known frame tells) goes (λ u v w t p q step. runs_over f s q.1 q.0 step) (λ u v w t p q step last. failed_over f s e w q.1 q.0 last))
+    (goes_on known_b (opening f known frame tells) goes (λ u v w t p q step. runs_over f s late q.1 q.0 step) (λ u v w t p q step last. failed_over f s e w q.1 q.0 last))
 
-pub goes_opened : {a b c : Option Moments} (f : State → Answer) (s t : State) → IsTold a → IsTold b → Frame Nothing NoName NoPath a b → Ends (IsOpened s) a b → Goes b c (Performs (f s) s) (Performed (f s) s (Ok t)) → Goes a c (RunsOver f) (EndedOver f (Ok tt))
-goes_opened f s t known known_b frame tells goes =
-    goes_on known_b (opening f known frame tells) goes (λ u v w tree p q step. runs_over f s q.1 q.0 step) (λ u v w tree p q step last. done_over f s t w q.1 q.0 last)
+pub goes_opened : {a b c : Option Moments} (f : State → Answer) (s t : State) → (IsAtOnce (f s).refusal → ⊥) → IsTold a → IsTold b → Frame Nothing NoName NoPath a b → Ends (IsOpened s) a b → Goes b c (Performs (f s) s) (Performed (f s) s (Ok t)) → Goes a c (RunsOver f) (EndedOver f (Ok tt))
+goes_opened f s t late known known_b frame tells goes =
+    goes_on known_b (opening f known frame tells) goes (λ u v w tree p q step. runs_over f s late q.1 q.0 step) (λ u v w tree p q step last. done_over f s t w q.1 q.0 last)

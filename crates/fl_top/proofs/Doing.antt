@@ -19,7 +19,7 @@ use Rattle.fl_top.specs.declared.end.RunEnd.{RunEnd}
 use Rattle.fl_top.specs.declared.end.RunEnd.TheVariants.{Refused, Fault, NoMemory}
 use Rattle.fl_top.specs.Says.{Says, WasSaid}
 use Rattle.fl_top.specs.Changes.{Changes}
-use Rattle.fl_top.proofs.Changing.{change_on, applied_changes, tidied_changes}
+use Rattle.fl_top.proofs.Changing.{change_on, change_none, change_not, applied_changes, tidied_changes}
 use Rattle.fl_top.proofs.Same.{same_opens}
 use Rattle.fl_top.proofs.Starting.{none_yet}
 
@@ -30,7 +30,7 @@ not_done : (a : Answer) (s : State) {v : View} (disk : Disk) → Opens s v → L
 not_done a s disk opens left = record { done = []; undone = ops_of a; prefix = refl; more = []; holds = refl; shown = opens.shown disk left; sound = opens.sound disk left }
 
 pub not_yet : (a : Answer) (s : State) (v : View) → Performs a s v v
-not_yet a s v = record { said = []; so_far = none_yet a refl; names = λ q. inl refl; some = λ opens disk left. not_done a s disk opens left }
+not_yet a s v = record { said = []; so_far = none_yet a refl; changes = change_not; some = λ opens disk left. not_done a s disk opens left }
 
 pub halted : (a : Answer) (s : State) {v w : View} → w ≡ v → IsHalted a s v w
 halted a s {v = v} same = subst (IsHalted a s v) (sym same) (record { said = []; so_far = none_yet a refl; opens = λ opens. opens })
@@ -38,7 +38,7 @@ halted a s {v = v} same = subst (IsHalted a s v) (sym same) (record { said = [];
 -- an operation that is refused
 refuses : (refusal : Refusal) (s : State) (v : View) → IsDone (refused refusal) s v v
 refuses refusal s v = record {
-  names = λ q. inl refl;
+  changes = change_not;
   printed = sym (append-nil v.printed);
   opens = λ opens. opens;
   tidied = λ opens why. elim why [ inl tidy ↦ tidy | inr some ↦ absurd (some refl) ];
@@ -69,7 +69,7 @@ one_of op s disk one left = elim (one.shown disk left) [
 ]
 
 pub applying : (op : Op) (s : State) {v w : View} → Applies s op v w → Performs (did op) s v w
-applying op s {v = v} {w = w} applies = record { said = []; so_far = none_yet (did op) applies.printed; names = applied_changes s op v w applies; some = λ opens disk left. one_of op s disk (applies.either opens) left }
+applying op s {v = v} {w = w} applies = record { said = []; so_far = none_yet (did op) applies.printed; changes = applied_changes s op v w applies; some = λ opens disk left. one_of op s disk (applies.either opens) left }
 
 -- the ends of an operation that isn't done
 pub not_applied : (op : Op) (s : State) (e : RunEnd) {v w : View} → (e ≡ Fault) ⊎ ((e ≡ NoMemory) × (w ≡ v)) → Performed (did op) s (Err e) v w
@@ -96,25 +96,25 @@ saying op s {v = v} {w = w} {x = x} changes same applied says = elim (says.print
   | inl none ↦ record {
     said = [];
     so_far = none_yet (did op) (none ∙ same);
-    names = change_on v w x changes (λ q. inl (says.names q));
+    changes = change_on v w x changes (change_none says.names says.files);
     some = λ opens disk left. is_done op s [] disk (op ∷ []) refl (same_opens says.follows (applied.opens opens)) left;
   }
   | inr more ↦ record {
     said = piece_of op ∷ [];
     so_far = line_printed op v w x same more;
-    names = change_on v w x changes (λ q. inl (says.names q));
+    changes = change_on v w x changes (change_none says.names says.files);
     some = λ opens disk left. is_done op s (op ∷ []) disk [] refl (same_opens says.follows (applied.opens opens)) left;
   }
 ]
 
 pub said_done : (op : Op) (s t : State) {v w x : View} → Changes v w → w.printed ≡ v.printed → WasApplied s op v w → WasSaid (op_text op) w x → WasDone op s (Ok t) v x
-said_done op s t {v = v} {w = w} {x = x} changes same applied said = (said.printed ∙ ap (λ (p : List ℕ). p ++ op_text op) same, λ opens. same_opens said.follows (applied.opens opens), change_on v w x changes (λ q. inl (said.names q)))
+said_done op s t {v = v} {w = w} {x = x} changes same applied said = (said.printed ∙ ap (λ (p : List ℕ). p ++ op_text op) same, λ opens. same_opens said.follows (applied.opens opens), change_on v w x changes (change_none said.names said.files))
 
 -- ---- nothing is done
 
 -- there is nothing to do
 pub idle : (s : State) (v : View) → Performed nothing s (Ok s) v v
-idle s v = (refl, refl, record { names = λ q. inl refl; printed = sym (append-nil v.printed); opens = λ opens. opens; tidied = λ opens why. elim why [ inl tidy ↦ tidy | inr some ↦ absurd (some refl) ] })
+idle s v = (refl, refl, record { changes = change_not; printed = sym (append-nil v.printed); opens = λ opens. opens; tidied = λ opens why. elim why [ inl tidy ↦ tidy | inr some ↦ absurd (some refl) ] })
 
 -- ---- tidying behind an operation
 
@@ -129,7 +129,7 @@ pub tidying : (op : Op) (s t : State) {v w x : View} → t ≡ after s op → Wa
 tidying op s t {v = v} {w = w} {x = x} is done tidies = record {
   said = piece_of op ∷ [];
   so_far = behind_done op v w x done.0 tidies.printed;
-  names = change_on v w x done.2 (tidied_changes t w x tidies);
+  changes = change_on v w x done.2 (tidied_changes t w x tidies);
   some = λ opens disk left. is_done op s (op ∷ []) disk [] refl (subst (λ (z : State). Opens z x) is (tidies.opens (subst (λ (z : State). Opens z w) (sym is) (done.1 opens)))) left;
 }
 
@@ -139,7 +139,7 @@ tidied op s t t' {v = v} {w = w} {x = x} is same done tidies tidy = (
   same ∙ is,
   record {
     printed = (behind_done op v w x done.0 tidies.printed).printed;
-    names = change_on v w x done.2 (tidied_changes t w x tidies);
+    changes = change_on v w x done.2 (tidied_changes t w x tidies);
     opens = λ opens. subst (λ (z : State). Opens z x) is (tidies.opens (subst (λ (z : State). Opens z w) (sym is) (done.1 opens)));
     tidied = λ opens why. tidy;
   },
@@ -162,7 +162,7 @@ first_moved : {a : Answer} {said : List Piece} {u v w : View} → v.printed ≡ 
 first_moved {said = said} same printed = record { left = printed.left; pieces = printed.pieces; printed = printed.printed ∙ ap (λ (p : List ℕ). p ++ joined said) same }
 
 pub tidied_first : (a : Answer) (s : State) {u v : View} → Tidies s u v → Performs a s u v
-tidied_first a s {u = u} {v = v} tidies = record { said = []; so_far = none_yet a tidies.printed; names = tidied_changes s u v tidies; some = λ opens disk left. not_done a s disk (tidies.opens opens) left }
+tidied_first a s {u = u} {v = v} tidies = record { said = []; so_far = none_yet a tidies.printed; changes = tidied_changes s u v tidies; some = λ opens disk left. not_done a s disk (tidies.opens opens) left }
 
 pub untidied_first : (a : Answer) (s : State) (e : RunEnd) {u v : View} → (e ≡ Fault) ⊎ (e ≡ NoMemory) → Tidies s u v → Performed a s (Err e) u v
 untidied_first a s e {u = u} {v = v} why tidies = elim why [
@@ -171,11 +171,11 @@ untidied_first a s e {u = u} {v = v} why tidies = elim why [
 ]
 
 pub performs_tidied : (a : Answer) (s : State) {u v w : View} → Tidies s u v → Performs a s v w → Performs a s u w
-performs_tidied a s {u = u} {v = v} {w = w} tidies performs = record { said = performs.said; so_far = first_moved tidies.printed performs.so_far; names = change_on u v w (tidied_changes s u v tidies) performs.names; some = λ opens disk left. performs.some (tidies.opens opens) disk left }
+performs_tidied a s {u = u} {v = v} {w = w} tidies performs = record { said = performs.said; so_far = first_moved tidies.printed performs.so_far; changes = change_on u v w (tidied_changes s u v tidies) performs.changes; some = λ opens disk left. performs.some (tidies.opens opens) disk left }
 
 done_tidied : (a : Answer) (s : State) {u v w : View} → Tidies s u v → IsTidy v → IsDone a s v w → IsDone a s u w
 done_tidied a s {u = u} {v = v} {w = w} tidies tidy done = record {
-  names = change_on u v w (tidied_changes s u v tidies) done.names;
+  changes = change_on u v w (tidied_changes s u v tidies) done.changes;
   printed = done.printed ∙ ap (λ (p : List ℕ). p ++ joined a.pieces) tidies.printed;
   opens = λ opens. done.opens (tidies.opens opens);
   tidied = λ opens why. done.tidied (tidies.opens opens) (inl tidy);

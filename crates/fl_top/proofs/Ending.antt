@@ -11,7 +11,7 @@ use Rattle.fp_small.specs.declared.state.Layout.TheVariants.{One, Two}
 use Rattle.fp_small.specs.declared.op.Op.{Op}
 use Rattle.fp_small.specs.declared.op.Op.TheVariants.{AddPin, DropPin, AddRemote, ModifyRemote, DropRemote, Migrate}
 use Rattle.fp_small.specs.declared.refusal.Refusal.{Refusal}
-use Rattle.fp_small.specs.declared.refusal.Refusal.TheVariants.{BadWords, NoSuchRemote, RemoteExists, PinExists, NoSuchPin, Limit, BadRecord, Damaged}
+use Rattle.fp_small.specs.declared.refusal.Refusal.TheVariants.{BadWords, NoSuchRemote, RemoteExists, MalformedObject, PinExists, NoSuchPin, Limit, BadRecord, Damaged}
 use Rattle.fp_small.specs.declared.refusal.What.TheVariants.{Pins, Remotes, Input}
 use Rattle.fp_small.specs.Config.{name_of}
 use Rattle.fp_small.specs.Order.{has_name}
@@ -21,17 +21,29 @@ use Rattle.dep_states.specs.After.{after_all}
 use Rattle.fl_words.specs.Lines.{refusal_text, pins_text, remotes_text}
 use Rattle.fl_words.specs.Batch.{batch_of}
 use Rattle.fl_words.specs.declared.command.Command.{Command}
-use Rattle.fl_words.specs.declared.command.Command.TheVariants.{Pin, Unpin, RemoteAdd, RemoteModify, RemoteDelete, ListPins, ListRemotes, Batch}
-use Rattle.fl_top.specs.Answer.{Answer, Piece, lines_of, last_of, joined, ops_in, ops_of, did, told, refused, behind, refusal_of, unless, act, act_on, op_of, change_over, in_turn, migrating, changing, told_pins, told_remotes, over, of_batch, answer_over, is_pinned}
+use Rattle.fl_words.specs.declared.command.Command.TheVariants.{Pin, Unpin, RemoteAdd, RemoteModify, RemoteDelete, ListPins, ListRemotes, Batch, ShowCommit, ShowDirTree, ShowDirMeta, ShowValue}
+use Rattle.fl_top.specs.Answer.{Answer, Piece, lines_of, last_of, joined, ops_in, ops_of, did, told, refused, behind, refusal_of, unless, act, act_on, op_of, change_over, in_turn, migrating, changing, told_pins, told_remotes, over, of_batch, answer_over, is_pinned, by_read, by_value, by_type, commit_shown, tree_shown, meta_shown, value_shown, shown_by, show_over}
+use Rattle.fl_top.specs.Objects.{commit_lines, tree_lines, meta_lines, rule_word}
+use Rattle.gv_value.specs.Shape.{Shape}
+use Rattle.gv_value.specs.Tree.{Tree}
+use Rattle.gv_value.specs.TypeText.{type_of}
+use Rattle.gv_value.specs.Reading.{value_of}
+use Rattle.ost_model.specs.declared.rule.Rule.{Rule}
+use Rattle.ost_model.specs.Contents.{meta_digest}
+use Rattle.ost_model.specs.Readers.{commit_read, tree_read, meta_read}
+use Rattle.std.specs.Prelude.{codes}
 use Rattle.fl_top.specs.Input.{input_most}
 use Rattle.fl_top.specs.Runs.{ShowsAfter, IsPrefix, IsJust, Printed, Runs, Stands, Answers, Ran}
 use Rattle.fl_top.specs.Performs.{Completes, Ended}
 use Rattle.fl_top.specs.Says.{Says, WasSaid, Refuses}
+use Rattle.fl_top.specs.Changes.{IsUntouched}
+use Rattle.fp_small.proofs.Keeping.{files_on}
 use Rattle.fl_top.specs.Status.{status_of, status_by, IsAnswered}
 use Rattle.fl_top.proofs.Same.{unmoved, same_shown, same_sound}
 use Rattle.fl_top.proofs.Starting.{same_tidy, stood, unchanged}
-use Rattle.fl_top.proofs.Changing.{change_on}
+use Rattle.fl_top.proofs.Changing.{change_on, change_none}
 use Rattle.fl_top.proofs.Turning.{joined-append}
+use Rattle.fl_top.proofs.Refusing.{of_changing}
 
 -- ---- pieces
 
@@ -96,21 +108,24 @@ with_last a r u v w is first more =
     last_text : (a : Answer) (r : Refusal) → a.refusal ≡ Some r → refusal_text r ≡ joined (last_of a.refusal)
     last_text a r is = sym (append-nil (refusal_text r)) ∙ ap (λ (o : Option Refusal). joined (last_of o)) (sym is)
 
+pub untouched_on : {text : List ℕ} {u v w : View} → IsUntouched u v → Says text v w → IsUntouched u w
+untouched_on is says = record { names = λ q. says.names q ∙ is.names q; files = files_on is.files says.files }
+
 pub refusing : (a : Answer) (r : Refusal) {u v w : View} → a.refusal ≡ Some r → Runs a u v → Completes a u v → Says (refusal_text r) v w → Runs a u w
 refusing a r {u = u} {v = v} {w = w} is runs done says = elim (says.printed) [
   | inl none ↦ record {
     said = a.pieces;
     so_far = before_last a (none ∙ done.printed);
     prefix = λ sound disk left. prefix_all a a.pieces refl (just_on (ops_of a) says.follows (done.just sound) disk left);
-    names = change_on u v w runs.names (λ q. inl (says.names q));
-    untouched = λ none q. says.names q ∙ runs.untouched none q;
+    changes = change_on u v w runs.changes (change_none says.names says.files);
+    untouched = λ why. untouched_on (runs.untouched why) says;
   }
   | inr more ↦ record {
     said = lines_of a;
     so_far = all_lines a (with_last a r u v w is done.printed more);
     prefix = λ sound disk left. prefix_all a (lines_of a) (ops_lines a) (just_on (ops_of a) says.follows (done.just sound) disk left);
-    names = change_on u v w runs.names (λ q. inl (says.names q));
-    untouched = λ none q. says.names q ∙ runs.untouched none q;
+    changes = change_on u v w runs.changes (change_none says.names says.files);
+    untouched = λ why. untouched_on (runs.untouched why) says;
   }
 ]
 
@@ -143,7 +158,6 @@ ran_done a {u = u} runs ended = record {
     tidied = ended.1.tidied;
   };
   stands = λ three. stands_before a ended.1;
-  unread = λ five. absurd (omega (arith, five));
   sound = runs_sound runs;
 }
 
@@ -154,31 +168,20 @@ not_answered n high answered = elim answered [
 ]
 
 pub ran_fault : (a : Answer) {u w : View} → Runs a u w → Ran a 3 u w
-ran_fault a runs = record { unread = λ five. absurd (omega (arith, five)); answers = λ answered. absurd (not_answered 3 (omega arith) answered); stands = λ three. absurd (three refl); sound = runs_sound runs }
+ran_fault a runs = record { answers = λ answered. absurd (not_answered 3 (omega arith) answered); stands = λ three. absurd (three refl); sound = runs_sound runs }
 
 -- the input failed, and nothing was done
 pub ran_input : (a : Answer) {u w : View} → Runs a u w → w ≡ u → Ran a 5 u w
-ran_input a {u = u} runs same = record { unread = λ five. same; answers = λ answered. absurd (not_answered 5 (omega arith) answered); stands = λ three. subst (λ (x : View). Stands a u x) (sym same) (stood a unchanged); sound = runs_sound runs }
+ran_input a {u = u} runs same = record { answers = λ answered. absurd (not_answered 5 (omega arith) answered); stands = λ three. subst (λ (x : View). Stands a u x) (sym same) (stood a unchanged); sound = runs_sound runs }
 
 pub ran_memory : (a : Answer) {u w : View} → Runs a u w → Stands a u w → Ran a 6 u w
-ran_memory a runs stands = record { unread = λ five. absurd (omega (arith, five)); answers = λ answered. absurd (not_answered 6 (omega arith) answered); stands = λ three. stands; sound = runs_sound runs }
-
-no_five : (r : Refusal) → status_of r ≡ 5 → ⊥
-no_five (BadWords index) is = omega (arith, is)
-no_five (NoSuchRemote remote) is = omega (arith, is)
-no_five (RemoteExists remote) is = omega (arith, is)
-no_five (PinExists pin) is = omega (arith, is)
-no_five (NoSuchPin pin) is = omega (arith, is)
-no_five (Limit what number) is = omega (arith, is)
-no_five (BadRecord line) is = omega (arith, is)
-no_five (Damaged path) is = omega (arith, is)
+ran_memory a runs stands = record { answers = λ answered. absurd (not_answered 6 (omega arith) answered); stands = λ three. stands; sound = runs_sound runs }
 
 pub ran_refused : (a : Answer) (r : Refusal) (status result : ℕ) {u v w : View} → a.refusal ≡ Some r → status ≡ status_of r → Completes a u v → Runs a u w → Refuses (refusal_text r) status result v w → Ran a result u w
 ran_refused a r status result {u = u} {w = w} is status_is done runs refuses = elim refuses [
   | inl said ↦ subst (λ (n : ℕ). Ran a n u w) (sym said.0) (record {
     answers = λ answered. answers_all a r status is status_is done said.1;
     stands = λ three. stands_all a r is done said.1;
-    unread = λ five. absurd (no_five r (sym status_is ∙ five));
     sound = runs_sound runs;
   })
   | inr other ↦ elim other [
@@ -192,52 +195,12 @@ ran_refused a r status result {u = u} {w = w} is status_is done runs refuses = e
 one_of_some : (r q : Refusal) → Some r ≡ Some q → 1 ≡ status_of r → 1 ≡ status_of q
 one_of_some r q is one = let same : r ≡ q = cc is in subst (λ (x : Refusal). 1 ≡ status_of x) same one
 
-first_plain : (b c : Bool) (one two q : Refusal) → 1 ≡ status_of one → 1 ≡ status_of two → (if b then Some one else (if c then Some two else None)) ≡ Some q → 1 ≡ status_of q
-first_plain true c one two q f g is = one_of_some one q is f
-first_plain false true one two q f g is = one_of_some two q is g
-first_plain false false one two q f g is = absurd (cc is)
-
-none_plain : (b : Bool) (one q : Refusal) → 1 ≡ status_of one → (if b then None else Some one) ≡ Some q → 1 ≡ status_of q
-none_plain true one q f is = absurd (cc is)
-none_plain false one q f is = one_of_some one q is f
-
-op_plain : (op : Op) (s : State) (q : Refusal) → refusal_of s op ≡ Some q → 1 ≡ status_of q
-op_plain (AddPin pin) s q is = first_plain (is_pinned s.pins pin) (nat_le 1024 (length s.pins)) (PinExists pin) (Limit Pins 1025) q refl refl is
-op_plain (DropPin pin) s q is = none_plain (is_pinned s.pins pin) (NoSuchPin pin) q refl is
-op_plain (AddRemote row) s q is = first_plain (has_name name_of s.remotes row.name) (nat_le 256 (length s.remotes)) (RemoteExists row.name) (Limit Remotes 257) q refl refl is
-op_plain (ModifyRemote row) s q is = none_plain (has_name name_of s.remotes row.name) (NoSuchRemote row.name) q refl is
-op_plain (DropRemote name) s q is = none_plain (has_name name_of s.remotes name) (NoSuchRemote name) q refl is
-op_plain Migrate s q is = absurd (cc is)
-
-unless_refusal : (op : Op) (o : Option Refusal) (r : Refusal) → (unless o (did op)).refusal ≡ Some r → o ≡ Some r
-unless_refusal op None r is = is
-unless_refusal op (Some q) r is = is
-
 -- each refusal of the answer has the status 1
 abbrev IsPlain : Answer → Type 0
 IsPlain a = (r : Refusal) → a.refusal ≡ Some r → 1 ≡ status_of r
 
-act_plain : (op : Op) (s : State) → IsPlain (act op s)
-act_plain op s r is = op_plain op s r (unless_refusal op (refusal_of s op) r is)
-
-change_plain : (o : Option Op) (s : State) → IsPlain (act_on o s)
-change_plain None s r is = absurd (cc is)
-change_plain (Some op) s r is = act_plain op s r is
-
-behind_plain : (pieces : List Piece) (o : Option Refusal) (b : Answer) → ((r : Refusal) → o ≡ Some r → 1 ≡ status_of r) → IsPlain b → IsPlain (behind pieces o b)
-behind_plain pieces None b first second r is = second r is
-behind_plain pieces (Some q) b first second r is = first r is
-
-turn_plain : (commands : List Command) (s : State) → IsPlain (in_turn commands s)
-turn_plain [] s r is = absurd (cc is)
-turn_plain (command ∷ commands) s r is = behind_plain (change_over command s).pieces (change_over command s).refusal (in_turn commands (after_all s (ops_of (change_over command s)))) (change_plain (op_of command) s) (turn_plain commands (after_all s (ops_of (change_over command s)))) r is
-
-migrating_plain : (layout : Layout) → IsPlain (migrating layout)
-migrating_plain One r is = absurd (cc is)
-migrating_plain Two r is = absurd (cc is)
-
 changing_plain : (commands : List Command) (s : State) → IsPlain (changing commands s)
-changing_plain commands s = behind_plain (migrating s.layout).pieces (migrating s.layout).refusal (in_turn commands (after_all s (ops_of (migrating s.layout)))) (migrating_plain s.layout) (turn_plain commands (after_all s (ops_of (migrating s.layout))))
+changing_plain commands s = of_changing (λ r. 1 ≡ status_of r) (record { pin_there = λ pin. refl; pins_full = refl; no_pin = λ pin. refl; remote_there = λ name. refl; remotes_full = refl; no_remote = λ name. refl }) commands s
 
 over_plain : (f : State → Answer) (shown : Result State Elements) → ((s : State) → IsPlain (f s)) → IsPlain (over f shown)
 over_plain f (Err path) plain r is = one_of_some (Damaged path) r is refl
@@ -254,6 +217,36 @@ if_plain false x y first second = second
 told_plain : (text : List ℕ) → IsPlain (told text)
 told_plain text r is = absurd (cc is)
 
+read_plain : {A : Type 0} (digest kind : List ℕ) (lines : A → List ℕ) (read : Result A Rule) → IsPlain (by_read digest kind lines read)
+read_plain digest kind lines (Ok a) r is = absurd (cc is)
+read_plain digest kind lines (Err rule) r is = one_of_some (MalformedObject digest kind (rule_word rule)) r is refl
+
+value_plain : (bytes : List ℕ) (value : Option Tree) → IsPlain (by_value bytes value)
+value_plain bytes None r is = one_of_some (MalformedObject (meta_digest bytes) (codes "value") (codes "value")) r is refl
+value_plain bytes (Some value) r is = absurd (cc is)
+
+type_plain : (of : Option Shape) (bytes : List ℕ) → IsPlain (by_type of bytes)
+type_plain None bytes = value_plain bytes None
+type_plain (Some of) bytes = value_plain bytes (value_of of bytes)
+
+shown_plain : (command : Command) (bytes : List ℕ) → IsPlain (shown_by command bytes)
+unfolding commit_shown tree_shown meta_shown value_shown
+shown_plain (Pin pin) bytes = told_plain []
+shown_plain (Unpin pin) bytes = told_plain []
+shown_plain (RemoteAdd row) bytes = told_plain []
+shown_plain (RemoteModify row) bytes = told_plain []
+shown_plain (RemoteDelete name) bytes = told_plain []
+shown_plain ListPins bytes = told_plain []
+shown_plain ListRemotes bytes = told_plain []
+shown_plain Batch bytes = told_plain []
+shown_plain ShowCommit bytes = read_plain (meta_digest bytes) (codes "commit") commit_lines (commit_read bytes)
+shown_plain ShowDirTree bytes = read_plain (meta_digest bytes) (codes "dirtree") tree_lines (tree_read bytes)
+shown_plain ShowDirMeta bytes = read_plain (meta_digest bytes) (codes "dirmeta") meta_lines (meta_read bytes)
+shown_plain (ShowValue of) bytes = type_plain (type_of of) bytes
+
+show_plain : (command : Command) (input : List ℕ) → IsPlain (show_over command input)
+show_plain command input = if_plain (nat_le (length input) input_most) (shown_by command input) (refused (Limit Input (input_most + 1))) (shown_plain command input) (λ r is. one_of_some (Limit Input (input_most + 1)) r is refl)
+
 pub command_plain : (command : Command) (input : List ℕ) (shown : Result State Elements) → IsPlain (answer_over command input shown)
 command_plain (Pin pin) input shown = over_plain (changing (Pin pin ∷ [])) shown (changing_plain (Pin pin ∷ []))
 command_plain (Unpin pin) input shown = over_plain (changing (Unpin pin ∷ [])) shown (changing_plain (Unpin pin ∷ []))
@@ -263,3 +256,7 @@ command_plain (RemoteDelete name) input shown = over_plain (changing (RemoteDele
 command_plain ListPins input shown = over_plain told_pins shown (λ s. told_plain (pins_text s.pins))
 command_plain ListRemotes input shown = over_plain told_remotes shown (λ s. told_plain (remotes_text s.remotes))
 command_plain Batch input shown = if_plain (nat_le (length input) input_most) (of_batch (batch_of input) shown) (refused (Limit Input (input_most + 1))) (batch_plain (batch_of input) shown) (λ r is. one_of_some (Limit Input (input_most + 1)) r is refl)
+command_plain ShowCommit input shown = show_plain ShowCommit input
+command_plain ShowDirTree input shown = show_plain ShowDirTree input
+command_plain ShowDirMeta input shown = show_plain ShowDirMeta input
+command_plain (ShowValue of) input shown = show_plain (ShowValue of) input

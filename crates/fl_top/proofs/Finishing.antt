@@ -4,7 +4,8 @@ use Rattle.std.proofs.lemmas.Result.{err_from_is_err_and}
 use Rattle.fp_host.specs.View.{View}
 use Rattle.fp_host.specs.Outcome.{shows}
 use Rattle.fp_host.specs.Causes.{IsCaused}
-use Rattle.fp_host.specs.Moments.{Moments, Goes}
+use Rattle.fp_host.specs.Moments.{Moments, Goes, Rose}
+use Rattle.fp_host.specs.Frame.{Still}
 use Rattle.fp_host.proofs.Framed.{IsTold}
 use Rattle.fp_host.proofs.Goes.{begins, stays, goes_on}
 use Rattle.fp_small.specs.declared.state.State.{State}
@@ -15,7 +16,7 @@ use Rattle.dep_states.specs.Shown.{seen}
 use Rattle.fl_words.specs.Lines.{refusal_text}
 use Rattle.fl_words.specs.Words.{command_of, bad_index}
 use Rattle.fl_words.specs.declared.command.Command.{Command}
-use Rattle.fl_words.specs.declared.command.Command.TheVariants.{Pin, Unpin, RemoteAdd, RemoteModify, RemoteDelete, ListPins, ListRemotes, Batch}
+use Rattle.fl_words.specs.declared.command.Command.TheVariants.{Pin, Unpin, RemoteAdd, RemoteModify, RemoteDelete, ListPins, ListRemotes, Batch, ShowCommit, ShowDirTree, ShowDirMeta, ShowValue}
 use Rattle.fl_words.specs.declared.batch.BatchError.{BatchError}
 use Rattle.fl_words.specs.declared.batch.BatchError.TheVariants as batch
 use Rattle.fl_words.specs.Batch.{batch_of, IsBadBatch}
@@ -23,7 +24,9 @@ use Rattle.fl_top.specs.Answer.{Answer, answer, answer_to, answer_over, refused,
 use Rattle.fl_top.specs.Runs.{Runs, Ran, RunsBy, RanBy, IsGiven, Looks, IsReady, Serves, WasTaken}
 use Rattle.fl_top.specs.Performs.{RunsOver, LooksOver, EndedOver, RunsOn, EndedOn, RanOn, Ended, Closed, Takes, TakenBy, over_view}
 use Rattle.fl_top.specs.Says.{Says, Refuses}
-use Rattle.fl_top.specs.Status.{only_looks, reads_input, IsAnswered}
+use Rattle.fl_top.specs.Changes.{IsUntouched}
+use Rattle.fp_small.proofs.Keeping.{files_stay}
+use Rattle.fl_top.specs.Status.{only_looks, is_show, reads_input, IsAnswered}
 use Rattle.fl_top.specs.declared.end.RunEnd.{RunEnd}
 use Rattle.fl_top.specs.declared.end.RunEnd.TheVariants as run
 use Rattle.fl_top.specs.declared.command_end.CommandEnd.{CommandEnd}
@@ -32,8 +35,9 @@ use Rattle.fl_top.specs.declared.input.InputEnd.{InputEnd}
 use Rattle.fl_top.specs.declared.input.InputEnd.TheVariants as input
 use Rattle.fl_top.specs.Input.{input_most, IsWhole, IsTaken, IsDrained, InputStops}
 use Rattle.fl_top.specs.Ends.{end_of_run, end_of_input, end_of_batch}
+use Rattle.fl_top.proofs.Changing.{change_on, change_none, change_not}
 use Rattle.fl_top.proofs.Starting.{begun, stood, unchanged, refused_at_once}
-use Rattle.fl_top.proofs.Ending.{refusing, ran_done, ran_fault, ran_input, ran_memory, ran_refused, command_plain}
+use Rattle.fl_top.proofs.Ending.{refusing, untouched_on, ran_done, ran_fault, ran_input, ran_memory, ran_refused, command_plain}
 
 -- ---- a command
 
@@ -42,7 +46,7 @@ pub is_end : (r : Result (Unit {0}) CommandEnd) (e : CommandEnd) → IsErrAnd r 
 is_end r e is = let p = err_from_is_err_and r is in p.1 ∙ ap (λ (x : CommandEnd). Err x) p.2
 
 -- the answer to a command over a view
-abbrev on_view : Command → List ℕ → View → Answer
+abbrev pub on_view : Command → List ℕ → View → Answer
 on_view command input u = answer_over command input (seen (shows u))
 
 -- an end of the work on the installation is one of the command
@@ -58,7 +62,8 @@ IsAnswer command left f = (input : List ℕ) → IsGiven left (Some command) inp
 runs_change : (command : Command) (left : Option (List ℕ)) (f : State → Answer) (u w : View) → only_looks command ≡ false → IsAnswer command left f → RunsOver f u w → RunsOn command left u w
 runs_change command left f u w changes is p = record {
   runs = λ input given. subst (λ (x : Answer). Runs x u w) (is input given u) p;
-  untouched = λ looks. absurd (let both : true ≡ false = sym looks ∙ changes in cc both);
+  changes = p.changes;
+  untouched = λ why. elim why [ inl looks ↦ absurd (let both : true ≡ false = sym looks ∙ changes in cc both) | inr none ↦ p.untouched (inl none) ];
 }
 
 -- one that changes something
@@ -75,7 +80,7 @@ goes_not_changed {a = a} {b = b} command left f e r known changes is goes err =
     (begins known goes (λ u w t p. runs_change command left f u w changes is p) (λ u w t p q input given. subst (λ (x : Answer). Closed x (Err (end_of_run e)) u w) (is input given u) (closed (over_view f u) e u w q)))
 
 runs_look : (command : Command) (left : Option (List ℕ)) (f : State → Answer) (u w : View) → IsAnswer command left f → LooksOver f u w → RunsOn command left u w
-runs_look command left f u w is p = record { runs = λ input given. subst (λ (x : Answer). Runs x u w) (is input given u) p.runs; untouched = λ looks. p.untouched }
+runs_look command left f u w is p = record { runs = λ input given. subst (λ (x : Answer). Runs x u w) (is input given u) p.runs; changes = p.runs.changes; untouched = λ why. p.untouched }
 
 -- one that looks
 pub goes_look : {a b : Option Moments} (command : Command) (left : Option (List ℕ)) (f : State → Answer) → IsTold a → IsAnswer command left f
@@ -120,9 +125,12 @@ serves_change command v changes serves = elim serves [
 pub caused_change : {a : Option Moments} {F G : Type 0} (command : Command) (before now : ℕ) → only_looks command ≡ false → IsCaused F a IsReady before now → (G → F) → IsCaused G a (Serves (Some command)) before now
 caused_change command before now changes cause passes = record { later = cause.later; fault = λ is m told serves. cause.fault (passes is) m told (serves_change command m.now changes serves) }
 
+not_touched : {v : View} → IsUntouched v v
+not_touched = record { names = λ q. refl; files = files_stay }
+
 -- nothing was done
 pub not_begun : (command : Command) (left : Option (List ℕ)) (u : View) → RunsOn command left u u
-not_begun command left u = record { runs = λ input given. begun (on_view command input u) unchanged; untouched = λ looks. record { names = λ q. refl; shown = λ q. refl } }
+not_begun command left u = record { runs = λ input given. begun (on_view command input u) unchanged; changes = change_not; untouched = λ why. not_touched }
 
 -- what ends a command before the installation is looked at
 pub goes_none : {a : Option Moments} (command : Command) (left : Option (List ℕ)) (e : CommandEnd) (r : Result (Unit {0}) CommandEnd) → IsTold a → IsErrAnd r (λ end. end ≡ e)
@@ -130,16 +138,25 @@ pub goes_none : {a : Option Moments} (command : Command) (left : Option (List �
 goes_none {a = a} command left e r known err ends =
     subst (λ (x : Result (Unit {0}) CommandEnd). Goes a a (RunsOn command left) (EndedOn command left x)) (sym (is_end r e err)) (stays known (not_begun command left) (λ u t input given. ends input given u))
 
+-- the input failed, before anything is done
+pub input_failed : {a : Option Moments} (left : Option (List ℕ)) (before now : ℕ) (e : InputEnd) (r : Result (Unit {0}) CommandEnd) → IsTold a → IsErrAnd r (λ end. end ≡ end_of_input e) → InputStops left before now e → IsErrOf r InputFault → Rose before now × Still a a
+input_failed {a = a} left before now e r known err stops is = of_input e stops (let both : Err (end_of_input e) ≡ Err InputFault = sym (is_end r (end_of_input e) err) ∙ is in cc both)
+  where
+    of_input : (e : InputEnd) → InputStops left before now e → end_of_input e ≡ InputFault → Rose before now × Still a a
+    of_input input.TooLong stops same = absurd (cc same)
+    of_input input.Fault stops same = (stops, record { goes = stays known (λ u. refl) (λ u t. (refl, tt)) })
+    of_input input.NoMemory stops same = absurd (cc same)
+
 -- it is refused
-closed_refused : (refusal : Refusal) (x : Answer) (u : View) → refused refusal ≡ x → Closed x (Err (Refused refusal)) u u
+pub closed_refused : (refusal : Refusal) (x : Answer) (u : View) → refused refusal ≡ x → Closed x (Err (Refused refusal)) u u
 closed_refused refusal x u is = subst (λ (y : Answer). Closed y (Err (Refused refusal)) u u) is (refl, refused_at_once refusal u)
 
 -- ---- a batch
 
-too_long : (input : List ℕ) → input_most < length input → nat_le (length input) input_most ≡ false
+pub too_long : (input : List ℕ) → input_most < length input → nat_le (length input) input_most ≡ false
 too_long input more = grind arith
 
-not_long : (input : List ℕ) → length input ≤ input_most → nat_le (length input) input_most ≡ true
+pub not_long : (input : List ℕ) → length input ≤ input_most → nat_le (length input) input_most ≡ true
 not_long input few = grind arith
 
 pub input_ends : (left : Option (List ℕ)) (before now : ℕ) (e : InputEnd) → InputStops left before now e → (input : List ℕ) → IsGiven left (Some Batch) input → (u : View) → Closed (on_view Batch input u) (Err (end_of_input e)) u u
@@ -168,25 +185,33 @@ batch_answers left bytes commands whole is input given u = ap (λ (x : Result (L
 
 -- ---- another command that changes something
 
-pub other_changes : (command : Command) → (command ≡ ListPins → ⊥) → (command ≡ ListRemotes → ⊥) → only_looks command ≡ false
-other_changes (Pin pin) p r = refl
-other_changes (Unpin pin) p r = refl
-other_changes (RemoteAdd row) p r = refl
-other_changes (RemoteModify row) p r = refl
-other_changes (RemoteDelete name) p r = refl
-other_changes ListPins p r = absurd (p refl)
-other_changes ListRemotes p r = absurd (r refl)
-other_changes Batch p r = refl
+pub other_changes : (command : Command) → is_show command ≡ false → (command ≡ ListPins → ⊥) → (command ≡ ListRemotes → ⊥) → only_looks command ≡ false
+other_changes (Pin pin) s p r = refl
+other_changes (Unpin pin) s p r = refl
+other_changes (RemoteAdd row) s p r = refl
+other_changes (RemoteModify row) s p r = refl
+other_changes (RemoteDelete name) s p r = refl
+other_changes ListPins s p r = absurd (p refl)
+other_changes ListRemotes s p r = absurd (r refl)
+other_changes Batch s p r = refl
+other_changes ShowCommit s p r = absurd (cc s)
+other_changes ShowDirTree s p r = absurd (cc s)
+other_changes ShowDirMeta s p r = absurd (cc s)
+other_changes (ShowValue of) s p r = absurd (cc s)
 
-pub other_answers : (left : Option (List ℕ)) (command : Command) → (command ≡ ListPins → ⊥) → (command ≡ ListRemotes → ⊥) → (command ≡ Batch → ⊥) → IsAnswer command left (changing (command ∷ []))
-other_answers left (Pin pin) p r b input given u = refl
-other_answers left (Unpin pin) p r b input given u = refl
-other_answers left (RemoteAdd row) p r b input given u = refl
-other_answers left (RemoteModify row) p r b input given u = refl
-other_answers left (RemoteDelete name) p r b input given u = refl
-other_answers left ListPins p r b input given u = absurd (p refl)
-other_answers left ListRemotes p r b input given u = absurd (r refl)
-other_answers left Batch p r b input given u = absurd (b refl)
+pub other_answers : (left : Option (List ℕ)) (command : Command) → is_show command ≡ false → (command ≡ ListPins → ⊥) → (command ≡ ListRemotes → ⊥) → (command ≡ Batch → ⊥) → IsAnswer command left (changing (command ∷ []))
+other_answers left (Pin pin) s p r b input given u = refl
+other_answers left (Unpin pin) s p r b input given u = refl
+other_answers left (RemoteAdd row) s p r b input given u = refl
+other_answers left (RemoteModify row) s p r b input given u = refl
+other_answers left (RemoteDelete name) s p r b input given u = refl
+other_answers left ListPins s p r b input given u = absurd (p refl)
+other_answers left ListRemotes s p r b input given u = absurd (r refl)
+other_answers left Batch s p r b input given u = absurd (b refl)
+other_answers left ShowCommit s p r b input given u = absurd (cc s)
+other_answers left ShowDirTree s p r b input given u = absurd (cc s)
+other_answers left ShowDirMeta s p r b input given u = absurd (cc s)
+other_answers left (ShowValue of) s p r b input given u = absurd (cc s)
 
 -- ---- what it takes of the input
 
@@ -212,15 +237,19 @@ takes_none command r left is = record { read = λ reads. absurd (let both : true
 pub takes_all : (command : Command) (r : Result (Unit {0}) CommandEnd) (old new : Option (List ℕ)) → reads_input command ≡ true → TakenBy r old new → Takes command r old new
 takes_all command r old new is taken = record { read = λ reads. taken; left = λ none. absurd (let both : true ≡ false = sym is ∙ none in cc both) }
 
-pub other_reads : (command : Command) → (command ≡ Batch → ⊥) → reads_input command ≡ false
-other_reads (Pin pin) b = refl
-other_reads (Unpin pin) b = refl
-other_reads (RemoteAdd row) b = refl
-other_reads (RemoteModify row) b = refl
-other_reads (RemoteDelete name) b = refl
-other_reads ListPins b = refl
-other_reads ListRemotes b = refl
-other_reads Batch b = absurd (b refl)
+pub other_reads : (command : Command) → is_show command ≡ false → (command ≡ Batch → ⊥) → reads_input command ≡ false
+other_reads (Pin pin) s b = refl
+other_reads (Unpin pin) s b = refl
+other_reads (RemoteAdd row) s b = refl
+other_reads (RemoteModify row) s b = refl
+other_reads (RemoteDelete name) s b = refl
+other_reads ListPins s b = refl
+other_reads ListRemotes s b = refl
+other_reads Batch s b = absurd (b refl)
+other_reads ShowCommit s b = absurd (cc s)
+other_reads ShowDirTree s b = absurd (cc s)
+other_reads ShowDirMeta s b = absurd (cc s)
+other_reads (ShowValue of) s b = absurd (cc s)
 
 pub taken_at : (command : Command) (r : Result (Unit {0}) CommandEnd) (status : ℕ) (old new : Option (List ℕ)) → Takes command r old new → (TakenBy r old new → IsAnswered status → IsDrained old new) → WasTaken (Some command) status old new
 taken_at command r status old new takes drained = (λ reads answered. drained (takes.read reads) answered, takes.left)
@@ -245,7 +274,8 @@ goes_refused command left r result known_b first second =
     goes_on known_b first second
     (λ u v w t p q s. record {
       runs = λ input given. let e = q input given in refusing (on_view command input u) r e.0 (p.runs input given) e.1 s;
-      untouched = λ looks. let is = p.untouched looks in record { names = λ x. s.names x ∙ is.names x; shown = λ x. s.shown x ∙ is.shown x };
+      changes = change_on u v w p.changes (change_none s.names s.files);
+      untouched = λ why. untouched_on (p.untouched why) s;
     })
     (λ u v w t p q s last input given.
     let e = q input given in
@@ -266,7 +296,8 @@ pub goes_command : {a b : Option Moments} (words : List (List ℕ)) (left : Opti
 goes_command words left command status known is goes = begins known goes
     (λ u w t r. record {
       runs = λ input given. subst (λ (a : Answer). Runs a u w) (answer_is words command input u is) (r.runs input (given_to words command left input is given));
-      untouched = λ looks. r.untouched (subst Looks is looks);
+      changes = r.changes;
+      untouched = λ why. r.untouched (elim why [ inl looks ↦ inl (subst Looks is looks) | inr none ↦ inr none ]);
     })
     (λ u w t r q input given. subst (λ (a : Answer). Ran a status u w) (answer_is words command input u is) (q input (given_to words command left input is given)))
 
@@ -274,7 +305,8 @@ pub goes_no_command : {a b : Option Moments} (words : List (List ℕ)) (left : O
 goes_no_command words left index result known none is goes = begins known goes
     (λ u w t s. record {
       runs = λ input given. subst (λ (a : Answer). Runs a u w) (no_answer words index input u none is) (runs u w s);
-      untouched = λ looks. record { names = s.names; shown = s.shown };
+      changes = change_none s.names s.files;
+      untouched = λ why. record { names = s.names; files = s.files };
     })
     (λ u w t s e input given. subst (λ (a : Answer). Ran a result u w) (no_answer words index input u none is) (ran_refused (refused (BadWords index)) (BadWords index) 2 result refl refl (refused_at_once (BadWords index) u) (runs u w s) e))
   where
@@ -284,5 +316,5 @@ goes_no_command words left index result known none is goes = begins known goes
 -- want of memory for the words
 pub goes_unread : {a : Option Moments} (words : List (List ℕ)) (left : Option (List ℕ)) → IsTold a → Goes a a (RunsBy words left) (RanBy words left 6)
 goes_unread words left known = stays known
-    (λ u. record { runs = λ input given. begun (answer words input (shows u)) unchanged; untouched = λ looks. record { names = λ q. refl; shown = λ q. refl } })
+    (λ u. record { runs = λ input given. begun (answer words input (shows u)) unchanged; changes = change_not; untouched = λ why. not_touched })
     (λ u t input given. ran_memory (answer words input (shows u)) (begun (answer words input (shows u)) unchanged) (stood (answer words input (shows u)) unchanged))

@@ -10,4 +10,7 @@ pub mod Listing
 pub mod Finishing
 pub mod Joining
 pub mod Ending
+mod Refusing
 pub mod Reading
+pub mod ShowInput
+pub mod Shown

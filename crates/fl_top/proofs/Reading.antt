@@ -1,9 +1,8 @@
 -- What has been read of the input.
-use Rattle.std.proofs.Common.{◌≡◌, ◌≤◌, ◌<◌, ◌+◌, ℕ, Bool, true, false, List, [], ◌++◌, length, Option, Some, Result, Ok, Err, refl, ap, sym, ◌∙◌, subst, arith}
+use Rattle.std.proofs.Common.{◌≡◌, ◌≤◌, ◌<◌, ◌+◌, ℕ, Bool, false, List, [], ◌++◌, length, Option, Some, Result, Ok, Err, refl, ap, sym, ◌∙◌, subst, arith}
 use Rattle.std.specs.Prelude.{IsErrAnd, IfErr}
 use Rattle.std.proofs.lemmas.List.{append-nil, length-append}
 use Rattle.fp_host.proofs.Cause.{Rose-later}
-use Rattle.fp_host.specs.Moments.{Rose}
 use Rattle.fl_top.specs.declared.input.InputEnd.{InputEnd}
 use Rattle.fl_top.specs.declared.input.InputEnd.TheVariants.{TooLong, Fault, NoMemory}
 use Rattle.fl_top.specs.Input.{input_most, IsWhole, IsTaken, IsTooLong, InputStops, Adds, StepStops}

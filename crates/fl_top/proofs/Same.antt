@@ -1,12 +1,12 @@
 -- Images that have the same at each path show the same.
-use Rattle.std.proofs.Common.{◌≡◌, ◌⊎◌, inl, inr, Ok, Err, refl, sym, ◌∙◌, ap, subst}
+use Rattle.std.proofs.Common.{◌≡◌, ◌⊎◌, inl, inr, Err, refl, sym, ◌∙◌, subst}
 use Rattle.fp_host.specs.Paths.{Elements}
 use Rattle.fp_host.specs.View.{View}
 use Rattle.fp_host.specs.Outcome.{Disk, Leaves, Follows, Nothing, shows}
 use Rattle.fp_small.specs.declared.state.State.{State}
 use Rattle.dep_states.specs.Names.{config, remotes_conf, pins_file}
-use Rattle.dep_states.specs.Shown.{Shows, seen, state_at}
-use Rattle.dep_states.specs.Sound.{Sound, Opens, IsSound}
+use Rattle.dep_states.specs.Shown.{Shows, seen}
+use Rattle.dep_states.specs.Sound.{Sound, Opens}
 use Rattle.dep_states.specs.Zones.{Allowed}
 use Rattle.dep_open.specs.Open.{NotShown}
 

@@ -6,6 +6,8 @@ use Rattle.fp_host.specs.View.{View}
 use Rattle.fp_host.specs.Outcome.{Disk, Leaves, Follows, Nothing, shows}
 use Rattle.fp_host.specs.Frame.{Keeps, NoPath}
 use Rattle.fp_host.proofs.Follow.{follows_refl}
+use Rattle.fp_small.specs.Files.{KeepsFiles}
+use Rattle.fp_small.proofs.Keeping.{files_stay, files_kept}
 use Rattle.fp_small.specs.declared.state.State.{State}
 use Rattle.fp_small.specs.declared.op.Op.{Op}
 use Rattle.fp_small.specs.declared.refusal.Refusal.{Refusal}
@@ -18,13 +20,13 @@ use Rattle.dep_open.specs.Open.{NotShown, NoName, IsOpened, Opened}
 use Rattle.dep_open.specs.Tidy.{IsTidy}
 use Rattle.dep_open.specs.declared.open_end.OpenEnd.{OpenEnd}
 use Rattle.dep_open.specs.declared.open_end.OpenEnd.TheVariants as open_end
-use Rattle.fl_top.specs.Answer.{Answer, Piece, lines_of, joined, ops_in, ops_of, over, refused}
+use Rattle.fl_top.specs.Answer.{Answer, Piece, lines_of, joined, ops_in, ops_of, over, refused, IsAtOnce}
 use Rattle.fl_top.specs.Ends.{end_of_open}
 use Rattle.fl_top.specs.Runs.{ShowsAfter, IsPrefix, IsJust, Printed, Runs, Stands}
 use Rattle.fl_top.specs.Performs.{Performs, IsDone, IsHalted, Performed, over_view, RunsOver, Completes, Ended, EndedOver}
 use Rattle.fl_top.specs.declared.end.RunEnd.{RunEnd}
 use Rattle.fl_top.specs.declared.end.RunEnd.TheVariants.{Refused, Fault, NoMemory}
-use Rattle.fl_top.proofs.Changing.{change_on}
+use Rattle.fl_top.proofs.Changing.{change_on, change_none}
 use Rattle.fl_top.proofs.Same.{unmoved, same_shown, same_sound, now_left, one_state, not_shown}
 
 -- ---- nothing is printed and nothing shown changes
@@ -33,9 +35,10 @@ pub record Keeping (u w : View) : Type 0 where
   pub printed : w.printed ≡ u.printed
   pub follows : Follows Nothing u w
   pub names : (q : Elements) → w.names q ≡ u.names q
+  pub files : KeepsFiles u w
 
 pub kept : {u w : View} → Keeps Nothing NoName NoPath u w → Keeping u w
-kept keeps = record { printed = keeps.printed; follows = keeps.follows; names = λ q. elim (keeps.names q) [ inl same ↦ same | inr put ↦ absurd put ] }
+kept keeps = record { printed = keeps.printed; follows = keeps.follows; names = λ q. elim (keeps.names q) [ inl same ↦ same | inr put ↦ absurd put ]; files = files_kept keeps }
 
 pub none_yet : (a : Answer) {u w : View} → w.printed ≡ u.printed → Printed a [] u w
 none_yet a {u = u} same = record { left = lines_of a; pieces = refl; printed = same ∙ sym (append-nil u.printed) }
@@ -56,11 +59,11 @@ prefix_none a just = record { done = []; undone = ops_of a; prefix = refl; more 
 
 pub begun : (a : Answer) {u w : View} → Keeping u w → Runs a u w
 begun a keeping = record {
-  names = λ q. inl (keeping.names q);
+  changes = change_none keeping.names keeping.files;
   said = [];
   so_far = none_yet a keeping.printed;
   prefix = λ sound disk left. prefix_none a (shows_before keeping.follows sound disk left);
-  untouched = λ none q. keeping.names q;
+  untouched = λ why. record { names = keeping.names; files = keeping.files };
 }
 
 pub stood : (a : Answer) {u w : View} → Keeping u w → Stands a u w
@@ -91,9 +94,9 @@ shown_after u s (op ∷ ops) disk at shown = (s, at, shown)
 moved : {a : Answer} {said : List Piece} {u v w : View} → v.printed ≡ u.printed → Printed a said v w → Printed a said u w
 moved {said = said} same printed = record { left = printed.left; pieces = printed.pieces; printed = printed.printed ∙ ap (λ (p : List ℕ). p ++ joined said) same }
 
-runs_opened : (a : Answer) (s : State) {u v w : View} → IsOpened s u v → Keeping u v → Performs a s v w → Runs a u w
-runs_opened a s {u = u} {v = v} {w = w} opened keeping performs = record {
-  names = change_on u v w (λ q. inl (keeping.names q)) performs.names;
+runs_opened : (a : Answer) (s : State) {u v w : View} → (IsAtOnce a.refusal → ⊥) → IsOpened s u v → Keeping u v → Performs a s v w → Runs a u w
+runs_opened a s {u = u} {v = v} {w = w} late opened keeping performs = record {
+  changes = change_on u v w (change_none keeping.names keeping.files) performs.changes;
   said = performs.said;
   so_far = moved keeping.printed performs.so_far;
   prefix = λ sound disk left.
@@ -107,11 +110,11 @@ runs_opened a s {u = u} {v = v} {w = w} opened keeping performs = record {
         shown = shown_after u s some.done disk opened.shown some.shown;
         sound = some.sound;
       };
-  untouched = λ none q. absurd (none s opened.shown);
+  untouched = λ why. absurd (elim why [ inl none ↦ none s opened.shown | inr at_once ↦ late at_once ]);
 }
 
-pub runs_over : (f : State → Answer) (s : State) {u v w : View} → IsOpened s u v → Keeping u v → Performs (f s) s v w → RunsOver f u w
-runs_over f s {u = u} {w = w} opened keeping performs = subst (λ (a : Answer). Runs a u w) (view_is f u s opened.shown) (runs_opened (f s) s opened keeping performs)
+pub runs_over : (f : State → Answer) (s : State) {u v w : View} → (IsAtOnce (f s).refusal → ⊥) → IsOpened s u v → Keeping u v → Performs (f s) s v w → RunsOver f u w
+runs_over f s {u = u} {w = w} late opened keeping performs = subst (λ (a : Answer). Runs a u w) (view_is f u s opened.shown) (runs_opened (f s) s late opened keeping performs)
 
 completes : (a : Answer) (s : State) {u v w : View} → IsOpened s u v → Keeping u v → IsDone a s v w → Completes a u w
 completes a s {u = u} {w = w} opened keeping is = record {
@@ -163,7 +166,7 @@ ended_open f open_end.NoMemory {u = u} keeping is = stood (over_view f u) keepin
 
 -- nothing changes
 pub unchanged : {u : View} → Keeping u u
-unchanged = record { printed = refl; follows = follows_refl; names = λ q. refl }
+unchanged = record { printed = refl; follows = follows_refl; names = λ q. refl; files = files_stay }
 
 -- a refusal without a look at the installation
 pub refused_at_once : (refusal : Refusal) (u : View) → Completes (refused refusal) u u

@@ -13,7 +13,7 @@ use Rattle.fp_small.specs.declared.refusal.What.TheVariants.{Pins, Remotes}
 use Rattle.fp_small.specs.declared.state.Layout.TheVariants.{Two}
 use Rattle.dep_states.specs.After.{after, May, Allows, layout_for}
 use Rattle.fl_words.specs.declared.command.Command.{Command}
-use Rattle.fl_words.specs.declared.command.Command.TheVariants.{Pin, Unpin, RemoteAdd, RemoteModify, RemoteDelete, ListPins, ListRemotes, Batch}
+use Rattle.fl_words.specs.declared.command.Command.TheVariants.{Pin, Unpin, RemoteAdd, RemoteModify, RemoteDelete, ListPins, ListRemotes, Batch, ShowCommit, ShowDirTree, ShowDirMeta, ShowValue}
 use Rattle.fl_top.specs.Answer.{refusal_of, op_of, is_pinned, add_pin_refusal, drop_pin_refusal, add_remote_refusal}
 use Rattle.fl_top.specs.Status.{IsOp}
 
@@ -93,6 +93,10 @@ for_two o op asked is = of_command asked.0 op (sym asked.1 ∙ is)
     of_command ListPins op is = absurd (cc is)
     of_command ListRemotes op is = absurd (cc is)
     of_command Batch op is = absurd (cc is)
+    of_command ShowCommit op is = absurd (cc is)
+    of_command ShowDirTree op is = absurd (cc is)
+    of_command ShowDirMeta op is = absurd (cc is)
+    of_command (ShowValue of) op is = absurd (cc is)
 
 -- and stays so
 pub after_two : (s : State) (op : Op) → May s op → (after s op).layout ≡ Two

@@ -1,5 +1,5 @@
 -- What a run answers: what it prints, and the operations that this acknowledges.
-use Rattle.std.specs.Prelude.{ℕ, ◌*◌, ◌+◌, List, [], ◌∷◌, ◌++◌, Bool, length, nat_le, Option, Some, None, Result, Ok, Err, flat_map, filter_map, if◌then◌else◌}
+use Rattle.std.specs.Prelude.{ℕ, ◌*◌, ◌+◌, List, [], ◌∷◌, ◌++◌, Bool, length, nat_le, Option, Some, None, Result, Ok, Err, codes, flat_map, filter_map, if◌then◌else◌}
 use Rattle.std.specs.List.{list_any}
 use Rattle.std.specs.Str.{bytes_eq}
 use Rattle.fp_host.specs.Paths.{Elements}
@@ -11,18 +11,26 @@ use Rattle.fp_small.specs.declared.state.RemoteRow.{RemoteRow}
 use Rattle.fp_small.specs.declared.op.Op.{Op}
 use Rattle.fp_small.specs.declared.op.Op.TheVariants.{AddPin, DropPin, AddRemote, ModifyRemote, DropRemote, Migrate}
 use Rattle.fp_small.specs.declared.refusal.Refusal.{Refusal}
-use Rattle.fp_small.specs.declared.refusal.Refusal.TheVariants.{BadWords, NoSuchRemote, RemoteExists, PinExists, NoSuchPin, Limit, BadRecord, Damaged}
+use Rattle.fp_small.specs.declared.refusal.Refusal.TheVariants.{BadWords, NoSuchRemote, RemoteExists, MalformedObject, PinExists, NoSuchPin, Limit, BadRecord, Damaged}
 use Rattle.fp_small.specs.declared.refusal.What.TheVariants.{Pins, Remotes, Input}
 use Rattle.fp_small.specs.Config.{name_of}
 use Rattle.fp_small.specs.Order.{has_name}
 use Rattle.dep_states.specs.Shown.{seen}
 use Rattle.dep_states.specs.After.{after_all}
 use Rattle.fl_words.specs.declared.command.Command.{Command}
-use Rattle.fl_words.specs.declared.command.Command.TheVariants.{Pin, Unpin, RemoteAdd, RemoteModify, RemoteDelete, ListPins, ListRemotes, Batch}
+use Rattle.fl_words.specs.declared.command.Command.TheVariants.{Pin, Unpin, RemoteAdd, RemoteModify, RemoteDelete, ListPins, ListRemotes, Batch, ShowCommit, ShowDirTree, ShowDirMeta, ShowValue}
 use Rattle.fl_words.specs.Words.{command_of, bad_index}
 use Rattle.fl_words.specs.Batch.{batch_of}
 use Rattle.fl_top.specs.Input.{input_most}
 use Rattle.fl_words.specs.Lines.{op_text, pins_text, remotes_text, refusal_text}
+use Rattle.gv_value.specs.Shape.{Shape}
+use Rattle.gv_value.specs.Tree.{Tree}
+use Rattle.gv_value.specs.TypeText.{type_of}
+use Rattle.gv_value.specs.Reading.{value_of}
+use Rattle.ost_model.specs.declared.rule.Rule.{Rule}
+use Rattle.ost_model.specs.Contents.{meta_digest}
+use Rattle.ost_model.specs.Readers.{commit_read, tree_read, meta_read}
+use Rattle.fl_top.specs.Objects.{head, commit_lines, tree_lines, meta_lines, normal_line, rule_word}
 
 -- what is printed at once, with the operation that it acknowledges, if it does
 pub record Piece : Type 0 where
@@ -124,6 +132,10 @@ op_of (RemoteDelete name) = Some (DropRemote name)
 op_of ListPins = None
 op_of ListRemotes = None
 op_of Batch = None
+op_of ShowCommit = None
+op_of ShowDirTree = None
+op_of ShowDirMeta = None
+op_of (ShowValue of) = None
 
 abbrev pub act_on : Option Op → State → Answer
 act_on None s = nothing
@@ -153,7 +165,69 @@ told_pins s = told (pins_text s.pins)
 abbrev pub told_remotes : State → Answer
 told_remotes s = told (remotes_text s.remotes)
 
+-- ---- what is shown of an input
+
+-- what an object of this kind and digest says, or the first rule that it breaks
+abbrev pub by_read : {A : Type 0} → List ℕ → List ℕ → (A → List ℕ) → Result A Rule → Answer
+by_read digest kind lines (Ok a) = told (head digest kind ++ lines a)
+by_read digest kind lines (Err rule) = refused (MalformedObject digest kind (rule_word rule))
+
+unfoldable pub commit_shown : List ℕ → Answer
+commit_shown bytes = by_read (meta_digest bytes) (codes "commit") commit_lines (commit_read bytes)
+
+unfoldable pub tree_shown : List ℕ → Answer
+tree_shown bytes = by_read (meta_digest bytes) (codes "dirtree") tree_lines (tree_read bytes)
+
+unfoldable pub meta_shown : List ℕ → Answer
+meta_shown bytes = by_read (meta_digest bytes) (codes "dirmeta") meta_lines (meta_read bytes)
+
+-- how many bytes a value's normal form has
+abbrev pub by_value : List ℕ → Option Tree → Answer
+by_value bytes None = refused (MalformedObject (meta_digest bytes) (codes "value") (codes "value"))
+by_value bytes (Some value) = told (normal_line (length bytes))
+
+abbrev pub by_type : Option Shape → List ℕ → Answer
+by_type None bytes = by_value bytes None
+by_type (Some of) bytes = by_value bytes (value_of of bytes)
+
+unfoldable pub value_shown : List ℕ → List ℕ → Answer
+value_shown text bytes = by_type (type_of text) bytes
+
+-- by the command; the others show nothing
+abbrev pub shown_by : Command → List ℕ → Answer
+shown_by (Pin pin) bytes = told []
+shown_by (Unpin pin) bytes = told []
+shown_by (RemoteAdd row) bytes = told []
+shown_by (RemoteModify row) bytes = told []
+shown_by (RemoteDelete name) bytes = told []
+shown_by ListPins bytes = told []
+shown_by ListRemotes bytes = told []
+shown_by Batch bytes = told []
+shown_by ShowCommit bytes = commit_shown bytes
+shown_by ShowDirTree bytes = tree_shown bytes
+shown_by ShowDirMeta bytes = meta_shown bytes
+shown_by (ShowValue of) bytes = value_shown of bytes
+
+-- the whole input is read before
+abbrev pub show_over : Command → List ℕ → Answer
+show_over command input = if nat_le (length input) input_most then shown_by command input else refused (Limit Input (input_most + 1))
+
 -- ---- what words answer over an input and an image
+
+-- a refusal of the words or of the input, whatever the image
+abbrev pub IsAtOnce : Option Refusal → Type 0
+IsAtOnce None = ⊥
+IsAtOnce (Some (BadWords index)) = Unit {0}
+IsAtOnce (Some (NoSuchRemote remote)) = ⊥
+IsAtOnce (Some (RemoteExists remote)) = ⊥
+IsAtOnce (Some (MalformedObject digest kind rule)) = Unit {0}
+IsAtOnce (Some (PinExists pin)) = ⊥
+IsAtOnce (Some (NoSuchPin pin)) = ⊥
+IsAtOnce (Some (Limit Pins number)) = ⊥
+IsAtOnce (Some (Limit Remotes number)) = ⊥
+IsAtOnce (Some (Limit Input number)) = Unit {0}
+IsAtOnce (Some (BadRecord line)) = Unit {0}
+IsAtOnce (Some (Damaged path)) = ⊥
 
 -- by what the image shows: a state, or the first path that doesn't read
 abbrev pub over : (State → Answer) → Result State Elements → Answer
@@ -177,6 +251,10 @@ answer_over (RemoteDelete name) input shown = over (changing (RemoteDelete name 
 answer_over ListPins input shown = over told_pins shown
 answer_over ListRemotes input shown = over told_remotes shown
 answer_over Batch input shown = batch_over input shown
+answer_over ShowCommit input shown = show_over ShowCommit input
+answer_over ShowDirTree input shown = show_over ShowDirTree input
+answer_over ShowDirMeta input shown = show_over ShowDirMeta input
+answer_over (ShowValue of) input shown = show_over (ShowValue of) input
 
 abbrev pub answer_to : List (List ℕ) → Option Command → List ℕ → Result State Elements → Answer
 answer_to words None input shown = refused (BadWords (bad_index words))

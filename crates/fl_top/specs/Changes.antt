@@ -1,10 +1,10 @@
--- Which names a run may change, and to what.
+-- Which names a run may change, and to what, and which files.
 use Rattle.std.specs.Prelude.{◌≡◌, ◌⊎◌}
 use Rattle.fp_host.specs.Paths.{Elements, Slot, absent, dir, IsAbove}
 use Rattle.fp_host.specs.View.{View}
 use Rattle.fp_host.specs.Calls.{IsFile}
-use Rattle.fp_host.specs.Outcome.{shows}
 use Rattle.fp_small.specs.Places.{repo, tmp}
+use Rattle.fp_small.specs.Files.{KeepsFiles}
 use Rattle.dep_states.specs.Names.{config}
 use Rattle.dep_states.specs.Sound.{IsOld}
 
@@ -16,11 +16,13 @@ pub data MayHold (q : Elements) (e : Slot) : Type 0 where
   some_work : IsAbove tmp q → MayHold q e
   old_gone : IsOld q → e ≡ absent → MayHold q e
 
--- each name holds what it held, or what it may
-abbrev pub Changes : View → View → Type 0
-Changes u w = (q : Elements) → (w.names q ≡ u.names q) ⊎ MayHold q (w.names q)
+-- Each name holds what it held, or what it may. Each file that was there keeps its mode and its bytes: what is new is in new
+-- files.
+pub record Changes (u w : View) : Type 0 where
+  pub names : (q : Elements) → (w.names q ≡ u.names q) ⊎ MayHold q (w.names q)
+  pub files : KeepsFiles u w
 
 -- no name changes, and no file
 pub record IsUntouched (u w : View) : Type 0 where
   pub names : (q : Elements) → w.names q ≡ u.names q
-  pub shown : (q : Elements) → shows w q ≡ shows u q
+  pub files : KeepsFiles u w

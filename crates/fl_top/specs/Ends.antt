@@ -1,5 +1,5 @@
 -- The ends of the layers below as ends of a run.
-use Rattle.std.specs.Prelude.{◌≡◌, ◌+◌, Option, Some, None, Result, Ok, Err}
+use Rattle.std.specs.Prelude.{◌≡◌, ◌+◌, ℕ, List, Option, Some, None, Result, Ok, Err}
 use Rattle.fp_host.specs.declared.host.HostEnd.{HostEnd}
 use Rattle.fp_host.specs.declared.host.HostEnd.TheVariants as host
 use Rattle.dep_open.specs.declared.open_end.OpenEnd.{OpenEnd}
@@ -9,6 +9,7 @@ use Rattle.fp_small.specs.declared.refusal.Refusal.TheVariants.{Damaged, BadReco
 use Rattle.fp_small.specs.declared.refusal.What.TheVariants.{Input}
 use Rattle.fl_words.specs.declared.batch.BatchError.{BatchError}
 use Rattle.fl_words.specs.declared.batch.BatchError.TheVariants as batch
+use Rattle.fl_top.specs.Answer.{Answer, told, refused}
 use Rattle.fl_top.specs.Input.{input_most}
 use Rattle.fl_top.specs.declared.input.InputEnd.{InputEnd}
 use Rattle.fl_top.specs.declared.input.InputEnd.TheVariants as input
@@ -48,3 +49,10 @@ IsTried refusal (Ok u) = refusal ≡ None
 IsTried refusal (Err (Refused r)) = refusal ≡ Some r
 IsTried refusal (Err Fault) = ⊥
 IsTried refusal (Err NoMemory) = Unit {0}
+
+-- What is shown, exactly: this text, or a refusal.
+abbrev pub Prints : Answer → Result (List ℕ) RunEnd → Type 0
+Prints a (Ok text) = a ≡ told text
+Prints a (Err (Refused r)) = a ≡ refused r
+Prints a (Err Fault) = ⊥
+Prints a (Err NoMemory) = Unit {0}

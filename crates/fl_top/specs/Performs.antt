@@ -9,6 +9,7 @@ use Rattle.dep_states.specs.Shown.{Shows, seen}
 use Rattle.dep_states.specs.Sound.{Sound, Opens, IsSound}
 use Rattle.dep_states.specs.After.{after, after_all}
 use Rattle.fl_words.specs.Lines.{op_text}
+use Rattle.dep_open.specs.Open.{NotShown}
 use Rattle.dep_open.specs.Tidy.{IsTidy}
 use Rattle.fl_words.specs.declared.command.Command.{Command}
 use Rattle.fl_top.specs.Answer.{Answer, Piece, joined, ops_in, ops_of, over, answer_over, did}
@@ -35,14 +36,14 @@ pub record IsSome (a : Answer) (acknowledged : List Op) (s : State) (disk : Disk
 pub record Performs (a : Answer) (s : State) (v w : View) : Type 0 where
   pub said : List Piece
   pub so_far : Printed a said v w
-  pub names : Changes v w
+  pub changes : Changes v w
   pub some : Opens s v → (disk : Disk) → Leaves w disk → IsSome a (ops_in said) s disk
 
 -- all that isn't the line of a refusal was printed, every stop leaves the state after all operations, and all is tidy, where
 -- it was or an operation was done
 pub record IsDone (a : Answer) (s : State) (v w : View) : Type 0 where
   pub printed : w.printed ≡ v.printed ++ joined a.pieces
-  pub names : Changes v w
+  pub changes : Changes v w
   pub opens : Opens s v → Opens (after_all s (ops_of a)) w
   pub tidied : Opens s v → IsTidy v ⊎ (ops_of a ≢ []) → IsTidy w
 
@@ -95,10 +96,11 @@ EndedOver f result u w = Ended (over_view f u) result u w
 
 -- ---- the same for a command and what is left of the input
 
--- a command that only looks changes nothing
+-- Whatever the input these are the changes; and a command that only looks, or sees no state, changes nothing.
 pub record RunsOn (asked : Command) (left : Option (List ℕ)) (u w : View) : Type 0 where
+  pub changes : Changes u w
   pub runs : (input : List ℕ) → IsGiven left (Some asked) input → Runs (answer_over asked input (seen (shows u))) u w
-  pub untouched : only_looks asked ≡ true → IsUntouched u w
+  pub untouched : (only_looks asked ≡ true) ⊎ NotShown (shows u) → IsUntouched u w
 
 -- so a command ends; where the input failed, nothing was done
 abbrev pub Closed : Answer → Result (Unit {0}) CommandEnd → View → View → Type 0

@@ -12,7 +12,7 @@ use Rattle.dep_open.specs.Open.{NotShown}
 use Rattle.dep_open.specs.Tidy.{IsTidy}
 use Rattle.fl_words.specs.declared.command.Command.{Command}
 use Rattle.fl_words.specs.Words.{command_of}
-use Rattle.fl_top.specs.Answer.{Answer, Piece, lines_of, joined, ops_in, ops_of, answer}
+use Rattle.fl_top.specs.Answer.{Answer, Piece, lines_of, joined, ops_in, ops_of, answer, IsAtOnce}
 use Rattle.fl_top.specs.Input.{IsDrained}
 use Rattle.fl_top.specs.Changes.{Changes, IsUntouched}
 use Rattle.fl_top.specs.Status.{status_at, IsAnswered, only_looks, reads_input}
@@ -45,14 +45,15 @@ pub record Printed (a : Answer) (said : List Piece) (u w : View) : Type 0 where
   pub printed : w.printed ≡ u.printed ++ joined said
 
 -- At every moment: the bytes printed since the start are the first pieces of the answer; every stop leaves the installation
--- after a prefix of its operations that holds those that these pieces acknowledge; and no name changed but `config`, those of
--- work, and the files of layout 1, which went. Where no state stood at the start, no name changed.
+-- after a prefix of its operations that holds those that these pieces acknowledge; no name changed but `config`, those of
+-- work, and the files of layout 1, which went; and each file that was there keeps its mode and its bytes. Where no state stood
+-- at the start, and where the words or the input are refused, no name changed either.
 pub record Runs (a : Answer) (u w : View) : Type 0 where
   pub said : List Piece
   pub so_far : Printed a said u w
   pub prefix : IsSound u → (disk : Disk) → Leaves w disk → IsPrefix a (ops_in said) u disk
-  pub names : Changes u w
-  pub untouched : NotShown (shows u) → (q : Elements) → w.names q ≡ u.names q
+  pub changes : Changes u w
+  pub untouched : NotShown (shows u) ⊎ IsAtOnce a.refusal → IsUntouched u w
 
 -- every stop leaves the installation after the acknowledged operations
 pub record Stands (a : Answer) (u w : View) : Type 0 where
@@ -68,11 +69,10 @@ pub record Answers (a : Answer) (status : ℕ) (u w : View) : Type 0 where
   pub shown : IsSound u → (s : State) → Shows (shows u) s → Shows (shows w) (after_all s (ops_of a))
   pub tidied : IsSound u → IsTidy u ⊎ (ops_of a ≢ []) → IsTidy w
 
--- At the return. 3 says that the host failed, 5 that the input did, and nothing was done then, and 6 that memory was wanting.
+-- At the return. 3 says that the host failed, 5 that the input did, and 6 that memory was wanting.
 pub record Ran (a : Answer) (status : ℕ) (u w : View) : Type 0 where
   pub answers : IsAnswered status → Answers a status u w
   pub stands : (status ≡ 3 → ⊥) → Stands a u w
-  pub unread : status ≡ 5 → w ≡ u
   pub sound : IsSound u → IsSound w
 
 -- ---- for these words, and what is left of the input, where it is told
@@ -87,9 +87,12 @@ abbrev pub IsGiven : Option (List ℕ) → Option Command → List ℕ → Type 
 IsGiven left None input = Unit {0}
 IsGiven left (Some command) input = (reads_input command ≡ false) ⊎ (left ≡ Some input)
 
+-- At every moment. What may change is the same for each input, also where the source doesn't tell what it has left; and words
+-- that are no command, a command that only looks, and one that sees no state change nothing.
 pub record RunsBy (words : List (List ℕ)) (left : Option (List ℕ)) (u w : View) : Type 0 where
+  pub changes : Changes u w
   pub runs : (input : List ℕ) → IsGiven left (command_of words) input → Runs (answer words input (shows u)) u w
-  pub untouched : Looks (command_of words) → IsUntouched u w
+  pub untouched : Looks (command_of words) ⊎ NotShown (shows u) → IsUntouched u w
 
 abbrev pub RanBy : List (List ℕ) → Option (List ℕ) → ℕ → View → View → Type 0
 RanBy words left status u w = (input : List ℕ) → IsGiven left (command_of words) input → Ran (answer words input (shows u)) status u w

@@ -6,9 +6,9 @@ use Rattle.fp_small.specs.Config.{is_row}
 use Rattle.fp_small.specs.declared.op.Op.{Op}
 use Rattle.fp_small.specs.declared.op.Op.TheVariants.{AddPin, DropPin, AddRemote, ModifyRemote, DropRemote, Migrate}
 use Rattle.fp_small.specs.declared.refusal.Refusal.{Refusal}
-use Rattle.fp_small.specs.declared.refusal.Refusal.TheVariants.{BadWords, NoSuchRemote, RemoteExists, PinExists, NoSuchPin, Limit, BadRecord, Damaged}
+use Rattle.fp_small.specs.declared.refusal.Refusal.TheVariants.{BadWords, NoSuchRemote, RemoteExists, MalformedObject, PinExists, NoSuchPin, Limit, BadRecord, Damaged}
 use Rattle.fl_words.specs.declared.command.Command.{Command}
-use Rattle.fl_words.specs.declared.command.Command.TheVariants.{Pin, Unpin, RemoteAdd, RemoteModify, RemoteDelete, ListPins, ListRemotes, Batch}
+use Rattle.fl_words.specs.declared.command.Command.TheVariants.{Pin, Unpin, RemoteAdd, RemoteModify, RemoteDelete, ListPins, ListRemotes, Batch, ShowCommit, ShowDirTree, ShowDirMeta, ShowValue}
 use Rattle.fl_top.specs.Answer.{Answer}
 
 -- 0 done, 1 refused, 2 no command, 3 a fault of the host, 5 a fault of the input, 6 want of memory
@@ -29,6 +29,25 @@ only_looks (RemoteDelete name) = false
 only_looks ListPins = true
 only_looks ListRemotes = true
 only_looks Batch = false
+only_looks ShowCommit = true
+only_looks ShowDirTree = true
+only_looks ShowDirMeta = true
+only_looks (ShowValue of) = true
+
+-- it prints what the input is
+abbrev pub is_show : Command → Bool
+is_show (Pin pin) = false
+is_show (Unpin pin) = false
+is_show (RemoteAdd row) = false
+is_show (RemoteModify row) = false
+is_show (RemoteDelete name) = false
+is_show ListPins = false
+is_show ListRemotes = false
+is_show Batch = false
+is_show ShowCommit = true
+is_show ShowDirTree = true
+is_show ShowDirMeta = true
+is_show (ShowValue of) = true
 
 abbrev pub reads_input : Command → Bool
 reads_input (Pin pin) = false
@@ -39,11 +58,16 @@ reads_input (RemoteDelete name) = false
 reads_input ListPins = false
 reads_input ListRemotes = false
 reads_input Batch = true
+reads_input ShowCommit = true
+reads_input ShowDirTree = true
+reads_input ShowDirMeta = true
+reads_input (ShowValue of) = true
 
 abbrev pub status_of : Refusal → ℕ
 status_of (BadWords index) = 2
 status_of (NoSuchRemote remote) = 1
 status_of (RemoteExists remote) = 1
+status_of (MalformedObject digest kind rule) = 1
 status_of (PinExists pin) = 1
 status_of (NoSuchPin pin) = 1
 status_of (Limit what number) = 1

@@ -119,6 +119,8 @@ fn op_of(command: &Command) -> Result<Option<Op>, AllocError>
         Command::RemoteModify(row) => Some(Op::ModifyRemote(row.copy()?)),
         Command::RemoteDelete(name) => Some(Op::DropRemote(name.copy()?)),
         Command::ListPins | Command::ListRemotes | Command::Batch => None,
+        Command::ShowCommit | Command::ShowDirTree | Command::ShowDirMeta => None,
+        Command::ShowValue(_) => None,
     })
 }
 

@@ -4,6 +4,7 @@ ghost use Rattle.std.specs.Prelude.{◌≡◌};
 use crate::end::RunEnd;
 use crate::input::InputEnd;
 use fl_words::BatchError;
+use fp_host::HostEnd;
 use fp_small::{Refusal, What};
 
 /// How a command ends where it isn't done.
@@ -29,6 +30,17 @@ impl From<RunEnd> for CommandEnd {
             RunEnd::Fault => CommandEnd::Fault,
             RunEnd::NoMemory => CommandEnd::NoMemory,
         }
+    }
+}
+
+impl From<HostEnd> for CommandEnd {
+    ghost use Rattle.std.specs.Prelude.{◌≡◌};
+    ghost use Rattle.fl_top.specs.Ends.{end_of_host, end_of_run};
+
+    ghost from_gives = { λ host end. end ≡ end_of_run (end_of_host host) };
+
+    fn from(end: HostEnd) -> CommandEnd {
+        CommandEnd::from(RunEnd::from(end))
     }
 }
 

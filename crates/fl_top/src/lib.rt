@@ -7,5 +7,6 @@ mod end;
 mod input;
 pub mod laws;
 mod running;
+mod showing;
 
 pub use running::run;

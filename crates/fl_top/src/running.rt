@@ -1,7 +1,7 @@
 // The run of a command.
 ghost use Rattle.std.specs.Prelude.{◌≡◌, ◌≢◌, ◌≤◌, ◌⊎◌, true, Some, map, string_bytes, IsErrOf};
 ghost use Rattle.fp_host.specs.Causes.{IsCaused};
-ghost use Rattle.fp_host.specs.Frame.{Ends};
+ghost use Rattle.fp_host.specs.Frame.{Ends, Still};
 ghost use Rattle.fp_host.specs.Moments.{Goes, Rose};
 ghost use Rattle.fl_words.specs.Lines.{refusal_text};
 ghost use Rattle.fl_words.specs.Words.{command_of};
@@ -10,12 +10,13 @@ ghost use Rattle.fl_top.specs.Answer.{told_pins, told_remotes};
 ghost use Rattle.fl_top.specs.Performs.{LooksOver, EndedOver, RunsOn, EndedOn, RanOn, Takes, TakenBy};
 ghost use Rattle.fl_top.specs.Runs.{RunsBy, RanBy, WasTaken, IsReady, Serves};
 ghost use Rattle.fl_top.specs.Says.{Says, SaidBy, Refuses};
-ghost use Rattle.fl_top.specs.Status.{IsStatus, IsOfWords, IsOfCommand, reads_input};
+ghost use Rattle.fl_top.specs.Status.{IsStatus, IsOfWords, IsOfCommand, reads_input, is_show};
 
 use crate::change::change;
 use crate::command_end::CommandEnd;
 use crate::end::RunEnd;
 use crate::input::read_input;
+use crate::showing::shown_text;
 use dep_open::read_state;
 use fl_words::{
     Command, WordsError, pins_text, read_batch, read_words, refusal_line, remotes_text,
@@ -44,7 +45,8 @@ pub fn run<H: Host, R: Remotes, I: Source>(
     // What was printed, the status and the state are the answer's; every stop leaves the acknowledged operations.
     ensures at_return { Ends (RanBy (map string_bytes words.now) (I.left input.old) result) (H.moments host.old) (H.moments host.new) }
     ensures cause { IsCaused (result ≡ 3) (H.moments host.old) (Serves (command_of (map string_bytes words.now))) (H.faults host.old) (H.faults host.new) }
-    ensures input { result ≡ 5 → Rose (I.faults input.old) (I.faults input.new) }
+    // The input is read before anything is done.
+    ensures input { result ≡ 5 → Rose (I.faults input.old) (I.faults input.new) × Still (H.moments host.old) (H.moments host.new) }
     ensures taken { WasTaken (command_of (map string_bytes words.now)) result (I.left input.old) (I.left input.new) }
     ensures later { (I.faults input.old ≤ I.faults input.new) × (R.faults remotes.old ≤ R.faults remotes.new) }
 {
@@ -67,7 +69,7 @@ fn run_command<H: Host, I: Source>(
     ensures status { IsOfCommand command result }
     ensures moments { Goes (H.moments host.old) (H.moments host.new) (RunsOn command (I.left input.old)) (RanOn command (I.left input.old) result) }
     ensures cause { IsCaused (result ≡ 3) (H.moments host.old) (Serves (Some command)) (H.faults host.old) (H.faults host.new) }
-    ensures input { result ≡ 5 → Rose (I.faults input.old) (I.faults input.new) }
+    ensures input { result ≡ 5 → Rose (I.faults input.old) (I.faults input.new) × Still (H.moments host.old) (H.moments host.new) }
     ensures taken { WasTaken (Some command) result (I.left input.old) (I.left input.new) }
     ensures later { I.faults input.old ≤ I.faults input.new }
 {
@@ -89,10 +91,13 @@ fn perform<H: Host, I: Source>(
 ) -> Result<(), CommandEnd>
     ensures moments { Goes (H.moments host.old) (H.moments host.new) (RunsOn command (I.left input.old)) (EndedOn command (I.left input.old) result) }
     ensures cause { IsCaused (IsErrOf result CommandEnd.Fault) (H.moments host.old) (Serves (Some command)) (H.faults host.old) (H.faults host.new) }
-    ensures input { IsErrOf result CommandEnd.InputFault → (reads_input command ≡ true) × Rose (I.faults input.old) (I.faults input.new) }
+    ensures input { IsErrOf result CommandEnd.InputFault → (reads_input command ≡ true) × Rose (I.faults input.old) (I.faults input.new) × Still (H.moments host.old) (H.moments host.new) }
     ensures taken { Takes command result (I.left input.old) (I.left input.new) }
     ensures later { I.faults input.old ≤ I.faults input.new }
 {
+    if is_show(&command) {
+        return show(alloc, input, host, &command);
+    }
     match command {
         Command::ListPins => Ok(list_pins(alloc, host)?),
         Command::ListRemotes => Ok(list_remotes(alloc, host)?),
@@ -101,11 +106,41 @@ fn perform<H: Host, I: Source>(
     }
 }
 
+/// Whether a command prints what the input is.
+fn is_show(command: &Command) -> bool
+    ensures { result ≡ is_show command.now }
+{
+    match command {
+        Command::ShowCommit | Command::ShowDirTree | Command::ShowDirMeta => true,
+        Command::ShowValue(_) => true,
+        _ => false,
+    }
+}
+
+/// Prints what the input is. The installation isn't looked at.
+fn show<H: Host, I: Source>(
+    alloc: Global,
+    input: &mut I,
+    host: &mut H,
+    command: &Command,
+) -> Result<(), CommandEnd>
+    requires { is_show command.now ≡ true }
+    ensures moments { Goes (H.moments host.old) (H.moments host.new) (RunsOn command.now (I.left input.old)) (EndedOn command.now (I.left input.old) result) }
+    ensures cause { IsCaused (IsErrOf result CommandEnd.Fault) (H.moments host.old) (λ v. Unit {0}) (H.faults host.old) (H.faults host.new) }
+    ensures input { IsErrOf result CommandEnd.InputFault → Rose (I.faults input.old) (I.faults input.new) × Still (H.moments host.old) (H.moments host.new) }
+    ensures taken { TakenBy result (I.left input.old) (I.left input.new) }
+    ensures later { I.faults input.old ≤ I.faults input.new }
+{
+    let given = read_input(alloc, input)?;
+    let text = shown_text(alloc, command, given.as_slice())?;
+    Ok(say(host, text.as_str().as_bytes())?)
+}
+
 /// Reads the commands of the input, and does them one after another.
 fn batch<H: Host, I: Source>(alloc: Global, input: &mut I, host: &mut H) -> Result<(), CommandEnd>
     ensures moments { Goes (H.moments host.old) (H.moments host.new) (RunsOn Batch (I.left input.old)) (EndedOn Batch (I.left input.old) result) }
     ensures cause { IsCaused (IsErrOf result CommandEnd.Fault) (H.moments host.old) IsReady (H.faults host.old) (H.faults host.new) }
-    ensures input { IsErrOf result CommandEnd.InputFault → Rose (I.faults input.old) (I.faults input.new) }
+    ensures input { IsErrOf result CommandEnd.InputFault → Rose (I.faults input.old) (I.faults input.new) × Still (H.moments host.old) (H.moments host.new) }
     ensures taken { TakenBy result (I.left input.old) (I.left input.new) }
     ensures later { I.faults input.old ≤ I.faults input.new }
 {
@@ -157,5 +192,14 @@ fn say_refusal<H: Host>(alloc: Global, host: &mut H, refusal: &Refusal) -> Resul
 {
     let line = refusal_line(alloc, refusal)?;
     host.say(line.as_str().as_bytes())?;
+    Ok(())
+}
+
+/// Prints a text.
+fn say<H: Host>(host: &mut H, text: &[u8]) -> Result<(), HostEnd>
+    ensures moments { Goes (H.moments host.old) (H.moments host.new) (Says text.now) (SaidBy text.now result) }
+    ensures cause { IsCaused (IsErrOf result HostEnd.Fault) (H.moments host.old) (λ v. Unit {0}) (H.faults host.old) (H.faults host.new) }
+{
+    host.say(text)?;
     Ok(())
 }

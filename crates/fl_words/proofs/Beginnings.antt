@@ -6,13 +6,17 @@ use Rattle.fp_name.specs.Grammar.{is_remote_name, is_url}
 use Rattle.fp_name.specs.Pins.{is_pin}
 use Rattle.fl_words.specs.declared.verb.Verb.{Verb}
 use Rattle.fl_words.specs.declared.verb.Verb.TheVariants as verbs
+use Rattle.fl_words.specs.declared.verb.Shown.{Shown}
+use Rattle.fl_words.specs.declared.verb.Shown.TheVariants as things
 use Rattle.fl_words.specs.declared.command.Command.{Command}
-use Rattle.fl_words.specs.declared.command.Command.TheVariants.{Pin, Unpin, RemoteAdd, RemoteModify, RemoteDelete, ListPins, ListRemotes}
+use Rattle.fl_words.specs.declared.command.Command.TheVariants.{Pin, Unpin, RemoteAdd, RemoteModify, RemoteDelete, ListPins, ListRemotes, ShowValue}
 use Rattle.fp_small.specs.declared.state.RemoteRow.{RemoteRow}
 use Rattle.std.specs.Str.{bytes_eq}
 use Rattle.std.specs.Option.{option_map}
-use Rattle.fl_words.specs.Verbs.{verb_of}
-use Rattle.fl_words.specs.Words.{behind, remote_of, begins_remote, begins, begins_behind, Begins, first_bad, bad_index}
+use Rattle.fl_words.proofs.TypeTexts.{byte_is}
+use Rattle.fl_words.specs.Types.{is_type_text}
+use Rattle.fl_words.specs.Verbs.{verb_of, shown_of}
+use Rattle.fl_words.specs.Words.{shown_by, begins_shown, behind, remote_of, begins_remote, begins, begins_behind, Begins, first_bad, bad_index}
 
 -- some pattern
 any_pin : List ℕ
@@ -47,6 +51,22 @@ listed true b h = search rules
 listed false true h = search rules
 listed false false h = absurd (cc h)
 
+-- what is shown, where it is something, and the words behind it
+abbrev with_shown : Option Shown → List (List ℕ) → Option Command
+with_shown thing words = option_and_then (λ s. shown_by s words) thing
+
+shown_on : (thing : Option Shown) (words : List (List ℕ)) → begins_shown thing words ≡ true → (more : List (List ℕ)) × IsSome (with_shown thing (words ++ more))
+shown_on None words h = absurd (cc)
+shown_on (Some things.Commit) [] h = ([], search rules)
+shown_on (Some things.Commit) (word ∷ more) h = absurd (cc)
+shown_on (Some things.DirTree) [] h = ([], search rules)
+shown_on (Some things.DirTree) (word ∷ more) h = absurd (cc)
+shown_on (Some things.DirMeta) [] h = ([], search rules)
+shown_on (Some things.DirMeta) (word ∷ more) h = absurd (cc)
+shown_on (Some things.Value) [] h = ((121 ∷ []) ∷ [], rw byte_is (search rules))
+shown_on (Some things.Value) (t ∷ []) h = ([], rw h (search rules))
+shown_on (Some things.Value) (t ∷ u ∷ more) h = absurd (cc)
+
 goes_on : (verb : Option Verb) (words : List (List ℕ)) → begins_behind verb words ≡ true → (more : List (List ℕ)) × IsSome (with_verb verb (words ++ more))
 goes_on None words h = absurd (cc)
 goes_on (Some verbs.Pin) [] h = (codes "app/*/*/*" ∷ [], rw any_pin_is (search rules))
@@ -71,6 +91,8 @@ goes_on (Some verbs.List) (word ∷ []) h = ([], listed (bytes_eq word (codes "-
 goes_on (Some verbs.List) (word ∷ next ∷ more) h = absurd (cc)
 goes_on (Some verbs.Batch) [] h = ([], search rules)
 goes_on (Some verbs.Batch) (word ∷ more) h = absurd (cc)
+goes_on (Some verbs.Show) [] h = (codes "commit" ∷ [], search rules)
+goes_on (Some verbs.Show) (word ∷ words) h = shown_on (shown_of word) words h
 
 -- what is looked for is there only if the test passed
 passed_map : {A B : Type 0} (f : A → B) (b : Bool) (x : A) → IsSome (option_map f (cond b (Some x) None)) → b ≡ true
@@ -94,6 +116,19 @@ began_remote f (n ∷ u ∷ []) [] h = passed_map f (is_remote_name n && is_url 
 began_remote f (n ∷ u ∷ []) (v ∷ more) h = absurd (search rules)
 began_remote f (n ∷ u ∷ v ∷ words) more h = absurd (search rules)
 
+was_shown : (thing : Option Shown) (words more : List (List ℕ)) → IsSome (with_shown thing (words ++ more)) → begins_shown thing words ≡ true
+was_shown None words more h = absurd (search rules)
+was_shown (Some things.Commit) [] more h = refl
+was_shown (Some things.Commit) (word ∷ words) more h = absurd (search rules)
+was_shown (Some things.DirTree) [] more h = refl
+was_shown (Some things.DirTree) (word ∷ words) more h = absurd (search rules)
+was_shown (Some things.DirMeta) [] more h = refl
+was_shown (Some things.DirMeta) (word ∷ words) more h = absurd (search rules)
+was_shown (Some things.Value) [] more h = refl
+was_shown (Some things.Value) (t ∷ []) [] h = passed_map ShowValue (is_type_text t) t h
+was_shown (Some things.Value) (t ∷ []) (m ∷ more) h = absurd (search rules)
+was_shown (Some things.Value) (t ∷ u ∷ words) more h = absurd (search rules)
+
 began : (verb : Option Verb) (words more : List (List ℕ)) → IsSome (with_verb verb (words ++ more)) → begins_behind verb words ≡ true
 began None words more h = absurd (search rules)
 began (Some verbs.Pin) [] more h = refl
@@ -116,6 +151,8 @@ began (Some verbs.List) (word ∷ []) (m ∷ more) h = absurd (search rules)
 began (Some verbs.List) (word ∷ next ∷ words) more h = absurd (search rules)
 began (Some verbs.Batch) [] more h = refl
 began (Some verbs.Batch) (word ∷ words) more h = absurd (search rules)
+began (Some verbs.Show) [] more h = refl
+began (Some verbs.Show) (word ∷ words) more h = was_shown (shown_of word) words more h
 
 -- the test is right
 pub begins_right : (words : List (List ℕ)) → (begins words ≡ true → Begins words) × (Begins words → begins words ≡ true)

@@ -5,4 +5,5 @@ pub mod Extra
 pub mod LineWords
 pub mod ReadBack
 pub mod Rows
+pub mod TypeTexts
 pub mod Unescaped

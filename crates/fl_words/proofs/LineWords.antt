@@ -1,5 +1,5 @@
 -- The words of a line, one after another.
-use Rattle.std.proofs.Common.{◌≡◌, ℕ, ◌+◌, suc, Bool, true, false, eqb, ◌&&◌, List, [], ◌∷◌, ◌++◌, length, take, drop, Option, Some, None, refl, ap, sym, ◌∙◌, inl, inr, arith}
+use Rattle.std.proofs.Common.{subst, Result, Ok, Err, IsErrAnd, IfErr, ◌≡◌, ℕ, ◌+◌, suc, Bool, true, false, eqb, ◌&&◌, List, [], ◌∷◌, ◌++◌, length, take, drop, Option, Some, None, refl, ap, sym, ◌∙◌, inl, inr, arith}
 use Rattle.std.specs.List.{position, list_all, onto_first}
 use Rattle.std.specs.Prelude.{codes, option_and_then}
 use Rattle.std.specs.Str.{is_utf8, IsUtf8}
@@ -14,10 +14,14 @@ use Rattle.fp_keyfile.proofs.FirstPlace.{at_place, at_none}
 use Rattle.fp_small.specs.declared.state.RemoteRow.{RemoteRow}
 use Rattle.fl_words.specs.declared.verb.Verb.{Verb}
 use Rattle.fl_words.specs.declared.verb.Verb.TheVariants as verbs
+use Rattle.fl_words.specs.declared.verb.Shown.{Shown}
+use Rattle.fl_words.specs.declared.verb.Shown.TheVariants as things
 use Rattle.fl_words.specs.declared.command.Command.{Command}
-use Rattle.fl_words.specs.declared.command.Command.TheVariants.{Pin, Unpin, RemoteAdd, RemoteModify, RemoteDelete, ListRemotes, ListPins, Batch}
-use Rattle.fl_words.specs.Verbs.{verb_of}
-use Rattle.fl_words.specs.Words.{behind, command_of, words_of, is_command}
+use Rattle.fl_words.specs.declared.command.Command.TheVariants.{Pin, Unpin, RemoteAdd, RemoteModify, RemoteDelete, ListRemotes, ListPins, Batch, ShowCommit, ShowDirTree, ShowDirMeta, ShowValue}
+use Rattle.fl_words.proofs.TypeTexts.{no_text_no_type}
+use Rattle.fl_words.specs.Types.{is_type_text}
+use Rattle.fl_words.specs.Verbs.{verb_of, shown_of}
+use Rattle.fl_words.specs.Words.{shown_by, behind, command_of, words_of, is_command}
 use Rattle.fl_words.specs.declared.command.WordsError.{WordsError}
 use Rattle.fl_words.specs.declared.command.WordsError.TheVariants.{BadWords, NoMemory}
 use Rattle.fl_words.specs.Behind.{IsNoCommand}
@@ -59,6 +63,13 @@ words_in_cons (b ∷ bytes) =
 -- ---- words that are no command
 
 -- more than three
+shown_crowded : (o : Option Shown) (b c : List ℕ) (more : List (List ℕ)) → (option_and_then (λ s. shown_by s (b ∷ c ∷ more)) o) ≡ None
+shown_crowded None b c more = refl
+shown_crowded (Some things.Commit) b c more = refl
+shown_crowded (Some things.DirTree) b c more = refl
+shown_crowded (Some things.DirMeta) b c more = refl
+shown_crowded (Some things.Value) b c more = refl
+
 crowded : (o : Option Verb) (a b c : List ℕ) (more : List (List ℕ)) → (option_and_then (λ v. behind v (a ∷ b ∷ c ∷ more)) o) ≡ None
 crowded None a b c more = refl
 crowded (Some verbs.Pin) a b c more = refl
@@ -68,6 +79,7 @@ crowded (Some verbs.RemoteModify) a b c more = refl
 crowded (Some verbs.RemoteDelete) a b c more = refl
 crowded (Some verbs.List) a b c more = refl
 crowded (Some verbs.Batch) a b c more = refl
+crowded (Some verbs.Show) a b c more = shown_crowded (shown_of a) b c more
 
 pub too_many : (words : List (List ℕ)) (word : List ℕ) (more : List (List ℕ)) → length words ≡ 3 → command_of (words ++ word ∷ more) ≡ None
 too_many [] word more h = absurd cc
@@ -108,6 +120,10 @@ all_texts (RemoteDelete name) h = one_word (codes "remote-delete") name refl (te
 all_texts ListRemotes h = one_word (codes "list") (codes "--remotes") refl (ascii (codes "--remotes") refl)
 all_texts ListPins h = one_word (codes "list") (codes "--pins") refl (ascii (codes "--pins") refl)
 all_texts Batch h = rw (ascii (codes "batch") refl) refl
+all_texts ShowCommit h = one_word (codes "show") (codes "commit") refl (ascii (codes "commit") refl)
+all_texts ShowDirTree h = one_word (codes "show") (codes "dirtree") refl (ascii (codes "dirtree") refl)
+all_texts ShowDirMeta h = one_word (codes "show") (codes "dirmeta") refl (ascii (codes "dirmeta") refl)
+all_texts (ShowValue of) h = two_words (codes "show") (codes "value") of refl (ascii (codes "value") refl) (text_where is_type_text no_text_no_type of h)
 
 one_of : (words : List (List ℕ)) (word : List ℕ) (more : List (List ℕ)) → list_all is_utf8 (words ++ word ∷ more) ≡ true → is_utf8 word ≡ true
 one_of [] word more h = (and_parts (is_utf8 word) (list_all is_utf8 more) h).0
@@ -133,6 +149,11 @@ crowded_line words text line is h =
 pub bad_word : (words more : List (List ℕ)) (text word line : List ℕ) (e : WordsError) → words ++ words_in text ≡ words_in line → words_in text ≡ word ∷ more → IsNoText word e → IsNoWords line e
 bad_word words more text word line (BadWords index) is cut bad = ap command_of (sym is ∙ ap (λ (ws : List (List ℕ)). words ++ ws) cut) ∙ no_text words word more bad
 bad_word words more text word line NoMemory is cut bad = tt
+
+-- the error of a `?`
+pub passed_on : {A : Type 0} (r : Result A WordsError) (e : WordsError) (line : List ℕ) → IsErrAnd r (λ x. x ≡ e) → IsNoWords line e → IfErr r (IsNoWords line)
+passed_on (Ok a) e line is h = tt
+passed_on (Err x) e line is h = subst (IsNoWords line) (sym is) h
 
 -- ---- the errors of a line
 

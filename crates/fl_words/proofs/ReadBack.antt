@@ -9,10 +9,13 @@ use Rattle.fp_name.specs.Pins.{is_pin}
 use Rattle.fp_small.specs.declared.state.RemoteRow.{RemoteRow}
 use Rattle.fl_words.specs.declared.verb.Verb.{Verb}
 use Rattle.fl_words.specs.declared.verb.Verb.TheVariants as verbs
+use Rattle.fl_words.specs.declared.verb.Shown.{Shown}
+use Rattle.fl_words.specs.declared.verb.Shown.TheVariants as things
 use Rattle.fl_words.specs.declared.command.Command.{Command}
-use Rattle.fl_words.specs.declared.command.Command.TheVariants.{Pin, Unpin, RemoteAdd, RemoteModify, RemoteDelete, ListPins, ListRemotes, Batch}
-use Rattle.fl_words.specs.Verbs.{verb_of}
-use Rattle.fl_words.specs.Words.{pattern_of, remote_of, name_of, list_of, alone, behind, command_of, words_of, is_command}
+use Rattle.fl_words.specs.declared.command.Command.TheVariants.{Pin, Unpin, RemoteAdd, RemoteModify, RemoteDelete, ListPins, ListRemotes, Batch, ShowCommit, ShowDirTree, ShowDirMeta, ShowValue}
+use Rattle.fl_words.specs.Types.{is_type_text}
+use Rattle.fl_words.specs.Verbs.{verb_of, shown_of}
+use Rattle.fl_words.specs.Words.{pattern_of, remote_of, name_of, list_of, alone, last, type_in, shown_by, show_of, behind, command_of, words_of, is_command}
 
 -- ---- the verb
 
@@ -24,6 +27,7 @@ word_of verbs.RemoteModify = codes "remote-modify"
 word_of verbs.RemoteDelete = codes "remote-delete"
 word_of verbs.List = codes "list"
 word_of verbs.Batch = codes "batch"
+word_of verbs.Show = codes "show"
 
 -- a choice gave this
 picked : (word text : List ℕ) (x v : Verb) (rest : Option Verb) → word_of x ≡ text → (rest ≡ Some v → word ≡ word_of v) → (b : Bool) → bytes_eq word text ≡ b → cond b (Some x) rest ≡ Some v → word ≡ word_of v
@@ -38,7 +42,9 @@ verb_is word v h =
     picked word (codes "remote-modify") verbs.RemoteModify v _ refl (λ h4.
     picked word (codes "remote-delete") verbs.RemoteDelete v _ refl (λ h5.
     picked word (codes "list") verbs.List v _ refl (λ h6.
-    picked word (codes "batch") verbs.Batch v None refl (λ h7. absurd (cc h7)) (bytes_eq word (codes "batch")) refl h6)
+    picked word (codes "batch") verbs.Batch v _ refl (λ h7.
+    picked word (codes "show") verbs.Show v None refl (λ h8. absurd (cc h8)) (bytes_eq word (codes "show")) refl h7)
+    (bytes_eq word (codes "batch")) refl h6)
     (bytes_eq word (codes "list")) refl h5)
     (bytes_eq word (codes "remote-delete")) refl h4)
     (bytes_eq word (codes "remote-modify")) refl h3)
@@ -93,6 +99,55 @@ alone_back : (words : List (List ℕ)) (c : Command) → alone words ≡ Some c 
 alone_back [] c h = (refl, cc h)
 alone_back (word ∷ words) c h = absurd (cc h)
 
+-- ---- what is shown
+
+abbrev name_for : Shown → List ℕ
+name_for things.Commit = codes "commit"
+name_for things.DirTree = codes "dirtree"
+name_for things.DirMeta = codes "dirmeta"
+name_for things.Value = codes "value"
+
+shown_pick : (word text : List ℕ) (x s : Shown) (rest : Option Shown) → name_for x ≡ text → (rest ≡ Some s → word ≡ name_for s) → (b : Bool) → bytes_eq word text ≡ b → cond b (Some x) rest ≡ Some s → word ≡ name_for s
+shown_pick word text x s rest is other true e h = let same : x ≡ s = cc h in (bytes_eq-Decides word text).0 e ∙ sym is ∙ ap name_for same
+shown_pick word text x s rest is other false e h = other h
+
+shown_is : (word : List ℕ) (s : Shown) → shown_of word ≡ Some s → word ≡ name_for s
+shown_is word s h =
+    shown_pick word (codes "commit") things.Commit s _ refl (λ h1.
+    shown_pick word (codes "dirtree") things.DirTree s _ refl (λ h2.
+    shown_pick word (codes "dirmeta") things.DirMeta s _ refl (λ h3.
+    shown_pick word (codes "value") things.Value s None refl (λ h4. absurd (cc h4)) (bytes_eq word (codes "value")) refl h3)
+    (bytes_eq word (codes "dirmeta")) refl h2)
+    (bytes_eq word (codes "dirtree")) refl h1)
+    (bytes_eq word (codes "commit")) refl h
+
+last_back : (d : Command) (words : List (List ℕ)) (c : Command) → last d words ≡ Some c → (words ≡ []) × (d ≡ c)
+last_back d [] c h = (refl, cc h)
+last_back d (word ∷ words) c h = absurd (cc h)
+
+type_back : (words : List (List ℕ)) (t : List ℕ) → type_in words ≡ Some t → (words ≡ t ∷ []) × (is_type_text t ≡ true)
+type_back [] t h = absurd (cc h)
+type_back (q ∷ []) t h = let k = tested (is_type_text q) q t h in (ap (λ (x : List ℕ). x ∷ []) k.1, subst (λ (x : List ℕ). is_type_text x ≡ true) k.1 k.0)
+type_back (q ∷ r ∷ words) t h = absurd (cc h)
+
+-- the words of what is shown
+abbrev Shows : Shown → List (List ℕ) → Command → Type 0
+Shows s words c = (codes "show" ∷ name_for s ∷ words ≡ words_of c) × (is_command c ≡ true)
+
+shown_back : (s : Shown) (words : List (List ℕ)) (c : Command) → shown_by s words ≡ Some c → Shows s words c
+shown_back things.Commit words c h = let l = last_back ShowCommit words c h in subst (Shows things.Commit words) l.1 (ap (λ (ws : List (List ℕ)). codes "show" ∷ codes "commit" ∷ ws) l.0, refl)
+shown_back things.DirTree words c h = let l = last_back ShowDirTree words c h in subst (Shows things.DirTree words) l.1 (ap (λ (ws : List (List ℕ)). codes "show" ∷ codes "dirtree" ∷ ws) l.0, refl)
+shown_back things.DirMeta words c h = let l = last_back ShowDirMeta words c h in subst (Shows things.DirMeta words) l.1 (ap (λ (ws : List (List ℕ)). codes "show" ∷ codes "dirmeta" ∷ ws) l.0, refl)
+shown_back things.Value words c h = let m = mapped ShowValue (type_in words) c h in let t = type_back words m.0 m.1 in subst (Shows things.Value words) m.2 (ap (λ (ws : List (List ℕ)). codes "show" ∷ codes "value" ∷ ws) t.0, t.1)
+
+with_shown : (word : List ℕ) (words : List (List ℕ)) (c : Command) (o : Option Shown) → shown_of word ≡ o → (option_and_then (λ s. shown_by s words) o) ≡ Some c → (codes "show" ∷ word ∷ words ≡ words_of c) × (is_command c ≡ true)
+with_shown word words c None e h = absurd (cc h)
+with_shown word words c (Some s) e h = let k = shown_back s words c h in (ap (λ (w : List ℕ). codes "show" ∷ w ∷ words) (shown_is word s e) ∙ k.0, k.1)
+
+show_back : (words : List (List ℕ)) (c : Command) → show_of words ≡ Some c → (codes "show" ∷ words ≡ words_of c) × (is_command c ≡ true)
+show_back [] c h = absurd (cc h)
+show_back (word ∷ words) c h = with_shown word words c (shown_of word) refl h
+
 -- the words of a verb's command
 abbrev Speaks : Verb → List (List ℕ) → Command → Type 0
 Speaks v words c = (word_of v ∷ words ≡ words_of c) × (is_command c ≡ true)
@@ -105,6 +160,7 @@ behind_back verbs.RemoteModify words c h = let m = mapped RemoteModify (remote_o
 behind_back verbs.RemoteDelete words c h = let m = mapped RemoteDelete (name_of words) c h in let p = name_back words m.0 m.1 in subst (Speaks verbs.RemoteDelete words) m.2 (ap (λ (ws : List (List ℕ)). codes "remote-delete" ∷ ws) p.0, p.1)
 behind_back verbs.List words c h = list_back words c h
 behind_back verbs.Batch words c h = let a = alone_back words c h in subst (Speaks verbs.Batch words) a.1 (ap (λ (ws : List (List ℕ)). codes "batch" ∷ ws) a.0, refl)
+behind_back verbs.Show words c h = show_back words c h
 
 -- ---- a command line
 

@@ -7,7 +7,8 @@ use Rattle.fp_name.specs.Pins.{is_pin}
 use Rattle.fp_small.specs.declared.refusal.Refusal.TheVariants.{BadWords, PinExists, NoSuchPin, Limit, BadRecord, Damaged}
 use Rattle.fp_small.specs.declared.refusal.What.TheVariants.{Pins, Input}
 use Rattle.fp_small.specs.declared.op.Op.TheVariants.{AddPin, DropPin, Migrate}
-use Rattle.fl_words.specs.declared.command.Command.TheVariants.{Pin, Unpin, ListPins, Batch}
+use Rattle.fl_words.specs.declared.command.Command.TheVariants.{Pin, Unpin, ListPins, Batch, ShowCommit, ShowDirTree, ShowDirMeta, ShowValue}
+use Rattle.fl_words.specs.Types.{is_type_text}
 use Rattle.fl_words.specs.Words.{command_of, bad_index}
 use Rattle.fl_words.specs.Batch.{batch_command, batch_of}
 use Rattle.fl_words.specs.Lines.{refusal_text, op_text}
@@ -95,6 +96,39 @@ batch_alone = refl
 
 pub batch_and_more : bad_index (codes "batch" ∷ [] ∷ []) ≡ 1
 batch_and_more = refl
+
+pub show_commit : command_of (codes "show" ∷ codes "commit" ∷ []) ≡ Some ShowCommit
+show_commit = refl
+
+pub show_dirtree : command_of (codes "show" ∷ codes "dirtree" ∷ []) ≡ Some ShowDirTree
+show_dirtree = refl
+
+pub show_dirmeta : command_of (codes "show" ∷ codes "dirmeta" ∷ []) ≡ Some ShowDirMeta
+show_dirmeta = refl
+
+pub show_value : command_of (codes "show" ∷ codes "value" ∷ codes "(si)" ∷ []) ≡ Some (ShowValue (codes "(si)"))
+unfolding is_type_text
+show_value = refl
+
+pub show_alone : bad_index (codes "show" ∷ []) ≡ 1
+show_alone = refl
+
+pub show_file : bad_index (codes "show" ∷ codes "file" ∷ []) ≡ 1
+show_file = refl
+
+pub show_two : bad_index (codes "show" ∷ codes "commit" ∷ codes "y" ∷ []) ≡ 2
+show_two = refl
+
+pub show_no_type : bad_index (codes "show" ∷ codes "value" ∷ []) ≡ 2
+show_no_type = refl
+
+pub show_bad_type : bad_index (codes "show" ∷ codes "value" ∷ codes "si" ∷ []) ≡ 2
+unfolding is_type_text
+show_bad_type = refl
+
+pub show_more : bad_index (codes "show" ∷ codes "value" ∷ codes "s" ∷ [] ∷ []) ≡ 3
+unfolding is_type_text
+show_more = refl
 
 -- ---- batches
 

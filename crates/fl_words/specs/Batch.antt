@@ -6,7 +6,7 @@ use Rattle.std.specs.Option.{is_some}
 use Rattle.std.specs.Str.{IsUtf8}
 use Rattle.fp_keyfile.specs.Lines.{lines_of}
 use Rattle.fl_words.specs.declared.command.Command.{Command}
-use Rattle.fl_words.specs.declared.command.Command.TheVariants.{Pin, Unpin, RemoteAdd, RemoteModify, RemoteDelete, ListRemotes, ListPins, Batch}
+use Rattle.fl_words.specs.declared.command.Command.TheVariants.{Pin, Unpin, RemoteAdd, RemoteModify, RemoteDelete, ListRemotes, ListPins, Batch, ShowCommit, ShowDirTree, ShowDirMeta, ShowValue}
 use Rattle.fl_words.specs.declared.command.WordsError.{WordsError}
 use Rattle.fl_words.specs.declared.command.WordsError.TheVariants.{BadWords, NoMemory as WordsNoMemory}
 use Rattle.fl_words.specs.declared.batch.BatchError.{BatchError}
@@ -23,6 +23,10 @@ is_allowed (RemoteDelete name) = true
 is_allowed ListRemotes = false
 is_allowed ListPins = false
 is_allowed Batch = false
+is_allowed ShowCommit = false
+is_allowed ShowDirTree = false
+is_allowed ShowDirMeta = false
+is_allowed (ShowValue of) = false
 
 -- the words of a line: each space ends a word and begins another, so two side by side have an empty word between them
 abbrev pub words_in : List ℕ → List (List ℕ)

@@ -13,3 +13,8 @@ IsNoCommand words NoMemory = Unit {0}
 abbrev pub GoesWrong : {A : Type 0} → (List (List ℕ) → Option A) → (List (List ℕ) → Bool) → List (List ℕ) → WordsError → Type 0
 GoesWrong read passes words (BadWords index) = (read words ≡ None) × (index ≡ first_bad passes words + 1)
 GoesWrong read passes words NoMemory = Unit {0}
+
+-- the same of the words behind two words
+abbrev pub GoesWrongBehind : {A : Type 0} → (List (List ℕ) → Option A) → (List (List ℕ) → Bool) → List (List ℕ) → WordsError → Type 0
+GoesWrongBehind read passes words (BadWords index) = (read words ≡ None) × (index ≡ first_bad passes words + 2)
+GoesWrongBehind read passes words NoMemory = Unit {0}

@@ -1,4 +1,5 @@
 pub mod Verbs
+pub mod Types
 pub mod Words
 pub mod Behind
 pub mod Lines

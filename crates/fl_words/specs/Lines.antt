@@ -2,8 +2,9 @@
 use Rattle.std.specs.Prelude.{ℕ, ◌/◌, ◌%◌, ◌==◌, ◌||◌, List, [], ◌∷◌, ◌++◌, Bool, false, nat_lt, codes, decimal, flat_map, if◌then◌else◌}
 use Rattle.std.specs.Fmt.{digit_glyph}
 use Rattle.fp_host.specs.Paths.{path_text}
+use Rattle.fp_name.specs.Hex.{hex}
 use Rattle.fp_small.specs.declared.refusal.Refusal.{Refusal}
-use Rattle.fp_small.specs.declared.refusal.Refusal.TheVariants.{BadWords, NoSuchRemote, RemoteExists, PinExists, NoSuchPin, Limit, BadRecord, Damaged}
+use Rattle.fp_small.specs.declared.refusal.Refusal.TheVariants.{BadWords, NoSuchRemote, RemoteExists, MalformedObject, PinExists, NoSuchPin, Limit, BadRecord, Damaged}
 use Rattle.fp_small.specs.declared.refusal.What.{What}
 use Rattle.fp_small.specs.declared.refusal.What.TheVariants.{Pins, Remotes, Input}
 use Rattle.fp_small.specs.declared.op.Op.{Op}
@@ -38,11 +39,16 @@ what_word Pins = codes "pins"
 what_word Remotes = codes "remotes"
 what_word Input = codes "input"
 
+-- the line of the refusal of an object whose digest has these digits
+abbrev pub malformed_text : List ℕ → List ℕ → List ℕ → List ℕ
+malformed_text digits kind rule = codes "error: malformed object " ++ (digits ++ (codes "." ++ (kind ++ (codes " " ++ (rule ++ codes "\n")))))
+
 -- the line of a refusal
 abbrev pub refusal_text : Refusal → List ℕ
 refusal_text (BadWords index) = line (codes "error: words " ++ decimal index)
 refusal_text (NoSuchRemote remote) = line (codes "error: no remote " ++ remote)
 refusal_text (RemoteExists remote) = line (codes "error: remote exists " ++ remote)
+refusal_text (MalformedObject digest kind rule) = malformed_text (hex digest) kind rule
 refusal_text (PinExists pin) = line (codes "error: pin exists " ++ pin)
 refusal_text (NoSuchPin pin) = line (codes "error: no pin " ++ pin)
 refusal_text (Limit what number) = line (codes "error: limit " ++ what_word what ++ codes " " ++ decimal number)

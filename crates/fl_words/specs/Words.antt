@@ -1,4 +1,5 @@
--- The words of a command line. The forms, one a line, where P is the pattern of a pin, N the name of a remote and U its URL:
+-- The words of a command line. The forms, one a line, where P is the pattern of a pin, N the name of a remote and U its URL, and T
+-- the type string of a type of GVariant:
 --
 --     pin P
 --     unpin P
@@ -8,6 +9,10 @@
 --     list --remotes
 --     list --pins
 --     batch
+--     show commit
+--     show dirtree
+--     show dirmeta
+--     show value T
 use Rattle.std.specs.Prelude.{ℕ, ◌+◌, List, [], ◌∷◌, ◌++◌, ◌&&◌, ◌||◌, Bool, true, false, Option, Some, None, option_and_then, IsSome, codes, if◌then◌else◌}
 use Rattle.std.specs.Option.{option_map}
 use Rattle.std.specs.Str.{bytes_eq}
@@ -16,9 +21,12 @@ use Rattle.fp_name.specs.Pins.{is_pin}
 use Rattle.fp_small.specs.declared.state.RemoteRow.{RemoteRow}
 use Rattle.fl_words.specs.declared.verb.Verb.{Verb}
 use Rattle.fl_words.specs.declared.verb.Verb.TheVariants as verbs
+use Rattle.fl_words.specs.declared.verb.Shown.{Shown}
+use Rattle.fl_words.specs.declared.verb.Shown.TheVariants as things
 use Rattle.fl_words.specs.declared.command.Command.{Command}
-use Rattle.fl_words.specs.declared.command.Command.TheVariants.{Pin, Unpin, RemoteAdd, RemoteModify, RemoteDelete, ListRemotes, ListPins, Batch}
-use Rattle.fl_words.specs.Verbs.{verb_of}
+use Rattle.fl_words.specs.declared.command.Command.TheVariants.{Pin, Unpin, RemoteAdd, RemoteModify, RemoteDelete, ListRemotes, ListPins, Batch, ShowCommit, ShowDirTree, ShowDirMeta, ShowValue}
+use Rattle.fl_words.specs.Verbs.{verb_of, shown_of}
+use Rattle.fl_words.specs.Types.{is_type_text}
 
 -- ---- which words are a command
 
@@ -47,6 +55,27 @@ abbrev pub alone : List (List ℕ) → Option Command
 alone [] = Some Batch
 alone (word ∷ words) = None
 
+-- T
+abbrev pub type_in : List (List ℕ) → Option (List ℕ)
+type_in (t ∷ []) = if is_type_text t then Some t else None
+type_in _ = None
+
+-- nothing more
+abbrev pub last : Command → List (List ℕ) → Option Command
+last command [] = Some command
+last command (word ∷ words) = None
+
+abbrev pub shown_by : Shown → List (List ℕ) → Option Command
+shown_by things.Commit words = last ShowCommit words
+shown_by things.DirTree words = last ShowDirTree words
+shown_by things.DirMeta words = last ShowDirMeta words
+shown_by things.Value words = option_map ShowValue (type_in words)
+
+-- what to show
+abbrev pub show_of : List (List ℕ) → Option Command
+show_of [] = None
+show_of (word ∷ words) = option_and_then (λ thing. shown_by thing words) (shown_of word)
+
 -- the command of the words behind a verb
 abbrev pub behind : Verb → List (List ℕ) → Option Command
 behind verbs.Pin words = option_map Pin (pattern_of words)
@@ -56,6 +85,7 @@ behind verbs.RemoteModify words = option_map RemoteModify (remote_of words)
 behind verbs.RemoteDelete words = option_map RemoteDelete (name_of words)
 behind verbs.List words = list_of words
 behind verbs.Batch words = alone words
+behind verbs.Show words = show_of words
 
 -- the command of the words of a command line, where they are one
 abbrev pub command_of : List (List ℕ) → Option Command
@@ -89,6 +119,22 @@ abbrev pub begins_alone : List (List ℕ) → Bool
 begins_alone [] = true
 begins_alone (word ∷ words) = false
 
+abbrev pub begins_type : List (List ℕ) → Bool
+begins_type [] = true
+begins_type (t ∷ []) = is_type_text t
+begins_type (t ∷ u ∷ more) = false
+
+abbrev pub begins_shown : Option Shown → List (List ℕ) → Bool
+begins_shown None words = false
+begins_shown (Some things.Commit) words = begins_alone words
+begins_shown (Some things.DirTree) words = begins_alone words
+begins_shown (Some things.DirMeta) words = begins_alone words
+begins_shown (Some things.Value) words = begins_type words
+
+abbrev pub begins_show : List (List ℕ) → Bool
+begins_show [] = true
+begins_show (word ∷ words) = begins_shown (shown_of word) words
+
 abbrev pub begins_behind : Option Verb → List (List ℕ) → Bool
 begins_behind None words = false
 begins_behind (Some verbs.Pin) words = begins_pattern words
@@ -98,6 +144,7 @@ begins_behind (Some verbs.RemoteModify) words = begins_remote words
 begins_behind (Some verbs.RemoteDelete) words = begins_name words
 begins_behind (Some verbs.List) words = begins_list words
 begins_behind (Some verbs.Batch) words = begins_alone words
+begins_behind (Some verbs.Show) words = begins_show words
 
 -- the words are a command, or are one with more words behind them
 abbrev pub begins : List (List ℕ) → Bool
@@ -131,8 +178,12 @@ words_of (RemoteDelete name) = codes "remote-delete" ∷ name ∷ []
 words_of ListPins = codes "list" ∷ codes "--pins" ∷ []
 words_of ListRemotes = codes "list" ∷ codes "--remotes" ∷ []
 words_of Batch = codes "batch" ∷ []
+words_of ShowCommit = codes "show" ∷ codes "commit" ∷ []
+words_of ShowDirTree = codes "show" ∷ codes "dirtree" ∷ []
+words_of ShowDirMeta = codes "show" ∷ codes "dirmeta" ∷ []
+words_of (ShowValue of) = codes "show" ∷ codes "value" ∷ of ∷ []
 
--- its patterns are patterns, as they are in each value of the type
+-- its patterns are patterns, and its type is one, as they are in each value of the code
 abbrev pub is_command : Command → Bool
 is_command (Pin p) = is_pin p
 is_command (Unpin p) = is_pin p
@@ -142,3 +193,7 @@ is_command (RemoteDelete name) = is_remote_name name
 is_command ListPins = true
 is_command ListRemotes = true
 is_command Batch = true
+is_command ShowCommit = true
+is_command ShowDirTree = true
+is_command ShowDirMeta = true
+is_command (ShowValue of) = is_type_text of

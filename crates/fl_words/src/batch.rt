@@ -1,7 +1,5 @@
 // Reading a batch.
-ghost use Rattle.std.specs.Prelude.{◌≡◌, ◌<◌, ◌∷◌, ◌==◌, Ok, Some, None, IfOk, IfErr, IfSome, OnOk, ◌++◌, [], map, length, string_bytes};
-ghost use Rattle.std.specs.List.{position};
-ghost use Rattle.fp_keyfile.specs.Lines.{lines_of};
+ghost use Rattle.std.specs.Prelude.{◌≡◌, ◌<◌, ◌∷◌, ◌==◌, Ok, Some, None, IfOk, IfErr, IfSome, OnOk, position, ◌++◌, [], map, length, string_bytes};
 ghost use Rattle.fl_words.specs.Words.{command_of};
 ghost use Rattle.fl_words.specs.Batch.{words_in, words_left, allowed, batch_command, IsNoRecord, IsNoWords, IsNoText, batch_of, IsBadBatch};
 ghost use Rattle.fl_words.specs.declared.batch.BatchError.TheVariants.{NoMemory};
@@ -9,6 +7,7 @@ ghost use Rattle.fl_words.specs.declared.batch.BatchError.TheVariants.{NoMemory}
 use crate::command::{Command, WordsError};
 use crate::reading::read_words;
 use fp_host::Items;
+use fp_keyfile::first_line;
 use std::alloc::{AllocError, Global};
 use std::error::Error;
 use std::{fmt, str};
@@ -74,25 +73,6 @@ fn add_command(commands: &mut Vec<Command>, command: Command) -> Result<(), Allo
     Ok(())
 }
 
-/// The place of the first newline.
-fn newline_place(bytes: &[u8]) -> Option<usize>
-    ensures { result ≡ position (λ b. b == 10) bytes.now }
-{
-    bytes.iter().position(|byte| *byte == b'\n')
-}
-
-/// The first line, without its newline, and what stands behind it.
-fn first_line(bytes: &[u8]) -> (&[u8], &[u8])
-    requires { 0 < length bytes.now }
-    ensures lines { lines_of bytes.now ≡ result.0.now ∷ lines_of result.1.now }
-    ensures shorter { length result.1.now < length bytes.now }
-{
-    match newline_place(bytes) {
-        Some(end) => (&bytes[..end], &bytes[end + 1..]),
-        None => (bytes, &[]),
-    }
-}
-
 /// The command of a line.
 #[tactic(auto, using(crate::proofs::LineWords::no_record, crate::proofs::LineWords::no_command, crate::proofs::LineWords::is_record))]
 fn read_record(alloc: Global, line: &[u8]) -> Result<Command, WordsError>
@@ -113,6 +93,8 @@ fn allowed(command: Command) -> Option<Command>
 {
     match command {
         Command::ListRemotes | Command::ListPins | Command::Batch => None,
+        Command::ShowCommit | Command::ShowDirTree | Command::ShowDirMeta => None,
+        Command::ShowValue(_) => None,
         command => Some(command),
     }
 }

@@ -2,6 +2,7 @@
 ghost use Rattle.std.specs.Prelude.{◌≡◌};
 ghost use Rattle.fl_words.specs.declared.command.WordsError.TheVariants.{NoMemory};
 
+use crate::value_type::ValueType;
 use fp_name::{PinPattern, RemoteName};
 use fp_small::RemoteRow;
 use std::alloc::AllocError;
@@ -27,6 +28,14 @@ pub enum Command {
     ListPins,
     /// `batch`: does the commands that the lines of the input hold.
     Batch,
+    /// `show commit`: prints what a commit says, which the input is.
+    ShowCommit,
+    /// `show dirtree`: prints the names of a dirtree, which the input is.
+    ShowDirTree,
+    /// `show dirmeta`: prints the mode of a dirmeta, which the input is.
+    ShowDirMeta,
+    /// `show value T`: says whether the input is the normal form of a value of a type.
+    ShowValue(ValueType),
 }
 
 /// Why words weren't read as a command.

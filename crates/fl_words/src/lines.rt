@@ -1,10 +1,11 @@
 // The lines that commands print.
-ghost use Rattle.std.specs.Prelude.{◌≡◌, IfOk};
-ghost use Rattle.fl_words.specs.Lines.{what_word, refusal_text, op_text, pins_text, remotes_text};
+ghost use Rattle.std.specs.Prelude.{◌≡◌, true, IfOk, string_bytes};
+ghost use Rattle.fp_name.specs.Hex.{hex, is_digest};
+ghost use Rattle.fl_words.specs.Lines.{what_word, malformed_text, refusal_text, op_text, pins_text, remotes_text};
 
 use crate::escaping::escape;
 use fp_host::Text;
-use fp_name::PinPattern;
+use fp_name::{Digest, PinPattern};
 use fp_small::{Op, Refusal, RemoteRow, What};
 use std::alloc::{AllocError, Global};
 
@@ -21,6 +22,10 @@ pub fn refusal_line(alloc: Global, refusal: &Refusal) -> Result<Text, AllocError
         Refusal::RemoteExists { remote } => {
             let remote = remote.as_str();
             format!(in alloc; "error: remote exists {remote}\n")?
+        }
+        Refusal::MalformedObject { digest, kind, rule } => {
+            let digits = digits_of(alloc, digest)?;
+            malformed_line(alloc, &digits, kind.as_str(), rule.as_str())?
         }
         Refusal::PinExists { pin } => {
             let pin = pin.as_str();
@@ -41,6 +46,22 @@ pub fn refusal_line(alloc: Global, refusal: &Refusal) -> Result<Text, AllocError
         }
     };
     Ok(Text::from_string(line))
+}
+
+// The line of the refusal of an object with these digits that isn't of its kind.
+fn malformed_line(alloc: Global, digits: &str, kind: &str, rule: &str) -> Result<String, AllocError>
+    ensures { IfOk result (λ t. string_bytes t ≡ malformed_text digits.now kind.now rule.now) }
+{
+    format!(in alloc; "error: malformed object {digits}.{kind} {rule}\n")
+}
+
+/// The hexadecimal digits of a digest.
+pub fn digits_of(alloc: Global, digest: &Digest) -> Result<String, AllocError>
+    ensures digits { IfOk result (λ t. string_bytes t ≡ hex digest.now) }
+    ensures good { is_digest digest.now ≡ true }
+{
+    let digits = digest.write(alloc)?;
+    digits.as_str().to_string(alloc)
 }
 
 // The word for what has a limit.

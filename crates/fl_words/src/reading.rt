@@ -1,12 +1,14 @@
 // Reading the words of a command line.
 ghost use Rattle.std.specs.Prelude.{◌≡◌, Some, IfOk, IfErr, map, string_bytes};
-ghost use Rattle.fl_words.specs.Words.{command_of, pattern_of, begins_pattern, remote_of, begins_remote, name_of, begins_name, list_of, begins_list, alone, begins_alone};
-ghost use Rattle.fl_words.specs.Behind.{IsNoCommand, GoesWrong};
+ghost use Rattle.fl_words.specs.Words.{command_of, pattern_of, begins_pattern, remote_of, begins_remote, name_of, begins_name, list_of, begins_list, alone, begins_alone, show_of, begins_show, last, type_in, begins_type};
+ghost use Rattle.fl_words.specs.Behind.{IsNoCommand, GoesWrong, GoesWrongBehind};
 
 use crate::command::{Command, WordsError};
-use crate::verb::Verb;
+use crate::value_type::ValueType;
+use crate::verb::{Shown, Verb};
 use fp_name::{NameFault, PinPattern, RemoteName, RemoteUrl};
 use fp_small::RemoteRow;
+use gv_value::TypeError;
 use std::alloc::Global;
 
 /// The command of the words of a command line. `BadWords` comes exactly where they are none.
@@ -25,6 +27,7 @@ pub fn read_words(alloc: Global, words: &[String]) -> Result<Command, WordsError
         Some(Verb::RemoteDelete) => Ok(Command::RemoteDelete(read_name(alloc, rest)?)),
         Some(Verb::List) => read_list(rest),
         Some(Verb::Batch) => read_alone(rest),
+        Some(Verb::Show) => read_show(alloc, rest),
         None => Err(WordsError::BadWords { index: 0 }),
     }
 }
@@ -76,6 +79,53 @@ fn read_list(words: &[String]) -> Result<Command, WordsError>
         return Err(WordsError::BadWords { index: 2 });
     }
     Ok(command)
+}
+
+// What to show.
+fn read_show(alloc: Global, words: &[String]) -> Result<Command, WordsError>
+    ensures ok { IfOk result (λ command. show_of (map string_bytes words.now) ≡ Some command) }
+    ensures bad { IfErr result (GoesWrong show_of begins_show (map string_bytes words.now)) }
+{
+    let Some((word, rest)) = words.split_first() else {
+        return Err(WordsError::BadWords { index: 1 });
+    };
+    match Shown::of_word(word) {
+        Some(Shown::Commit) => read_last(Command::ShowCommit, rest),
+        Some(Shown::DirTree) => read_last(Command::ShowDirTree, rest),
+        Some(Shown::DirMeta) => read_last(Command::ShowDirMeta, rest),
+        Some(Shown::Value) => Ok(Command::ShowValue(read_type(alloc, rest)?)),
+        None => Err(WordsError::BadWords { index: 1 }),
+    }
+}
+
+// A command with nothing behind its two words.
+fn read_last(command: Command, words: &[String]) -> Result<Command, WordsError>
+    ensures ok { IfOk result (λ c. last command (map string_bytes words.now) ≡ Some c) }
+    ensures bad { IfErr result (GoesWrongBehind (last command) begins_alone (map string_bytes words.now)) }
+{
+    if words.split_first().is_some() {
+        return Err(WordsError::BadWords { index: 2 });
+    }
+    Ok(command)
+}
+
+// The type that stands alone behind two words.
+fn read_type(alloc: Global, words: &[String]) -> Result<ValueType, WordsError>
+    ensures ok { IfOk result (λ of. type_in (map string_bytes words.now) ≡ Some of) }
+    ensures bad { IfErr result (GoesWrongBehind type_in begins_type (map string_bytes words.now)) }
+{
+    let Some((word, rest)) = words.split_first() else {
+        return Err(WordsError::BadWords { index: 2 });
+    };
+    let of = match ValueType::parse(alloc, word.as_bytes()) {
+        Ok(of) => of,
+        Err(TypeError::Bad) => return Err(WordsError::BadWords { index: 2 }),
+        Err(TypeError::NoMemory) => return Err(WordsError::NoMemory),
+    };
+    if !rest.is_empty() {
+        return Err(WordsError::BadWords { index: 3 });
+    }
+    Ok(of)
 }
 
 /// The remote that the words behind a verb are.

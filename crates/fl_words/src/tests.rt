@@ -1,11 +1,14 @@
 use crate::{Command, WordsError, op_line, pins_text, read_words, refusal_line, remotes_text};
-use fp_host::Path;
-use fp_name::{PinPattern, RemoteName, RemoteUrl};
+use fp_host::{Path, Text};
+use fp_name::{Digest, PinPattern, RemoteName, RemoteUrl};
 use fp_small::{Op, Refusal, RemoteRow, What};
 use std::alloc::{AllocError, Global};
 use std::test::Fail;
 
 mod batches;
+
+/// The digest of no bytes.
+const EMPTY: &str = "e3b0c44298fc1c149afbf4c8996fb92427ae41e4649b934ca495991b7852b855";
 
 /// What the words read as, in one text.
 fn told(alloc: Global, words: &[&str]) -> Result<String, AllocError> {
@@ -30,6 +33,10 @@ fn told_command(alloc: Global, command: &Command) -> Result<String, AllocError> 
         Command::ListRemotes => "ListRemotes".to_string(alloc),
         Command::ListPins => "ListPins".to_string(alloc),
         Command::Batch => "Batch".to_string(alloc),
+        Command::ShowCommit => "ShowCommit".to_string(alloc),
+        Command::ShowDirTree => "ShowDirTree".to_string(alloc),
+        Command::ShowDirMeta => "ShowDirMeta".to_string(alloc),
+        Command::ShowValue(of) => format!(in alloc; "ShowValue {:?}", of.as_type()),
     }
 }
 
@@ -124,6 +131,32 @@ fn words(rt: HostRuntime) -> Result<(), Fail> {
     Ok(())
 }
 
+#[test]
+fn words_on_objects(rt: HostRuntime) -> Result<(), Fail> {
+    let table: [(&[&str], &str); 16] = [
+        (&["show", "commit"], "ShowCommit"),
+        (&["show", "dirtree"], "ShowDirTree"),
+        (&["show", "dirmeta"], "ShowDirMeta"),
+        (&["show", "value", "s"], "ShowValue Str"),
+        (&["show", "value", "ms"], "ShowValue Maybe(Str)"),
+        (&["show"], "bad words at 1"),
+        (&["show", ""], "bad words at 1"),
+        (&["show", "file"], "bad words at 1"),
+        (&["show", "Commit"], "bad words at 1"),
+        (&["show", "commit", ""], "bad words at 2"),
+        (&["show", "dirtree", "dirmeta"], "bad words at 2"),
+        (&["show", "value"], "bad words at 2"),
+        (&["show", "value", ""], "bad words at 2"),
+        (&["show", "value", "si"], "bad words at 2"),
+        (&["show", "value", "a{vs}"], "bad words at 2"),
+        (&["show", "value", "s", "s"], "bad words at 3"),
+    ];
+    for (words, want) in table {
+        assert_eq!(rt; told(rt.alloc(), words)?.as_str(), want, "{words:?}");
+    }
+    Ok(())
+}
+
 fn pattern(alloc: Global, text: &str) -> Result<PinPattern, Fail> {
     Ok(PinPattern::parse(alloc, text.as_bytes())?)
 }
@@ -158,6 +191,19 @@ fn refused_input(rt: HostRuntime) -> Result<(), Fail> {
     let record = Refusal::BadRecord { line: 2 };
     assert!(rt; is_line(alloc, &long, "error: limit input 67108865\n")?);
     assert!(rt; is_line(alloc, &record, "error: record 2\n")?);
+    Ok(())
+}
+
+#[test]
+fn refused_objects(rt: HostRuntime) -> Result<(), Fail> {
+    let alloc = rt.alloc();
+    let digest = Digest::parse(EMPTY.as_bytes())?;
+    let kind = Text::from_string("dirtree".to_string(alloc)?);
+    let rule = Text::from_string("value".to_string(alloc)?);
+    let malformed = Refusal::MalformedObject { digest, kind, rule };
+    let want =
+        "error: malformed object e3b0c44298fc1c149afbf4c8996fb92427ae41e4649b934ca495991b7852b855.dirtree value\n";
+    assert!(rt; is_line(alloc, &malformed, want)?);
     Ok(())
 }
 

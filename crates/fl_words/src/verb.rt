@@ -1,6 +1,6 @@
-// The first word of a command.
+// The first word of a command, and the word behind `show`.
 ghost use Rattle.std.specs.Prelude.{◌≡◌};
-ghost use Rattle.fl_words.specs.Verbs.{verb_of};
+ghost use Rattle.fl_words.specs.Verbs.{verb_of, shown_of};
 
 /// What the first word of a command says.
 #[derive(Clone, Copy, Debug, PartialEq, Eq)]
@@ -12,6 +12,7 @@ pub enum Verb {
     RemoteDelete,
     List,
     Batch,
+    Show,
 }
 
 impl Verb {
@@ -27,6 +28,31 @@ impl Verb {
             "remote-delete" => Some(Verb::RemoteDelete),
             "list" => Some(Verb::List),
             "batch" => Some(Verb::Batch),
+            "show" => Some(Verb::Show),
+            _ => None,
+        }
+    }
+}
+
+/// What the word behind `show` says.
+#[derive(Clone, Copy, Debug, PartialEq, Eq)]
+pub enum Shown {
+    Commit,
+    DirTree,
+    DirMeta,
+    Value,
+}
+
+impl Shown {
+    /// What a word says of what is to be shown.
+    pub fn of_word(word: &str) -> Option<Shown>
+        ensures { result ≡ shown_of word.now }
+    {
+        match word {
+            "commit" => Some(Shown::Commit),
+            "dirtree" => Some(Shown::DirTree),
+            "dirmeta" => Some(Shown::DirMeta),
+            "value" => Some(Shown::Value),
             _ => None,
         }
     }

@@ -1,4 +1,4 @@
-use Rattle.std.proofs.Common.{◌≡◌, Ok, Err, subst}
+use Rattle.std.proofs.Common.{Ok, Err, subst}
 use Rattle.fp_host.specs.Moments.{Goes}
 use Rattle.fp_small.specs.declared.state.State.{State}
 use Rattle.dep_states.specs.After.{after_all}

@@ -1,10 +1,9 @@
-use Rattle.std.proofs.Common.{◌≡◌, ◌+◌, ◌≤◌, ◌∷◌, List, drop, length, get_or, sym, subst, ap, arith, ◌∙◌}
-use Rattle.std.proofs.lemmas.List.{drop_more, drop_all}
-use Rattle.fp_host.specs.Moments.{Goes}
+use Rattle.std.proofs.Common.{◌≡◌, ◌+◌, ◌∷◌, List, drop, sym, subst, ap, arith, ◌∙◌}
+use Rattle.std.proofs.lemmas.List.{drop_more}
 use Rattle.fp_host.proofs.Ending.{ends_goes, ends_to, ends_start}
 use Rattle.dep_states.specs.Sound.{Opens}
 use Rattle.fl_words.specs.declared.command.Command.{Command}
-use Rattle.fl_top.proofs.Composing.{InTurn, turn_begins, turn_goes_on, turn_fails, turn_ends}
+use Rattle.fl_top.proofs.Composing.{InTurn, turn_begins, turn_goes_on, turn_fails}
 use Rattle.fl_top.proofs.Turning.{stage_opens}
 use Rattle.fl_top.proofs.change.do_each.Goals as goal
 

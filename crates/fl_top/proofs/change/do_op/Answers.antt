@@ -1,5 +1,3 @@
-use Rattle.std.proofs.Common.{sym, subst}
-use Rattle.dep_states.specs.After.{IsGood}
 use Rattle.fl_top.specs.Answer.{did}
 use Rattle.fl_top.proofs.Composing.{goes_halted, goes_not_done, goes_untidied, goes_tidied}
 use Rattle.fl_top.proofs.change.do_op.Goals as goal

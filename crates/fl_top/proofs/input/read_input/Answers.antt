@@ -1,4 +1,4 @@
-use Rattle.std.proofs.Common.{List, ℕ, sym, subst, rules, arith}
+use Rattle.std.proofs.Common.{sym, subst, rules, arith}
 use Rattle.fl_top.specs.Input.{IsWhole}
 use Rattle.fl_top.proofs.Reading.{nothing_yet, reads_more, whole, taken, too_long, err_stops, few_yet, not_after}
 use Rattle.fl_top.proofs.input.read_input.Goals as goal

@@ -1,4 +1,4 @@
-use Rattle.std.proofs.Common.{◌≤◌, ◌<◌, ◌+◌, ◌-◌, length}
+use Rattle.std.proofs.Common.{◌≤◌, ◌<◌, ◌-◌, length}
 use Rattle.fl_top.specs.Input.{input_most}
 use Rattle.fl_top.proofs.Reading.{Reads}
 use Rattle.fl_top.proofs.input.read_input.Given as goal

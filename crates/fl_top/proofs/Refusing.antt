@@ -1,0 +1,87 @@
+-- The refusals of commands that change something.
+use Rattle.std.proofs.Common.{◌≡◌, ℕ, List, [], ◌∷◌, Bool, true, false, nat_le, length, Option, Some, None, if◌then◌else◌, refl, subst}
+use Rattle.fp_small.specs.declared.state.State.{State}
+use Rattle.fp_small.specs.declared.state.Layout.{Layout}
+use Rattle.fp_small.specs.declared.state.Layout.TheVariants.{One, Two}
+use Rattle.fp_small.specs.declared.op.Op.{Op}
+use Rattle.fp_small.specs.declared.op.Op.TheVariants.{AddPin, DropPin, AddRemote, ModifyRemote, DropRemote, Migrate}
+use Rattle.fp_small.specs.declared.refusal.Refusal.{Refusal}
+use Rattle.fp_small.specs.declared.refusal.Refusal.TheVariants.{NoSuchRemote, RemoteExists, PinExists, NoSuchPin, Limit}
+use Rattle.fp_small.specs.declared.refusal.What.TheVariants.{Pins, Remotes}
+use Rattle.fp_small.specs.Config.{name_of}
+use Rattle.fp_small.specs.Order.{has_name}
+use Rattle.dep_states.specs.After.{after_all}
+use Rattle.fl_words.specs.declared.command.Command.{Command}
+use Rattle.fl_top.specs.Answer.{Answer, Piece, ops_of, did, behind, refusal_of, unless, act, act_on, op_of, change_over, in_turn, migrating, changing, is_pinned, IsAtOnce}
+
+-- each refusal of the answer is one of these
+abbrev pub Refuses : (Refusal → Type 0) → Answer → Type 0
+Refuses P a = (r : Refusal) → a.refusal ≡ Some r → P r
+
+-- what holds of the refusals of operations
+pub record OfOps (P : Refusal → Type 0) : Type 0 where
+  pub pin_there : (pin : List ℕ) → P (PinExists pin)
+  pub pins_full : P (Limit Pins 1025)
+  pub no_pin : (pin : List ℕ) → P (NoSuchPin pin)
+  pub remote_there : (name : List ℕ) → P (RemoteExists name)
+  pub remotes_full : P (Limit Remotes 257)
+  pub no_remote : (name : List ℕ) → P (NoSuchRemote name)
+
+one_of_some : (P : Refusal → Type 0) (r q : Refusal) → Some r ≡ Some q → P r → P q
+one_of_some P r q is one = let same : r ≡ q = cc is in subst P same one
+
+module _ (P : Refusal → Type 0) where
+  of_two : (b c : Bool) (one two q : Refusal) → P one → P two → (if b then Some one else (if c then Some two else None)) ≡ Some q → P q
+  of_two true c one two q f g is = one_of_some P one q is f
+  of_two false true one two q f g is = one_of_some P two q is g
+  of_two false false one two q f g is = absurd (cc is)
+
+  of_one : (b : Bool) (one q : Refusal) → P one → (if b then None else Some one) ≡ Some q → P q
+  of_one true one q f is = absurd (cc is)
+  of_one false one q f is = one_of_some P one q is f
+
+  of_op : OfOps P → (op : Op) (s : State) (q : Refusal) → refusal_of s op ≡ Some q → P q
+  of_op holds (AddPin pin) s q is = of_two (is_pinned s.pins pin) (nat_le 1024 (length s.pins)) (PinExists pin) (Limit Pins 1025) q (holds.pin_there pin) holds.pins_full is
+  of_op holds (DropPin pin) s q is = of_one (is_pinned s.pins pin) (NoSuchPin pin) q (holds.no_pin pin) is
+  of_op holds (AddRemote row) s q is = of_two (has_name name_of s.remotes row.name) (nat_le 256 (length s.remotes)) (RemoteExists row.name) (Limit Remotes 257) q (holds.remote_there row.name) holds.remotes_full is
+  of_op holds (ModifyRemote row) s q is = of_one (has_name name_of s.remotes row.name) (NoSuchRemote row.name) q (holds.no_remote row.name) is
+  of_op holds (DropRemote name) s q is = of_one (has_name name_of s.remotes name) (NoSuchRemote name) q (holds.no_remote name) is
+  of_op holds Migrate s q is = absurd (cc is)
+
+  of_unless : (op : Op) (o : Option Refusal) → ((q : Refusal) → o ≡ Some q → P q) → Refuses P (unless o (did op))
+  of_unless op None each r is = absurd (cc is)
+  of_unless op (Some q) each r is = each r is
+
+  of_asked : OfOps P → (o : Option Op) (s : State) → Refuses P (act_on o s)
+  of_asked holds None s r is = absurd (cc is)
+  of_asked holds (Some op) s r is = of_unless op (refusal_of s op) (of_op holds op s) r is
+
+  of_behind : (pieces : List Piece) (o : Option Refusal) (b : Answer) → ((r : Refusal) → o ≡ Some r → P r) → Refuses P b → Refuses P (behind pieces o b)
+  of_behind pieces None b first second r is = second r is
+  of_behind pieces (Some q) b first second r is = first r is
+
+  of_turn : OfOps P → (commands : List Command) (s : State) → Refuses P (in_turn commands s)
+  of_turn holds [] s r is = absurd (cc is)
+  of_turn holds (command ∷ commands) s r is =
+      let a = change_over command s in
+      of_behind a.pieces a.refusal (in_turn commands (after_all s (ops_of a))) (of_asked holds (op_of command) s) (of_turn holds commands (after_all s (ops_of a))) r is
+
+  of_migrating : (layout : Layout) → Refuses P (migrating layout)
+  of_migrating One r is = absurd (cc is)
+  of_migrating Two r is = absurd (cc is)
+
+  pub of_changing : OfOps P → (commands : List Command) (s : State) → Refuses P (changing commands s)
+  of_changing holds commands s =
+      let a = migrating s.layout in
+      of_behind a.pieces a.refusal (in_turn commands (after_all s (ops_of a))) (of_migrating s.layout) (of_turn holds commands (after_all s (ops_of a)))
+
+-- none of them is one of the words or of the input
+at_once_by : (o : Option Refusal) → ((r : Refusal) → o ≡ Some r → IsAtOnce (Some r) → ⊥) → IsAtOnce o → ⊥
+at_once_by None each at_once = at_once
+at_once_by (Some r) each at_once = each r refl at_once
+
+pub changing_late : (commands : List Command) (s : State) → IsAtOnce (changing commands s).refusal → ⊥
+changing_late commands s at_once =
+    at_once_by (changing commands s).refusal
+    (of_changing (λ r. IsAtOnce (Some r) → ⊥) (record { pin_there = λ pin none. none; pins_full = λ none. none; no_pin = λ pin none. none; remote_there = λ name none. none; remotes_full = λ none. none; no_remote = λ name none. none }) commands s)
+    at_once

@@ -1,0 +1,244 @@
+// What `show` prints of its input.
+ghost use Rattle.std.specs.Prelude.{◌≡◌, ◌++◌, IfOk, OnOk, map, string_bytes, codes};
+ghost use Rattle.fp_small.specs.declared.refusal.Refusal.TheVariants.{MalformedObject};
+ghost use Rattle.std.specs.Option.{is_some};
+ghost use Rattle.gv_value.specs.Reading.{value_of};
+ghost use Rattle.gv_value.specs.Views.{shape_of};
+ghost use Rattle.ost_object.specs.Views.{commit_view, file_row, dir_row, tree_view, meta_view, parent_bytes};
+ghost use Rattle.fl_top.specs.Answer.{commit_shown, tree_shown, meta_shown, value_shown, shown_by};
+ghost use Rattle.fl_top.specs.Ends.{Prints};
+ghost use Rattle.fl_top.specs.Objects.{head, root_lines, commit_lines, tree_lines, meta_lines, file_line, dir_line, files_text, dirs_text, parent_text, octal, rule_word};
+ghost use Rattle.fl_top.specs.declared.end.RunEnd.TheVariants.{Refused};
+
+use crate::end::RunEnd;
+use fl_words::{Command, ValueType, digits_of, escape};
+use fp_host::Text;
+use fp_name::Digest;
+use fp_small::Refusal;
+use gv_decode::{DecodeError, decode};
+use gv_value::GvType;
+use ost_content::meta_digest;
+use ost_model::Rule;
+use ost_object::{
+    Commit, DirEntry, DirMeta, DirTree, FileEntry, ObjectError, read_commit, read_dirmeta,
+    read_dirtree,
+};
+use std::alloc::{AllocError, Global};
+
+/// What is printed of bytes by a command that shows them.
+pub(crate) fn shown_text(alloc: Global, command: &Command, bytes: &[u8]) -> Result<Text, RunEnd>
+    ensures { Prints (shown_by command.now bytes.now) result }
+{
+    match command {
+        Command::ShowCommit => commit_text(alloc, bytes),
+        Command::ShowDirTree => tree_text(alloc, bytes),
+        Command::ShowDirMeta => meta_text(alloc, bytes),
+        Command::ShowValue(of) => value_text(alloc, of, bytes),
+        _ => Ok(Text::from_string(String::new(alloc))),
+    }
+}
+
+/// What a commit says.
+fn commit_text(alloc: Global, bytes: &[u8]) -> Result<Text, RunEnd>
+    ensures { Prints (commit_shown bytes.now) result }
+{
+    let digest = meta_digest(bytes);
+    match read_commit(alloc, bytes) {
+        Ok(commit) => Ok(said_of_commit(alloc, &digest, &commit)?),
+        Err(ObjectError::Malformed(rule)) => Err(malformed(alloc, digest, "commit", rule)?),
+        Err(ObjectError::NoMemory) => Err(RunEnd::NoMemory),
+    }
+}
+
+/// The names in a dirtree.
+fn tree_text(alloc: Global, bytes: &[u8]) -> Result<Text, RunEnd>
+    ensures { Prints (tree_shown bytes.now) result }
+{
+    let digest = meta_digest(bytes);
+    match read_dirtree(alloc, bytes) {
+        Ok(tree) => Ok(said_of_tree(alloc, &digest, &tree)?),
+        Err(ObjectError::Malformed(rule)) => Err(malformed(alloc, digest, "dirtree", rule)?),
+        Err(ObjectError::NoMemory) => Err(RunEnd::NoMemory),
+    }
+}
+
+/// The mode of a dirmeta.
+fn meta_text(alloc: Global, bytes: &[u8]) -> Result<Text, RunEnd>
+    ensures { Prints (meta_shown bytes.now) result }
+{
+    let digest = meta_digest(bytes);
+    match read_dirmeta(alloc, bytes) {
+        Ok(meta) => Ok(said_of_meta(alloc, &digest, meta)?),
+        Err(ObjectError::Malformed(rule)) => Err(malformed(alloc, digest, "dirmeta", rule)?),
+        Err(ObjectError::NoMemory) => Err(RunEnd::NoMemory),
+    }
+}
+
+/// The size of a value's normal form.
+fn value_text(alloc: Global, of: &ValueType, bytes: &[u8]) -> Result<Text, RunEnd>
+    ensures { Prints (value_shown of.now bytes.now) result }
+{
+    if is_normal(alloc, of.as_type(), bytes)? {
+        let size = bytes.len();
+        let text = format!(in alloc; "normal {size}\n")?;
+        return Ok(Text::from_string(text));
+    }
+    Err(malformed(alloc, meta_digest(bytes), "value", Rule::Value)?)
+}
+
+/// Whether bytes are the normal form of a value of a type.
+fn is_normal(alloc: Global, of: &GvType, bytes: &[u8]) -> Result<bool, AllocError>
+    ensures { IfOk result (λ normal. normal ≡ is_some (value_of (shape_of of.now) bytes.now)) }
+{
+    match decode(alloc, of, bytes) {
+        Ok(value) => {
+            drop(value);
+            Ok(true)
+        }
+        Err(DecodeError::TooLong) => Ok(false),
+        Err(DecodeError::NotNormal) => Ok(false),
+        Err(DecodeError::NoMemory) => Err(AllocError),
+    }
+}
+
+/// The refusal of bytes that are no object of a kind.
+fn malformed(alloc: Global, digest: Digest, kind: &str, rule: Rule) -> Result<RunEnd, AllocError>
+    ensures { IfOk result (λ end. end ≡ Refused (MalformedObject digest kind.now (rule_word rule))) }
+{
+    let kind = Text::from_string(kind.to_string(alloc)?);
+    let rule = Text::from_string(word_of(rule).to_string(alloc)?);
+    Ok(RunEnd::Refused(Refusal::MalformedObject { digest, kind, rule }))
+}
+
+// The word for a rule.
+fn word_of(rule: Rule) -> &'static str
+    ensures { result.now ≡ rule_word rule }
+{
+    match rule {
+        Rule::Value => "value",
+        Rule::Parent => "parent",
+        Rule::Tree => "tree",
+        Rule::Meta => "meta",
+        Rule::Digest => "digest",
+        Rule::Name => "name",
+        Rule::Order => "order",
+        Rule::Both => "both",
+        Rule::Owner => "owner",
+        Rule::Xattrs => "xattrs",
+        Rule::Kind => "kind",
+    }
+}
+
+/// A commit's digest and its fields, a line each.
+fn said_of_commit(alloc: Global, digest: &Digest, commit: &Commit) -> Result<Text, AllocError>
+    ensures { IfOk result (λ t. t ≡ head digest.now (codes "commit") ++ commit_lines (commit_view commit.now)) }
+{
+    let digest = digits_of(alloc, digest)?;
+    let fields = fields_of(alloc, commit)?;
+    let text = format!(in alloc; "{digest} commit\n{fields}")?;
+    Ok(Text::from_string(text))
+}
+
+/// The fields of a commit, a line each.
+fn fields_of(alloc: Global, commit: &Commit) -> Result<String, AllocError>
+    ensures { IfOk result (λ t. string_bytes t ≡ commit_lines (commit_view commit.now)) }
+{
+    let parent = parent_of(alloc, &commit.parent)?;
+    let time = commit.timestamp;
+    let subject = escape(alloc, commit.subject.as_str())?;
+    let roots = roots_of(alloc, commit)?;
+    format!(in alloc; "parent {parent}\ntimestamp {time}\nsubject {subject}\n{roots}")
+}
+
+/// The digests of a commit's root, a line each.
+fn roots_of(alloc: Global, commit: &Commit) -> Result<String, AllocError>
+    ensures { IfOk result (λ t. string_bytes t ≡ root_lines (commit_view commit.now)) }
+{
+    let tree = digits_of(alloc, &commit.tree)?;
+    let meta = digits_of(alloc, &commit.meta)?;
+    format!(in alloc; "tree {tree}\nmeta {meta}\n")
+}
+
+/// The digest of a parent, or `-`.
+#[tactic(auto, using(crate::proofs::Shown::some_parent))]
+fn parent_of(alloc: Global, parent: &Option<Digest>) -> Result<String, AllocError>
+    ensures { IfOk result (λ t. string_bytes t ≡ parent_text (parent_bytes parent.now)) }
+{
+    match parent {
+        Some(digest) => digits_of(alloc, digest),
+        None => "-".to_string(alloc),
+    }
+}
+
+/// A dirtree's digest and its names, a line each.
+fn said_of_tree(alloc: Global, digest: &Digest, tree: &DirTree) -> Result<Text, AllocError>
+    ensures { IfOk result (λ t. t ≡ head digest.now (codes "dirtree") ++ tree_lines (tree_view tree.now)) }
+{
+    let digest = digits_of(alloc, digest)?;
+    let files = files_in(alloc, tree.files.as_slice())?;
+    let dirs = dirs_in(alloc, tree.dirs.as_slice())?;
+    let text = format!(in alloc; "{digest} dirtree\n{files}{dirs}")?;
+    Ok(Text::from_string(text))
+}
+
+/// A line for each file.
+fn files_in(alloc: Global, files: &[FileEntry]) -> Result<String, AllocError>
+    ensures { IfOk result (λ t. string_bytes t ≡ files_text (map file_row files.now)) }
+{
+    let mut text = String::new(alloc);
+    for file in files {
+        push_file(alloc, &mut text, file)?;
+    }
+    Ok(text)
+}
+
+fn push_file(alloc: Global, out: &mut String, file: &FileEntry) -> Result<(), AllocError>
+    ensures { OnOk result (string_bytes out.new ≡ string_bytes out.old ++ file_line (file_row file.now)) }
+{
+    let name = escape(alloc, file.name.as_str())?;
+    let digest = digits_of(alloc, &file.digest)?;
+    write!(out, "file {name} {digest}\n")
+}
+
+/// A line for each directory.
+fn dirs_in(alloc: Global, dirs: &[DirEntry]) -> Result<String, AllocError>
+    ensures { IfOk result (λ t. string_bytes t ≡ dirs_text (map dir_row dirs.now)) }
+{
+    let mut text = String::new(alloc);
+    for dir in dirs {
+        push_dir(alloc, &mut text, dir)?;
+    }
+    Ok(text)
+}
+
+fn push_dir(alloc: Global, out: &mut String, dir: &DirEntry) -> Result<(), AllocError>
+    ensures { OnOk result (string_bytes out.new ≡ string_bytes out.old ++ dir_line (dir_row dir.now)) }
+{
+    let name = escape(alloc, dir.name.as_str())?;
+    let tree = digits_of(alloc, &dir.tree)?;
+    let meta = digits_of(alloc, &dir.meta)?;
+    write!(out, "dir {name} {tree} {meta}\n")
+}
+
+/// A dirmeta's digest and its mode.
+fn said_of_meta(alloc: Global, digest: &Digest, meta: DirMeta) -> Result<Text, AllocError>
+    ensures { IfOk result (λ t. t ≡ head digest.now (codes "dirmeta") ++ meta_lines (meta_view meta)) }
+{
+    let digest = digits_of(alloc, digest)?;
+    let mode = octal_of(alloc, meta.mode)?;
+    let text = format!(in alloc; "{digest} dirmeta\nmode {mode}\n")?;
+    Ok(Text::from_string(text))
+}
+
+/// The six lowest octal digits of a mode.
+fn octal_of(alloc: Global, mode: u32) -> Result<String, AllocError>
+    ensures { IfOk result (λ t. string_bytes t ≡ octal mode) }
+{
+    let type_high = mode / 32768 % 8;
+    let type_low = mode / 4096 % 8;
+    let special = mode / 512 % 8;
+    let user = mode / 64 % 8;
+    let group = mode / 8 % 8;
+    let others = mode % 8;
+    format!(in alloc; "{type_high}{type_low}{special}{user}{group}{others}")
+}
