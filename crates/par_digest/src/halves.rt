@@ -1,0 +1,110 @@
+//! Digests by halves: each half of the items is hashed by a thread of its own.
+
+ghost use Rattle.std.specs.Prelude.{◌≡◌, IfOk, length};
+ghost use Rattle.std.specs.Thread.{IsSync};
+ghost use Rattle.par_digest.specs.Digests.{item_digests};
+
+use crate::gate::{Gate, NoGate};
+use crate::item::Item;
+use fp_host::Items;
+use fp_name::Digest;
+use std::alloc::{AllocError, Global};
+use std::thread::{Threads, join_mut};
+
+/// The most items that are hashed one after another. More are cut in halves.
+const MOST_IN_TURN: usize = 16;
+
+/// The digest of each item, in order, as one thread would give it.
+pub fn digests(
+    rt: &(impl Threads + Sync),
+    alloc: Global,
+    items: &[Item],
+) -> Result<Items<Digest>, AllocError>
+    ensures { IfOk result (λ all. all ≡ item_digests items.now) }
+{
+    digests_gated(rt, alloc, items, &NoGate)
+}
+
+/// The digest of each item, in order, as one thread would give it, whatever the gate does. Where there are more than 16 items
+/// the gate is told of each half as its work begins.
+pub fn digests_gated<G: Gate + Sync>(
+    rt: &(impl Threads + Sync),
+    alloc: Global,
+    items: &[Item],
+    gate: &G,
+) -> Result<Items<Digest>, AllocError>
+    ensures { IfOk result (λ all. all ≡ item_digests items.now) }
+{
+    let mut all = vec![in alloc; Digest::from_bytes([0; 32]); items.len()]?;
+    hash_gated(rt, items, gate, &mut all);
+    Ok(Items::from_vec(all))
+}
+
+/// Puts the digest of each item at its place, and tells the gate of each half where the items are cut.
+fn hash_gated<R: Threads + Sync, G: Gate + Sync>(
+    rt: &R,
+    items: &[Item],
+    gate: &G,
+    all: &mut [Digest],
+)
+    requires { length all.old ≡ length items.now }
+    ensures { all.new ≡ item_digests items.now }
+{
+    if items.len() <= MOST_IN_TURN {
+        hash_in_turn(items, all);
+        return;
+    }
+    let (front, back) = items.split_at(items.len() / 2);
+    let (front_digests, back_digests) = all.split_at_mut(items.len() / 2);
+    join_mut(
+        rt,
+        &mut ||
+            requires { IsSync R.row × IsSync G.row × (length front_digests.now ≡ length front.now) }
+            ensures { front_digests.exit.now ≡ item_digests front.entry.now }
+        {
+            gate.reach(0);
+            hash(rt, front, front_digests)
+        },
+        &mut ||
+            requires { IsSync R.row × IsSync G.row × (length back_digests.now ≡ length back.now) }
+            ensures { back_digests.exit.now ≡ item_digests back.entry.now }
+        {
+            gate.reach(1);
+            hash(rt, back, back_digests)
+        },
+    );
+}
+
+/// Puts the digest of each item at its place, by halves of halves.
+fn hash<R: Threads + Sync>(rt: &R, items: &[Item], all: &mut [Digest])
+    requires { length all.old ≡ length items.now }
+    ensures { all.new ≡ item_digests items.now }
+{
+    if items.len() <= MOST_IN_TURN {
+        hash_in_turn(items, all);
+        return;
+    }
+    let (front, back) = items.split_at(items.len() / 2);
+    let (front_digests, back_digests) = all.split_at_mut(items.len() / 2);
+    join_mut(
+        rt,
+        &mut ||
+            requires { IsSync R.row × (length front_digests.now ≡ length front.now) }
+            ensures { front_digests.exit.now ≡ item_digests front.entry.now }
+        { hash(rt, front, front_digests) },
+        &mut ||
+            requires { IsSync R.row × (length back_digests.now ≡ length back.now) }
+            ensures { back_digests.exit.now ≡ item_digests back.entry.now }
+        { hash(rt, back, back_digests) },
+    );
+}
+
+/// Puts the digest of each item at its place, one after another.
+fn hash_in_turn(items: &[Item], all: &mut [Digest])
+    requires { length all.old ≡ length items.now }
+    ensures { all.new ≡ item_digests items.now }
+{
+    for (at, item) in items.iter().enumerate() {
+        all[at] = item.digest();
+    }
+}

@@ -1,0 +1,12 @@
+//! The digests of many objects, found by several threads: those that one thread finds.
+#![tactic(auto)]
+
+mod gate;
+mod halves;
+mod item;
+#[cfg(test)]
+mod tests;
+
+pub use gate::{Gate, NoGate};
+pub use halves::{digests, digests_gated};
+pub use item::Item;
