@@ -1,0 +1,28 @@
+use Rattle.std.proofs.Common.{◌≡◌, Ok}
+use Rattle.fp_host.specs.Paths.{absent}
+use Rattle.fp_host.specs.View.{View}
+use Rattle.fp_host.specs.Calls.{Step, syncs}
+use Rattle.fp_host.proofs.Framed.{frame_sync}
+use Rattle.fp_host.proofs.Ending.{ends_call, ends_on, ends_in_tree}
+use Rattle.ost_refs.specs.Places.{place_path}
+use Rattle.ost_refs.proofs.Drops.{dropped, frame_at, ends_at}
+use Rattle.ost_refs.proofs.changing.drop_ref.Goals as goal
+
+pub returns-in_err-sync-clause-frame : goal.returns-in_err-sync-clause-frame
+returns-in_err-sync-clause-frame g c =
+    let t = g.met.H.Host.is_tree in
+    frame_sync c.sync.ensures.step (frame_at c.in_ok-path.ensures c.take_away.ensures.frame) (t c.take_away.new.host)
+
+pub returns-clause-frame : goal.returns-clause-frame
+returns-clause-frame g c =
+    let t = g.met.H.Host.is_tree in
+    frame_sync c.sync.ensures.step (frame_at c.in_ok-path.ensures c.take_away.ensures.frame) (t c.take_away.new.host)
+
+pub returns-clause-done : goal.returns-clause-done
+returns-clause-done g c =
+    let t = g.met.H.Host.is_tree in
+    let p = place_path c.args.root.now c.args.place.now in
+    let gone = ends_at c.in_ok-path.ensures c.in_ok-take_away.ensures.done in
+    ends_in_tree (t c.sync.new.self)
+    (ends_on {Q' = λ u w. (v : View) × (v.names p ≡ absent) × Step syncs (Ok tt) v w} (ends_call (t c.take_away.new.host) c.in_ok-sync.ensures.step) gone (t c.take_away.new.host) (λ u v w is q s. (v, q, s)))
+    (λ u w tree q. dropped tree q.1 q.2)

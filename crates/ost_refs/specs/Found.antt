@@ -1,0 +1,60 @@
+-- Places by their paths, in the order of the paths' texts.
+use Rattle.std.specs.Prelude.{◌≡◌, ◌↔◌, ◌⊎◌, ℕ, List, [], ◌∷◌, take, codes, true, Option, Some, None, option_map, option_and_then, if◌then◌else◌, Contains, String, string_bytes}
+use Rattle.std.specs.List.{AllByRecursion}
+use Rattle.std.specs.Str.{bytes_eq}
+use Rattle.std.specs.String.{string_cmp}
+use Rattle.std.specs.BTreeMap.{insert_entry}
+use Rattle.std.specs.Map.{values_of}
+use Rattle.fp_host.specs.Paths.{Elements, path_text, elements_of}
+use Rattle.fp_host.specs.View.{View}
+use Rattle.fp_host.specs.Reads.{IsAFile}
+use Rattle.fp_name.specs.Grammar.{is_remote_name}
+use Rattle.fp_name.specs.Refs.{Ref, of_parts, if_ref}
+use Rattle.ost_refs.specs.Places.{heads, remotes, place_path, is_place}
+use Rattle.ost_refs.specs.Walks.{IsLevel}
+use Rattle.ost_refs.specs.declared.place.RefPlace.{RefPlace}
+use Rattle.ost_refs.specs.declared.place.RefPlace.TheVariants.{Head, Remote}
+
+-- the ref of four names, where they make one
+abbrev pub ref_named : List ℕ → List ℕ → List ℕ → List ℕ → Option Ref
+ref_named kind id arch branch = option_and_then if_ref (of_parts (kind ∷ id ∷ arch ∷ branch ∷ []))
+
+-- a remote's ref, where the name is one of a remote
+abbrev pub remote_named : List ℕ → Option Ref → Option RefPlace
+remote_named origin r = if is_remote_name origin then option_map (Remote origin) r else None
+
+-- the place that has this path in some store, as far as its last six names say
+abbrev pub place_named : Elements → Option RefPlace
+place_named (branch ∷ arch ∷ id ∷ kind ∷ origin ∷ folder ∷ up) = if bytes_eq folder (codes "remotes") then remote_named origin (ref_named kind id arch branch) else option_map Head (ref_named kind id arch branch)
+place_named _ = None
+
+-- the paths at which refs may stand: four names below refs/heads, or five below refs/remotes
+pub record ArePaths (root : Elements) (v : View) (paths : List Elements) : Type 0 where
+  pub each : (q : Elements) → Contains paths q ↔ (IsLevel 4 (heads root) v q ⊎ IsLevel 5 (remotes root) v q)
+
+-- the text is that of the path, and is read as it
+pub record IsTextOf (text : List ℕ) (q : Elements) : Type 0 where
+  pub is : text ≡ path_text q
+  pub back : elements_of text ≡ q
+
+-- the place is put among the others, by the text of its path
+abbrev pub Puts : {Z : Type 0} → Elements → Option RefPlace → List (String Z × RefPlace) → List (String Z × RefPlace) → Type 0
+Puts q None es fs = fs ≡ es
+Puts {Z} q (Some place) es fs = (key : String Z) × IsTextOf (string_bytes key) q × (fs ≡ insert_entry string_cmp es key place)
+
+-- where a file stands at the path
+abbrev pub Adds : {Z : Type 0} → Elements → View → List (String Z × RefPlace) → List (String Z × RefPlace) → Type 0
+Adds q v es fs = (IsAFile (v.names q) × Puts q (place_named q) es fs) ⊎ ((IsAFile (v.names q) → ⊥) × (fs ≡ es))
+
+-- the texts of the paths, with the places at which files stand among these paths
+pub record AreFound {Z : Type 0} (root : Elements) (v : View) (paths : List Elements) (es : List (String Z × RefPlace)) : Type 0 where
+  pub keyed : AllByRecursion (λ e. IsTextOf (string_bytes e.0) (place_path root e.1)) es
+  pub each : (place : RefPlace) → Contains (values_of es) place ↔ ((is_place place ≡ true) × IsAFile (v.names (place_path root place)) × Contains paths (place_path root place))
+
+-- of the first of these paths
+pub record FindsFirst {Z : Type 0} (paths : List Elements) (count : ℕ) (v : View) (es : List (String Z × RefPlace)) : Type 0 where
+  pub found : (root : Elements) → ArePaths root v paths → AreFound root v (take count paths) es
+
+-- of all of them
+pub record Finds {Z : Type 0} (paths : List Elements) (v : View) (es : List (String Z × RefPlace)) : Type 0 where
+  pub found : (root : Elements) → ArePaths root v paths → AreFound root v paths es

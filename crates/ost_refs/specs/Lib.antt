@@ -1,0 +1,6 @@
+pub mod Places
+pub mod Files
+pub mod Changes
+pub mod Lists
+pub mod Walks
+pub mod Found

@@ -1,0 +1,79 @@
+// Refs that are written and dropped.
+ghost use Rattle.std.specs.Prelude.{◌≡◌, IfOk, OnOk, IsErrOf};
+ghost use Rattle.fp_host.specs.Paths.{absent};
+ghost use Rattle.fp_host.specs.Causes.{IsCaused};
+ghost use Rattle.fp_host.specs.Frame.{Frame, Ends, NoPath};
+ghost use Rattle.fp_host.specs.Moments.{Goes};
+ghost use Rattle.fp_small.specs.Replace.{Replaces, WasReplaced};
+ghost use Rattle.ost_refs.specs.Places.{place_path};
+ghost use Rattle.ost_refs.specs.Files.{ref_bytes};
+ghost use Rattle.ost_refs.specs.Changes.{CanWrite, IsFreeFile, GoneAt, AbsentAt, WasDropped};
+
+use crate::place::{RefPlace, path_of};
+use fp_host::{Host, HostEnd, Path, Stat};
+use fp_name::Digest;
+use fp_small::replace;
+use std::alloc::{AllocError, Global};
+
+/// Gives the ref this commit: its file is written anew, and synced. The folders above it are made where they are absent.
+/// All memory is taken before the first change. It is for a place at which nothing stands, or a file.
+pub fn write_ref<H: Host>(
+    alloc: Global,
+    host: &mut H,
+    root: &Path,
+    place: &RefPlace,
+    digest: &Digest,
+) -> Result<(), HostEnd>
+    // A stop at any moment leaves at the place what some stop before would have left, or the whole new file.
+    ensures moments { Goes (H.moments host.old) (H.moments host.new) (Replaces (place_path root.now place.now) (ref_bytes digest.now)) (Replaces (place_path root.now place.now) (ref_bytes digest.now)) }
+    // Behind it every stop leaves the new file.
+    ensures done { OnOk result (Ends (WasReplaced (place_path root.now place.now) (ref_bytes digest.now)) (H.moments host.old) (H.moments host.new)) }
+    ensures cause { IsCaused (IsErrOf result HostEnd.Fault) (H.moments host.old) (CanWrite root.now place.now) (H.faults host.old) (H.faults host.new) }
+    ensures memory { IsErrOf result HostEnd.NoMemory → Ends (λ u w. w ≡ u) (H.moments host.old) (H.moments host.new) }
+{
+    let path = path_of(root, place)?;
+    let bytes = ref_bytes(alloc, digest)?;
+    replace(alloc, host, &path, &bytes)
+}
+
+/// What the file of a ref says.
+fn ref_bytes(alloc: Global, digest: &Digest) -> Result<Vec<u8>, AllocError>
+    ensures { IfOk result (λ bytes. bytes.items ≡ ref_bytes digest.now) }
+{
+    let mut bytes = Vec::from_slice(alloc, &digest.digits())?;
+    bytes.push(b'\n')?;
+    Ok(bytes)
+}
+
+/// Takes the ref away, and syncs. Where it is absent, no name changes. It is for a place at which nothing stands, or a
+/// file.
+pub fn drop_ref<H: Host>(
+    alloc: Global,
+    host: &mut H,
+    root: &Path,
+    place: &RefPlace,
+) -> Result<(), HostEnd>
+    // A stop at any moment leaves at the place what some stop before would have left, or nothing, and all else as it was.
+    ensures frame { Frame (GoneAt (place_path root.now place.now)) (AbsentAt (place_path root.now place.now)) NoPath (H.moments host.old) (H.moments host.new) }
+    // Behind it no stop leaves anything there.
+    ensures done { OnOk result (Ends (λ u w. WasDropped (place_path root.now place.now) w) (H.moments host.old) (H.moments host.new)) }
+    ensures cause { IsCaused (IsErrOf result HostEnd.Fault) (H.moments host.old) (IsFreeFile (place_path root.now place.now)) (H.faults host.old) (H.faults host.new) }
+    ensures memory { IsErrOf result HostEnd.NoMemory → Ends (λ u w. w ≡ u) (H.moments host.old) (H.moments host.new) }
+{
+    let path = path_of(root, place)?;
+    take_away(host, &path)?;
+    Ok(host.sync()?)
+}
+
+/// Takes the name away where something stands there.
+fn take_away<H: Host>(host: &mut H, path: &Path) -> Result<(), HostEnd>
+    ensures frame { Frame (GoneAt path.now) (AbsentAt path.now) NoPath (H.moments host.old) (H.moments host.new) }
+    ensures done { OnOk result (Ends (λ u w. w.names path.now ≡ absent) (H.moments host.old) (H.moments host.new)) }
+    ensures cause { IsCaused (IsErrOf result HostEnd.Fault) (H.moments host.old) (IsFreeFile path.now) (H.faults host.old) (H.faults host.new) }
+    ensures memory { IsErrOf result HostEnd.NoMemory → ⊥ }
+{
+    match host.stat(path)? {
+        Stat::Absent => Ok(()),
+        _ => Ok(host.unlink(path)?),
+    }
+}

@@ -1,0 +1,33 @@
+//! Laws of the words that the contracts use, for crates that build on them. Each is the contract of a function that
+//! does nothing.
+
+ghost use Rattle.std.specs.Prelude.{◌≡◌, ℕ, List, true};
+ghost use Rattle.fp_host.specs.Paths.{Elements};
+ghost use Rattle.fp_host.specs.View.{View};
+ghost use Rattle.fp_host.specs.Outcome.{shows};
+ghost use Rattle.fp_name.specs.Hex.{is_digest};
+ghost use Rattle.fp_small.specs.Replace.{WasReplaced};
+ghost use Rattle.ost_refs.specs.Places.{place_path};
+ghost use Rattle.ost_refs.specs.Files.{ref_bytes, ref_file, ref_in};
+ghost use Rattle.ost_refs.specs.Changes.{WasDropped};
+ghost use Rattle.ost_refs.specs.declared.place.RefPlace.{RefPlace};
+ghost use Rattle.ost_refs.specs.declared.place.RefFile.TheVariants.{Digest, Absent};
+
+/// The file of a ref reads back as it was written, and no other file says the same.
+pub fn ref_files_read_back()
+    ensures written { (d : List ℕ) → is_digest d ≡ true → ref_file (ref_bytes d) ≡ Digest d }
+    ensures read { (bytes d : List ℕ) → ref_file bytes ≡ Digest d → (bytes ≡ ref_bytes d) × (is_digest d ≡ true) }
+{}
+
+/// Behind a write the ref reads as what was written, and behind a drop as absent.
+pub fn changed_refs_are_read()
+    ensures written { (root : Elements) (place : RefPlace) (d : List ℕ) (u w : View) → is_digest d ≡ true → WasReplaced (place_path root place) (ref_bytes d) u w
+        → ref_in (shows w (place_path root place)) ≡ Digest d }
+    ensures dropped { (root : Elements) (place : RefPlace) (w : View) → WasDropped (place_path root place) w
+        → ref_in (shows w (place_path root place)) ≡ Absent }
+{}
+
+/// Two places of one store have two paths.
+pub fn places_have_paths_of_their_own()
+    ensures { (root : Elements) (a b : RefPlace) → place_path root a ≡ place_path root b → a ≡ b }
+{}

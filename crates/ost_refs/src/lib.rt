@@ -1,0 +1,15 @@
+//! The refs of a store: each in a file of its own below the store's folder.
+#![tactic(auto)]
+
+mod changing;
+pub mod laws;
+mod listing;
+mod naming;
+mod place;
+mod reading;
+mod walking;
+
+pub use changing::{drop_ref, write_ref};
+pub use listing::list_refs;
+pub use place::{RefFile, RefPlace};
+pub use reading::read_ref;

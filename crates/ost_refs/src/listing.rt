@@ -1,0 +1,117 @@
+// The refs of a store in a list.
+ghost use Rattle.std.specs.Prelude.{◌≡◌, IfOk, OnOk, IsErrOf};
+ghost use Rattle.std.specs.String.{string_cmp};
+ghost use Rattle.std.specs.BTreeMap.{IsOrdered, values};
+ghost use Rattle.fp_host.specs.Causes.{IsCaused};
+ghost use Rattle.fp_host.specs.Frame.{Ends, Still};
+ghost use Rattle.ost_refs.specs.Lists.{ListsRefs};
+ghost use Rattle.ost_refs.specs.Found.{place_named, ArePaths, Puts, Adds, Finds};
+
+use crate::naming::place_named;
+use crate::place::RefPlace;
+use crate::walking::paths_below;
+use fp_host::{Host, HostEnd, Items, Path, Stat};
+use std::alloc::{AllocError, Global};
+use std::collections::BTreeMap;
+
+/// How many elements a ref's path has below `refs/heads`.
+const HEAD_DEPTH: usize = 4;
+
+/// How many elements a ref's path has below `refs/remotes`.
+const REMOTE_DEPTH: usize = 5;
+
+/// The places at which a file stands in the store in this folder, ascending by the bytes of their paths. What the file
+/// says isn't read, and what stands elsewhere below `refs` is passed over.
+pub fn list_refs<H: Host>(
+    alloc: Global,
+    host: &mut H,
+    root: &Path,
+) -> Result<Items<RefPlace>, HostEnd>
+    ensures still { Still (H.moments host.old) (H.moments host.new) }
+    ensures tells { IfOk result (λ places. Ends (λ u w. ListsRefs root.now u places) (H.moments host.old) (H.moments host.new)) }
+    ensures cause { IsCaused (IsErrOf result HostEnd.Fault) (H.moments host.old) (λ v. Unit {0}) (H.faults host.old) (H.faults host.new) }
+{
+    let paths = paths_of(alloc, host, root)?;
+    let found = places_among(alloc, host, &paths)?;
+    Ok(Items::from_vec(in_order(alloc, found)?))
+}
+
+/// The paths at which refs may stand.
+fn paths_of<H: Host>(alloc: Global, host: &mut H, root: &Path) -> Result<Vec<Path>, HostEnd>
+    ensures still { Still (H.moments host.old) (H.moments host.new) }
+    ensures tells { IfOk result (λ paths. Ends (λ u w. ArePaths root.now u paths.items) (H.moments host.old) (H.moments host.new)) }
+    ensures cause { IsCaused (IsErrOf result HostEnd.Fault) (H.moments host.old) (λ v. Unit {0}) (H.faults host.old) (H.faults host.new) }
+{
+    let refs = root.child("refs")?;
+    let heads = refs.child("heads")?;
+    let remotes = refs.child("remotes")?;
+    let mut paths = paths_below(alloc, host, heads, HEAD_DEPTH)?;
+    let mut more = paths_below(alloc, host, remotes, REMOTE_DEPTH)?;
+    paths.append(&mut more)?;
+    Ok(paths)
+}
+
+/// The places at which a file stands among these paths, by the texts of the paths.
+fn places_among<H: Host>(
+    alloc: Global,
+    host: &mut H,
+    paths: &[Path],
+) -> Result<BTreeMap<String, RefPlace>, HostEnd>
+    ensures still { Still (H.moments host.old) (H.moments host.new) }
+    ensures tells { IfOk result (λ found. Ends (λ u w. Finds paths.now u found.entries) (H.moments host.old) (H.moments host.new)) }
+    ensures cause { IsCaused (IsErrOf result HostEnd.Fault) (H.moments host.old) (λ v. Unit {0}) (H.faults host.old) (H.faults host.new) }
+{
+    let mut found = BTreeMap::new(alloc);
+    for path in paths {
+        add_place(alloc, host, path, &mut found)?;
+    }
+    Ok(found)
+}
+
+/// Adds the place of the path, where a file stands there.
+fn add_place<H: Host>(
+    alloc: Global,
+    host: &mut H,
+    path: &Path,
+    found: &mut BTreeMap<String, RefPlace>,
+) -> Result<(), HostEnd>
+    ensures still { Still (H.moments host.old) (H.moments host.new) }
+    ensures tells { OnOk result (Ends (λ u w. Adds path.now u found.old.entries found.new.entries) (H.moments host.old) (H.moments host.new)) }
+    ensures cause { IsCaused (IsErrOf result HostEnd.Fault) (H.moments host.old) (λ v. Unit {0}) (H.faults host.old) (H.faults host.new) }
+{
+    match host.stat(path)? {
+        Stat::File { .. } => Ok(put_place(alloc, path, found)?),
+        _ => Ok(()),
+    }
+}
+
+/// Puts the place of the path among the others, where the path names one.
+fn put_place(
+    alloc: Global,
+    path: &Path,
+    found: &mut BTreeMap<String, RefPlace>,
+) -> Result<(), AllocError>
+    ensures { OnOk result (Puts path.now (place_named path.now) found.old.entries found.new.entries) }
+{
+    let Some(place) = place_named(alloc, path)? else {
+        return Ok(());
+    };
+    let text = String::from_str(alloc, path.text())?;
+    found.insert(text, place)?;
+    Ok(())
+}
+
+/// The places in the order of the texts.
+fn in_order(
+    alloc: Global,
+    mut found: BTreeMap<String, RefPlace>,
+) -> Result<Vec<RefPlace>, AllocError>
+    ensures places { IfOk result (λ places. places.items ≡ values found) }
+    ensures ordered { IsOrdered string_cmp found }
+{
+    let mut places = Vec::with_capacity(alloc, found.len())?;
+    while let Some((_, place)) = found.pop_first() {
+        places.push(place)?;
+    }
+    Ok(places)
+}

@@ -1,0 +1,79 @@
+// The place that a path names.
+ghost use Rattle.std.specs.Prelude.{◌≡◌, ◌≢◌, ◌∷◌, ◌≤◌, [], length, drop, IfOk};
+ghost use Rattle.ost_refs.specs.Found.{ref_named, remote_named, place_named};
+
+use crate::place::RefPlace;
+use fp_host::Path;
+use fp_name::{NameFault, RefKind, RefName, RemoteName};
+use std::alloc::{AllocError, Global};
+
+/// How many elements the path of a ref has at least: KIND/ID/ARCH/BRANCH behind `refs/heads`.
+const FEWEST_ELEMENTS: usize = 6;
+
+/// The innermost element.
+fn last(path: &Path) -> &str
+    requires { path.now ≢ [] }
+    ensures { path.now ≡ result.now ∷ drop 1 path.now }
+{
+    path.name().unwrap()
+}
+
+/// The ref of four names, where they make one.
+fn ref_named(
+    alloc: Global,
+    kind: &str,
+    id: &str,
+    arch: &str,
+    branch: &str,
+) -> Result<Option<RefName>, AllocError>
+    ensures { IfOk result (λ name. name ≡ ref_named kind.now id.now arch.now branch.now) }
+{
+    let Some(kind) = RefKind::of_word(kind) else {
+        return Ok(None);
+    };
+    match RefName::new(alloc, kind, id, arch, branch) {
+        Ok(name) => Ok(Some(name)),
+        Err(NameFault::Bad) => Ok(None),
+        Err(NameFault::NoMemory) => Err(AllocError),
+    }
+}
+
+/// A remote's ref, where the name is one of a remote.
+fn remote_named(
+    alloc: Global,
+    origin: &str,
+    name: Option<RefName>,
+) -> Result<Option<RefPlace>, AllocError>
+    ensures { IfOk result (λ place. place ≡ remote_named origin.now name) }
+{
+    match RemoteName::parse(alloc, origin.as_bytes()) {
+        Ok(origin) => match name {
+            Some(name) => Ok(Some(RefPlace::Remote(origin, name))),
+            None => Ok(None),
+        },
+        Err(NameFault::Bad) => Ok(None),
+        Err(NameFault::NoMemory) => Err(AllocError),
+    }
+}
+
+/// The place whose file has this path in some store, as far as its last six elements say.
+pub(crate) fn place_named(alloc: Global, path: &Path) -> Result<Option<RefPlace>, AllocError>
+    ensures { IfOk result (λ place. place ≡ place_named path.now) }
+{
+    if path.len() < FEWEST_ELEMENTS {
+        return Ok(None);
+    }
+    let arch = path.folder(1)?;
+    let id = path.folder(2)?;
+    let kind = path.folder(3)?;
+    let origin = path.folder(4)?;
+    let folder = path.folder(5)?;
+    let name = ref_named(alloc, last(&kind), last(&id), last(&arch), last(path))?;
+    if last(&folder) == "remotes" {
+        return remote_named(alloc, last(&origin), name);
+    }
+    match name {
+        Some(name) => Ok(Some(RefPlace::Head(name))),
+        None => Ok(None),
+    }
+}

@@ -1,0 +1,56 @@
+// A ref that is read.
+ghost use Rattle.std.specs.Prelude.{◌≡◌, IfOk, IsErrOf};
+ghost use Rattle.fp_host.specs.Causes.{IsCaused};
+ghost use Rattle.fp_host.specs.Frame.{Ends, Still};
+ghost use Rattle.ost_refs.specs.Places.{place_path};
+ghost use Rattle.ost_refs.specs.Files.{ref_file, ReadsRef};
+
+use crate::place::{RefFile, RefPlace, path_of};
+use fp_host::{Host, HostEnd, Path};
+use fp_name::Digest;
+use fp_small::{Loaded, load};
+use std::alloc::Global;
+
+/// How many digits a digest has.
+const DIGITS: usize = 64;
+
+/// How many bytes the file of a ref has.
+const SIZE: u64 = 65;
+
+/// Reads the ref of the store in this folder. `Absent` comes exactly where nothing stands at its place, and `Bad` exactly
+/// where something stands there that is no file of 64 digits and a newline.
+pub fn read_ref<H: Host>(
+    alloc: Global,
+    host: &mut H,
+    root: &Path,
+    place: &RefPlace,
+) -> Result<RefFile, HostEnd>
+    ensures still { Still (H.moments host.old) (H.moments host.new) }
+    ensures tells { IfOk result (λ ref. Ends (λ u w. ReadsRef (place_path root.now place.now) u ref) (H.moments host.old) (H.moments host.new)) }
+    ensures cause { IsCaused (IsErrOf result HostEnd.Fault) (H.moments host.old) (λ v. Unit {0}) (H.faults host.old) (H.faults host.new) }
+{
+    let path = path_of(root, place)?;
+    match load(alloc, host, &path, SIZE)? {
+        Loaded::Absent => Ok(RefFile::Absent),
+        Loaded::TooLong(_) | Loaded::NotFile => Ok(RefFile::Bad),
+        Loaded::Bytes(bytes) => Ok(ref_file(bytes.as_slice())),
+    }
+}
+
+/// What a file of these bytes says.
+#[tactic(auto, using(crate::proofs::Files::too_short))]
+fn ref_file(bytes: &[u8]) -> RefFile
+    ensures { result ≡ ref_file bytes.now }
+{
+    if bytes.len() < DIGITS {
+        return RefFile::Bad;
+    }
+    let (digits, end) = bytes.split_at(DIGITS);
+    if end != b"\n".as_slice() {
+        return RefFile::Bad;
+    }
+    match Digest::parse(digits) {
+        Ok(digest) => RefFile::Digest(digest),
+        Err(_) => RefFile::Bad,
+    }
+}
