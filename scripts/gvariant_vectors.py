@@ -3,10 +3,15 @@
 
 `yes` says that the bytes are a value of the type in normal form, `no` that they are none, as GLib says itself.
 It needs Debian's package python3-gi. `gvariant_vectors.py COUNT SEED` prints that many vectors; the same seed gives the
-same vectors.
+same vectors. `gvariant_vectors.py COUNT SEED PROGRAM` gives each to `PROGRAM show value TYPE` instead, where PROGRAM is a
+built fpk, and prints those on which the two differ. Two such differences are known: GLib takes no bytes for a tuple whose
+members all have none, where it writes an offset itself, and a dictionary entry outside an array in a signature, which is no
+signature of D-Bus.
 """
 
+import hashlib
 import random
+import subprocess
 import sys
 
 import gi
@@ -116,9 +121,9 @@ def changed(rng, data):
     return bytes(data)
 
 
-def main():
-    count, rng = int(sys.argv[1]), random.Random(int(sys.argv[2]))
-    seen = set()
+def vectors(count, seed):
+    """So many vectors: whether the bytes are normal, the type and the bytes."""
+    rng, seen = random.Random(seed), set()
     while len(seen) < count:
         of = a_type(rng, 3)
         if len(of) == 1 and rng.random() < 0.8:
@@ -128,7 +133,21 @@ def main():
             data = changed(rng, data)
         if len(data) <= 80 and (of, data) not in seen:
             seen.add((of, data))
-            print("yes" if is_normal(of, data) else "no", of, data.hex())
+            yield is_normal(of, data), of, data
+
+
+def is_shown(program, normal, of, data):
+    """Whether `show value` says of the bytes what GLib says."""
+    done = subprocess.run([program, "show", "value", of], input=data, stdout=subprocess.PIPE, check=False)
+    refused = f"error: malformed object {hashlib.sha256(data).hexdigest()}.value value\n"
+    wanted = (0, f"normal {len(data)}\n") if normal else (1, refused)
+    return (done.returncode, done.stdout.decode()) == wanted
+
+
+def main():
+    for normal, of, data in vectors(int(sys.argv[1]), int(sys.argv[2])):
+        if len(sys.argv) < 4 or not is_shown(sys.argv[3], normal, of, data):
+            print("yes" if normal else "no", of, data.hex())
 
 
 if __name__ == "__main__":

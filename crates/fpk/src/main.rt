@@ -22,10 +22,15 @@ fpk remote-delete NAME       takes the remote away
 fpk batch                    does the commands of standard input, one a line
 fpk list --pins              prints the patterns that are pinned
 fpk list --remotes           prints the remotes
+fpk show commit              prints what a commit says
+fpk show dirtree             prints the names in a dirtree
+fpk show dirmeta             prints the mode of a dirmeta
+fpk show value TYPE          prints the size of a value of a type
 fpk --help                   prints this
 fpk --version                prints the version
 
 A pattern is KIND/ID/ARCH/BRANCH, where KIND is app or runtime, and * may stand for each of the others.
+What show prints is read from standard input: an object of OSTree, or the normal form of a value of GVariant.
 The installation is the folder that FPK_INSTALLATION names, else the folder `installation` here.
 ";
 

@@ -10,6 +10,10 @@ mod batch_stops;
 mod batches;
 mod glib;
 mod gvariant;
+mod made;
+mod objects;
+mod refs;
+mod shows;
 mod specification;
 mod stops;
 
@@ -33,13 +37,24 @@ fn run_input(
     words: &[&str],
     bytes: &[u8],
 ) -> Result<u8, AllocError> {
+    let mut input = MemSource::new(Blob::from_vec(bytes.to_vec(alloc)?), 7, None);
+    run_source(rt, alloc, host, words, &mut input)
+}
+
+// Runs the words over what this source gives, without remotes.
+fn run_source(
+    rt: &(impl Threads + Sync),
+    alloc: Global,
+    host: &mut MemHost,
+    words: &[&str],
+    input: &mut MemSource,
+) -> Result<u8, AllocError> {
     let mut owned = Vec::new(alloc);
     for word in words {
         owned.push(String::from_str(alloc, word)?)?;
     }
-    let mut input = MemSource::new(Blob::from_vec(bytes.to_vec(alloc)?), 7, None);
     let mut remotes = MemRemotes::new(alloc)?;
-    Ok(run(rt, alloc, &owned, &mut input, host, &mut remotes))
+    Ok(run(rt, alloc, &owned, input, host, &mut remotes))
 }
 
 // A host whose `config` has this text.

@@ -1,8 +1,9 @@
 // Batches, and what they do to an installation of layout 1.
-use crate::tests::{PLATFORM, has_config, printed_from, run_input, run_words, with_config};
-use fl_top::run;
+use crate::tests::{
+    PLATFORM, has_config, printed_from, run_input, run_source, run_words, with_config,
+};
 use fp_host::{Blob, Host, HostEnd, Path, Stat};
-use fp_memhost::{MemHost, MemRemotes, MemSource};
+use fp_memhost::{MemHost, MemSource};
 use std::alloc::{AllocError, Global};
 use std::test::Fail;
 use std::thread::Threads;
@@ -215,12 +216,9 @@ fn with_failing_input(
     call: u64,
 ) -> Result<u8, AllocError> {
     let mut host = MemHost::new(alloc)?;
-    let mut owned = Vec::new(alloc);
-    owned.push(String::from_str(alloc, "batch")?)?;
     let bytes = b"pin app/*/*/*\npin runtime/*/*/*\n".to_vec(alloc)?;
     let mut input = MemSource::new(Blob::from_vec(bytes), step.max(1), Some(call));
-    let mut remotes = MemRemotes::new(alloc)?;
-    let status = run(rt, alloc, &owned, &mut input, &mut host, &mut remotes);
+    let status = run_source(rt, alloc, &mut host, &["batch"], &mut input)?;
     if status == 5 && !host.printed().is_empty() {
         return Ok(255);
     }
