@@ -12,7 +12,7 @@ use Rattle.fp_small.specs.declared.op.Op.{Op}
 use Rattle.dep_states.specs.Names.{config}
 use Rattle.dep_open.specs.Tidy.{Tidies, TakenAway, left_work, old_file}
 use Rattle.op_change.specs.Applied.{Applies}
-use Rattle.fl_top.specs.Changes.{MayHold, new_config, work_folder, some_work, old_gone, Changes}
+use Rattle.fl_top.specs.Changes.{MayHold, new_config, work_folder, some_work, old_gone, Changes, OnlyTidied}
 
 pub change_on : (u v w : View) → Changes u v → Changes v w → Changes u w
 change_on u v w first second = record {
@@ -57,3 +57,28 @@ tidied_changes s u w tidies = record {
   names = λ q. elim (tidies.names q) [ inl same ↦ inl same | inr taken ↦ inr (may_take u q (w.names q) taken.0 taken.1) ];
   files = tidies.files;
 }
+
+-- ---- where no operation is done
+
+-- what was taken away behind a tidying might have been taken away before
+taken_before : {u v : View} {q : Elements} → OnlyTidied u v → TakenAway v q → TakenAway u q
+taken_before first (left_work above) = left_work above
+taken_before first (old_file there old) = old_file (λ none. elim (first.names config) [ inl same ↦ there (same ∙ none) | inr gone ↦ there gone.1 ]) old
+
+pub tidied_on : {u v w : View} → OnlyTidied u v → OnlyTidied v w → OnlyTidied u w
+tidied_on first second = record {
+  names = λ q. elim (second.names q) [
+    | inl same ↦ elim (first.names q) [ inl was ↦ inl (same ∙ was) | inr gone ↦ inr (gone.0, same ∙ gone.1) ]
+    | inr gone ↦ inr (taken_before first gone.0, gone.1)
+  ];
+}
+
+pub tidied_none : {u w : View} → ((q : Elements) → w.names q ≡ u.names q) → OnlyTidied u w
+tidied_none names = record { names = λ q. inl (names q) }
+
+-- nothing is done
+pub tidied_not : {v : View} → OnlyTidied v v
+tidied_not = tidied_none (λ q. refl)
+
+pub tidies_only : {s : State} {u w : View} → Tidies s u w → OnlyTidied u w
+tidies_only tidies = record { names = tidies.names }

@@ -19,7 +19,7 @@ use Rattle.fl_top.specs.declared.end.RunEnd.{RunEnd}
 use Rattle.fl_top.specs.declared.end.RunEnd.TheVariants.{Refused, Fault, NoMemory}
 use Rattle.fl_top.specs.Says.{Says, WasSaid}
 use Rattle.fl_top.specs.Changes.{Changes}
-use Rattle.fl_top.proofs.Changing.{change_on, change_none, change_not, applied_changes, tidied_changes}
+use Rattle.fl_top.proofs.Changing.{change_on, change_none, change_not, applied_changes, tidied_changes, tidied_on, tidied_not, tidies_only}
 use Rattle.fl_top.proofs.Same.{same_opens}
 use Rattle.fl_top.proofs.Starting.{none_yet}
 
@@ -30,7 +30,7 @@ not_done : (a : Answer) (s : State) {v : View} (disk : Disk) → Opens s v → L
 not_done a s disk opens left = record { done = []; undone = ops_of a; prefix = refl; more = []; holds = refl; shown = opens.shown disk left; sound = opens.sound disk left }
 
 pub not_yet : (a : Answer) (s : State) (v : View) → Performs a s v v
-not_yet a s v = record { said = []; so_far = none_yet a refl; changes = change_not; some = λ opens disk left. not_done a s disk opens left }
+not_yet a s v = record { said = []; so_far = none_yet a refl; changes = change_not; only_tidied = λ none. tidied_not; some = λ opens disk left. not_done a s disk opens left }
 
 pub halted : (a : Answer) (s : State) {v w : View} → w ≡ v → IsHalted a s v w
 halted a s {v = v} same = subst (IsHalted a s v) (sym same) (record { said = []; so_far = none_yet a refl; opens = λ opens. opens })
@@ -39,6 +39,7 @@ halted a s {v = v} same = subst (IsHalted a s v) (sym same) (record { said = [];
 refuses : (refusal : Refusal) (s : State) (v : View) → IsDone (refused refusal) s v v
 refuses refusal s v = record {
   changes = change_not;
+  only_tidied = λ none. tidied_not;
   printed = sym (append-nil v.printed);
   opens = λ opens. opens;
   tidied = λ opens why. elim why [ inl tidy ↦ tidy | inr some ↦ absurd (some refl) ];
@@ -62,6 +63,9 @@ act_is op s is = ap (λ (o : Option Refusal). unless o (did op)) (sym is)
 abbrev pub piece_of : Op → Piece
 piece_of op = record { text = op_text op; op = Some op }
 
+did_some : (op : Op) → ops_of (did op) ≡ [] → ⊥
+did_some op none = let some : op ∷ [] ≡ [] = none in cc some
+
 one_of : (op : Op) (s : State) {w : View} (disk : Disk) → IsOneOf s (after s op) w → Leaves w disk → IsSome (did op) [] s disk
 one_of op s disk one left = elim (one.shown disk left) [
   | inl shown ↦ record { done = []; undone = op ∷ []; prefix = refl; more = []; holds = refl; shown = shown; sound = one.sound disk left }
@@ -69,7 +73,7 @@ one_of op s disk one left = elim (one.shown disk left) [
 ]
 
 pub applying : (op : Op) (s : State) {v w : View} → Applies s op v w → Performs (did op) s v w
-applying op s {v = v} {w = w} applies = record { said = []; so_far = none_yet (did op) applies.printed; changes = applied_changes s op v w applies; some = λ opens disk left. one_of op s disk (applies.either opens) left }
+applying op s {v = v} {w = w} applies = record { said = []; so_far = none_yet (did op) applies.printed; changes = applied_changes s op v w applies; only_tidied = λ none. absurd (did_some op none); some = λ opens disk left. one_of op s disk (applies.either opens) left }
 
 -- the ends of an operation that isn't done
 pub not_applied : (op : Op) (s : State) (e : RunEnd) {v w : View} → (e ≡ Fault) ⊎ ((e ≡ NoMemory) × (w ≡ v)) → Performed (did op) s (Err e) v w
@@ -97,12 +101,14 @@ saying op s {v = v} {w = w} {x = x} changes same applied says = elim (says.print
     said = [];
     so_far = none_yet (did op) (none ∙ same);
     changes = change_on v w x changes (change_none says.names says.files);
+    only_tidied = λ none. absurd (did_some op none);
     some = λ opens disk left. is_done op s [] disk (op ∷ []) refl (same_opens says.follows (applied.opens opens)) left;
   }
   | inr more ↦ record {
     said = piece_of op ∷ [];
     so_far = line_printed op v w x same more;
     changes = change_on v w x changes (change_none says.names says.files);
+    only_tidied = λ none. absurd (did_some op none);
     some = λ opens disk left. is_done op s (op ∷ []) disk [] refl (same_opens says.follows (applied.opens opens)) left;
   }
 ]
@@ -114,7 +120,7 @@ said_done op s t {v = v} {w = w} {x = x} changes same applied said = (said.print
 
 -- there is nothing to do
 pub idle : (s : State) (v : View) → Performed nothing s (Ok s) v v
-idle s v = (refl, refl, record { changes = change_not; printed = sym (append-nil v.printed); opens = λ opens. opens; tidied = λ opens why. elim why [ inl tidy ↦ tidy | inr some ↦ absurd (some refl) ] })
+idle s v = (refl, refl, record { changes = change_not; only_tidied = λ none. tidied_not; printed = sym (append-nil v.printed); opens = λ opens. opens; tidied = λ opens why. elim why [ inl tidy ↦ tidy | inr some ↦ absurd (some refl) ] })
 
 -- ---- tidying behind an operation
 
@@ -130,6 +136,7 @@ tidying op s t {v = v} {w = w} {x = x} is done tidies = record {
   said = piece_of op ∷ [];
   so_far = behind_done op v w x done.0 tidies.printed;
   changes = change_on v w x done.2 (tidied_changes t w x tidies);
+  only_tidied = λ none. absurd (did_some op none);
   some = λ opens disk left. is_done op s (op ∷ []) disk [] refl (subst (λ (z : State). Opens z x) is (tidies.opens (subst (λ (z : State). Opens z w) (sym is) (done.1 opens)))) left;
 }
 
@@ -140,6 +147,7 @@ tidied op s t t' {v = v} {w = w} {x = x} is same done tidies tidy = (
   record {
     printed = (behind_done op v w x done.0 tidies.printed).printed;
     changes = change_on v w x done.2 (tidied_changes t w x tidies);
+    only_tidied = λ none. absurd (did_some op none);
     opens = λ opens. subst (λ (z : State). Opens z x) is (tidies.opens (subst (λ (z : State). Opens z w) (sym is) (done.1 opens)));
     tidied = λ opens why. tidy;
   },
@@ -162,7 +170,7 @@ first_moved : {a : Answer} {said : List Piece} {u v w : View} → v.printed ≡ 
 first_moved {said = said} same printed = record { left = printed.left; pieces = printed.pieces; printed = printed.printed ∙ ap (λ (p : List ℕ). p ++ joined said) same }
 
 pub tidied_first : (a : Answer) (s : State) {u v : View} → Tidies s u v → Performs a s u v
-tidied_first a s {u = u} {v = v} tidies = record { said = []; so_far = none_yet a tidies.printed; changes = tidied_changes s u v tidies; some = λ opens disk left. not_done a s disk (tidies.opens opens) left }
+tidied_first a s {u = u} {v = v} tidies = record { said = []; so_far = none_yet a tidies.printed; changes = tidied_changes s u v tidies; only_tidied = λ none. tidies_only tidies; some = λ opens disk left. not_done a s disk (tidies.opens opens) left }
 
 pub untidied_first : (a : Answer) (s : State) (e : RunEnd) {u v : View} → (e ≡ Fault) ⊎ (e ≡ NoMemory) → Tidies s u v → Performed a s (Err e) u v
 untidied_first a s e {u = u} {v = v} why tidies = elim why [
@@ -171,11 +179,12 @@ untidied_first a s e {u = u} {v = v} why tidies = elim why [
 ]
 
 pub performs_tidied : (a : Answer) (s : State) {u v w : View} → Tidies s u v → Performs a s v w → Performs a s u w
-performs_tidied a s {u = u} {v = v} {w = w} tidies performs = record { said = performs.said; so_far = first_moved tidies.printed performs.so_far; changes = change_on u v w (tidied_changes s u v tidies) performs.changes; some = λ opens disk left. performs.some (tidies.opens opens) disk left }
+performs_tidied a s {u = u} {v = v} {w = w} tidies performs = record { said = performs.said; so_far = first_moved tidies.printed performs.so_far; changes = change_on u v w (tidied_changes s u v tidies) performs.changes; only_tidied = λ none. tidied_on (tidies_only tidies) (performs.only_tidied none); some = λ opens disk left. performs.some (tidies.opens opens) disk left }
 
 done_tidied : (a : Answer) (s : State) {u v w : View} → Tidies s u v → IsTidy v → IsDone a s v w → IsDone a s u w
 done_tidied a s {u = u} {v = v} {w = w} tidies tidy done = record {
   changes = change_on u v w (tidied_changes s u v tidies) done.changes;
+  only_tidied = λ none. tidied_on (tidies_only tidies) (done.only_tidied none);
   printed = done.printed ∙ ap (λ (p : List ℕ). p ++ joined a.pieces) tidies.printed;
   opens = λ opens. done.opens (tidies.opens opens);
   tidied = λ opens why. done.tidied (tidies.opens opens) (inl tidy);

@@ -41,7 +41,7 @@ use Rattle.fp_small.proofs.Keeping.{files_on}
 use Rattle.fl_top.specs.Status.{status_of, status_by, IsAnswered}
 use Rattle.fl_top.proofs.Same.{unmoved, same_shown, same_sound}
 use Rattle.fl_top.proofs.Starting.{same_tidy, stood, unchanged}
-use Rattle.fl_top.proofs.Changing.{change_on, change_none}
+use Rattle.fl_top.proofs.Changing.{change_on, change_none, tidied_on, tidied_none}
 use Rattle.fl_top.proofs.Turning.{joined-append}
 use Rattle.fl_top.proofs.Refusing.{of_changing}
 
@@ -118,6 +118,7 @@ refusing a r {u = u} {v = v} {w = w} is runs done says = elim (says.printed) [
     so_far = before_last a (none ∙ done.printed);
     prefix = λ sound disk left. prefix_all a a.pieces refl (just_on (ops_of a) says.follows (done.just sound) disk left);
     changes = change_on u v w runs.changes (change_none says.names says.files);
+    only_tidied = λ none. tidied_on (runs.only_tidied none) (tidied_none says.names);
     untouched = λ why. untouched_on (runs.untouched why) says;
   }
   | inr more ↦ record {
@@ -125,6 +126,7 @@ refusing a r {u = u} {v = v} {w = w} is runs done says = elim (says.printed) [
     so_far = all_lines a (with_last a r u v w is done.printed more);
     prefix = λ sound disk left. prefix_all a (lines_of a) (ops_lines a) (just_on (ops_of a) says.follows (done.just sound) disk left);
     changes = change_on u v w runs.changes (change_none says.names says.files);
+    only_tidied = λ none. tidied_on (runs.only_tidied none) (tidied_none says.names);
     untouched = λ why. untouched_on (runs.untouched why) says;
   }
 ]

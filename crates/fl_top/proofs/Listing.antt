@@ -25,7 +25,7 @@ use Rattle.fl_top.specs.declared.end.RunEnd.{RunEnd}
 use Rattle.fl_top.specs.declared.end.RunEnd.TheVariants.{NoMemory}
 use Rattle.fl_top.proofs.Saying.{says_step, was_said}
 use Rattle.fl_top.proofs.Same.{same_shown}
-use Rattle.fl_top.proofs.Changing.{change_none}
+use Rattle.fl_top.proofs.Changing.{change_none, tidied_none}
 use Rattle.fl_top.proofs.Starting.{Keeping, begun, stood, unchanged, ended_open, shows_before, view_is, same_tidy}
 use Rattle.fl_top.proofs.Composing.{is_err}
 
@@ -45,6 +45,7 @@ telling text {u = u} {w = w} says_it = elim (says_it.printed) [
     so_far = told_printed text u w more;
     prefix = λ sound disk left. let just = shows_before says_it.follows sound disk left in record { done = []; undone = []; prefix = refl; more = []; holds = refl; shown = just.shown; sound = just.sound };
     changes = change_none says_it.names says_it.files;
+    only_tidied = λ none. tidied_none says_it.names;
     untouched = λ why. record { names = says_it.names; files = says_it.files };
   }
 ]

@@ -26,7 +26,7 @@ use Rattle.fl_top.specs.Runs.{ShowsAfter, IsPrefix, IsJust, Printed, Runs, Stand
 use Rattle.fl_top.specs.Performs.{Performs, IsDone, IsHalted, Performed, over_view, RunsOver, Completes, Ended, EndedOver}
 use Rattle.fl_top.specs.declared.end.RunEnd.{RunEnd}
 use Rattle.fl_top.specs.declared.end.RunEnd.TheVariants.{Refused, Fault, NoMemory}
-use Rattle.fl_top.proofs.Changing.{change_on, change_none}
+use Rattle.fl_top.proofs.Changing.{change_on, change_none, tidied_on, tidied_none}
 use Rattle.fl_top.proofs.Same.{unmoved, same_shown, same_sound, now_left, one_state, not_shown}
 
 -- ---- nothing is printed and nothing shown changes
@@ -60,6 +60,7 @@ prefix_none a just = record { done = []; undone = ops_of a; prefix = refl; more 
 pub begun : (a : Answer) {u w : View} → Keeping u w → Runs a u w
 begun a keeping = record {
   changes = change_none keeping.names keeping.files;
+  only_tidied = λ none. tidied_none keeping.names;
   said = [];
   so_far = none_yet a keeping.printed;
   prefix = λ sound disk left. prefix_none a (shows_before keeping.follows sound disk left);
@@ -97,6 +98,7 @@ moved {said = said} same printed = record { left = printed.left; pieces = printe
 runs_opened : (a : Answer) (s : State) {u v w : View} → (IsAtOnce a.refusal → ⊥) → IsOpened s u v → Keeping u v → Performs a s v w → Runs a u w
 runs_opened a s {u = u} {v = v} {w = w} late opened keeping performs = record {
   changes = change_on u v w (change_none keeping.names keeping.files) performs.changes;
+  only_tidied = λ none. tidied_on (tidied_none keeping.names) (performs.only_tidied none);
   said = performs.said;
   so_far = moved keeping.printed performs.so_far;
   prefix = λ sound disk left.

@@ -15,7 +15,7 @@ use Rattle.dep_open.specs.Tidy.{IsTidy}
 use Rattle.fl_words.specs.declared.command.Command.{Command}
 use Rattle.fl_top.specs.Answer.{Answer, Piece, lines_of, last_of, joined, ops_in, ops_of, nothing, behind, followed, change_over, in_turn}
 use Rattle.fl_top.specs.Runs.{Printed}
-use Rattle.fl_top.proofs.Changing.{change_on, change_not}
+use Rattle.fl_top.proofs.Changing.{change_on, change_not, tidied_on, tidied_not}
 use Rattle.fl_top.specs.Performs.{IsSome, Performs, IsDone, IsHalted, Performed}
 use Rattle.fl_top.specs.declared.end.RunEnd.{RunEnd}
 use Rattle.fl_top.specs.declared.end.RunEnd.TheVariants.{Refused, Fault, NoMemory}
@@ -34,6 +34,15 @@ after-append (op ∷ xs) ys s = after-append xs ys (after s op)
 
 abbrev pub plain : List Piece → Answer
 plain pieces = record { pieces = pieces; refusal = None }
+
+-- where two lists come to nothing, each is empty
+first_none : (xs ys : List Op) → xs ++ ys ≡ [] → xs ≡ []
+first_none [] ys none = refl
+first_none (x ∷ xs) ys none = absurd (cc none)
+
+second_none : (xs ys : List Op) → xs ++ ys ≡ [] → ys ≡ []
+second_none [] ys none = none
+second_none (x ∷ xs) ys none = absurd (cc none)
 
 -- the state after the operations of pieces and of what comes behind them
 after_pieces : (s t : State) (pieces : List Piece) (ops : List Op) → t ≡ after_all s (ops_in pieces) → after_all s (ops_in pieces ++ ops) ≡ after_all t ops
@@ -65,6 +74,7 @@ performs_behind pieces None b s performs = record {
   said = performs.said;
   so_far = printed_first pieces b performs.said performs.so_far;
   changes = performs.changes;
+  only_tidied = λ none. performs.only_tidied (first_none (ops_in pieces) (ops_in b.pieces) (sym (ops-append pieces b.pieces) ∙ none));
   some = λ opens disk left. some_first pieces b (ops_in performs.said) s (performs.some opens disk left);
 }
 performs_behind pieces (Some refusal) b s performs = performs
@@ -107,6 +117,7 @@ some_second pieces b said s t {disk = disk} is some = record {
 pub performs_onto : (pieces : List Piece) (b : Answer) (s t : State) {v w x : View} → t ≡ after_all s (ops_in pieces) → IsDone (plain pieces) s v w → Performs b t w x → Performs (behind pieces None b) s v x
 performs_onto pieces b s t {v = v} {w = w} {x = x} is done performs = record {
   changes = change_on v w x done.changes performs.changes;
+  only_tidied = λ none. let none_of = sym (ops-append pieces b.pieces) ∙ none in tidied_on (done.only_tidied (first_none (ops_in pieces) (ops_in b.pieces) none_of)) (performs.only_tidied (second_none (ops_in pieces) (ops_in b.pieces) none_of));
   said = pieces ++ performs.said;
   so_far = printed_second pieces b performs.said done.printed performs.so_far;
   some = λ opens disk left. some_second pieces b performs.said s t is (performs.some (subst (λ (x : State). Opens x w) (sym is) (done.opens opens)) disk left);
@@ -120,6 +131,7 @@ one_made (x ∷ xs) ys some = inl (λ none. cc none)
 done_onto : (pieces : List Piece) (b : Answer) (s t : State) {v w x : View} → t ≡ after_all s (ops_in pieces) → IsDone (plain pieces) s v w → IsDone b t w x → IsDone (behind pieces None b) s v x
 done_onto pieces b s t {v = v} {w = w} {x = x} is done next = record {
   changes = change_on v w x done.changes next.changes;
+  only_tidied = λ none. let none_of = sym (ops-append pieces b.pieces) ∙ none in tidied_on (done.only_tidied (first_none (ops_in pieces) (ops_in b.pieces) none_of)) (next.only_tidied (second_none (ops_in pieces) (ops_in b.pieces) none_of));
   printed = next.printed ∙ ap (λ (p : List ℕ). p ++ joined b.pieces) done.printed ∙ append_assoc v.printed (joined pieces) (joined b.pieces) ∙ ap (λ (p : List ℕ). v.printed ++ p) (sym (joined-append pieces b.pieces));
   opens = λ opens. subst (λ (z : State). Opens z x) (after_both ∙ ap (after_all s) (sym (ops-append pieces b.pieces))) (next.opens (at opens));
   tidied = λ opens why. next.tidied (at opens) (elim why [
@@ -161,7 +173,7 @@ then_is : (a b : Answer) → a.refusal ≡ None → behind a.pieces None b ≡ f
 then_is a b none = ap (λ (o : Option Refusal). behind a.pieces o b) (sym none)
 
 done_plain : (a : Answer) (s : State) {v w : View} → a.refusal ≡ None → IsDone a s v w → IsDone (plain a.pieces) s v w
-done_plain a s none done = record { changes = done.changes; printed = done.printed; opens = done.opens; tidied = done.tidied }
+done_plain a s none done = record { changes = done.changes; only_tidied = done.only_tidied; printed = done.printed; opens = done.opens; tidied = done.tidied }
 
 pub performs_second : (a b : Answer) (s t : State) {v w x : View} → Performed a s (Ok t) v w → Performs b t w x → Performs (followed a b) s v x
 performs_second a b s t {v = v} {x = x} done performs = subst (λ (z : Answer). Performs z s v x) (then_is a b done.0) (performs_onto a.pieces b s t done.1 (done_plain a s done.0 done.2) performs)
@@ -184,7 +196,7 @@ first_stage commands s v = record {
   pieces = [];
   same = refl;
   after = refl;
-  done = record { changes = change_not; printed = sym (append-nil v.printed); opens = λ opens. opens; tidied = λ opens why. elim why [ inl tidy ↦ tidy | inr some ↦ absurd (some refl) ] };
+  done = record { changes = change_not; only_tidied = λ none. tidied_not; printed = sym (append-nil v.printed); opens = λ opens. opens; tidied = λ opens why. elim why [ inl tidy ↦ tidy | inr some ↦ absurd (some refl) ] };
 }
 
 -- one more
@@ -214,7 +226,7 @@ stage_failed commands command left s t e v w x stage failed =
 -- all are done
 pub last_stage : (commands : List Command) (s t : State) {v w : View} → Stage commands [] s t v w → Performed (in_turn commands s) s (Ok t) v w
 last_stage commands s t {v = v} {w = w} stage =
-    subst (λ (z : Answer). Performed z s (Ok t) v w) (sym stage.same) (performed_onto stage.pieces nothing s t (Ok t) v w w stage.after stage.done (refl, refl, record { changes = change_not; printed = sym (append-nil w.printed); opens = λ opens. opens; tidied = λ opens why. elim why [ inl tidy ↦ tidy | inr some ↦ absurd (some refl) ] }))
+    subst (λ (z : Answer). Performed z s (Ok t) v w) (sym stage.same) (performed_onto stage.pieces nothing s t (Ok t) v w w stage.after stage.done (refl, refl, record { changes = change_not; only_tidied = λ none. tidied_not; printed = sym (append-nil w.printed); opens = λ opens. opens; tidied = λ opens why. elim why [ inl tidy ↦ tidy | inr some ↦ absurd (some refl) ] }))
 
 -- every stop leaves the state that was reached
 pub stage_opens : {commands left : List Command} {s t : State} {v w : View} → Stage commands left s t v w → Opens s v → Opens t w

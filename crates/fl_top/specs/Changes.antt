@@ -7,6 +7,7 @@ use Rattle.fp_small.specs.Places.{repo, tmp}
 use Rattle.fp_small.specs.Files.{KeepsFiles}
 use Rattle.dep_states.specs.Names.{config}
 use Rattle.dep_states.specs.Sound.{IsOld}
+use Rattle.dep_open.specs.Tidy.{TakenAway}
 
 -- `config` may be written anew, `repo` and `repo/tmp` may be made, anything may stand in `repo/tmp`, and the files of layout 1
 -- may be taken away.
@@ -21,6 +22,10 @@ pub data MayHold (q : Elements) (e : Slot) : Type 0 where
 pub record Changes (u w : View) : Type 0 where
   pub names : (q : Elements) → (w.names q ≡ u.names q) ⊎ MayHold q (w.names q)
   pub files : KeepsFiles u w
+
+-- Only what is tidied goes: work that was left, and beside a `config` the old files.
+pub record OnlyTidied (u w : View) : Type 0 where
+  pub names : (q : Elements) → (w.names q ≡ u.names q) ⊎ (TakenAway u q × (w.names q ≡ absent))
 
 -- no name changes, and no file
 pub record IsUntouched (u w : View) : Type 0 where

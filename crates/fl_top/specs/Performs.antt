@@ -14,7 +14,7 @@ use Rattle.dep_open.specs.Tidy.{IsTidy}
 use Rattle.fl_words.specs.declared.command.Command.{Command}
 use Rattle.fl_top.specs.Answer.{Answer, Piece, joined, ops_in, ops_of, over, answer_over, did}
 use Rattle.fl_top.specs.Runs.{Printed, Runs, Ran, Stands, IsJust, IsGiven}
-use Rattle.fl_top.specs.Changes.{Changes, IsUntouched}
+use Rattle.fl_top.specs.Changes.{Changes, OnlyTidied, IsUntouched}
 use Rattle.fl_top.specs.Input.{IsDrained}
 use Rattle.fl_top.specs.Status.{only_looks, reads_input}
 use Rattle.fl_top.specs.declared.end.RunEnd.{RunEnd}
@@ -37,6 +37,7 @@ pub record Performs (a : Answer) (s : State) (v w : View) : Type 0 where
   pub said : List Piece
   pub so_far : Printed a said v w
   pub changes : Changes v w
+  pub only_tidied : ops_of a ≡ [] → OnlyTidied v w
   pub some : Opens s v → (disk : Disk) → Leaves w disk → IsSome a (ops_in said) s disk
 
 -- all that isn't the line of a refusal was printed, every stop leaves the state after all operations, and all is tidy, where
@@ -44,6 +45,7 @@ pub record Performs (a : Answer) (s : State) (v w : View) : Type 0 where
 pub record IsDone (a : Answer) (s : State) (v w : View) : Type 0 where
   pub printed : w.printed ≡ v.printed ++ joined a.pieces
   pub changes : Changes v w
+  pub only_tidied : ops_of a ≡ [] → OnlyTidied v w
   pub opens : Opens s v → Opens (after_all s (ops_of a)) w
   pub tidied : Opens s v → IsTidy v ⊎ (ops_of a ≢ []) → IsTidy w
 

@@ -14,7 +14,7 @@ use Rattle.fl_words.specs.declared.command.Command.{Command}
 use Rattle.fl_words.specs.Words.{command_of}
 use Rattle.fl_top.specs.Answer.{Answer, Piece, lines_of, joined, ops_in, ops_of, answer, IsAtOnce}
 use Rattle.fl_top.specs.Input.{IsDrained}
-use Rattle.fl_top.specs.Changes.{Changes, IsUntouched}
+use Rattle.fl_top.specs.Changes.{Changes, OnlyTidied, IsUntouched}
 use Rattle.fl_top.specs.Status.{status_at, IsAnswered, only_looks, reads_input}
 
 -- The image shows what these operations make of the state that stood at the start; where there are none, a state that a stop
@@ -46,13 +46,15 @@ pub record Printed (a : Answer) (said : List Piece) (u w : View) : Type 0 where
 
 -- At every moment: the bytes printed since the start are the first pieces of the answer; every stop leaves the installation
 -- after a prefix of its operations that holds those that these pieces acknowledge; no name changed but `config`, those of
--- work, and the files of layout 1, which went; and each file that was there keeps its mode and its bytes. Where no state stood
--- at the start, and where the words or the input are refused, no name changed either.
+-- work, and the files of layout 1, which went; and each file that was there keeps its mode and its bytes. Where the answer has
+-- no operation, names only went that are tidied. Where no state stood at the start, and where the words or the input are
+-- refused, no name changed either.
 pub record Runs (a : Answer) (u w : View) : Type 0 where
   pub said : List Piece
   pub so_far : Printed a said u w
   pub prefix : IsSound u → (disk : Disk) → Leaves w disk → IsPrefix a (ops_in said) u disk
   pub changes : Changes u w
+  pub only_tidied : ops_of a ≡ [] → OnlyTidied u w
   pub untouched : NotShown (shows u) ⊎ IsAtOnce a.refusal → IsUntouched u w
 
 -- every stop leaves the installation after the acknowledged operations
