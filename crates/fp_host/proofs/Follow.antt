@@ -342,10 +342,7 @@ no_dir_leaf (file id) l = tt
 no_dir_leaf (link text) l = tt
 
 no_dir_file : (e : Slot) → IsFile e → IsNoDir e
-no_dir_file absent l = tt
-no_dir_file dir l = absurd l
-no_dir_file (file id) l = tt
-no_dir_file (link text) l = tt
+no_dir_file e is = subst IsNoDir (sym is.1) tt
 
 new_bytes : (id mode : ℕ) (row : Option Inode) → (row ≡ Some (record { mode = mode; bytes = [] })) ⊎ IsSameMode (Some (record { mode = mode; bytes = [] })) row → (bytes : List ℕ) × (holding id row ≡ holds id mode bytes)
 new_bytes id mode None (inl is) = absurd (cc)

@@ -23,10 +23,7 @@ HasFolder v [] = ⊥
 HasFolder v (x ∷ up) = v.names up ≡ dir
 
 abbrev pub IsFile : Slot → Type 0
-IsFile (file id) = Unit {0}
-IsFile absent = ⊥
-IsFile dir = ⊥
-IsFile (link text) = ⊥
+IsFile e = (id : ℕ) × (e ≡ file id)
 
 -- a file or a link
 abbrev pub IsLeaf : Slot → Type 0

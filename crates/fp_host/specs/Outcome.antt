@@ -70,10 +70,6 @@ GivesOf (removes_dir p) v q spot = (q ≡ p) × (spot ≡ gone)
 GivesOf syncs v q spot = ⊥
 GivesOf (says piece) v q spot = ⊥
 
--- a new file of this mode at p
-abbrev pub NewFile : Elements → ℕ → Elements → Spot → Type 0
-NewFile p mode q spot = (q ≡ p) × ((id : ℕ) × (bytes : List ℕ) × (spot ≡ holds id mode bytes))
-
 -- every stop leaves what stands
 pub record IsSettled (v : View) : Type 0 where
   pub earlier : (q : Elements) → v.earlier q ≡ []

@@ -5,6 +5,7 @@ use Rattle.std.specs.Ordering.{is_lt, nat_cmp}
 use Rattle.std.specs.Cmp.Lexicographic.{slice_cmp}
 use Rattle.fp_host.specs.Paths.{Elements, Slot, absent, dir, file, link, is_element}
 use Rattle.fp_host.specs.View.{View, Inode}
+use Rattle.fp_host.specs.Calls.{IsFile}
 use Rattle.fp_host.specs.declared.host.HostError.{HostError}
 use Rattle.fp_host.specs.declared.host.HostError.TheVariants.{Failed, Clash, NoMemory}
 use Rattle.fp_host.specs.declared.host.Stat.{Stat}
@@ -58,12 +59,9 @@ IsRead v dir at into n = ⊥
 IsRead v (link text) at into n = ⊥
 IsRead v (file id) at into n = (f : Inode) × (v.files id ≡ Some f) × (n ≡ min (length into) (length f.bytes - at)) × (take n into ≡ take n (drop at f.bytes))
 
-abbrev pub IsAFile : Slot → Type 0
-IsAFile e = (id : ℕ) × (e ≡ file id)
-
 pub record ReadOf (p : Elements) (at : ℕ) (into : List ℕ) (result : Result ℕ HostError) (v w : View) : Type 0 where
   pub same : w ≡ v
-  pub tells : Reads (IsAFile (v.names p)) (λ n. IsRead v (v.names p) at into n) result
+  pub tells : Reads (IsFile (v.names p)) (λ n. IsRead v (v.names p) at into n) result
 
 pub record LinkOf (p : Elements) (result : Result (List ℕ) HostError) (v w : View) : Type 0 where
   pub same : w ≡ v

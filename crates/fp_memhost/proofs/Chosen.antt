@@ -19,11 +19,10 @@ use Rattle.fp_memhost.specs.declared.files.Content.{Content}
 use Rattle.fp_memhost.specs.Names.{IsAscending, slot_of, slot_in, held_in, is_at, name_at, names_of, earlier_of}
 use Rattle.fp_memhost.specs.Files.{has_id, file_at, inode_in, files_of}
 use Rattle.fp_memhost.specs.Images.{listed, slots_of, rows_of, number_for, bytes_for, numbered, chosen_slot, with_bytes, chosen_row, has_entry, is_open_file, can_choose, IsChosen}
-use Rattle.fp_memhost.specs.Opening.{first_row}
 use Rattle.fp_memhost.specs.Choosing.{entry_in, ChoosesNames, ChoosesFiles, bytes_of}
 use Rattle.fp_memhost.proofs.Finding.{append_hit, append_miss, find_none}
 use Rattle.fp_memhost.proofs.Judging.{entry_present}
-use Rattle.fp_memhost.proofs.Opened.{first_on, first_none}
+use Rattle.fp_memhost.proofs.Opened.{first_row, first_on, first_none}
 use Rattle.fp_memhost.proofs.Ordered.{compare, in_order}
 
 -- a list from one of its places on

@@ -1,10 +1,9 @@
 -- The conditions of calls, from what was looked up.
-use Rattle.std.proofs.Common.{◌≡◌, ◌≢◌, ◌↔◌, inl, inr, ℕ, ◌≤◌, ◌==◌, ◌&&◌, List, [], ◌∷◌, length, Bool, true, false, not, Option, Some, None, IsTrue, refl, sym, ◌∙◌, ap, subst, arith, leb}
+use Rattle.std.proofs.Common.{◌≡◌, ◌≢◌, ◌↔◌, inl, inr, ℕ, ◌&&◌, List, [], ◌∷◌, length, Bool, true, false, not, Option, Some, None, IsTrue, refl, sym, ◌∙◌, ap, subst}
 use Rattle.std.specs.Prelude.{is_some}
 use Rattle.std.specs.List.{list_all, list_any}
-use Rattle.std.specs.Str.{is_utf8}
-use Rattle.std.proofs.lemmas.Bool.{le-leb, false≢true, cases_Bool, cond-true, cond-false, or_parts, and_parts, or_cases, both_ways, false_from_ne_true, not_from_false, not-true}
-use Rattle.fp_host.specs.Paths.{Elements, Slot, absent, dir, file, elements_of, is_link_text, path_text, IsAbove}
+use Rattle.std.proofs.lemmas.Bool.{false≢true, cases_Bool, cond-true, cond-false, or_parts, and_parts, or_cases, both_ways, false_from_ne_true, not_from_false, not-true}
+use Rattle.fp_host.specs.Paths.{Elements, Slot, absent, dir, file, elements_of, path_text, IsAbove}
 use Rattle.fp_host.specs.View.{View, IsTree}
 use Rattle.fp_host.specs.Calls.{IsNoDir, IsFile, IsLeaf, HasFolder, Can, renames, removes_dir}
 use Rattle.fp_host.proofs.Separate.{path_decides, dir_cases}

@@ -17,7 +17,7 @@ use Rattle.fp_memhost.specs.Files.{has_id, file_at, inode_in, new_in, files_of, 
 use Rattle.fp_memhost.specs.Scenes.{view_from}
 use Rattle.fp_memhost.specs.Start.{root_alone, empty_view}
 use Rattle.fp_memhost.specs.Images.{listed, slots_of, rows_of, opened, IsImage}
-use Rattle.fp_memhost.specs.Opening.{is_folder, is_open, may_stand, built, AddsName, AddsNames, first_row, OpensFiles}
+use Rattle.fp_memhost.specs.Opening.{is_folder, is_open, may_stand, built, AddsName, AddsNames, OpensFiles}
 use Rattle.fp_memhost.proofs.Quiet.{quiet_tree}
 
 folder_is : (e : Slot) → is_folder e ≡ true → e ≡ dir
@@ -116,6 +116,11 @@ built_more left all old mid new x so is adds =
       low = omega arith;
       names = λ q. adds.names q ∙ ap (λ (s : Slot). cond (may_stand all x.0 && path_eq q x.0) (slot_of (Some x.1)) s) (so.names q) ∙ sym (ap (λ (l : List (Elements × Entry)). built all (names_of old) l q) cut);
     }
+
+-- the first of two rows
+abbrev pub first_row : Option Inode → Option Inode → Option Inode
+first_row None row = row
+first_row (Some f) row = Some f
 
 -- the files so far, and those that are left
 pub record FilesFrom (i : ℕ) (rows : List FileRow) (files : List Content) : Type 0 where

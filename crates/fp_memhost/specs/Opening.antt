@@ -1,7 +1,6 @@
 -- How an image is opened, name by name.
-use Rattle.std.specs.Prelude.{◌≡◌, ◌&&◌, ℕ, Bool, true, false, List, [], ◌∷◌, Option, Some, None, if◌then◌else◌}
+use Rattle.std.specs.Prelude.{◌≡◌, ◌&&◌, ℕ, Bool, true, false, List, [], ◌∷◌, Some, if◌then◌else◌}
 use Rattle.fp_host.specs.Paths.{Elements, Slot, absent, dir, file, link, path_eq}
-use Rattle.fp_host.specs.View.{Inode}
 use Rattle.fp_host.specs.declared.host.Entry.{Entry}
 use Rattle.fp_memhost.specs.declared.image.FileRow.{FileRow}
 use Rattle.fp_memhost.specs.declared.names.Name.{Name}
@@ -37,10 +36,6 @@ pub record AddsName (counts : Bool) (p : Elements) (e : Slot) (old new : List Na
 
 pub record AddsNames (listed : List (Elements × Entry)) (old new : List Name) : Type 0 where
   pub names : (q : Elements) → names_of new q ≡ built listed (names_of old) listed q
-
-abbrev pub first_row : Option Inode → Option Inode → Option Inode
-first_row None row = row
-first_row (Some f) row = Some f
 
 pub record OpensFiles (rows : List FileRow) (opened : List Content) : Type 0 where
   pub files : (id : ℕ) → files_of opened id ≡ rows_of rows id

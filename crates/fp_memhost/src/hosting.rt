@@ -24,7 +24,8 @@ impl Recorder for MemHost {
 }
 
 // Each call is the one of the trait, and says besides what it records: where it isn't to fail, it fails only for want of
-// memory for its own note, and then nothing changes; where it is, it leaves the view as it is to.
+// memory for its own note, and then nothing changes; where it is, it leaves the view as it is to. One that only reads needs no
+// note, so it is never starved.
 impl Host for MemHost {
     ghost moments = { λ m. Some (told_of m) };
 
@@ -38,6 +39,7 @@ impl Host for MemHost {
         ensures cause { HasCause (Some (told_of self.old)) self.old.faults self.new.faults result }
         ensures memory { NeedsNoMemory result }
         ensures records { Records FailsToRead AddsNone (story_of self.old) (story_of self.new) (told_of self.old) (told_of self.new) result }
+        ensures starved { (story_of self.new).starved ≡ (story_of self.old).starved }
     {
         let stat = stat_of(self.scene(), path);
         self.look(Ok(stat))
@@ -48,6 +50,7 @@ impl Host for MemHost {
         ensures names { IfOk result AreNames }
         ensures cause { HasCause (Some (told_of self.old)) self.old.faults self.new.faults result }
         ensures records { Records FailsToRead AddsNone (story_of self.old) (story_of self.new) (told_of self.old) (told_of self.new) result }
+        ensures starved { (story_of self.new).starved ≡ (story_of self.old).starved }
     {
         let names = list_of(alloc, self.scene(), path);
         self.look(names)
@@ -59,6 +62,7 @@ impl Host for MemHost {
         ensures cause { HasCause (Some (told_of self.old)) self.old.faults self.new.faults result }
         ensures memory { NeedsNoMemory result }
         ensures records { Records FailsToRead AddsNone (story_of self.old) (story_of self.new) (told_of self.old) (told_of self.new) result }
+        ensures starved { (story_of self.new).starved ≡ (story_of self.old).starved }
     {
         let many = read_of(self.scene(), path, at, into);
         self.look(many)
@@ -68,6 +72,7 @@ impl Host for MemHost {
         ensures step { Makes (LinkOf path.now result) (Some (told_of self.old)) (Some (told_of self.new)) }
         ensures cause { HasCause (Some (told_of self.old)) self.old.faults self.new.faults result }
         ensures records { Records FailsToRead AddsNone (story_of self.old) (story_of self.new) (told_of self.old) (told_of self.new) result }
+        ensures starved { (story_of self.new).starved ≡ (story_of self.old).starved }
     {
         let text = link_of(self.scene(), path);
         self.look(text)

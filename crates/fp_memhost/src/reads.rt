@@ -3,7 +3,8 @@ ghost use Rattle.std.specs.Prelude.{◌≡◌, ◌≢◌, ◌↔◌, ◌∷◌, 
 ghost use Rattle.std.specs.Option.{option_copied};
 ghost use Rattle.fp_host.specs.Paths.{absent, dir, file, link};
 ghost use Rattle.fp_host.specs.View.{IsTree};
-ghost use Rattle.fp_host.specs.Reads.{IsStat, HasBits, Reads, IsAFile, IsRead, AreNames};
+ghost use Rattle.fp_host.specs.Calls.{IsFile};
+ghost use Rattle.fp_host.specs.Reads.{IsStat, HasBits, Reads, IsRead, AreNames};
 ghost use Rattle.fp_memhost.specs.Names.{slot_of};
 ghost use Rattle.fp_memhost.specs.Stats.{IsOtherStat};
 ghost use Rattle.fp_memhost.specs.Scenes.{seen};
@@ -19,7 +20,7 @@ use std::alloc::Global;
 
 // The file's id, where the entry is one.
 fn file_id(entry: Option<&Entry>) -> Option<u64>
-    ensures { MatchOption result (IsAFile (slot_of (option_copied entry.entry)) → ⊥) (λ id. slot_of (option_copied entry.entry) ≡ file id) }
+    ensures { MatchOption result (IsFile (slot_of (option_copied entry.entry)) → ⊥) (λ id. slot_of (option_copied entry.entry) ≡ file id) }
 {
     match entry {
         Some(Entry::File(id)) => Some(*id),
@@ -29,7 +30,7 @@ fn file_id(entry: Option<&Entry>) -> Option<u64>
 
 // What stands where there is no file.
 fn other_stat(entry: Option<&Entry>) -> Stat
-    requires { IsAFile (slot_of (option_copied entry)) → ⊥ }
+    requires { IsFile (slot_of (option_copied entry)) → ⊥ }
     ensures tells { IsOtherStat (slot_of (option_copied entry.entry)) result }
     ensures bits { HasBits result }
 {
@@ -90,7 +91,7 @@ pub fn link_of(scene: &Scene, path: &Path) -> Result<Text, HostError>
 /// Bytes of the file, from a place on.
 pub fn read_of(scene: &Scene, path: &Path, at: u64, into: &mut [u8]) -> Result<usize, HostError>
     requires { IsTree (seen scene.now) }
-    ensures tells { Reads (IsAFile ((seen scene.now).names path.now))
+    ensures tells { Reads (IsFile ((seen scene.now).names path.now))
         (λ n. IsRead (seen scene.now) ((seen scene.now).names path.now) at into.new n) result }
     ensures bound { IfOk result (λ n. n ≤ length into.old) }
     ensures answers { (IsErrOf result HostError.Failed → ⊥) × (IsErrOf result HostError.NoMemory → ⊥) }

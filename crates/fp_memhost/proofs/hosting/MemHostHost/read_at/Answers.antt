@@ -1,6 +1,7 @@
 use Rattle.std.proofs.Common.{refl, sym, subst}
 use Rattle.fp_host.specs.View.{IsTree}
-use Rattle.fp_host.specs.Reads.{ReadOf, Reads, IsAFile, IsRead}
+use Rattle.fp_host.specs.Calls.{IsFile}
+use Rattle.fp_host.specs.Reads.{ReadOf, Reads, IsRead}
 use Rattle.fp_memhost.specs.declared.scene.Scene.{Scene}
 use Rattle.fp_memhost.specs.Scenes.{seen}
 use Rattle.fp_memhost.specs.Story.{FailsToRead}
@@ -13,7 +14,7 @@ read_of-many-requires c = subst (λ (s : Scene). IsTree (seen s)) (sym c.scene.e
 pub returns-clause-step : goal.returns-clause-step
 returns-clause-step c =
     let p = c.args.path.now in
-    let tells = subst (λ (s : Scene). Reads (IsAFile ((seen s).names p)) (λ n. IsRead (seen s) ((seen s).names p) c.args.at c.read_of-many.new.into n) c.read_of-many.result) c.scene.ensures c.read_of-many.ensures.tells in
+    let tells = subst (λ (s : Scene). Reads (IsFile ((seen s).names p)) (λ n. IsRead (seen s) ((seen s).names p) c.args.at c.read_of-many.new.into n) c.read_of-many.result) c.scene.ensures c.read_of-many.ensures.tells in
     reads_go (ReadOf p c.args.at c.read_of-many.new.into) c.args.self.now c.look.new.self c.read_of-many.result c.look.result c.look.ensures (record { same = refl; tells = tells }) (record { same = refl; tells = tt })
 
 pub returns-clause-records : goal.returns-clause-records
