@@ -1,6 +1,7 @@
 ghost use Rattle.std.specs.Prelude.{◌≡◌, length};
-ghost use Rattle.gv_value.specs.Tree.{array, leaf, byte_trees, eight as eight_content};
-ghost use Rattle.gv_value.specs.Parts.{part_tree, IsHeld};
+ghost use Rattle.gv_value.specs.Basics.{form_of};
+ghost use Rattle.gv_value.specs.Tree.{array, leaf, byte_trees, number as number_content, integer as integer_content, eight as eight_content};
+ghost use Rattle.gv_value.specs.Parts.{part_tree, IsHeld, IsHeldContent};
 ghost use Rattle.gv_value.specs.Views.{plain};
 
 use crate::basic::Basic;
@@ -31,6 +32,22 @@ pub enum Parts<'a> {
 }
 
 impl<'a> Parts<'a> {
+    fn of_number(of: Basic, number: u64) -> Parts<'a>
+        requires { IsHeldContent (form_of of) (Content.Number number) }
+        ensures tree { part_tree result ≡ leaf of (number_content number) }
+        ensures held { IsHeld result }
+    {
+        Parts::Basic(of, Content::Number(number))
+    }
+
+    fn of_integer(of: Basic, number: i64) -> Parts<'a>
+        requires { IsHeldContent (form_of of) (Content.Integer number) }
+        ensures tree { part_tree result ≡ leaf of (integer_content number) }
+        ensures held { IsHeld result }
+    {
+        Parts::Basic(of, Content::Integer(number))
+    }
+
     fn of_bytes(bytes: &'a [u8]) -> Parts<'a>
         ensures tree { part_tree result ≡ array (byte_trees bytes.now) }
         ensures held { IsHeld result }
@@ -62,29 +79,14 @@ impl GvValue {
     {
         match self {
             GvValue::Bool(truth) => Parts::Basic(Basic::Bool, Content::Truth(*truth)),
-            GvValue::Byte(number) => Parts::Basic(Basic::Byte, Content::Number(u64::from(*number))),
-            GvValue::Int16(number) => Parts::Basic(
-                Basic::Int16,
-                Content::Integer(i64::from(*number)),
-            ),
-            GvValue::Uint16(number) => Parts::Basic(
-                Basic::Uint16,
-                Content::Number(u64::from(*number)),
-            ),
-            GvValue::Int32(number) => Parts::Basic(
-                Basic::Int32,
-                Content::Integer(i64::from(*number)),
-            ),
-            GvValue::Uint32(number) => Parts::Basic(
-                Basic::Uint32,
-                Content::Number(u64::from(*number)),
-            ),
-            GvValue::Int64(number) => Parts::Basic(Basic::Int64, Content::Integer(*number)),
-            GvValue::Uint64(number) => Parts::Basic(Basic::Uint64, Content::Number(*number)),
-            GvValue::Handle(number) => Parts::Basic(
-                Basic::Handle,
-                Content::Integer(i64::from(*number)),
-            ),
+            GvValue::Byte(number) => Parts::of_number(Basic::Byte, u64::from(*number)),
+            GvValue::Int16(number) => Parts::of_integer(Basic::Int16, i64::from(*number)),
+            GvValue::Uint16(number) => Parts::of_number(Basic::Uint16, u64::from(*number)),
+            GvValue::Int32(number) => Parts::of_integer(Basic::Int32, i64::from(*number)),
+            GvValue::Uint32(number) => Parts::of_number(Basic::Uint32, u64::from(*number)),
+            GvValue::Int64(number) => Parts::of_integer(Basic::Int64, *number),
+            GvValue::Uint64(number) => Parts::of_number(Basic::Uint64, *number),
+            GvValue::Handle(number) => Parts::of_integer(Basic::Handle, i64::from(*number)),
             GvValue::Double(eight) => Parts::of_double(eight),
             GvValue::Str(text) => Parts::Basic(Basic::Str, Content::Text(text.as_str())),
             GvValue::ObjectPath(text) => Parts::Basic(

@@ -1,7 +1,7 @@
 -- A store whose objects are what their names say.
-use Rattle.std.specs.Prelude.{◌≡◌, ◌⊎◌, ℕ, List, ◌∷◌, ◌++◌, length, Bool, true, ◌&&◌, ◌||◌, ◌==◌, leb, codes}
+use Rattle.std.specs.Prelude.{◌≡◌, ◌⊎◌, ℕ, List, ◌∷◌, ◌++◌, length, Bool, true, ◌&&◌, ◌==◌, is_some, codes}
 use Rattle.std.specs.List.{list_all}
-use Rattle.fp_name.specs.Hex.{is_digest}
+use Rattle.fp_name.specs.Hex.{is_digest, digit_value}
 use Rattle.fp_host.specs.Paths.{Elements}
 use Rattle.fp_host.specs.Outcome.{Spot, gone, folder, Disk}
 use Rattle.ost_model.specs.declared.object.ObjKind.{ObjKind}
@@ -11,12 +11,9 @@ use Rattle.ost_model.specs.Objects.{object_path, Named}
 abbrev pub objects_folder : Elements → Elements
 objects_folder root = codes "objects" ∷ root
 
--- `0` to `9` and `a` to `f`
-abbrev pub is_lower_digit : ℕ → Bool
-is_lower_digit c = (leb 48 c && leb c 57) || (leb 97 c && leb c 102)
-
+-- two hexadecimal digits in lower case
 abbrev pub is_prefix : List ℕ → Bool
-is_prefix name = length name == 2 && list_all is_lower_digit name
+is_prefix name = length name == 2 && list_all (λ c. is_some (digit_value c)) name
 
 -- an object's name, with the object that it names
 pub record IsObject (root path : Elements) (spot : Spot) : Type 0 where

@@ -20,13 +20,17 @@ use Rattle.ost_object.specs.declared.error.ObjectError.{ObjectError}
 use Rattle.ost_object.specs.declared.error.ObjectError.TheVariants as errors
 use Rattle.ost_object.specs.Writes.{HasNoSpelling, Refuses}
 use Rattle.gv_value.proofs.Exact.{spells_values}
-use Rattle.ost_object.specs.Values.{text_value, time_value, bytes_value, commit_value}
+use Rattle.ost_object.specs.Values.{text_value, time_value, bytes_value}
 use Rattle.ost_object.proofs.OneValue.{text_is, time_is, bytes_are}
 use Rattle.ost_object.proofs.Rows.{bytes_back}
 use Rattle.ost_object.proofs.Written.{twice_8, read, read_is}
 
 abbrev eight : Tree → Tree → Tree → Tree → Tree → Tree → Tree → Tree → Tree
 eight a p r s b t d m = Tree.tuple (tree a (tree p (tree r (tree s (tree b (tree t (tree d (tree m no_trees))))))))
+
+-- the value that a commit is, by what it says
+abbrev pub commit_value : CommitView → Tree
+commit_value c = eight c.metadata (bytes_value c.parent) c.related (text_value c.subject) (text_value c.body) (time_value c.timestamp) (bytes_value c.tree) (bytes_value c.meta)
 
 -- ---- what a commit's members say
 

@@ -8,7 +8,7 @@ use Rattle.gv_value.specs.Tree.{Tree, Trees, no_trees, tree}
 use Rattle.gv_value.proofs.Lists.{then_some, map_some}
 use Rattle.ost_model.specs.Fields.{FileRow, DirRow, TreeView, text_in, items_in, bytes_in, each_of, file_in, dir_in, tree_in}
 use Rattle.ost_model.specs.Readers.{is_long}
-use Rattle.ost_object.specs.Values.{text_value, bytes_value, each_value, file_value, dir_value, tree_value}
+use Rattle.ost_object.specs.Values.{text_value, bytes_value, each_value, file_value, dir_value}
 use Rattle.ost_object.proofs.OneValue.{text_is, items_are, bytes_are, each_are, each_says}
 use Rattle.ost_object.proofs.Rows.{bytes_back}
 
@@ -83,6 +83,10 @@ dirs_are : (v : Tree) (ds : List DirRow) → dirs_in v ≡ Some ds → v ≡ Tre
 dirs_are v ds is =
     let items = then_some (each_of dir_in) (items_in v) ds is in
     items_are v items.0 items.1 ∙ ap (λ (x : Trees). Tree.array x) (each_are dir_in dir_value dir_is items.0 ds items.2)
+
+-- the value that a dirtree is, by what it says
+abbrev pub tree_value : TreeView → Tree
+tree_value v = pair (Tree.array (each_value file_value v.files)) (Tree.array (each_value dir_value v.dirs))
 
 pub tree_is : (v : Tree) (y : TreeView) → tree_in v ≡ Some y → v ≡ tree_value y
 tree_is (Tree.tuple (tree files (tree dirs no_trees))) y is =

@@ -4,7 +4,7 @@ use Rattle.std.specs.Int.{w32, w64, swap_bytes}
 use Rattle.gv_value.specs.declared.basic.Basic.TheVariants as basics
 use Rattle.gv_value.specs.Tree.{Content, Tree, Trees, no_trees, tree, byte_trees}
 use Rattle.gv_value.specs.Views.{trees_from}
-use Rattle.ost_model.specs.Fields.{CommitView, FileRow, DirRow, TreeView, MetaView}
+use Rattle.ost_model.specs.Fields.{FileRow, DirRow, MetaView}
 
 -- of type `u`, as OSTree keeps it: big endian
 abbrev pub number_value : ℕ → Tree
@@ -32,10 +32,3 @@ file_value f = Tree.tuple (tree (text_value f.name) (tree (bytes_value f.digest)
 
 abbrev pub dir_value : DirRow → Tree
 dir_value d = Tree.tuple (tree (text_value d.name) (tree (bytes_value d.tree) (tree (bytes_value d.meta) no_trees)))
-
-abbrev pub tree_value : TreeView → Tree
-tree_value v = Tree.tuple (tree (Tree.array (each_value file_value v.files)) (tree (Tree.array (each_value dir_value v.dirs)) no_trees))
-
-abbrev pub commit_value : CommitView → Tree
-commit_value c = Tree.tuple (tree c.metadata (tree (bytes_value c.parent) (tree c.related (tree (text_value c.subject) (tree (text_value c.body)
-    (tree (time_value c.timestamp) (tree (bytes_value c.tree) (tree (bytes_value c.meta) no_trees))))))))

@@ -35,17 +35,24 @@ impl Side {
         }
     }
 
+    /// Whether it was never called.
+    fn is_untouched(&self) -> bool {
+        self.calls.load(Ordering::SeqCst) == 0
+    }
+
     /// Whether it was called once and saw the other's flag.
     fn has_met(&self) -> bool {
         self.calls.load(Ordering::SeqCst) == 1 && self.met.load(Ordering::SeqCst)
     }
 }
 
-/// A gate at which each half raises its flag and looks for the other's, a thousand million times at most.
+/// A gate at which each half raises its flag and looks for the other's, a thousand million times at most. It counts the
+/// calls for what is neither half.
 #[derive(Drop)]
 pub struct Meeting {
     first: Side,
     second: Side,
+    strays: AtomicU64,
 }
 
 impl Meeting {
@@ -53,18 +60,22 @@ impl Meeting {
         Meeting {
             first: Side::new(),
             second: Side::new(),
+            strays: AtomicU64::new(0),
         }
     }
 
-    /// Whether each half was called once and saw the other's flag.
+    /// Whether each half was called once and saw the other's flag, and nothing else was called.
     pub fn both_met(&self) -> bool {
-        self.first.has_met() && self.second.has_met()
+        self.first.has_met() && self.second.has_met() && self.has_no_strays()
     }
 
-    /// Whether neither half was called.
+    /// Whether nothing was called.
     pub fn is_untouched(&self) -> bool {
-        self.first.calls.load(Ordering::SeqCst) == 0
-            && self.second.calls.load(Ordering::SeqCst) == 0
+        self.first.is_untouched() && self.second.is_untouched() && self.has_no_strays()
+    }
+
+    fn has_no_strays(&self) -> bool {
+        self.strays.load(Ordering::SeqCst) == 0
     }
 }
 
@@ -72,7 +83,10 @@ impl Gate for Meeting {
     fn reach(&self, half: u32) {
         match half {
             0 => self.first.meet(&self.second),
-            _ => self.second.meet(&self.first),
+            1 => self.second.meet(&self.first),
+            _ => {
+                self.strays.fetch_add(1, Ordering::SeqCst);
+            }
         }
     }
 }

@@ -7,9 +7,9 @@ use Rattle.ost_model.specs.Readers.{commit_breaks}
 use Rattle.ost_model.specs.Types.{related_shape, commit_shape}
 use Rattle.ost_object.specs.declared.error.ObjectError.{ObjectError}
 use Rattle.ost_object.specs.Copies.{Copies}
-use Rattle.ost_object.specs.Values.{text_value, time_value, commit_value}
+use Rattle.ost_object.specs.Values.{text_value, time_value}
 use Rattle.ost_object.specs.Views.{commit_view}
-use Rattle.ost_object.proofs.OneCommit.{no_related, commit_is, commit_says, same_members}
+use Rattle.ost_object.proofs.OneCommit.{commit_value, no_related, commit_is, commit_says, same_members}
 use Rattle.ost_object.proofs.Written.{written, spells_as}
 use Rattle.ost_object.proofs.writing_commits.with_metadata.Goals as goal
 

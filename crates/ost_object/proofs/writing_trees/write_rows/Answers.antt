@@ -2,9 +2,8 @@ use Rattle.std.proofs.Common.{sym, ◌∙◌, refl}
 use Rattle.ost_model.specs.Fields.{tree_in}
 use Rattle.ost_model.specs.Readers.{tree_breaks}
 use Rattle.ost_model.specs.Types.{tree_shape}
-use Rattle.ost_object.specs.Values.{tree_value}
 use Rattle.ost_object.specs.Views.{rows_view}
-use Rattle.ost_object.proofs.OneTree.{tree_is, tree_says, rows_are}
+use Rattle.ost_object.proofs.OneTree.{tree_value, tree_is, tree_says, rows_are}
 use Rattle.ost_object.proofs.Trees.{names_left}
 use Rattle.ost_object.proofs.Written.{refused, written, spells_as}
 use Rattle.ost_object.proofs.writing_trees.write_rows.Goals as goal
