@@ -2,7 +2,7 @@
 use Rattle.std.proofs.Common.{◌≡◌, ◌≢◌, inl, inr, ℕ, Option, Some, None, Result, Ok, refl, sym, ◌∙◌, ap, subst}
 use Rattle.fp_host.specs.Paths.{Elements, Slot, absent, dir, file, link, at, IsAbove}
 use Rattle.fp_host.specs.View.{View, Inode, IsTree}
-use Rattle.fp_host.specs.Calls.{syncs, Step, IsNoDir, IsLeaf}
+use Rattle.fp_host.specs.Calls.{syncs, Step, IsNoDir}
 use Rattle.fp_host.specs.Reads.{StatOf}
 use Rattle.fp_host.specs.Outcome.{Spot, gone, holding, spot_of, Nothing, IsSettled, shows}
 use Rattle.fp_host.specs.Frame.{Keeps, Frame, NoPath}
@@ -17,28 +17,19 @@ use Rattle.fp_host.proofs.Ending.{goes_last}
 use Rattle.fp_host.proofs.Separate.{absent_cases}
 use Rattle.fp_host.proofs.Settled.{at_tree}
 use Rattle.fp_small.specs.Places.{tmp}
-use Rattle.fp_small.specs.Clear.{GoneBelow, AbsentBelow, IsEmptied, CanEmpty}
+use Rattle.fp_small.specs.Clear.{GoneAt, AbsentAt, GoneBelow, AbsentBelow, IsEmptied, CanEmpty}
 use Rattle.fp_small.specs.declared.state.State.{State}
 use Rattle.fp_small.proofs.Keeping.{files_stay, files_on, files_kept}
-use Rattle.fp_small.proofs.Making.{stat_absent, stat_there}
+use Rattle.fp_small.proofs.Making.{stat_there}
 use Rattle.dep_states.specs.Names.{config, remotes_conf, pins_file}
 use Rattle.dep_states.specs.Zones.{Zone, anything, a_file, a_folder, Fits, Allowed, IsFileOrGone}
 use Rattle.dep_states.specs.Sound.{Sound, Opens, Fixed, is_config, is_old, IsOld, is_remotes, is_pins, Spares, HasConfig, OldGone}
 use Rattle.dep_states.proofs.Law.{follows_opens, follows_sound, follows_config, spares_nothing, old_go, settled_config, now_left}
 use Rattle.dep_open.specs.Open.{NoName}
-use Rattle.dep_open.specs.Tidy.{TakenAway, left_work, old_file, Tidies, IsTidy, HasNoOld, OldAbsent, TakesOld, CanTakeOld, GoneAt, AbsentAt}
+use Rattle.dep_open.specs.Tidy.{TakenAway, left_work, old_file, Tidies, IsTidy, HasNoOld, OldAbsent, TakesOld, CanTakeOld}
 use Rattle.dep_open.proofs.Synced.{synced}
 
 -- ---- slots
-
-pub leaf_there : (e : Slot) → IsNoDir e → (e ≡ absent → ⊥) → IsLeaf e
-leaf_there absent no_dir there = absurd (there refl)
-leaf_there dir no_dir there = absurd no_dir
-leaf_there (file id) no_dir there = tt
-leaf_there (link text) no_dir there = tt
-
-pub stat_gone : {p : Elements} {s : Stat} {v w : View} → s ≡ Absent → StatOf p (Ok s) v w → w.names p ≡ absent
-stat_gone {p = p} {v = v} {w = w} is stat = ap (λ (x : View). x.names p) stat.same ∙ stat_absent (subst (λ r. StatOf p (Ok r) v w) is stat)
 
 held_there : (id : ℕ) (row : Option Inode) → row ≢ None → holding id row ≡ gone → ⊥
 held_there id None some is = some refl

@@ -4,7 +4,6 @@ use Rattle.std.specs.Prelude.{◌≡◌, ◌≢◌, ◌⊎◌}
 use Rattle.fp_host.specs.Paths.{Elements, Slot, absent, IsAbove}
 use Rattle.fp_host.specs.View.{View}
 use Rattle.fp_host.specs.Calls.{IsNoDir}
-use Rattle.fp_host.specs.Outcome.{Spot, gone}
 use Rattle.fp_host.specs.Frame.{Keeps, NoPath}
 use Rattle.fp_small.specs.Places.{tmp}
 use Rattle.fp_small.specs.Files.{KeepsFiles}
@@ -36,13 +35,6 @@ pub record IsTidy (v : View) : Type 0 where
   pub old : v.names config ≢ absent → (v.names remotes_conf ≡ absent) × (v.names pins_file ≡ absent)
 
 -- ---- its steps
-
--- the path goes
-abbrev pub GoneAt : Elements → Elements → Spot → Type 0
-GoneAt p q spot = (q ≡ p) × (spot ≡ gone)
-
-abbrev pub AbsentAt : Elements → Elements → Slot → Type 0
-AbsentAt p q e = (q ≡ p) × (e ≡ absent)
 
 -- a file of layout 1 goes
 abbrev pub OldAbsent : Elements → Slot → Type 0

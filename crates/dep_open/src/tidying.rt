@@ -1,19 +1,17 @@
 // An opened installation before it is changed.
 ghost use Rattle.std.specs.Prelude.{◌≡◌, IfOk, OnOk, IsErrOf};
-ghost use Rattle.fp_host.specs.Paths.{absent};
-ghost use Rattle.fp_host.specs.Calls.{IsNoDir};
 ghost use Rattle.fp_host.specs.Causes.{IsCaused};
 ghost use Rattle.fp_host.specs.Frame.{Frame, Ends, NoPath};
 ghost use Rattle.fp_host.specs.Moments.{Goes};
 ghost use Rattle.fp_small.specs.Places.{tmp};
 ghost use Rattle.fp_small.specs.Clear.{GoneBelow, AbsentBelow, IsEmptied, CanEmpty};
 ghost use Rattle.dep_states.specs.Sound.{Opens};
-ghost use Rattle.dep_open.specs.Tidy.{Tidies, IsTidy, GoneAt, AbsentAt, TakesOld, HasNoOld, CanTakeOld};
+ghost use Rattle.dep_open.specs.Tidy.{Tidies, IsTidy, TakesOld, HasNoOld, CanTakeOld};
 
 use crate::reading::{config_path, pins_path, remotes_path};
 use dep_states::Opened;
 use fp_host::{Host, HostEnd, Path, Stat};
-use fp_small::clear_below;
+use fp_small::{clear_below, take_away};
 use std::alloc::Global;
 
 /// Syncs, and takes away the work that was left in `repo/tmp`, and where `config` is there the files of layout 1. Every
@@ -55,17 +53,5 @@ fn take_old_files<H: Host>(alloc: Global, host: &mut H) -> Result<(), HostEnd>
             take_away(host, &remotes)?;
             take_away(host, &pins)
         }
-    }
-}
-
-/// Takes the file away, where it is there.
-fn take_away<H: Host>(host: &mut H, path: &Path) -> Result<(), HostEnd>
-    ensures frame { Frame (GoneAt path.now) (AbsentAt path.now) NoPath (H.moments host.old) (H.moments host.new) }
-    ensures done { OnOk result (Ends (λ u w. w.names path.now ≡ absent) (H.moments host.old) (H.moments host.new)) }
-    ensures cause { IsCaused (IsErrOf result HostEnd.Fault) (H.moments host.old) (λ v. IsNoDir (v.names path.now)) (H.faults host.old) (H.faults host.new) }
-{
-    match host.stat(path)? {
-        Stat::Absent => Ok(()),
-        _ => Ok(host.unlink(path)?),
     }
 }

@@ -1,11 +1,11 @@
 -- Names that are taken away, with all that is below them.
 use Rattle.std.proofs.Common.{◌≡◌, ◌≢◌, ◌⊎◌, inl, inr, ℕ, ◌+◌, ◌-◌, ◌<◌, ◌≤◌, List, [], ◌∷◌, length, take, get_or, Ok, refl, sym, ◌∙◌, ap, subst, Contains, arith}
-use Rattle.std.proofs.lemmas.List.{take_more, take_all}
+use Rattle.std.proofs.lemmas.List.{take_more}
 use Rattle.std.proofs.lemmas.List.Elements.{Contains-push_cases, Contains-get_or}
 use Rattle.fp_host.specs.Paths.{Elements, Slot, absent, dir, file, link, IsAbove}
 use Rattle.fp_host.specs.View.{View, IsTree}
-use Rattle.fp_host.specs.Calls.{unlinks, removes_dir, Step, Can, IsLeaf}
-use Rattle.fp_host.specs.Reads.{StatOf, ListOf, IsStat}
+use Rattle.fp_host.specs.Calls.{unlinks, removes_dir, Step, Can, IsLeaf, IsNoDir}
+use Rattle.fp_host.specs.Reads.{StatOf, IsStat}
 use Rattle.fp_host.specs.declared.host.Stat.{Stat}
 use Rattle.fp_host.specs.declared.host.Stat.TheVariants.{Absent, Dir}
 use Rattle.fp_host.proofs.Separate.{set_same, absent_cases}
@@ -22,7 +22,7 @@ pub within_child : (x : List ℕ) (p q : Elements) → IsWithin (x ∷ p) q → 
 within_child x p q (inl is) = subst (IsAbove p) (sym is) (inl refl)
 within_child x p q (inr above) = below_child x p q above
 
-above_longer : (p q : Elements) → IsAbove p q → length p < length q
+pub above_longer : (p q : Elements) → IsAbove p q → length p < length q
 above_longer p [] above = absurd above
 above_longer p (x ∷ up) (inl is) = omega (arith, ap length is)
 above_longer p (x ∷ up) (inr higher) = omega (arith, above_longer p up higher)
@@ -51,6 +51,13 @@ unlinked {p = p} {v = v} step = ap (λ (x : View). x.names p) step.how.1 ∙ set
 
 pub dir_removed : {p : Elements} {v w : View} → Step (removes_dir p) (Ok tt) v w → w.names p ≡ absent
 dir_removed {p = p} {v = v} step = ap (λ (x : View). x.names p) step.how.1 ∙ set_same v.names p absent p refl
+
+-- what is there and no folder may be unlinked
+pub leaf_there : (e : Slot) → IsNoDir e → (e ≡ absent → ⊥) → IsLeaf e
+leaf_there absent no_dir there = absurd (there refl)
+leaf_there dir no_dir there = absurd no_dir
+leaf_there (file id) no_dir there = tt
+leaf_there (link text) no_dir there = tt
 
 leaf_of : (v : View) (e : Slot) (s : Stat) → IsStat v e s → (s ≡ Absent → ⊥) → (s ≡ Dir → ⊥) → IsLeaf e
 leaf_of v absent s is some no_dir = absurd (some is)

@@ -24,6 +24,9 @@ absent_of v (file id) s = absurd (cc s.2)
 pub stat_absent : {p : Elements} {v w : View} → StatOf p (Ok Absent) v w → v.names p ≡ absent
 stat_absent {p = p} {v = v} stat = absent_of v (v.names p) stat.tells.1
 
+pub stat_gone : {p : Elements} {s : Stat} {v w : View} → s ≡ Absent → StatOf p (Ok s) v w → w.names p ≡ absent
+stat_gone {p = p} {v = v} {w = w} is stat = ap (λ (x : View). x.names p) stat.same ∙ stat_absent (subst (λ r. StatOf p (Ok r) v w) is stat)
+
 there_of : (v : View) (e : Slot) (s : Stat) → IsStat v e s → (s ≡ Absent → ⊥) → e ≡ absent → ⊥
 there_of v absent s is off none = off is
 there_of v dir s is off none = cc none

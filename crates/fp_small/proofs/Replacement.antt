@@ -10,7 +10,7 @@ use Rattle.std.specs.Prelude.{◌||◌, ◌==◌, ◌%◌, not, leb}
 use Rattle.std.proofs.lemmas.Fmt.{length-decimal-le, decimal_by_steps}
 use Rattle.std.proofs.lemmas.List.Folds.{list_all-append}
 use Rattle.std.proofs.lemmas.List.Elements.{Contains-append_cases, Contains-append_right, Contains-append_left, Contains-push, Contains-push_cases}
-use Rattle.fp_host.specs.Paths.{Elements, Slot, absent, dir, file, IsAbove, is_element, is_name_byte}
+use Rattle.fp_host.specs.Paths.{Elements, absent, dir, file, IsAbove, is_element, is_name_byte}
 use Rattle.fp_host.specs.View.{View, IsTree}
 use Rattle.fp_host.specs.Calls.{HasFolder, IsNoDir}
 use Rattle.fp_host.specs.Frame.{Keeps, AnyAt, AnyHeld, Only, NoPath}
@@ -21,7 +21,7 @@ use Rattle.fp_small.specs.Folders.{ancestors, FoldersAt, DirsAt, AreDirs, IsLadd
 use Rattle.fp_small.specs.Stage.{IsReady, WasStaged, CanStage}
 use Rattle.fp_small.specs.Move.{Moves, WasMoved, CanMove}
 use Rattle.fp_small.specs.Naming.{IsFirstFree, ListsIn}
-use Rattle.fp_small.specs.Replace.{IsStaging, folders_of, ReplacesAt, ReplacesName, Replaces, WasReplaced, CanReplace}
+use Rattle.fp_small.specs.Replace.{IsStaging, folders_of, ReplacesAt, ReplacesName, Replaces, WasReplaced, IsFreeFile, CanReplace}
 use Rattle.fp_small.proofs.Keeping.{files_framed}
 
 -- the names that are tried may be elements of a path
@@ -114,7 +114,7 @@ last_ancestor (x ∷ y ∷ up) = ap (λ k. ancestors (drop k (x ∷ y ∷ up))) 
     minus_one n = omega arith
 
 -- the folders that are made stand one in another
-ladder_above : (p : Elements) → IsLadder (ancestors p)
+pub ladder_above : (p : Elements) → IsLadder (ancestors p)
 ladder_above [] i x up low at = absurd (omega arith)
 ladder_above (y ∷ []) i x up low at = absurd (omega arith)
 ladder_above (y ∷ z ∷ rest) i x up low at = elim (cases_lt i (length (ancestors (z ∷ rest)))) [
@@ -178,6 +178,11 @@ module _ (p : Elements) (bytes : List ℕ) where
       (λ q h. subst (IsStaging u) (sym h) staging)
       (λ q id a h. one_staging a staging) (moves.keeps bytes ready)))
 
+-- what is free for a file is no folder
+pub free_no_dir : (p : Elements) (v : View) → IsFreeFile p v → IsNoDir (v.names p)
+free_no_dir p v (inl none) = subst IsNoDir (sym none) tt
+free_no_dir p v (inr is) = subst IsNoDir (sym is.1) tt
+
 -- where the file may be written, its staging name and its own are none of the folders
 module _ (p place : Elements) (u : View) (can : CanReplace p u) (staging : IsStaging u place) where
   off_folders : Contains (folders_of p) place → ⊥
@@ -236,10 +241,6 @@ module _ (p place : Elements) (u : View) (can : CanReplace p u) (staging : IsSta
           place_some : place ≡ [] → ⊥
           place_some none = absurd (cc (sym staging.is ∙ none))
 
-      no_dir_own : (e : Slot) → (e ≡ absent) ⊎ ((id : ℕ) × (e ≡ file id)) → IsNoDir e
-      no_dir_own e (inl none) = subst IsNoDir (sym none) tt
-      no_dir_own e (inr f) = subst IsNoDir (sym f.1) tt
-
       -- the new file is another than the one that is there
       other : w.names place ≢ w.names p
       other same =
@@ -255,7 +256,7 @@ module _ (p place : Elements) (u : View) (can : CanReplace p u) (staging : IsSta
         bytes = bytes;
         ready = staged.ready;
         above = above_own p refl;
-        no_dir = no_dir_own (w.names p) (elim can.entry [ inl none ↦ inl (own_kept ∙ none) | inr f ↦ inr (f.0, own_kept ∙ f.1) ]);
+        no_dir = subst IsNoDir (sym own_kept) (free_no_dir p u can.entry);
         apart = apart;
         other = other;
       }

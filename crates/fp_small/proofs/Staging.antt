@@ -3,7 +3,7 @@ use Rattle.std.proofs.Common.{◌≡◌, inl, inr, ℕ, List, [], true, Option, 
 use Rattle.std.proofs.lemmas.Bool.{false≢true}
 use Rattle.fp_host.specs.Paths.{Elements, Slot, absent, file, set_at}
 use Rattle.fp_host.specs.View.{View, Inode, IsTree}
-use Rattle.fp_host.specs.Calls.{IsDirty, IsFile, IsLeaf, Can, appends, syncs, renames, grow, grown, put, Step, Creates}
+use Rattle.fp_host.specs.Calls.{IsDirty, IsLeaf, Can, appends, syncs, renames, grow, grown, put, Step, Creates}
 use Rattle.fp_host.specs.Outcome.{Spot, spot_of, holding, GivesOf, IsSettled}
 use Rattle.fp_host.specs.declared.host.HostError.{HostError}
 use Rattle.fp_host.proofs.Separate.{set_same, set_other, file_same}
@@ -76,7 +76,7 @@ rename_gives ready q spot (inl h) = inl (
 )
 
 rename_puts : {from to : Elements} {bytes : List ℕ} {v : View} → IsReady from bytes v → (q : Elements) (e : Slot) → PutsOf (renames from to) v q e → MovesName from to q e
-rename_puts ready q e (inl h) = inl (h.0, subst IsFile (sym (h.1 ∙ ready.name)) tt)
+rename_puts ready q e (inl h) = inl (h.0, (ready.id, h.1 ∙ ready.name))
 rename_puts ready q e (inr h) = inr h
 
 pub moves_rename : {from to : Elements} {r : Result (Unit {0}) HostError} {v w : View} → IsTree v → Step (renames from to) r v w → Moves from to v w

@@ -1,18 +1,25 @@
--- Names that are taken away, with all that is below them.
+-- Names that are taken away, alone or with all that is below them.
 use Rattle.std.specs.Prelude.{◌≡◌, ◌≢◌, ◌⊎◌, ◌≤◌, ◌+◌, ℕ, [], length}
 use Rattle.fp_host.specs.Paths.{Elements, Slot, absent, IsAbove}
 use Rattle.fp_host.specs.View.{View}
 use Rattle.fp_host.specs.Outcome.{Spot, gone}
 
+-- a stop may leave nothing at the path
+abbrev pub GoneAt : Elements → Elements → Spot → Type 0
+GoneAt p q spot = (q ≡ p) × (spot ≡ gone)
+
+-- the name may come to be absent
+abbrev pub AbsentAt : Elements → Elements → Slot → Type 0
+AbsentAt p q e = (q ≡ p) × (e ≡ absent)
+
 -- the path, or one below it
 abbrev pub IsWithin : Elements → Elements → Type 0
 IsWithin p q = (q ≡ p) ⊎ IsAbove p q
 
--- a stop may leave nothing at the path and below it
+-- the same at the path and below it
 abbrev pub GoneWithin : Elements → Elements → Spot → Type 0
 GoneWithin p q spot = IsWithin p q × (spot ≡ gone)
 
--- the names there may come to be absent
 abbrev pub AbsentWithin : Elements → Elements → Slot → Type 0
 AbsentWithin p q e = IsWithin p q × (e ≡ absent)
 

@@ -1,6 +1,6 @@
 -- A small file that is written anew.
 use Rattle.std.specs.Prelude.{◌≡◌, ◌≢◌, ◌⊎◌, ◌<◌, ℕ, List, ◌∷◌, ◌++◌, [], Contains}
-use Rattle.fp_host.specs.Paths.{Elements, Slot, absent, dir, file, IsAbove}
+use Rattle.fp_host.specs.Paths.{Elements, Slot, absent, dir, IsAbove}
 use Rattle.fp_host.specs.View.{View}
 use Rattle.fp_host.specs.Calls.{IsFile}
 use Rattle.fp_host.specs.Outcome.{Spot, folder, IsSettled}
@@ -42,9 +42,13 @@ pub record WasReplaced (p : Elements) (bytes : List ℕ) (u w : View) : Type 0 w
   pub settled : IsSettled w
   pub work : (q : Elements) → IsStaging u q → w.names q ≡ absent
 
+-- nothing stands at the path, or a file
+abbrev pub IsFreeFile : Elements → View → Type 0
+IsFreeFile p v = (v.names p ≡ absent) ⊎ IsFile (v.names p)
+
 -- where the file may be written
 pub record CanReplace (p : Elements) (v : View) : Type 0 where
-  pub entry : (v.names p ≡ absent) ⊎ ((id : ℕ) × (v.names p ≡ file id))
+  pub entry : IsFreeFile p v
   pub folders : AreFree (folders_of p) v
   pub no_root : p ≢ []
   pub no_repo : p ≢ repo

@@ -1,6 +1,7 @@
 //! The small files of an installation, and what it holds apart from its objects.
 #![tactic(auto)]
 
+mod above;
 mod clearing;
 mod config;
 mod config_reading;
@@ -14,7 +15,9 @@ mod ordering;
 mod refusal;
 mod replacing;
 mod state;
+mod taking;
 
+pub use above::make_above;
 pub use clearing::{clear, clear_below};
 pub use config::{ConfigFault, Settings};
 pub use config_reading::{MOST_PINS, MOST_REMOTES, read_config};
@@ -27,6 +30,7 @@ pub use ordering::{has_pin, has_remote, insert_pin, insert_remote, remove_pin, r
 pub use refusal::{Refusal, What};
 pub use replacing::replace;
 pub use state::{Layout, OverrideRow, Previous, RefRow, RemoteRow, State};
+pub use taking::take_away;
 
 #[cfg(test)]
 mod tests;

@@ -3,7 +3,7 @@ ghost use Rattle.std.specs.Prelude.{◌≡◌, ◌≤◌, ℕ, List, IfOk, IsErr
 ghost use Rattle.fp_host.specs.Causes.{IsCaused};
 ghost use Rattle.fp_host.specs.Frame.{Ends, Still};
 ghost use Rattle.fp_small.specs.Load.{Loads, IsWhole};
-ghost use Rattle.fp_host.specs.Reads.{IsAFile};
+ghost use Rattle.fp_host.specs.Calls.{IsFile};
 
 use fp_host::{Blob, Host, HostEnd, Path, Stat};
 use std::alloc::Global;
@@ -38,7 +38,7 @@ pub fn load<H: Host>(alloc: Global, host: &mut H, path: &Path, max: u64) -> Resu
 fn read_whole<H: Host>(alloc: Global, host: &mut H, path: &Path, size: u64) -> Result<Blob, HostEnd>
     ensures still { Still (H.moments host.old) (H.moments host.new) }
     ensures tells { IfOk result (λ bytes. Ends (λ u w. IsWhole path.now size u bytes) (H.moments host.old) (H.moments host.new)) }
-    ensures cause { IsCaused (IsErrOf result HostEnd.Fault) (H.moments host.old) (λ v. IsAFile (v.names path.now)) (H.faults host.old) (H.faults host.new) }
+    ensures cause { IsCaused (IsErrOf result HostEnd.Fault) (H.moments host.old) (λ v. IsFile (v.names path.now)) (H.faults host.old) (H.faults host.new) }
 {
     let mut bytes = vec![in alloc; 0u8; size as usize]?;
     let count = host.read_at(path, 0, &mut bytes)?;

@@ -33,7 +33,7 @@ fn make_folder<H: Host>(host: &mut H, path: &Path) -> Result<(), HostEnd>
 }
 
 /// Makes the folders where they are absent, in this order.
-fn make_folders<H: Host>(host: &mut H, paths: &[Path]) -> Result<(), HostEnd>
+pub(crate) fn make_folders<H: Host>(host: &mut H, paths: &[Path]) -> Result<(), HostEnd>
     ensures frame { Frame (FoldersAt paths.now) (DirsAt paths.now) NoPath (H.moments host.old) (H.moments host.new) }
     ensures done { OnOk result (Ends (λ u w. AreFree paths.now u → AreDirs paths.now w) (H.moments host.old) (H.moments host.new)) }
     ensures cause { IsCaused (IsErrOf result HostEnd.Fault) (H.moments host.old) (λ v. IsLadder paths.now × AreFree paths.now v) (H.faults host.old) (H.faults host.new) }
@@ -131,7 +131,7 @@ fn tmp_path(alloc: Global) -> Result<Path, AllocError>
 }
 
 /// The folders above a path, the outermost first, without the root.
-fn ancestors(alloc: Global, path: &Path) -> Result<Vec<Path>, AllocError>
+pub(crate) fn ancestors(alloc: Global, path: &Path) -> Result<Vec<Path>, AllocError>
     ensures { IfOk result (λ folders. folders.items ≡ ancestors path.now) }
 {
     let mut folders = Vec::new(alloc);

@@ -1,31 +1,20 @@
 -- Refs that are dropped, and read behind a change.
-use Rattle.std.proofs.Common.{◌≡◌, inl, inr, ℕ, List, Ok, refl, sym, ◌∙◌, ap, subst, true, Option}
-use Rattle.fp_host.specs.Paths.{Elements, Slot, absent}
+use Rattle.std.proofs.Common.{◌≡◌, inl, ℕ, List, Ok, refl, ◌∙◌, ap, subst, true, Option}
+use Rattle.fp_host.specs.Paths.{Elements, absent}
 use Rattle.fp_host.specs.View.{View, IsTree}
-use Rattle.fp_host.specs.Calls.{Can, unlinks, syncs, Step, IsLeaf}
+use Rattle.fp_host.specs.Calls.{syncs, Step}
 use Rattle.fp_host.specs.Outcome.{spot_of, shows, Leaves}
-use Rattle.fp_host.specs.Reads.{IsAFile, StatOf}
-use Rattle.fp_host.specs.declared.host.Stat.{Stat}
-use Rattle.fp_host.specs.declared.host.Stat.TheVariants.{Absent as NoName}
 use Rattle.fp_host.proofs.Settled.{settled_disk}
 use Rattle.fp_name.specs.Hex.{is_digest}
+use Rattle.fp_small.specs.Clear.{GoneAt, AbsentAt}
 use Rattle.fp_small.specs.Replace.{WasReplaced}
 use Rattle.fp_small.proofs.Staging.{synced}
-use Rattle.fp_small.proofs.Making.{stat_there}
 use Rattle.ost_refs.specs.Files.{ref_bytes, ref_in}
-use Rattle.ost_refs.specs.Changes.{IsFreeFile, GoneAt, AbsentAt, WasDropped}
+use Rattle.ost_refs.specs.Changes.{WasDropped}
 use Rattle.fp_host.specs.Frame.{Frame, Ends, NoPath}
 use Rattle.fp_host.specs.Moments.{Moments}
 use Rattle.ost_refs.specs.declared.place.RefFile.TheVariants.{Digest, Absent}
 use Rattle.ost_refs.proofs.Files.{written}
-
-leaf_of : (e : Slot) → IsAFile e → IsLeaf e
-leaf_of e is = subst IsLeaf (sym is.1) tt
-
--- where something stands at a free place, it may be unlinked
-pub can_unlink : {p : Elements} {s : Stat} {v w : View} → StatOf p (Ok s) v w → (s ≡ NoName → ⊥) → IsFreeFile p v → Can (unlinks p) v
-can_unlink {p = p} {v = v} stat some (inl none) = absurd (stat_there stat some none)
-can_unlink {p = p} {v = v} stat some (inr is) = leaf_of (v.names p) is
 
 -- a sync leaves nothing at an absent name
 pub dropped : {p : Elements} {v w : View} → IsTree w → v.names p ≡ absent → Step syncs (Ok tt) v w → WasDropped p w

@@ -17,10 +17,11 @@ use Rattle.std.proofs.lemmas.Map.Text.{is_eq-slice_cmp}
 use Rattle.std.proofs.lemmas.Slice.Eq.{bytes_eq-Decides}
 use Rattle.fp_host.specs.Paths.{Elements, path_text, elements_of}
 use Rattle.fp_host.specs.View.{View, IsTree}
-use Rattle.fp_host.specs.Reads.{IsAFile, comes_first, is_ascending}
+use Rattle.fp_host.specs.Calls.{IsFile}
+use Rattle.fp_host.specs.Reads.{comes_first, is_ascending}
 use Rattle.ost_refs.specs.Places.{heads, remotes, place_path, is_place}
 use Rattle.ost_refs.specs.Walks.{IsLevel, AreLevel}
-use Rattle.ost_refs.specs.Found.{place_named, ArePaths, IsTextOf, Puts, Adds, AreFound, FindsFirst, Finds}
+use Rattle.ost_refs.specs.Found.{place_named, ArePaths, IsTextOf, Puts, Adds, AreFound, Finds}
 use Rattle.ost_refs.specs.Lists.{texts_of, ListsRefs}
 use Rattle.ost_refs.specs.declared.place.RefPlace.{RefPlace}
 use Rattle.ost_refs.proofs.Places.{place_same}
@@ -86,20 +87,20 @@ module _ {Z : Type 0} (root : Elements) (key : String Z) (place : RefPlace) (kno
 
 module _ {Z : Type 0} {v : View} (root : Elements) (ps : List Elements) (q : Elements) (es fs : List (String Z × RefPlace)) (level : IsLevel 4 (heads root) v q ⊎ IsLevel 5 (remotes root) v q) (so_far : AreFound root v ps es) where
   -- no place more
-  same_found : ((place : RefPlace) → is_place place ≡ true → place_path root place ≡ q → IsAFile (v.names q) → ⊥) → fs ≡ es → AreFound root v (ps ++ q ∷ []) fs
+  same_found : ((place : RefPlace) → is_place place ≡ true → place_path root place ≡ q → IsFile (v.names q) → ⊥) → fs ≡ es → AreFound root v (ps ++ q ∷ []) fs
   same_found none same = subst (AreFound root v (ps ++ q ∷ [])) (sym same) (record {
     keyed = so_far.keyed;
     each = λ p. (
       λ has. let is = (so_far.each p).0 has in (is.0, is.1, Contains-append_left ps (q ∷ []) (place_path root p) is.2),
       λ is. elim (Contains-push_cases ps q (place_path root p) is.2) [
         | inl earlier ↦ (so_far.each p).1 (is.0, is.1, earlier)
-        | inr here ↦ absurd (none p is.0 (sym here) (subst (λ (l : Elements). IsAFile (v.names l)) (sym here) is.1))
+        | inr here ↦ absurd (none p is.0 (sym here) (subst (λ (l : Elements). IsFile (v.names l)) (sym here) is.1))
       ],
     );
   })
 
   -- this place more
-  put_found : IsAFile (v.names q) → (place : RefPlace) → place_named q ≡ Some place → (key : String Z) → IsTextOf (string_bytes key) q → fs ≡ insert_entry string_cmp es key place → AreFound root v (ps ++ q ∷ []) fs
+  put_found : IsFile (v.names q) → (place : RefPlace) → place_named q ≡ Some place → (key : String Z) → IsTextOf (string_bytes key) q → fs ≡ insert_entry string_cmp es key place → AreFound root v (ps ++ q ∷ []) fs
   put_found here place named key text put =
       let path = named_path root v q place level named in
       let known : Keyed root (key, place) = subst (IsTextOf (string_bytes key)) (sym path.1) text in
@@ -108,9 +109,9 @@ module _ {Z : Type 0} {v : View} (root : Elements) (ps : List Elements) (q : Ele
         keyed = keyed_inserted root key place known es so_far.keyed;
         each = λ p. (
           λ has. elim ((values p).0 has) [
-            | inl is ↦ subst (λ x. (is_place x ≡ true) × IsAFile (v.names (place_path root x)) × Contains (ps ++ q ∷ []) (place_path root x)) (sym is) (
+            | inl is ↦ subst (λ x. (is_place x ≡ true) × IsFile (v.names (place_path root x)) × Contains (ps ++ q ∷ []) (place_path root x)) (sym is) (
               path.0,
-              subst (λ (l : Elements). IsAFile (v.names l)) (sym path.1) here,
+              subst (λ (l : Elements). IsFile (v.names l)) (sym path.1) here,
               subst (Contains (ps ++ q ∷ [])) (sym path.1) (Contains-push ps q),
             )
             | inr had ↦ let is = (so_far.each p).0 had in (is.0, is.1, Contains-append_left ps (q ∷ []) (place_path root p) is.2)
@@ -122,13 +123,17 @@ module _ {Z : Type 0} {v : View} (root : Elements) (ps : List Elements) (q : Ele
         );
       })
 
-  puts_found : IsAFile (v.names q) → (o : Option RefPlace) → place_named q ≡ o → Puts q o es fs → AreFound root v (ps ++ q ∷ []) fs
+  puts_found : IsFile (v.names q) → (o : Option RefPlace) → place_named q ≡ o → Puts q o es fs → AreFound root v (ps ++ q ∷ []) fs
   puts_found here None named put = same_found (λ p good same file. absurd (cc (sym named ∙ ap place_named (sym same) ∙ place_back root p good))) put
   puts_found here (Some place) named put = put_found here place named put.0 put.1 put.2
 
   adds_found : Adds q v es fs → AreFound root v (ps ++ q ∷ []) fs
   adds_found (inl puts) = puts_found puts.0 (place_named q) refl puts.1
   adds_found (inr none) = same_found (λ p good same file. none.0 file) none.1
+
+-- what is found of the first of the paths
+pub record FindsFirst {Z : Type 0} (paths : List Elements) (count : ℕ) (v : View) (es : List (String Z × RefPlace)) : Type 0 where
+  pub found : (root : Elements) → ArePaths root v paths → AreFound root v (take count paths) es
 
 pub finds_none : {Z : Type 0} (v : View) (paths : List Elements) (es : List (String Z × RefPlace)) → es ≡ [] → FindsFirst paths 0 v es
 finds_none v paths es none = record {

@@ -5,7 +5,7 @@ use Rattle.std.proofs.lemmas.Bool.{cases_Bool, and_parts, and_from}
 use Rattle.std.proofs.lemmas.List.{length-drop}
 use Rattle.fp_host.specs.Paths.{Elements, absent}
 use Rattle.fp_host.specs.View.{View, IsTree}
-use Rattle.fp_host.specs.Reads.{IsAFile}
+use Rattle.fp_host.specs.Calls.{IsFile}
 use Rattle.fp_name.specs.Grammar.{is_remote_name}
 use Rattle.fp_name.specs.Kinds.{kind_word, kind_of}
 use Rattle.fp_name.specs.Refs.{Ref, is_ref, behind_kind, of_parts, if_ref}
@@ -151,7 +151,7 @@ some_above : {v : View} → IsTree v → (x : List ℕ) (up : Elements) → v.na
 some_above tree x up some none = elim (tree.above x up) [ inl gone ↦ some gone | inr there ↦ absurd (cc (none, there)) ]
 
 -- where the file of a ref stands, a ref may stand
-pub file_level : {v : View} → IsTree v → (root : Elements) (place : RefPlace) → IsAFile (v.names (place_path root place)) → IsLevel 4 (heads root) v (place_path root place) ⊎ IsLevel 5 (remotes root) v (place_path root place)
+pub file_level : {v : View} → IsTree v → (root : Elements) (place : RefPlace) → IsFile (v.names (place_path root place)) → IsLevel 4 (heads root) v (place_path root place) ⊎ IsLevel 5 (remotes root) v (place_path root place)
 file_level {v = v} tree root (Head r) is =
     let branch : v.names (place_path root (Head r)) ≢ absent = λ none. absurd (cc (none, is.1)) in
     let arch = some_above tree r.branch (r.arch ∷ r.id ∷ kind_word r.kind ∷ heads root) branch in

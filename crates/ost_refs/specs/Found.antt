@@ -1,5 +1,5 @@
 -- Places by their paths, in the order of the paths' texts.
-use Rattle.std.specs.Prelude.{◌≡◌, ◌↔◌, ◌⊎◌, ℕ, List, [], ◌∷◌, take, codes, true, Option, Some, None, option_map, option_and_then, if◌then◌else◌, Contains, String, string_bytes}
+use Rattle.std.specs.Prelude.{◌≡◌, ◌↔◌, ◌⊎◌, ℕ, List, [], ◌∷◌, codes, true, Option, Some, None, option_map, option_and_then, if◌then◌else◌, Contains, String, string_bytes}
 use Rattle.std.specs.List.{AllByRecursion}
 use Rattle.std.specs.Str.{bytes_eq}
 use Rattle.std.specs.String.{string_cmp}
@@ -7,7 +7,7 @@ use Rattle.std.specs.BTreeMap.{insert_entry}
 use Rattle.std.specs.Map.{values_of}
 use Rattle.fp_host.specs.Paths.{Elements, path_text, elements_of}
 use Rattle.fp_host.specs.View.{View}
-use Rattle.fp_host.specs.Reads.{IsAFile}
+use Rattle.fp_host.specs.Calls.{IsFile}
 use Rattle.fp_name.specs.Grammar.{is_remote_name}
 use Rattle.fp_name.specs.Refs.{Ref, of_parts, if_ref}
 use Rattle.ost_refs.specs.Places.{heads, remotes, place_path, is_place}
@@ -44,17 +44,13 @@ Puts {Z} q (Some place) es fs = (key : String Z) × IsTextOf (string_bytes key) 
 
 -- where a file stands at the path
 abbrev pub Adds : {Z : Type 0} → Elements → View → List (String Z × RefPlace) → List (String Z × RefPlace) → Type 0
-Adds q v es fs = (IsAFile (v.names q) × Puts q (place_named q) es fs) ⊎ ((IsAFile (v.names q) → ⊥) × (fs ≡ es))
+Adds q v es fs = (IsFile (v.names q) × Puts q (place_named q) es fs) ⊎ ((IsFile (v.names q) → ⊥) × (fs ≡ es))
 
 -- the texts of the paths, with the places at which files stand among these paths
 pub record AreFound {Z : Type 0} (root : Elements) (v : View) (paths : List Elements) (es : List (String Z × RefPlace)) : Type 0 where
   pub keyed : AllByRecursion (λ e. IsTextOf (string_bytes e.0) (place_path root e.1)) es
-  pub each : (place : RefPlace) → Contains (values_of es) place ↔ ((is_place place ≡ true) × IsAFile (v.names (place_path root place)) × Contains paths (place_path root place))
+  pub each : (place : RefPlace) → Contains (values_of es) place ↔ ((is_place place ≡ true) × IsFile (v.names (place_path root place)) × Contains paths (place_path root place))
 
--- of the first of these paths
-pub record FindsFirst {Z : Type 0} (paths : List Elements) (count : ℕ) (v : View) (es : List (String Z × RefPlace)) : Type 0 where
-  pub found : (root : Elements) → ArePaths root v paths → AreFound root v (take count paths) es
-
--- of all of them
+-- of all paths at which refs may stand
 pub record Finds {Z : Type 0} (paths : List Elements) (v : View) (es : List (String Z × RefPlace)) : Type 0 where
   pub found : (root : Elements) → ArePaths root v paths → AreFound root v paths es

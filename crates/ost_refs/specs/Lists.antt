@@ -2,7 +2,8 @@
 use Rattle.std.specs.Prelude.{◌≡◌, ◌↔◌, ℕ, List, map, true, Contains}
 use Rattle.fp_host.specs.Paths.{Elements, path_text}
 use Rattle.fp_host.specs.View.{View}
-use Rattle.fp_host.specs.Reads.{IsAFile, is_ascending}
+use Rattle.fp_host.specs.Calls.{IsFile}
+use Rattle.fp_host.specs.Reads.{is_ascending}
 use Rattle.ost_refs.specs.Places.{place_path, is_place}
 use Rattle.ost_refs.specs.declared.place.RefPlace.{RefPlace}
 
@@ -12,5 +13,5 @@ texts_of root places = map (λ place. path_text (place_path root place)) places
 
 -- the places at which a file stands, ascending by the bytes of their paths
 pub record ListsRefs (root : Elements) (v : View) (places : List RefPlace) : Type 0 where
-  pub each : (place : RefPlace) → Contains places place ↔ ((is_place place ≡ true) × IsAFile (v.names (place_path root place)))
+  pub each : (place : RefPlace) → Contains places place ↔ ((is_place place ≡ true) × IsFile (v.names (place_path root place)))
   pub ascending : is_ascending (texts_of root places) ≡ true

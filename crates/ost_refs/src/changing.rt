@@ -1,22 +1,23 @@
 // Refs that are written and dropped.
 ghost use Rattle.std.specs.Prelude.{◌≡◌, IfOk, OnOk, IsErrOf};
-ghost use Rattle.fp_host.specs.Paths.{absent};
 ghost use Rattle.fp_host.specs.Causes.{IsCaused};
 ghost use Rattle.fp_host.specs.Frame.{Frame, Ends, NoPath};
 ghost use Rattle.fp_host.specs.Moments.{Goes};
-ghost use Rattle.fp_small.specs.Replace.{Replaces, WasReplaced};
+ghost use Rattle.fp_small.specs.Clear.{GoneAt, AbsentAt};
+ghost use Rattle.fp_small.specs.Replace.{Replaces, WasReplaced, IsFreeFile};
 ghost use Rattle.ost_refs.specs.Places.{place_path};
 ghost use Rattle.ost_refs.specs.Files.{ref_bytes};
-ghost use Rattle.ost_refs.specs.Changes.{CanWrite, IsFreeFile, GoneAt, AbsentAt, WasDropped};
+ghost use Rattle.ost_refs.specs.Changes.{CanWrite, WasDropped};
 
 use crate::place::{RefPlace, path_of};
-use fp_host::{Host, HostEnd, Path, Stat};
+use fp_host::{Host, HostEnd, Path};
 use fp_name::Digest;
-use fp_small::replace;
+use fp_small::{replace, take_away};
 use std::alloc::{AllocError, Global};
 
-/// Gives the ref this commit: its file is written anew, and synced. The folders above it are made where they are absent.
-/// All memory is taken before the first change. It is for a place at which nothing stands, or a file.
+/// Gives the ref this commit: its file is written anew, and synced. The folders above it, `repo` and `repo/tmp` are made
+/// where they are absent. All memory is taken before the first change. It is for a place at which nothing stands, or a
+/// file, where none of those folders is something else, and for a store that is neither `repo/tmp` nor below it.
 pub fn write_ref<H: Host>(
     alloc: Global,
     host: &mut H,
@@ -63,17 +64,4 @@ pub fn drop_ref<H: Host>(
     let path = path_of(root, place)?;
     take_away(host, &path)?;
     Ok(host.sync()?)
-}
-
-/// Takes the name away where something stands there.
-fn take_away<H: Host>(host: &mut H, path: &Path) -> Result<(), HostEnd>
-    ensures frame { Frame (GoneAt path.now) (AbsentAt path.now) NoPath (H.moments host.old) (H.moments host.new) }
-    ensures done { OnOk result (Ends (λ u w. w.names path.now ≡ absent) (H.moments host.old) (H.moments host.new)) }
-    ensures cause { IsCaused (IsErrOf result HostEnd.Fault) (H.moments host.old) (IsFreeFile path.now) (H.faults host.old) (H.faults host.new) }
-    ensures memory { IsErrOf result HostEnd.NoMemory → ⊥ }
-{
-    match host.stat(path)? {
-        Stat::Absent => Ok(()),
-        _ => Ok(host.unlink(path)?),
-    }
 }

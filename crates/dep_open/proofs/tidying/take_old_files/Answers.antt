@@ -8,10 +8,11 @@ use Rattle.fp_host.proofs.Cause.{same_fault}
 use Rattle.fp_host.proofs.Framed.{frame_start, frame_stat, frame_within}
 use Rattle.fp_host.proofs.Goes.{begins, makes_goes, knowing}
 use Rattle.fp_host.proofs.Ending.{ends_call, ends_on, ends_to, ends_both, ends_frame, fault_caused, ends_err}
+use Rattle.fp_small.proofs.Making.{stat_gone}
 use Rattle.dep_states.specs.Names.{config}
 use Rattle.dep_states.specs.Sound.{is_remotes, is_pins, OldGone}
 use Rattle.dep_open.specs.Tidy.{OldAbsent, CanTakeOld}
-use Rattle.dep_open.proofs.Tidied.{stat_gone, takes_none, takes_some, there_known, still_absent, still_no_dir}
+use Rattle.dep_open.proofs.Tidied.{takes_none, takes_some, there_known, still_absent, still_no_dir}
 use Rattle.dep_open.proofs.tidying.take_old_files.Goals as goal
 
 pub returns-in_err-stat-clause-moments : goal.returns-in_err-stat-clause-moments

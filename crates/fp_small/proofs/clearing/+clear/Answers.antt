@@ -1,15 +1,15 @@
-use Rattle.std.proofs.Common.{◌≡◌, ◌≢◌, ◌⊎◌, ◌∙◌, ◌+◌, ◌-◌, ◌∷◌, [], inl, inr, ℕ, List, Ok, refl, sym, ap, subst, arith, take}
+use Rattle.std.proofs.Common.{◌≡◌, ◌≢◌, ◌⊎◌, ◌∙◌, ◌-◌, ◌∷◌, [], inl, inr, ℕ, List, Ok, refl, sym, ap, subst, arith}
 use Rattle.std.proofs.lemmas.List.{take_all}
 use Rattle.fp_host.specs.Paths.{dir, absent, IsAbove}
-use Rattle.fp_host.specs.View.{View, IsTree}
-use Rattle.fp_host.specs.Calls.{Can, removes_dir, IsLeaf}
-use Rattle.fp_host.specs.Frame.{Keeps, NoPath}
+use Rattle.fp_host.specs.View.{View}
+use Rattle.fp_host.specs.Calls.{Can, removes_dir}
+use Rattle.fp_host.specs.Frame.{NoPath}
 use Rattle.fp_host.specs.Reads.{StatOf}
 use Rattle.fp_host.proofs.Cause.{clash_step, same_fault}
 use Rattle.fp_host.proofs.Framed.{frame_start, frame_stat, frame_list, frame_within, frame_remove_dir, frame_unlink}
 use Rattle.fp_host.proofs.Ending.{ends_call, ends_on, ends_to, ends_both, ends_frame, ends_in_tree, fault_caused, call_caused}
 use Rattle.fp_small.specs.Naming.{ListsIn}
-use Rattle.fp_small.specs.Clear.{GoneBelow, AbsentBelow, IsCleared, IsEmptied, Reaches, ReachesDown}
+use Rattle.fp_small.specs.Clear.{GoneBelow, AbsentBelow, IsCleared, Reaches, ReachesDown}
 use Rattle.fp_small.proofs.Making.{stat_dir, stat_absent, lists_of}
 use Rattle.fp_small.proofs.Emptying.{within_child, AreCleared, none_yet, one_cleared, within_reach, reaches_child, none_left, cleared_absent, unlinked, dir_removed, can_remove}
 use Rattle.fp_small.proofs.clearing.+clear.Goals as goal

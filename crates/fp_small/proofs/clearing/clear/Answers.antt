@@ -1,5 +1,3 @@
-use Rattle.fp_host.proofs.Ending.{ends_start, fault_caused}
-use Rattle.fp_small.specs.Clear.{CanClear, ReachesDown}
 use Rattle.fp_small.proofs.Emptying.{reaches_down}
 use Rattle.fp_small.proofs.clearing.clear.Goals as goal
 

@@ -1,12 +1,20 @@
-use Rattle.std.proofs.Common.{◌≡◌, Ok}
-use Rattle.fp_host.specs.Paths.{absent}
+use Rattle.std.proofs.Common.{◌≡◌, Ok, sym, subst}
+use Rattle.fp_host.specs.Paths.{Elements, absent}
 use Rattle.fp_host.specs.View.{View}
-use Rattle.fp_host.specs.Calls.{Step, syncs}
+use Rattle.fp_host.specs.Calls.{Step, IsNoDir, syncs}
+use Rattle.fp_host.proofs.Cause.{same_fault}
 use Rattle.fp_host.proofs.Framed.{frame_sync}
 use Rattle.fp_host.proofs.Ending.{ends_call, ends_on, ends_in_tree}
+use Rattle.fp_small.proofs.Replacement.{free_no_dir}
 use Rattle.ost_refs.specs.Places.{place_path}
 use Rattle.ost_refs.proofs.Drops.{dropped, frame_at, ends_at}
 use Rattle.ost_refs.proofs.changing.drop_ref.Goals as goal
+
+pub returns-in_err-take_away-clause-cause : goal.returns-in_err-take_away-clause-cause
+returns-in_err-take_away-clause-cause g c = record {
+  later = c.take_away.ensures.cause.later;
+  fault = λ is m told free. c.take_away.ensures.cause.fault (same_fault _ _ _ c.in_err-take_away.was c.from_residual-in_err-take_away.ensures.1 is) m told (subst (λ (q : Elements). IsNoDir (m.now.names q)) (sym c.in_ok-path.ensures) (free_no_dir _ m.now free));
+}
 
 pub returns-in_err-sync-clause-frame : goal.returns-in_err-sync-clause-frame
 returns-in_err-sync-clause-frame g c =

@@ -1,6 +1,6 @@
 use Rattle.std.proofs.Common.{◌≤◌}
 use Rattle.fp_host.specs.Frame.{Ends, Still}
-use Rattle.ost_refs.specs.Found.{FindsFirst}
+use Rattle.ost_refs.proofs.Found.{FindsFirst}
 use Rattle.ost_refs.proofs.listing.places_among.Given as goal
 
 abbrev pub invariant-loop-path : goal.invariant-loop-path

@@ -1,0 +1,12 @@
+use Rattle.std.proofs.Common.{◌∙◌, List, ℕ, sym, subst}
+use Rattle.fp_small.specs.Folders.{AreFree, IsLadder}
+use Rattle.fp_small.proofs.Replacement.{ladder_above}
+use Rattle.fp_small.proofs.above.make_above.Goals as goal
+
+pub returns-clause-cause : goal.returns-clause-cause
+returns-clause-cause g c =
+    let folders = c.deref.ensures.value ∙ c.in_ok-folders.ensures in
+    record {
+      later = c.make_folders.ensures.cause.later;
+      fault = λ is m told can. c.make_folders.ensures.cause.fault is m told (subst (λ (l : List (List (List ℕ))). IsLadder l × AreFree l m.now) (sym folders) (ladder_above c.args.path.now, can));
+    }
