@@ -15,7 +15,7 @@ use Rattle.fl_words.specs.declared.command.Command.{Command}
 use Rattle.fl_words.specs.declared.command.Command.TheVariants.{Pin, Unpin, RemoteAdd, RemoteModify, RemoteDelete, ListPins, ListRemotes, Batch, ShowCommit, ShowDirTree, ShowDirMeta, ShowValue}
 use Rattle.fl_words.specs.Types.{is_type_text}
 use Rattle.fl_words.specs.Verbs.{verb_of, shown_of}
-use Rattle.fl_words.specs.Words.{pattern_of, remote_of, name_of, list_of, alone, last, type_in, shown_by, show_of, behind, command_of, words_of, is_command}
+use Rattle.fl_words.specs.Words.{only, remote_of, list_of, alone, last, shown_by, show_of, behind, command_of, words_of, is_command}
 
 -- ---- the verb
 
@@ -63,10 +63,10 @@ mapped : {A B : Type 0} (f : A → B) (o : Option A) (c : B) → option_map f o 
 mapped f None c h = absurd (cc h)
 mapped f (Some x) c h = (x, refl, cc h)
 
-pattern_back : (words : List (List ℕ)) (p : List ℕ) → pattern_of words ≡ Some p → (words ≡ p ∷ []) × (is_pin p ≡ true)
-pattern_back [] p h = absurd (cc h)
-pattern_back (q ∷ []) p h = let t = tested (is_pin q) q p h in (ap (λ (x : List ℕ). x ∷ []) t.1, subst (λ (x : List ℕ). is_pin x ≡ true) t.1 t.0)
-pattern_back (q ∷ r ∷ words) p h = absurd (cc h)
+only_back : (passes : List ℕ → Bool) (words : List (List ℕ)) (p : List ℕ) → only passes words ≡ Some p → (words ≡ p ∷ []) × (passes p ≡ true)
+only_back passes [] p h = absurd (cc h)
+only_back passes (q ∷ []) p h = let t = tested (passes q) q p h in (ap (λ (x : List ℕ). x ∷ []) t.1, subst (λ (x : List ℕ). passes x ≡ true) t.1 t.0)
+only_back passes (q ∷ r ∷ words) p h = absurd (cc h)
 
 remote_back : (words : List (List ℕ)) (row : RemoteRow) → remote_of words ≡ Some row → (words ≡ row.name ∷ row.url ∷ []) × ((is_remote_name row.name && is_url row.url) ≡ true)
 remote_back [] row h = absurd (cc h)
@@ -75,11 +75,6 @@ remote_back (n ∷ u ∷ []) row h =
     let t = tested (is_remote_name n && is_url u) (record { name = n; url = u }) row h in
     (ap (λ (r : RemoteRow). r.name ∷ r.url ∷ []) t.1, subst (λ (r : RemoteRow). (is_remote_name r.name && is_url r.url) ≡ true) t.1 t.0)
 remote_back (n ∷ u ∷ v ∷ words) row h = absurd (cc h)
-
-name_back : (words : List (List ℕ)) (name : List ℕ) → name_of words ≡ Some name → (words ≡ name ∷ []) × (is_remote_name name ≡ true)
-name_back [] name h = absurd (cc h)
-name_back (n ∷ []) name h = let t = tested (is_remote_name n) n name h in (ap (λ (x : List ℕ). x ∷ []) t.1, subst (λ (x : List ℕ). is_remote_name x ≡ true) t.1 t.0)
-name_back (n ∷ u ∷ words) name h = absurd (cc h)
 
 -- the words of what is listed
 abbrev Lists : List (List ℕ) → Command → Type 0
@@ -125,11 +120,6 @@ last_back : (d : Command) (words : List (List ℕ)) (c : Command) → last d wor
 last_back d [] c h = (refl, cc h)
 last_back d (word ∷ words) c h = absurd (cc h)
 
-type_back : (words : List (List ℕ)) (t : List ℕ) → type_in words ≡ Some t → (words ≡ t ∷ []) × (is_type_text t ≡ true)
-type_back [] t h = absurd (cc h)
-type_back (q ∷ []) t h = let k = tested (is_type_text q) q t h in (ap (λ (x : List ℕ). x ∷ []) k.1, subst (λ (x : List ℕ). is_type_text x ≡ true) k.1 k.0)
-type_back (q ∷ r ∷ words) t h = absurd (cc h)
-
 -- the words of what is shown
 abbrev Shows : Shown → List (List ℕ) → Command → Type 0
 Shows s words c = (codes "show" ∷ name_for s ∷ words ≡ words_of c) × (is_command c ≡ true)
@@ -138,7 +128,7 @@ shown_back : (s : Shown) (words : List (List ℕ)) (c : Command) → shown_by s 
 shown_back things.Commit words c h = let l = last_back ShowCommit words c h in subst (Shows things.Commit words) l.1 (ap (λ (ws : List (List ℕ)). codes "show" ∷ codes "commit" ∷ ws) l.0, refl)
 shown_back things.DirTree words c h = let l = last_back ShowDirTree words c h in subst (Shows things.DirTree words) l.1 (ap (λ (ws : List (List ℕ)). codes "show" ∷ codes "dirtree" ∷ ws) l.0, refl)
 shown_back things.DirMeta words c h = let l = last_back ShowDirMeta words c h in subst (Shows things.DirMeta words) l.1 (ap (λ (ws : List (List ℕ)). codes "show" ∷ codes "dirmeta" ∷ ws) l.0, refl)
-shown_back things.Value words c h = let m = mapped ShowValue (type_in words) c h in let t = type_back words m.0 m.1 in subst (Shows things.Value words) m.2 (ap (λ (ws : List (List ℕ)). codes "show" ∷ codes "value" ∷ ws) t.0, t.1)
+shown_back things.Value words c h = let m = mapped ShowValue (only is_type_text words) c h in let t = only_back is_type_text words m.0 m.1 in subst (Shows things.Value words) m.2 (ap (λ (ws : List (List ℕ)). codes "show" ∷ codes "value" ∷ ws) t.0, t.1)
 
 with_shown : (word : List ℕ) (words : List (List ℕ)) (c : Command) (o : Option Shown) → shown_of word ≡ o → (option_and_then (λ s. shown_by s words) o) ≡ Some c → (codes "show" ∷ word ∷ words ≡ words_of c) × (is_command c ≡ true)
 with_shown word words c None e h = absurd (cc h)
@@ -153,11 +143,11 @@ abbrev Speaks : Verb → List (List ℕ) → Command → Type 0
 Speaks v words c = (word_of v ∷ words ≡ words_of c) × (is_command c ≡ true)
 
 behind_back : (v : Verb) (words : List (List ℕ)) (c : Command) → behind v words ≡ Some c → Speaks v words c
-behind_back verbs.Pin words c h = let m = mapped Pin (pattern_of words) c h in let p = pattern_back words m.0 m.1 in subst (Speaks verbs.Pin words) m.2 (ap (λ (ws : List (List ℕ)). codes "pin" ∷ ws) p.0, p.1)
-behind_back verbs.Unpin words c h = let m = mapped Unpin (pattern_of words) c h in let p = pattern_back words m.0 m.1 in subst (Speaks verbs.Unpin words) m.2 (ap (λ (ws : List (List ℕ)). codes "unpin" ∷ ws) p.0, p.1)
+behind_back verbs.Pin words c h = let m = mapped Pin (only is_pin words) c h in let p = only_back is_pin words m.0 m.1 in subst (Speaks verbs.Pin words) m.2 (ap (λ (ws : List (List ℕ)). codes "pin" ∷ ws) p.0, p.1)
+behind_back verbs.Unpin words c h = let m = mapped Unpin (only is_pin words) c h in let p = only_back is_pin words m.0 m.1 in subst (Speaks verbs.Unpin words) m.2 (ap (λ (ws : List (List ℕ)). codes "unpin" ∷ ws) p.0, p.1)
 behind_back verbs.RemoteAdd words c h = let m = mapped RemoteAdd (remote_of words) c h in let p = remote_back words m.0 m.1 in subst (Speaks verbs.RemoteAdd words) m.2 (ap (λ (ws : List (List ℕ)). codes "remote-add" ∷ ws) p.0, p.1)
 behind_back verbs.RemoteModify words c h = let m = mapped RemoteModify (remote_of words) c h in let p = remote_back words m.0 m.1 in subst (Speaks verbs.RemoteModify words) m.2 (ap (λ (ws : List (List ℕ)). codes "remote-modify" ∷ ws) p.0, p.1)
-behind_back verbs.RemoteDelete words c h = let m = mapped RemoteDelete (name_of words) c h in let p = name_back words m.0 m.1 in subst (Speaks verbs.RemoteDelete words) m.2 (ap (λ (ws : List (List ℕ)). codes "remote-delete" ∷ ws) p.0, p.1)
+behind_back verbs.RemoteDelete words c h = let m = mapped RemoteDelete (only is_remote_name words) c h in let p = only_back is_remote_name words m.0 m.1 in subst (Speaks verbs.RemoteDelete words) m.2 (ap (λ (ws : List (List ℕ)). codes "remote-delete" ∷ ws) p.0, p.1)
 behind_back verbs.List words c h = list_back words c h
 behind_back verbs.Batch words c h = let a = alone_back words c h in subst (Speaks verbs.Batch words) a.1 (ap (λ (ws : List (List ℕ)). codes "batch" ∷ ws) a.0, refl)
 behind_back verbs.Show words c h = show_back words c h

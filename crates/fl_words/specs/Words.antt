@@ -30,20 +30,15 @@ use Rattle.fl_words.specs.Types.{is_type_text}
 
 -- ---- which words are a command
 
--- P
-abbrev pub pattern_of : List (List ℕ) → Option (List ℕ)
-pattern_of (p ∷ []) = if is_pin p then Some p else None
-pattern_of _ = None
+-- one word that passes the test, as P, N alone, and T
+abbrev pub only : (List ℕ → Bool) → List (List ℕ) → Option (List ℕ)
+only passes (word ∷ []) = if passes word then Some word else None
+only passes _ = None
 
 -- N U
 abbrev pub remote_of : List (List ℕ) → Option RemoteRow
 remote_of (n ∷ u ∷ []) = if is_remote_name n && is_url u then Some (record { name = n; url = u }) else None
 remote_of _ = None
-
--- N
-abbrev pub name_of : List (List ℕ) → Option (List ℕ)
-name_of (n ∷ []) = if is_remote_name n then Some n else None
-name_of _ = None
 
 -- --pins or --remotes
 abbrev pub list_of : List (List ℕ) → Option Command
@@ -55,11 +50,6 @@ abbrev pub alone : List (List ℕ) → Option Command
 alone [] = Some Batch
 alone (word ∷ words) = None
 
--- T
-abbrev pub type_in : List (List ℕ) → Option (List ℕ)
-type_in (t ∷ []) = if is_type_text t then Some t else None
-type_in _ = None
-
 -- nothing more
 abbrev pub last : Command → List (List ℕ) → Option Command
 last command [] = Some command
@@ -69,7 +59,7 @@ abbrev pub shown_by : Shown → List (List ℕ) → Option Command
 shown_by things.Commit words = last ShowCommit words
 shown_by things.DirTree words = last ShowDirTree words
 shown_by things.DirMeta words = last ShowDirMeta words
-shown_by things.Value words = option_map ShowValue (type_in words)
+shown_by things.Value words = option_map ShowValue (only is_type_text words)
 
 -- what to show
 abbrev pub show_of : List (List ℕ) → Option Command
@@ -78,11 +68,11 @@ show_of (word ∷ words) = option_and_then (λ thing. shown_by thing words) (sho
 
 -- the command of the words behind a verb
 abbrev pub behind : Verb → List (List ℕ) → Option Command
-behind verbs.Pin words = option_map Pin (pattern_of words)
-behind verbs.Unpin words = option_map Unpin (pattern_of words)
+behind verbs.Pin words = option_map Pin (only is_pin words)
+behind verbs.Unpin words = option_map Unpin (only is_pin words)
 behind verbs.RemoteAdd words = option_map RemoteAdd (remote_of words)
 behind verbs.RemoteModify words = option_map RemoteModify (remote_of words)
-behind verbs.RemoteDelete words = option_map RemoteDelete (name_of words)
+behind verbs.RemoteDelete words = option_map RemoteDelete (only is_remote_name words)
 behind verbs.List words = list_of words
 behind verbs.Batch words = alone words
 behind verbs.Show words = show_of words
@@ -94,21 +84,16 @@ command_of (word ∷ words) = option_and_then (λ verb. behind verb words) (verb
 
 -- ---- which words can go on to be a command
 
-abbrev pub begins_pattern : List (List ℕ) → Bool
-begins_pattern [] = true
-begins_pattern (p ∷ []) = is_pin p
-begins_pattern (p ∷ q ∷ more) = false
+abbrev pub begins_only : (List ℕ → Bool) → List (List ℕ) → Bool
+begins_only passes [] = true
+begins_only passes (word ∷ []) = passes word
+begins_only passes (word ∷ next ∷ more) = false
 
 abbrev pub begins_remote : List (List ℕ) → Bool
 begins_remote [] = true
 begins_remote (n ∷ []) = is_remote_name n
 begins_remote (n ∷ u ∷ []) = is_remote_name n && is_url u
 begins_remote (n ∷ u ∷ v ∷ more) = false
-
-abbrev pub begins_name : List (List ℕ) → Bool
-begins_name [] = true
-begins_name (n ∷ []) = is_remote_name n
-begins_name (n ∷ u ∷ more) = false
 
 abbrev pub begins_list : List (List ℕ) → Bool
 begins_list [] = true
@@ -119,17 +104,12 @@ abbrev pub begins_alone : List (List ℕ) → Bool
 begins_alone [] = true
 begins_alone (word ∷ words) = false
 
-abbrev pub begins_type : List (List ℕ) → Bool
-begins_type [] = true
-begins_type (t ∷ []) = is_type_text t
-begins_type (t ∷ u ∷ more) = false
-
 abbrev pub begins_shown : Option Shown → List (List ℕ) → Bool
 begins_shown None words = false
 begins_shown (Some things.Commit) words = begins_alone words
 begins_shown (Some things.DirTree) words = begins_alone words
 begins_shown (Some things.DirMeta) words = begins_alone words
-begins_shown (Some things.Value) words = begins_type words
+begins_shown (Some things.Value) words = begins_only is_type_text words
 
 abbrev pub begins_show : List (List ℕ) → Bool
 begins_show [] = true
@@ -137,11 +117,11 @@ begins_show (word ∷ words) = begins_shown (shown_of word) words
 
 abbrev pub begins_behind : Option Verb → List (List ℕ) → Bool
 begins_behind None words = false
-begins_behind (Some verbs.Pin) words = begins_pattern words
-begins_behind (Some verbs.Unpin) words = begins_pattern words
+begins_behind (Some verbs.Pin) words = begins_only is_pin words
+begins_behind (Some verbs.Unpin) words = begins_only is_pin words
 begins_behind (Some verbs.RemoteAdd) words = begins_remote words
 begins_behind (Some verbs.RemoteModify) words = begins_remote words
-begins_behind (Some verbs.RemoteDelete) words = begins_name words
+begins_behind (Some verbs.RemoteDelete) words = begins_only is_remote_name words
 begins_behind (Some verbs.List) words = begins_list words
 begins_behind (Some verbs.Batch) words = begins_alone words
 begins_behind (Some verbs.Show) words = begins_show words

@@ -4,6 +4,7 @@ ghost use Rattle.gv_value.specs.TypeText.{type_of};
 ghost use Rattle.gv_value.specs.Views.{shape_of};
 ghost use Rattle.fl_words.specs.Types.{is_type_text};
 
+use fp_name::NameFault;
 use gv_value::{GvType, TypeError};
 use std::alloc::Global;
 use std::marker::Model;
@@ -29,14 +30,15 @@ impl Model for ValueType {
 
 impl ValueType {
     /// The type that a type string stands for. `Bad` comes exactly where it is not one type, nested at most 64 deep.
-    pub fn parse(alloc: Global, text: &[u8]) -> Result<ValueType, TypeError>
+    pub fn parse(alloc: Global, text: &[u8]) -> Result<ValueType, NameFault>
         ensures ok { IfOk result (λ t. t ≡ text.now) }
         ensures good { OnOk result (is_type_text text.now ≡ true) }
-        ensures bad { IsErrOf result TypeError.Bad → is_type_text text.now ≡ false }
+        ensures bad { IsErrOf result NameFault.Bad → is_type_text text.now ≡ false }
     {
         match GvType::parse(alloc, text) {
             Ok(of) => Ok(ValueType { of }),
-            Err(error) => Err(error),
+            Err(TypeError::Bad) => Err(NameFault::Bad),
+            Err(TypeError::NoMemory) => Err(NameFault::NoMemory),
         }
     }
 

@@ -1,5 +1,3 @@
-use Rattle.std.proofs.Common.{◌≡◌}
-use Rattle.gv_value.specs.declared.error.TypeError.TheVariants.{Bad}
 use Rattle.gv_value.specs.Views.{shape_of}
 use Rattle.fl_words.proofs.TypeTexts.{found, none, text_found, type_found}
 use Rattle.fl_words.proofs.value_type.ValueType.parse.Goals as goal
@@ -13,5 +11,5 @@ returns-in-Ok-clause-ok c = text_found c.args.text.now (shape_of c.in-Ok.of) c.i
 pub returns-in-Ok-clause-good : goal.returns-in-Ok-clause-good
 returns-in-Ok-clause-good c = found c.args.text.now (shape_of c.in-Ok.of) c.in-Ok.ensures
 
-pub returns-in-Err-clause-bad : goal.returns-in-Err-clause-bad
-returns-in-Err-clause-bad c = λ is. none c.args.text.now c.in-Err.error c.in-Err.ensures (let same : c.in-Err.error ≡ Bad = cc is in same)
+pub returns-in-Err-Bad-clause-bad : goal.returns-in-Err-Bad-clause-bad
+returns-in-Err-Bad-clause-bad c = λ is. none c.args.text.now c.in-Err-Bad.field-0 c.in-Err-Bad.ensures c.in-Err-Bad.field-0-is

@@ -1,7 +1,0 @@
-use Rattle.std.proofs.Common.{◌∙◌, sym, string_bytes}
-use Rattle.fl_words.proofs.Extra.{extra_name}
-use Rattle.fl_words.proofs.reading.read_name.Goals as goal
-
-pub returns-then-not-is_empty-clause-bad : goal.returns-then-not-is_empty-clause-bad
-returns-then-not-is_empty-clause-bad c =
-    extra_name string_bytes c.args.words.now c.in-Some.rest.now c.in-Some.word.now c.in-Some.ensures.cases.0 (rw (← c.as_bytes.ensures.value) c.in-Ok.ensures.good) (sym c.is_empty.ensures ∙ c.if-not-is_empty.true)
