@@ -25,12 +25,12 @@ use Rattle.fl_words.specs.Lines.{op_text}
 use Rattle.fl_words.specs.declared.command.Command.{Command}
 use Rattle.fl_top.specs.Answer.{Answer, IsAtOnce, did, act, nothing, ops_of, refusal_of, followed, change_over, in_turn}
 use Rattle.fl_top.specs.Ends.{IsTried, end_of_host, end_of_open}
-use Rattle.fl_top.specs.Performs.{Performs, Performed, WasDone, RunsOver, EndedOver, over_view}
+use Rattle.fl_top.specs.Performs.{Performs, Performed, WasDone, RunsOver, EndedOver}
 use Rattle.fl_top.specs.Says.{Says}
 use Rattle.fl_top.specs.declared.end.RunEnd.{RunEnd}
 use Rattle.fl_top.specs.declared.end.RunEnd.TheVariants.{Fault, NoMemory}
 use Rattle.fl_top.proofs.Saying.{says_step, was_said}
-use Rattle.fl_top.proofs.Starting.{Keeping, kept, begun, runs_over, done_over, failed_over, ended_open}
+use Rattle.fl_top.proofs.Starting.{Keeping, kept, begun_over, runs_over, done_over, failed_over, ended_open}
 use Rattle.fl_top.proofs.Changing.{applied_changes}
 use Rattle.fl_top.proofs.Doing as doing
 use Rattle.fl_top.proofs.Doing.{not_yet, halted, tried, applying, saying, said_done, idle}
@@ -158,7 +158,7 @@ turn_ends commands s t turn = ends turn (λ u w q. last_stage commands s t q)
 -- ---- an installation that is opened
 
 opening : {a b : Option Moments} {Q : View → View → Type 0} (f : State → Answer) → IsTold a → Frame Nothing NoName NoPath a b → Ends Q a b → Goes a b (RunsOver f) (λ u w. Keeping u w × Q u w)
-opening f known frame tells = begins known (goes_known (keeping known frame) tells) (λ u w t r. begun (over_view f u) r) (λ u w t r q. q)
+opening f known frame tells = begins known (goes_known (keeping known frame) tells) (λ u w t r. begun_over f r) (λ u w t r q. q)
   where
     keeping : {a b : Option Moments} → IsTold a → Frame Nothing NoName NoPath a b → Goes a b Keeping Keeping
     keeping known frame = begins known frame.goes (λ u w t r. kept r) (λ u w t r q. kept q)

@@ -6,15 +6,10 @@ use Rattle.fp_host.specs.Paths.{Elements}
 use Rattle.fp_host.specs.View.{View}
 use Rattle.fp_host.specs.Outcome.{Disk, Leaves, Follows, Nothing}
 use Rattle.fp_small.specs.declared.state.State.{State}
-use Rattle.fp_small.specs.declared.state.Layout.{Layout}
-use Rattle.fp_small.specs.declared.state.Layout.TheVariants.{One, Two}
 use Rattle.fp_small.specs.declared.op.Op.{Op}
-use Rattle.fp_small.specs.declared.op.Op.TheVariants.{AddPin, DropPin, AddRemote, ModifyRemote, DropRemote, Migrate}
 use Rattle.fp_small.specs.declared.refusal.Refusal.{Refusal}
-use Rattle.fp_small.specs.declared.refusal.Refusal.TheVariants.{BadWords, NoSuchRemote, RemoteExists, MalformedObject, PinExists, NoSuchPin, Limit, BadRecord, Damaged}
-use Rattle.fp_small.specs.declared.refusal.What.TheVariants.{Pins, Remotes, Input}
-use Rattle.fp_small.specs.Config.{name_of}
-use Rattle.fp_small.specs.Order.{has_name}
+use Rattle.fp_small.specs.declared.refusal.Refusal.TheVariants.{MalformedObject, Limit, BadRecord, Damaged}
+use Rattle.fp_small.specs.declared.refusal.What.TheVariants.{Input}
 use Rattle.dep_states.specs.Shown.{IsShown}
 use Rattle.dep_states.specs.Sound.{IsSound}
 use Rattle.dep_states.specs.After.{after_all}
@@ -22,7 +17,7 @@ use Rattle.fl_words.specs.Lines.{refusal_text, pins_text, remotes_text}
 use Rattle.fl_words.specs.Batch.{batch_of}
 use Rattle.fl_words.specs.declared.command.Command.{Command}
 use Rattle.fl_words.specs.declared.command.Command.TheVariants.{Pin, Unpin, RemoteAdd, RemoteModify, RemoteDelete, ListPins, ListRemotes, Batch, ShowCommit, ShowDirTree, ShowDirMeta, ShowValue}
-use Rattle.fl_top.specs.Answer.{Answer, Piece, lines_of, last_of, joined, ops_in, ops_of, did, told, refused, behind, refusal_of, unless, act, act_on, op_of, change_over, in_turn, migrating, changing, told_pins, told_remotes, over, of_batch, answer_over, is_pinned, by_read, by_value, by_type, commit_shown, tree_shown, meta_shown, value_shown, shown_by, show_over}
+use Rattle.fl_top.specs.Answer.{Answer, Piece, lines_of, last_of, joined, ops_in, ops_of, told, refused, changing, told_pins, told_remotes, over, of_batch, answer_over, by_read, by_value, by_type, commit_shown, tree_shown, meta_shown, value_shown, over_input}
 use Rattle.fl_top.specs.Objects.{commit_lines, tree_lines, meta_lines, rule_word}
 use Rattle.gv_value.specs.Shape.{Shape}
 use Rattle.gv_value.specs.Tree.{Tree}
@@ -41,7 +36,7 @@ use Rattle.fp_small.proofs.Keeping.{files_on}
 use Rattle.fl_top.specs.Status.{status_of, status_by, IsAnswered}
 use Rattle.fl_top.proofs.Same.{unmoved, same_shown, same_sound}
 use Rattle.fl_top.proofs.Starting.{same_tidy, stood, unchanged}
-use Rattle.fl_top.proofs.Changing.{change_on, change_none, tidied_on, tidied_none}
+use Rattle.fl_top.proofs.Changing.{tidied_on, tidied_none}
 use Rattle.fl_top.proofs.Turning.{joined-append}
 use Rattle.fl_top.proofs.Refusing.{of_changing}
 
@@ -117,7 +112,6 @@ refusing a r {u = u} {v = v} {w = w} is runs done says = elim (says.printed) [
     said = a.pieces;
     so_far = before_last a (none ∙ done.printed);
     prefix = λ sound disk left. prefix_all a a.pieces refl (just_on (ops_of a) says.follows (done.just sound) disk left);
-    changes = change_on u v w runs.changes (change_none says.names says.files);
     only_tidied = λ none. tidied_on (runs.only_tidied none) (tidied_none says.names);
     untouched = λ why. untouched_on (runs.untouched why) says;
   }
@@ -125,7 +119,6 @@ refusing a r {u = u} {v = v} {w = w} is runs done says = elim (says.printed) [
     said = lines_of a;
     so_far = all_lines a (with_last a r u v w is done.printed more);
     prefix = λ sound disk left. prefix_all a (lines_of a) (ops_lines a) (just_on (ops_of a) says.follows (done.just sound) disk left);
-    changes = change_on u v w runs.changes (change_none says.names says.files);
     only_tidied = λ none. tidied_on (runs.only_tidied none) (tidied_none says.names);
     untouched = λ why. untouched_on (runs.untouched why) says;
   }
@@ -223,31 +216,32 @@ read_plain : {A : Type 0} (digest kind : List ℕ) (lines : A → List ℕ) (rea
 read_plain digest kind lines (Ok a) r is = absurd (cc is)
 read_plain digest kind lines (Err rule) r is = one_of_some (MalformedObject digest kind (rule_word rule)) r is refl
 
-value_plain : (bytes : List ℕ) (value : Option Tree) → IsPlain (by_value bytes value)
-value_plain bytes None r is = one_of_some (MalformedObject (meta_digest bytes) (codes "value") (codes "value")) r is refl
-value_plain bytes (Some value) r is = absurd (cc is)
+tree_plain : (bytes : List ℕ) (value : Option Tree) → IsPlain (by_value bytes value)
+tree_plain bytes None r is = one_of_some (MalformedObject (meta_digest bytes) (codes "value") (codes "value")) r is refl
+tree_plain bytes (Some value) r is = absurd (cc is)
 
 type_plain : (of : Option Shape) (bytes : List ℕ) → IsPlain (by_type of bytes)
-type_plain None bytes = value_plain bytes None
-type_plain (Some of) bytes = value_plain bytes (value_of of bytes)
+type_plain None bytes = tree_plain bytes None
+type_plain (Some of) bytes = tree_plain bytes (value_of of bytes)
 
-shown_plain : (command : Command) (bytes : List ℕ) → IsPlain (shown_by command bytes)
-unfolding commit_shown tree_shown meta_shown value_shown
-shown_plain (Pin pin) bytes = told_plain []
-shown_plain (Unpin pin) bytes = told_plain []
-shown_plain (RemoteAdd row) bytes = told_plain []
-shown_plain (RemoteModify row) bytes = told_plain []
-shown_plain (RemoteDelete name) bytes = told_plain []
-shown_plain ListPins bytes = told_plain []
-shown_plain ListRemotes bytes = told_plain []
-shown_plain Batch bytes = told_plain []
-shown_plain ShowCommit bytes = read_plain (meta_digest bytes) (codes "commit") commit_lines (commit_read bytes)
-shown_plain ShowDirTree bytes = read_plain (meta_digest bytes) (codes "dirtree") tree_lines (tree_read bytes)
-shown_plain ShowDirMeta bytes = read_plain (meta_digest bytes) (codes "dirmeta") meta_lines (meta_read bytes)
-shown_plain (ShowValue of) bytes = type_plain (type_of of) bytes
+commit_plain : (bytes : List ℕ) → IsPlain (commit_shown bytes)
+unfolding commit_shown
+commit_plain bytes = read_plain (meta_digest bytes) (codes "commit") commit_lines (commit_read bytes)
 
-show_plain : (command : Command) (input : List ℕ) → IsPlain (show_over command input)
-show_plain command input = if_plain (nat_le (length input) input_most) (shown_by command input) (refused (Limit Input (input_most + 1))) (shown_plain command input) (λ r is. one_of_some (Limit Input (input_most + 1)) r is refl)
+dirtree_plain : (bytes : List ℕ) → IsPlain (tree_shown bytes)
+unfolding tree_shown
+dirtree_plain bytes = read_plain (meta_digest bytes) (codes "dirtree") tree_lines (tree_read bytes)
+
+dirmeta_plain : (bytes : List ℕ) → IsPlain (meta_shown bytes)
+unfolding meta_shown
+dirmeta_plain bytes = read_plain (meta_digest bytes) (codes "dirmeta") meta_lines (meta_read bytes)
+
+value_plain : (of bytes : List ℕ) → IsPlain (value_shown of bytes)
+unfolding value_shown
+value_plain of bytes = type_plain (type_of of) bytes
+
+input_plain : (f : List ℕ → Answer) (input : List ℕ) → IsPlain (f input) → IsPlain (over_input f input)
+input_plain f input plain = if_plain (nat_le (length input) input_most) (f input) (refused (Limit Input (input_most + 1))) plain (λ r is. one_of_some (Limit Input (input_most + 1)) r is refl)
 
 pub command_plain : (command : Command) (input : List ℕ) (shown : Result State Elements) → IsPlain (answer_over command input shown)
 command_plain (Pin pin) input shown = over_plain (changing (Pin pin ∷ [])) shown (changing_plain (Pin pin ∷ []))
@@ -257,8 +251,8 @@ command_plain (RemoteModify row) input shown = over_plain (changing (RemoteModif
 command_plain (RemoteDelete name) input shown = over_plain (changing (RemoteDelete name ∷ [])) shown (changing_plain (RemoteDelete name ∷ []))
 command_plain ListPins input shown = over_plain told_pins shown (λ s. told_plain (pins_text s.pins))
 command_plain ListRemotes input shown = over_plain told_remotes shown (λ s. told_plain (remotes_text s.remotes))
-command_plain Batch input shown = if_plain (nat_le (length input) input_most) (of_batch (batch_of input) shown) (refused (Limit Input (input_most + 1))) (batch_plain (batch_of input) shown) (λ r is. one_of_some (Limit Input (input_most + 1)) r is refl)
-command_plain ShowCommit input shown = show_plain ShowCommit input
-command_plain ShowDirTree input shown = show_plain ShowDirTree input
-command_plain ShowDirMeta input shown = show_plain ShowDirMeta input
-command_plain (ShowValue of) input shown = show_plain (ShowValue of) input
+command_plain Batch input shown = input_plain (λ bytes. of_batch (batch_of bytes) shown) input (batch_plain (batch_of input) shown)
+command_plain ShowCommit input shown = input_plain commit_shown input (commit_plain input)
+command_plain ShowDirTree input shown = input_plain tree_shown input (dirtree_plain input)
+command_plain ShowDirMeta input shown = input_plain meta_shown input (dirmeta_plain input)
+command_plain (ShowValue of) input shown = input_plain (value_shown of) input (value_plain of input)

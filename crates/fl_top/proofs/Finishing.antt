@@ -1,5 +1,5 @@
 -- The last part of a run.
-use Rattle.std.proofs.Common.{◌≡◌, ◌⊎◌, inl, inr, ℕ, List, [], ◌∷◌, Bool, true, false, nat_le, length, ◌≤◌, ◌<◌, ◌+◌, arith, IsErrOf, Option, Some, None, Result, Ok, Err, IsErrAnd, if◌then◌else◌, refl, sym, ◌∙◌, ap, subst}
+use Rattle.std.proofs.Common.{◌≡◌, inl, inr, ℕ, List, [], ◌∷◌, Bool, true, false, nat_le, length, ◌≤◌, ◌<◌, ◌+◌, arith, IsErrOf, Option, Some, None, Result, Ok, Err, IsErrAnd, if◌then◌else◌, refl, sym, ◌∙◌, ap, subst}
 use Rattle.std.proofs.lemmas.Result.{err_from_is_err_and}
 use Rattle.fp_host.specs.View.{View}
 use Rattle.fp_host.specs.Outcome.{shows}
@@ -20,13 +20,13 @@ use Rattle.fl_words.specs.declared.command.Command.TheVariants.{Pin, Unpin, Remo
 use Rattle.fl_words.specs.declared.batch.BatchError.{BatchError}
 use Rattle.fl_words.specs.declared.batch.BatchError.TheVariants as batch
 use Rattle.fl_words.specs.Batch.{batch_of, IsBadBatch}
-use Rattle.fl_top.specs.Answer.{Answer, answer, answer_to, answer_over, refused, over, changing, of_batch}
+use Rattle.fl_top.specs.Answer.{Answer, answer, answer_to, answer_over, refused, over_input, changing, of_batch}
 use Rattle.fl_top.specs.Runs.{Runs, Ran, RunsBy, RanBy, IsGiven, Looks, IsReady, Serves, WasTaken}
 use Rattle.fl_top.specs.Performs.{RunsOver, LooksOver, EndedOver, RunsOn, EndedOn, RanOn, Ended, Closed, Takes, TakenBy, over_view}
 use Rattle.fl_top.specs.Says.{Says, Refuses}
 use Rattle.fl_top.specs.Changes.{IsUntouched}
 use Rattle.fp_small.proofs.Keeping.{files_stay}
-use Rattle.fl_top.specs.Status.{only_looks, is_show, reads_input, IsAnswered}
+use Rattle.fl_top.specs.Status.{only_looks, reads_input, IsAnswered}
 use Rattle.fl_top.specs.declared.end.RunEnd.{RunEnd}
 use Rattle.fl_top.specs.declared.end.RunEnd.TheVariants as run
 use Rattle.fl_top.specs.declared.command_end.CommandEnd.{CommandEnd}
@@ -61,9 +61,9 @@ IsAnswer command left f = (input : List ℕ) → IsGiven left (Some command) inp
 
 runs_change : (command : Command) (left : Option (List ℕ)) (f : State → Answer) (u w : View) → only_looks command ≡ false → IsAnswer command left f → RunsOver f u w → RunsOn command left u w
 runs_change command left f u w changes is p = record {
-  runs = λ input given. subst (λ (x : Answer). Runs x u w) (is input given u) p;
+  runs = λ input given. subst (λ (x : Answer). Runs x u w) (is input given u) p.runs;
   changes = p.changes;
-  untouched = λ why. elim why [ inl looks ↦ absurd (let both : true ≡ false = sym looks ∙ changes in cc both) | inr none ↦ p.untouched (inl none) ];
+  untouched = λ why. elim why [ inl looks ↦ absurd (let both : true ≡ false = sym looks ∙ changes in cc both) | inr none ↦ p.untouched none ];
 }
 
 -- one that changes something
@@ -80,7 +80,7 @@ goes_not_changed {a = a} {b = b} command left f e r known changes is goes err =
     (begins known goes (λ u w t p. runs_change command left f u w changes is p) (λ u w t p q input given. subst (λ (x : Answer). Closed x (Err (end_of_run e)) u w) (is input given u) (closed (over_view f u) e u w q)))
 
 runs_look : (command : Command) (left : Option (List ℕ)) (f : State → Answer) (u w : View) → IsAnswer command left f → LooksOver f u w → RunsOn command left u w
-runs_look command left f u w is p = record { runs = λ input given. subst (λ (x : Answer). Runs x u w) (is input given u) p.runs; changes = p.runs.changes; untouched = λ why. p.untouched }
+runs_look command left f u w is p = record { runs = λ input given. subst (λ (x : Answer). Runs x u w) (is input given u) p.runs; changes = change_none p.untouched.names p.untouched.files; untouched = λ why. p.untouched }
 
 -- one that looks
 pub goes_look : {a b : Option Moments} (command : Command) (left : Option (List ℕ)) (f : State → Answer) → IsTold a → IsAnswer command left f
@@ -151,67 +151,78 @@ input_failed {a = a} left before now e r known err stops is = of_input e stops (
 pub closed_refused : (refusal : Refusal) (x : Answer) (u : View) → refused refusal ≡ x → Closed x (Err (Refused refusal)) u u
 closed_refused refusal x u is = subst (λ (y : Answer). Closed y (Err (Refused refusal)) u u) is (refl, refused_at_once refusal u)
 
--- ---- a batch
+-- ---- a command that reads the input
 
-pub too_long : (input : List ℕ) → input_most < length input → nat_le (length input) input_most ≡ false
+too_long : (input : List ℕ) → input_most < length input → nat_le (length input) input_most ≡ false
 too_long input more = grind arith
 
-pub not_long : (input : List ℕ) → length input ≤ input_most → nat_le (length input) input_most ≡ true
+not_long : (input : List ℕ) → length input ≤ input_most → nat_le (length input) input_most ≡ true
 not_long input few = grind arith
 
-pub input_ends : (left : Option (List ℕ)) (before now : ℕ) (e : InputEnd) → InputStops left before now e → (input : List ℕ) → IsGiven left (Some Batch) input → (u : View) → Closed (on_view Batch input u) (Err (end_of_input e)) u u
-input_ends left before now input.TooLong stops given_input given u = elim given [
-  | inl none ↦ absurd (cc none)
-  | inr told ↦ closed_refused (Limit Input (input_most + 1)) (on_view Batch given_input u) u (ap (λ (b : Bool). if b then of_batch (batch_of given_input) (seen (shows u)) else refused (Limit Input (input_most + 1))) (sym (too_long given_input (stops given_input told))))
-]
-input_ends left before now input.Fault stops given_input given u = refl
-input_ends left before now input.NoMemory stops given_input given u = stood (on_view Batch given_input u) unchanged
+-- its answer is this by the whole input
+pub record ByInput (command : Command) (f : View → List ℕ → Answer) : Type 0 where
+  pub reads : reads_input command ≡ true
+  pub is : (input : List ℕ) (u : View) → on_view command input u ≡ over_input (f u) input
 
--- the answer to a batch whose bytes were read
-batch_is : (left : Option (List ℕ)) (bytes : List ℕ) → IsWhole left bytes → (input : List ℕ) → IsGiven left (Some Batch) input → (u : View) → of_batch (batch_of bytes) (seen (shows u)) ≡ on_view Batch input u
-batch_is left bytes whole input given u = elim given [
-  | inl none ↦ absurd (cc none)
-  | inr told ↦
-      let is = whole input told in
-      ap (λ (x : List ℕ). of_batch (batch_of x) (seen (shows u))) is.0 ∙ ap (λ (b : Bool). if b then of_batch (batch_of input) (seen (shows u)) else refused (Limit Input (input_most + 1))) (sym (not_long input is.1))
+-- all of the input is given
+given_all : (command : Command) (left : Option (List ℕ)) (input : List ℕ) → reads_input command ≡ true → IsGiven left (Some command) input → left ≡ Some input
+given_all command left input reads given = elim given [
+  | inl none ↦ absurd (let both : true ≡ false = sym reads ∙ none in cc both)
+  | inr told ↦ told
 ]
+
+by_length : (f : List ℕ → Answer) (input : List ℕ) (b : Bool) → nat_le (length input) input_most ≡ b → over_input f input ≡ (if b then f input else refused (Limit Input (input_most + 1)))
+by_length f input b is = ap (λ (c : Bool). if c then f input else refused (Limit Input (input_most + 1))) is
+
+-- the answer to it, whose bytes were read
+pub read_is : (command : Command) (f : View → List ℕ → Answer) → ByInput command f → (left : Option (List ℕ)) (bytes : List ℕ) → IsWhole left bytes → (input : List ℕ) → IsGiven left (Some command) input → (u : View) → f u bytes ≡ on_view command input u
+read_is command f by left bytes whole input given u =
+    let all = whole input (given_all command left input by.reads given) in
+    ap (f u) all.0 ∙ sym (by_length (f u) input true (not_long input all.1)) ∙ sym (by.is input u)
+
+-- the input wasn't read
+pub input_ends : (command : Command) (f : View → List ℕ → Answer) → ByInput command f → (left : Option (List ℕ)) (before now : ℕ) (e : InputEnd) → InputStops left before now e → (input : List ℕ) → IsGiven left (Some command) input → (u : View) → Closed (on_view command input u) (Err (end_of_input e)) u u
+input_ends command f by left before now input.TooLong stops given_input given u =
+    let long = too_long given_input (stops given_input (given_all command left given_input by.reads given)) in
+    closed_refused (Limit Input (input_most + 1)) (on_view command given_input u) u (sym (by_length (f u) given_input false long) ∙ sym (by.is given_input u))
+input_ends command f by left before now input.Fault stops given_input given u = refl
+input_ends command f by left before now input.NoMemory stops given_input given u = stood (on_view command given_input u) unchanged
+
+-- ---- a batch
+
+abbrev pub batch_by : View → List ℕ → Answer
+batch_by u bytes = of_batch (batch_of bytes) (seen (shows u))
+
+pub batch_input : ByInput Batch batch_by
+batch_input = record { reads = refl; is = λ input u. refl }
 
 pub batch_ends : (left : Option (List ℕ)) (bytes : List ℕ) (e : BatchError) → IsWhole left bytes → IsBadBatch bytes e → (input : List ℕ) → IsGiven left (Some Batch) input → (u : View) → Closed (on_view Batch input u) (Err (end_of_batch e)) u u
-batch_ends left bytes (batch.BadRecord line) whole bad input given u = closed_refused (BadRecord line) (on_view Batch input u) u (ap (λ (x : Result (List Command) ℕ). of_batch x (seen (shows u))) (sym bad) ∙ batch_is left bytes whole input given u)
+batch_ends left bytes (batch.BadRecord line) whole bad input given u = closed_refused (BadRecord line) (on_view Batch input u) u (ap (λ (x : Result (List Command) ℕ). of_batch x (seen (shows u))) (sym bad) ∙ read_is Batch batch_by batch_input left bytes whole input given u)
 batch_ends left bytes batch.NoMemory whole bad input given u = stood (on_view Batch input u) unchanged
 
 pub batch_answers : (left : Option (List ℕ)) (bytes : List ℕ) (commands : List Command) → IsWhole left bytes → batch_of bytes ≡ Ok commands → IsAnswer Batch left (changing commands)
-batch_answers left bytes commands whole is input given u = ap (λ (x : Result (List Command) ℕ). of_batch x (seen (shows u))) (sym is) ∙ batch_is left bytes whole input given u
+batch_answers left bytes commands whole is input given u = ap (λ (x : Result (List Command) ℕ). of_batch x (seen (shows u))) (sym is) ∙ read_is Batch batch_by batch_input left bytes whole input given u
 
 -- ---- another command that changes something
 
-pub other_changes : (command : Command) → is_show command ≡ false → (command ≡ ListPins → ⊥) → (command ≡ ListRemotes → ⊥) → only_looks command ≡ false
-other_changes (Pin pin) s p r = refl
-other_changes (Unpin pin) s p r = refl
-other_changes (RemoteAdd row) s p r = refl
-other_changes (RemoteModify row) s p r = refl
-other_changes (RemoteDelete name) s p r = refl
-other_changes ListPins s p r = absurd (p refl)
-other_changes ListRemotes s p r = absurd (r refl)
-other_changes Batch s p r = refl
-other_changes ShowCommit s p r = absurd (cc s)
-other_changes ShowDirTree s p r = absurd (cc s)
-other_changes ShowDirMeta s p r = absurd (cc s)
-other_changes (ShowValue of) s p r = absurd (cc s)
+pub record IsChange (command : Command) : Type 0 where
+  pub looks : only_looks command ≡ false
+  pub reads : reads_input command ≡ false
+  pub answers : (left : Option (List ℕ)) → IsAnswer command left (changing (command ∷ []))
 
-pub other_answers : (left : Option (List ℕ)) (command : Command) → is_show command ≡ false → (command ≡ ListPins → ⊥) → (command ≡ ListRemotes → ⊥) → (command ≡ Batch → ⊥) → IsAnswer command left (changing (command ∷ []))
-other_answers left (Pin pin) s p r b input given u = refl
-other_answers left (Unpin pin) s p r b input given u = refl
-other_answers left (RemoteAdd row) s p r b input given u = refl
-other_answers left (RemoteModify row) s p r b input given u = refl
-other_answers left (RemoteDelete name) s p r b input given u = refl
-other_answers left ListPins s p r b input given u = absurd (p refl)
-other_answers left ListRemotes s p r b input given u = absurd (r refl)
-other_answers left Batch s p r b input given u = absurd (b refl)
-other_answers left ShowCommit s p r b input given u = absurd (cc s)
-other_answers left ShowDirTree s p r b input given u = absurd (cc s)
-other_answers left ShowDirMeta s p r b input given u = absurd (cc s)
-other_answers left (ShowValue of) s p r b input given u = absurd (cc s)
+pub other : (command : Command) → (command ≡ ListPins → ⊥) → (command ≡ ListRemotes → ⊥) → (command ≡ Batch → ⊥) → (command ≡ ShowCommit → ⊥) → (command ≡ ShowDirTree → ⊥) → (command ≡ ShowDirMeta → ⊥) → ((of : List ℕ) → command ≡ ShowValue of → ⊥) → IsChange command
+other (Pin pin) pins remotes batch commit dirtree dirmeta value = record { looks = refl; reads = refl; answers = λ left input given u. refl }
+other (Unpin pin) pins remotes batch commit dirtree dirmeta value = record { looks = refl; reads = refl; answers = λ left input given u. refl }
+other (RemoteAdd row) pins remotes batch commit dirtree dirmeta value = record { looks = refl; reads = refl; answers = λ left input given u. refl }
+other (RemoteModify row) pins remotes batch commit dirtree dirmeta value = record { looks = refl; reads = refl; answers = λ left input given u. refl }
+other (RemoteDelete name) pins remotes batch commit dirtree dirmeta value = record { looks = refl; reads = refl; answers = λ left input given u. refl }
+other ListPins pins remotes batch commit dirtree dirmeta value = absurd (pins refl)
+other ListRemotes pins remotes batch commit dirtree dirmeta value = absurd (remotes refl)
+other Batch pins remotes batch commit dirtree dirmeta value = absurd (batch refl)
+other ShowCommit pins remotes batch commit dirtree dirmeta value = absurd (commit refl)
+other ShowDirTree pins remotes batch commit dirtree dirmeta value = absurd (dirtree refl)
+other ShowDirMeta pins remotes batch commit dirtree dirmeta value = absurd (dirmeta refl)
+other (ShowValue of) pins remotes batch commit dirtree dirmeta value = absurd (value of refl)
 
 -- ---- what it takes of the input
 
@@ -236,20 +247,6 @@ takes_none command r left is = record { read = λ reads. absurd (let both : true
 
 pub takes_all : (command : Command) (r : Result (Unit {0}) CommandEnd) (old new : Option (List ℕ)) → reads_input command ≡ true → TakenBy r old new → Takes command r old new
 takes_all command r old new is taken = record { read = λ reads. taken; left = λ none. absurd (let both : true ≡ false = sym is ∙ none in cc both) }
-
-pub other_reads : (command : Command) → is_show command ≡ false → (command ≡ Batch → ⊥) → reads_input command ≡ false
-other_reads (Pin pin) s b = refl
-other_reads (Unpin pin) s b = refl
-other_reads (RemoteAdd row) s b = refl
-other_reads (RemoteModify row) s b = refl
-other_reads (RemoteDelete name) s b = refl
-other_reads ListPins s b = refl
-other_reads ListRemotes s b = refl
-other_reads Batch s b = absurd (b refl)
-other_reads ShowCommit s b = absurd (cc s)
-other_reads ShowDirTree s b = absurd (cc s)
-other_reads ShowDirMeta s b = absurd (cc s)
-other_reads (ShowValue of) s b = absurd (cc s)
 
 pub taken_at : (command : Command) (r : Result (Unit {0}) CommandEnd) (status : ℕ) (old new : Option (List ℕ)) → Takes command r old new → (TakenBy r old new → IsAnswered status → IsDrained old new) → WasTaken (Some command) status old new
 taken_at command r status old new takes drained = (λ reads answered. drained (takes.read reads) answered, takes.left)

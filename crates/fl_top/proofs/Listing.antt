@@ -2,7 +2,6 @@
 use Rattle.std.proofs.Common.{◌≡◌, inl, inr, ℕ, List, [], ◌∷◌, ◌++◌, Option, None, Result, Ok, Err, IsErrAnd, refl, sym, ◌∙◌, ap, subst}
 use Rattle.std.proofs.lemmas.List.{append-nil}
 use Rattle.fp_host.specs.View.{View}
-use Rattle.fp_host.specs.Outcome.{shows}
 use Rattle.fp_host.specs.Calls.{says, Step}
 use Rattle.fp_host.specs.Causes.{end_of}
 use Rattle.fp_host.specs.Moments.{Moments, Makes, Goes}
@@ -19,13 +18,13 @@ use Rattle.dep_open.specs.declared.open_end.OpenEnd.TheVariants as open_end
 use Rattle.fl_top.specs.Answer.{Answer, Piece, told}
 use Rattle.fl_top.specs.Ends.{end_of_host, end_of_open}
 use Rattle.fl_top.specs.Runs.{Runs, Printed}
-use Rattle.fl_top.specs.Performs.{RunsOver, LooksOver, Ended, EndedOver, over_view, Completes}
+use Rattle.fl_top.specs.Performs.{LooksOver, Ended, EndedOver, over_view, Completes}
 use Rattle.fl_top.specs.Says.{Says, WasSaid}
 use Rattle.fl_top.specs.declared.end.RunEnd.{RunEnd}
 use Rattle.fl_top.specs.declared.end.RunEnd.TheVariants.{NoMemory}
 use Rattle.fl_top.proofs.Saying.{says_step, was_said}
 use Rattle.fl_top.proofs.Same.{same_shown}
-use Rattle.fl_top.proofs.Changing.{change_none, tidied_none}
+use Rattle.fl_top.proofs.Changing.{tidied_none}
 use Rattle.fl_top.proofs.Starting.{Keeping, begun, stood, unchanged, ended_open, shows_before, view_is, same_tidy}
 use Rattle.fl_top.proofs.Composing.{is_err}
 
@@ -44,7 +43,6 @@ telling text {u = u} {w = w} says_it = elim (says_it.printed) [
     said = piece_of text ∷ [];
     so_far = told_printed text u w more;
     prefix = λ sound disk left. let just = shows_before says_it.follows sound disk left in record { done = []; undone = []; prefix = refl; more = []; holds = refl; shown = just.shown; sound = just.sound };
-    changes = change_none says_it.names says_it.files;
     only_tidied = λ none. tidied_none says_it.names;
     untouched = λ why. record { names = says_it.names; files = says_it.files };
   }

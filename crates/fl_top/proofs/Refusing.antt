@@ -12,7 +12,7 @@ use Rattle.fp_small.specs.Config.{name_of}
 use Rattle.fp_small.specs.Order.{has_name}
 use Rattle.dep_states.specs.After.{after_all}
 use Rattle.fl_words.specs.declared.command.Command.{Command}
-use Rattle.fl_top.specs.Answer.{Answer, Piece, ops_of, did, behind, refusal_of, unless, act, act_on, op_of, change_over, in_turn, migrating, changing, is_pinned, IsAtOnce}
+use Rattle.fl_top.specs.Answer.{Answer, Piece, ops_of, did, behind, refusal_of, unless, act_on, op_of, change_over, in_turn, migrating, changing, is_pinned, IsAtOnce}
 
 -- each refusal of the answer is one of these
 abbrev pub Refuses : (Refusal → Type 0) → Answer → Type 0

@@ -1,5 +1,5 @@
 -- What a run is before anything is done, and what it is once the installation was opened.
-use Rattle.std.proofs.Common.{◌≡◌, inl, inr, ℕ, List, [], ◌∷◌, ◌++◌, Option, Some, None, Result, Ok, Err, refl, sym, ◌∙◌, ap, subst}
+use Rattle.std.proofs.Common.{◌≡◌, inl, inr, ℕ, List, [], ◌∷◌, ◌++◌, Ok, Err, refl, sym, ◌∙◌, ap, subst}
 use Rattle.std.proofs.lemmas.List.{append-nil}
 use Rattle.fp_host.specs.Paths.{Elements}
 use Rattle.fp_host.specs.View.{View}
@@ -59,12 +59,18 @@ prefix_none a just = record { done = []; undone = ops_of a; prefix = refl; more 
 
 pub begun : (a : Answer) {u w : View} → Keeping u w → Runs a u w
 begun a keeping = record {
-  changes = change_none keeping.names keeping.files;
   only_tidied = λ none. tidied_none keeping.names;
   said = [];
   so_far = none_yet a keeping.printed;
   prefix = λ sound disk left. prefix_none a (shows_before keeping.follows sound disk left);
   untouched = λ why. record { names = keeping.names; files = keeping.files };
+}
+
+pub begun_over : (f : State → Answer) {u w : View} → Keeping u w → RunsOver f u w
+begun_over f {u = u} keeping = record {
+  runs = begun (over_view f u) keeping;
+  changes = change_none keeping.names keeping.files;
+  untouched = λ none. record { names = keeping.names; files = keeping.files };
 }
 
 pub stood : (a : Answer) {u w : View} → Keeping u w → Stands a u w
@@ -96,8 +102,7 @@ moved : {a : Answer} {said : List Piece} {u v w : View} → v.printed ≡ u.prin
 moved {said = said} same printed = record { left = printed.left; pieces = printed.pieces; printed = printed.printed ∙ ap (λ (p : List ℕ). p ++ joined said) same }
 
 runs_opened : (a : Answer) (s : State) {u v w : View} → (IsAtOnce a.refusal → ⊥) → IsOpened s u v → Keeping u v → Performs a s v w → Runs a u w
-runs_opened a s {u = u} {v = v} {w = w} late opened keeping performs = record {
-  changes = change_on u v w (change_none keeping.names keeping.files) performs.changes;
+runs_opened a s {u = u} late opened keeping performs = record {
   only_tidied = λ none. tidied_on (tidied_none keeping.names) (performs.only_tidied none);
   said = performs.said;
   so_far = moved keeping.printed performs.so_far;
@@ -112,11 +117,15 @@ runs_opened a s {u = u} {v = v} {w = w} late opened keeping performs = record {
         shown = shown_after u s some.done disk opened.shown some.shown;
         sound = some.sound;
       };
-  untouched = λ why. absurd (elim why [ inl none ↦ none s opened.shown | inr at_once ↦ late at_once ]);
+  untouched = λ at_once. absurd (late at_once);
 }
 
 pub runs_over : (f : State → Answer) (s : State) {u v w : View} → (IsAtOnce (f s).refusal → ⊥) → IsOpened s u v → Keeping u v → Performs (f s) s v w → RunsOver f u w
-runs_over f s {u = u} {w = w} late opened keeping performs = subst (λ (a : Answer). Runs a u w) (view_is f u s opened.shown) (runs_opened (f s) s late opened keeping performs)
+runs_over f s {u = u} {v = v} {w = w} late opened keeping performs = record {
+  runs = subst (λ (a : Answer). Runs a u w) (view_is f u s opened.shown) (runs_opened (f s) s late opened keeping performs);
+  changes = change_on u v w (change_none keeping.names keeping.files) performs.changes;
+  untouched = λ none. absurd (none s opened.shown);
+}
 
 completes : (a : Answer) (s : State) {u v w : View} → IsOpened s u v → Keeping u v → IsDone a s v w → Completes a u w
 completes a s {u = u} {w = w} opened keeping is = record {

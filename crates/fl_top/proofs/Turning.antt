@@ -4,19 +4,18 @@ use Rattle.std.proofs.lemmas.List.{append-nil}
 use Rattle.std.proofs.lemmas.Grind.{flat_map-append}
 use Rattle.std.proofs.lemmas.List.Elements.{filter_map-append}
 use Rattle.fp_host.specs.View.{View}
-use Rattle.fp_host.specs.Outcome.{Disk, Leaves}
+use Rattle.fp_host.specs.Outcome.{Disk}
 use Rattle.fp_small.specs.declared.state.State.{State}
 use Rattle.fp_small.specs.declared.op.Op.{Op}
 use Rattle.fp_small.specs.declared.refusal.Refusal.{Refusal}
 use Rattle.dep_states.specs.Shown.{Shows}
 use Rattle.dep_states.specs.Sound.{Opens}
 use Rattle.dep_states.specs.After.{after, after_all}
-use Rattle.dep_open.specs.Tidy.{IsTidy}
 use Rattle.fl_words.specs.declared.command.Command.{Command}
 use Rattle.fl_top.specs.Answer.{Answer, Piece, lines_of, last_of, joined, ops_in, ops_of, nothing, behind, followed, change_over, in_turn}
 use Rattle.fl_top.specs.Runs.{Printed}
 use Rattle.fl_top.proofs.Changing.{change_on, change_not, tidied_on, tidied_not}
-use Rattle.fl_top.specs.Performs.{IsSome, Performs, IsDone, IsHalted, Performed}
+use Rattle.fl_top.specs.Performs.{IsSome, Performs, IsDone, Performed}
 use Rattle.fl_top.specs.declared.end.RunEnd.{RunEnd}
 use Rattle.fl_top.specs.declared.end.RunEnd.TheVariants.{Refused, Fault, NoMemory}
 

@@ -1,5 +1,5 @@
 -- What a run answers: what it prints, and the operations that this acknowledges.
-use Rattle.std.specs.Prelude.{ℕ, ◌*◌, ◌+◌, List, [], ◌∷◌, ◌++◌, Bool, length, nat_le, Option, Some, None, Result, Ok, Err, codes, flat_map, filter_map, if◌then◌else◌}
+use Rattle.std.specs.Prelude.{ℕ, ◌+◌, List, [], ◌∷◌, ◌++◌, Bool, length, nat_le, Option, Some, None, Result, Ok, Err, codes, flat_map, filter_map, if◌then◌else◌}
 use Rattle.std.specs.List.{list_any}
 use Rattle.std.specs.Str.{bytes_eq}
 use Rattle.fp_host.specs.Paths.{Elements}
@@ -30,6 +30,8 @@ use Rattle.gv_value.specs.Reading.{value_of}
 use Rattle.ost_model.specs.declared.rule.Rule.{Rule}
 use Rattle.ost_model.specs.Contents.{meta_digest}
 use Rattle.ost_model.specs.Readers.{commit_read, tree_read, meta_read}
+use Rattle.fl_top.specs.declared.showing.Shown.{Shown}
+use Rattle.fl_top.specs.declared.showing.Shown.TheVariants as things
 use Rattle.fl_top.specs.Objects.{head, commit_lines, tree_lines, meta_lines, normal_line, rule_word}
 
 -- what is printed at once, with the operation that it acknowledges, if it does
@@ -193,24 +195,19 @@ by_type (Some of) bytes = by_value bytes (value_of of bytes)
 unfoldable pub value_shown : List ℕ → List ℕ → Answer
 value_shown text bytes = by_type (type_of text) bytes
 
--- by the command; the others show nothing
-abbrev pub shown_by : Command → List ℕ → Answer
-shown_by (Pin pin) bytes = told []
-shown_by (Unpin pin) bytes = told []
-shown_by (RemoteAdd row) bytes = told []
-shown_by (RemoteModify row) bytes = told []
-shown_by (RemoteDelete name) bytes = told []
-shown_by ListPins bytes = told []
-shown_by ListRemotes bytes = told []
-shown_by Batch bytes = told []
-shown_by ShowCommit bytes = commit_shown bytes
-shown_by ShowDirTree bytes = tree_shown bytes
-shown_by ShowDirMeta bytes = meta_shown bytes
-shown_by (ShowValue of) bytes = value_shown of bytes
+-- by what is to be shown
+abbrev pub shown_by : Shown → List ℕ → Answer
+shown_by things.Commit bytes = commit_shown bytes
+shown_by things.DirTree bytes = tree_shown bytes
+shown_by things.DirMeta bytes = meta_shown bytes
+shown_by (things.Value of) bytes = value_shown of bytes
 
--- the whole input is read before
-abbrev pub show_over : Command → List ℕ → Answer
-show_over command input = if nat_le (length input) input_most then shown_by command input else refused (Limit Input (input_most + 1))
+-- the command that shows it
+abbrev pub showing : Shown → Command
+showing things.Commit = ShowCommit
+showing things.DirTree = ShowDirTree
+showing things.DirMeta = ShowDirMeta
+showing (things.Value of) = ShowValue of
 
 -- ---- what words answer over an input and an image
 
@@ -239,8 +236,8 @@ of_batch (Err line) shown = refused (BadRecord line)
 of_batch (Ok commands) shown = over (changing commands) shown
 
 -- the whole input is read before anything is done
-abbrev pub batch_over : List ℕ → Result State Elements → Answer
-batch_over input shown = if nat_le (length input) input_most then of_batch (batch_of input) shown else refused (Limit Input (input_most + 1))
+abbrev pub over_input : (List ℕ → Answer) → List ℕ → Answer
+over_input f input = if nat_le (length input) input_most then f input else refused (Limit Input (input_most + 1))
 
 abbrev pub answer_over : Command → List ℕ → Result State Elements → Answer
 answer_over (Pin pin) input shown = over (changing (Pin pin ∷ [])) shown
@@ -250,11 +247,11 @@ answer_over (RemoteModify row) input shown = over (changing (RemoteModify row �
 answer_over (RemoteDelete name) input shown = over (changing (RemoteDelete name ∷ [])) shown
 answer_over ListPins input shown = over told_pins shown
 answer_over ListRemotes input shown = over told_remotes shown
-answer_over Batch input shown = batch_over input shown
-answer_over ShowCommit input shown = show_over ShowCommit input
-answer_over ShowDirTree input shown = show_over ShowDirTree input
-answer_over ShowDirMeta input shown = show_over ShowDirMeta input
-answer_over (ShowValue of) input shown = show_over (ShowValue of) input
+answer_over Batch input shown = over_input (λ bytes. of_batch (batch_of bytes) shown) input
+answer_over ShowCommit input shown = over_input commit_shown input
+answer_over ShowDirTree input shown = over_input tree_shown input
+answer_over ShowDirMeta input shown = over_input meta_shown input
+answer_over (ShowValue of) input shown = over_input (value_shown of) input
 
 abbrev pub answer_to : List (List ℕ) → Option Command → List ℕ → Result State Elements → Answer
 answer_to words None input shown = refused (BadWords (bad_index words))

@@ -1,6 +1,5 @@
 -- What a command does over an installation that was opened.
 use Rattle.std.specs.Prelude.{◌≡◌, ◌≢◌, ℕ, true, false, ◌⊎◌, [], Option, ◌++◌, List, Some, None, Result, Ok, Err}
-use Rattle.fp_host.specs.Paths.{Elements}
 use Rattle.fp_host.specs.View.{View}
 use Rattle.fp_host.specs.Outcome.{Disk, Leaves, shows}
 use Rattle.fp_small.specs.declared.state.State.{State}
@@ -72,12 +71,15 @@ WasDone op s (Err e) v w = Performed (did op) s (Err e) v w
 abbrev pub over_view : (State → Answer) → View → Answer
 over_view f u = over f (seen (shows u))
 
-abbrev pub RunsOver : (State → Answer) → View → View → Type 0
-RunsOver f u w = Runs (over_view f u) u w
+-- and so much changes
+pub record RunsOver (f : State → Answer) (u w : View) : Type 0 where
+  pub runs : Runs (over_view f u) u w
+  pub changes : Changes u w
+  pub untouched : NotShown (shows u) → IsUntouched u w
 
 -- and nothing changes
 pub record LooksOver (f : State → Answer) (u w : View) : Type 0 where
-  pub runs : RunsOver f u w
+  pub runs : Runs (over_view f u) u w
   pub untouched : IsUntouched u w
 
 -- all that isn't the line of a refusal was printed, and what stands is the state after the operations

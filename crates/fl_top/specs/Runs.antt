@@ -1,6 +1,5 @@
 -- What a run leaves at every moment and at its return.
 use Rattle.std.specs.Prelude.{◌≡◌, ◌≢◌, ◌⊎◌, ℕ, true, false, List, [], ◌∷◌, ◌++◌, Option, Some, None}
-use Rattle.fp_host.specs.Paths.{Elements}
 use Rattle.fp_host.specs.View.{View}
 use Rattle.fp_host.specs.Outcome.{Disk, Leaves, shows}
 use Rattle.fp_small.specs.declared.state.State.{State}
@@ -45,17 +44,14 @@ pub record Printed (a : Answer) (said : List Piece) (u w : View) : Type 0 where
   pub printed : w.printed ≡ u.printed ++ joined said
 
 -- At every moment: the bytes printed since the start are the first pieces of the answer; every stop leaves the installation
--- after a prefix of its operations that holds those that these pieces acknowledge; no name changed but `config`, those of
--- work, and the files of layout 1, which went; and each file that was there keeps its mode and its bytes. Where the answer has
--- no operation, names only went that are tidied. Where no state stood at the start, and where the words or the input are
--- refused, no name changed either.
+-- after a prefix of its operations that holds those that these pieces acknowledge. Where the answer has no operation, names
+-- only went that are tidied. Where the words or the input are refused, no name changed, and no file.
 pub record Runs (a : Answer) (u w : View) : Type 0 where
   pub said : List Piece
   pub so_far : Printed a said u w
   pub prefix : IsSound u → (disk : Disk) → Leaves w disk → IsPrefix a (ops_in said) u disk
-  pub changes : Changes u w
   pub only_tidied : ops_of a ≡ [] → OnlyTidied u w
-  pub untouched : NotShown (shows u) ⊎ IsAtOnce a.refusal → IsUntouched u w
+  pub untouched : IsAtOnce a.refusal → IsUntouched u w
 
 -- every stop leaves the installation after the acknowledged operations
 pub record Stands (a : Answer) (u w : View) : Type 0 where
@@ -89,8 +85,9 @@ abbrev pub IsGiven : Option (List ℕ) → Option Command → List ℕ → Type 
 IsGiven left None input = Unit {0}
 IsGiven left (Some command) input = (reads_input command ≡ false) ⊎ (left ≡ Some input)
 
--- At every moment. What may change is the same for each input, also where the source doesn't tell what it has left; and words
--- that are no command, a command that only looks, and one that sees no state change nothing.
+-- At every moment. Also where the source doesn't tell what it has left, no name changed but `config`, those of work, and the
+-- files of layout 1, which went; each file that was there keeps its mode and its bytes; and words that are no command, a
+-- command that only looks, and one that sees no state change nothing.
 pub record RunsBy (words : List (List ℕ)) (left : Option (List ℕ)) (u w : View) : Type 0 where
   pub changes : Changes u w
   pub runs : (input : List ℕ) → IsGiven left (command_of words) input → Runs (answer words input (shows u)) u w

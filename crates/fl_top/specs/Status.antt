@@ -34,21 +34,6 @@ only_looks ShowDirTree = true
 only_looks ShowDirMeta = true
 only_looks (ShowValue of) = true
 
--- it prints what the input is
-abbrev pub is_show : Command → Bool
-is_show (Pin pin) = false
-is_show (Unpin pin) = false
-is_show (RemoteAdd row) = false
-is_show (RemoteModify row) = false
-is_show (RemoteDelete name) = false
-is_show ListPins = false
-is_show ListRemotes = false
-is_show Batch = false
-is_show ShowCommit = true
-is_show ShowDirTree = true
-is_show ShowDirMeta = true
-is_show (ShowValue of) = true
-
 abbrev pub reads_input : Command → Bool
 reads_input (Pin pin) = false
 reads_input (Unpin pin) = false

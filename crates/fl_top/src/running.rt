@@ -6,17 +6,17 @@ ghost use Rattle.fp_host.specs.Moments.{Goes, Rose};
 ghost use Rattle.fl_words.specs.Lines.{refusal_text};
 ghost use Rattle.fl_words.specs.Words.{command_of};
 ghost use Rattle.fl_words.specs.declared.command.Command.TheVariants.{Batch};
-ghost use Rattle.fl_top.specs.Answer.{told_pins, told_remotes};
+ghost use Rattle.fl_top.specs.Answer.{told_pins, told_remotes, showing};
 ghost use Rattle.fl_top.specs.Performs.{LooksOver, EndedOver, RunsOn, EndedOn, RanOn, Takes, TakenBy};
 ghost use Rattle.fl_top.specs.Runs.{RunsBy, RanBy, WasTaken, IsReady, Serves};
 ghost use Rattle.fl_top.specs.Says.{Says, SaidBy, Refuses};
-ghost use Rattle.fl_top.specs.Status.{IsStatus, IsOfWords, IsOfCommand, reads_input, is_show};
+ghost use Rattle.fl_top.specs.Status.{IsStatus, IsOfWords, IsOfCommand, reads_input};
 
 use crate::change::change;
 use crate::command_end::CommandEnd;
 use crate::end::RunEnd;
 use crate::input::read_input;
-use crate::showing::shown_text;
+use crate::showing::{Shown, shown_text};
 use dep_open::read_state;
 use fl_words::{
     Command, WordsError, pins_text, read_batch, read_words, refusal_line, remotes_text,
@@ -95,25 +95,15 @@ fn perform<H: Host, I: Source>(
     ensures taken { Takes command result (I.left input.old) (I.left input.new) }
     ensures later { I.faults input.old ≤ I.faults input.new }
 {
-    if is_show(&command) {
-        return show(alloc, input, host, &command);
-    }
     match command {
         Command::ListPins => Ok(list_pins(alloc, host)?),
         Command::ListRemotes => Ok(list_remotes(alloc, host)?),
         Command::Batch => batch(alloc, input, host),
+        Command::ShowCommit => show(alloc, input, host, &Shown::Commit),
+        Command::ShowDirTree => show(alloc, input, host, &Shown::DirTree),
+        Command::ShowDirMeta => show(alloc, input, host, &Shown::DirMeta),
+        Command::ShowValue(of) => show(alloc, input, host, &Shown::Value(of)),
         command => Ok(change(alloc, host, &[command])?),
-    }
-}
-
-/// Whether a command prints what the input is.
-fn is_show(command: &Command) -> bool
-    ensures { result ≡ is_show command.now }
-{
-    match command {
-        Command::ShowCommit | Command::ShowDirTree | Command::ShowDirMeta => true,
-        Command::ShowValue(_) => true,
-        _ => false,
     }
 }
 
@@ -122,17 +112,16 @@ fn show<H: Host, I: Source>(
     alloc: Global,
     input: &mut I,
     host: &mut H,
-    command: &Command,
+    thing: &Shown,
 ) -> Result<(), CommandEnd>
-    requires { is_show command.now ≡ true }
-    ensures moments { Goes (H.moments host.old) (H.moments host.new) (RunsOn command.now (I.left input.old)) (EndedOn command.now (I.left input.old) result) }
+    ensures moments { Goes (H.moments host.old) (H.moments host.new) (RunsOn (showing thing.now) (I.left input.old)) (EndedOn (showing thing.now) (I.left input.old) result) }
     ensures cause { IsCaused (IsErrOf result CommandEnd.Fault) (H.moments host.old) (λ v. Unit {0}) (H.faults host.old) (H.faults host.new) }
     ensures input { IsErrOf result CommandEnd.InputFault → Rose (I.faults input.old) (I.faults input.new) × Still (H.moments host.old) (H.moments host.new) }
     ensures taken { TakenBy result (I.left input.old) (I.left input.new) }
     ensures later { I.faults input.old ≤ I.faults input.new }
 {
     let given = read_input(alloc, input)?;
-    let text = shown_text(alloc, command, given.as_slice())?;
+    let text = shown_text(alloc, thing, given.as_slice())?;
     Ok(say(host, text.as_str().as_bytes())?)
 }
 

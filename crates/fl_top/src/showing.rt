@@ -11,7 +11,7 @@ ghost use Rattle.fl_top.specs.Objects.{head, root_lines, commit_lines, tree_line
 ghost use Rattle.fl_top.specs.declared.end.RunEnd.TheVariants.{Refused};
 
 use crate::end::RunEnd;
-use fl_words::{Command, ValueType, digits_of, escape};
+use fl_words::{ValueType, digits_of, escape};
 use fp_host::Text;
 use fp_name::Digest;
 use fp_small::Refusal;
@@ -25,16 +25,24 @@ use ost_object::{
 };
 use std::alloc::{AllocError, Global};
 
-/// What is printed of bytes by a command that shows them.
-pub(crate) fn shown_text(alloc: Global, command: &Command, bytes: &[u8]) -> Result<Text, RunEnd>
-    ensures { Prints (shown_by command.now bytes.now) result }
+/// What the input is shown as: an object of a kind, or a value of a type.
+#[derive(Drop)]
+pub(crate) enum Shown {
+    Commit,
+    DirTree,
+    DirMeta,
+    Value(ValueType),
+}
+
+/// What is printed of bytes that are shown as this.
+pub(crate) fn shown_text(alloc: Global, thing: &Shown, bytes: &[u8]) -> Result<Text, RunEnd>
+    ensures { Prints (shown_by thing.now bytes.now) result }
 {
-    match command {
-        Command::ShowCommit => commit_text(alloc, bytes),
-        Command::ShowDirTree => tree_text(alloc, bytes),
-        Command::ShowDirMeta => meta_text(alloc, bytes),
-        Command::ShowValue(of) => value_text(alloc, of, bytes),
-        _ => Ok(Text::from_string(String::new(alloc))),
+    match thing {
+        Shown::Commit => commit_text(alloc, bytes),
+        Shown::DirTree => tree_text(alloc, bytes),
+        Shown::DirMeta => meta_text(alloc, bytes),
+        Shown::Value(of) => value_text(alloc, of, bytes),
     }
 }
 

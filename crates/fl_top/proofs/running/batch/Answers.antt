@@ -6,13 +6,13 @@ use Rattle.fl_words.specs.declared.command.Command.TheVariants.{Batch}
 use Rattle.fl_top.specs.Answer.{changing}
 use Rattle.fl_top.specs.Ends.{end_of_input, end_of_batch}
 use Rattle.fl_top.specs.Performs.{RunsOver, EndedOver}
-use Rattle.fl_top.proofs.Finishing.{goes_none, input_failed, input_ends, batch_ends, batch_answers, goes_change, goes_not_changed, run_fault, drained_by, not_taken}
+use Rattle.fl_top.proofs.Finishing.{goes_none, input_failed, input_ends, batch_by, batch_input, batch_ends, batch_answers, goes_change, goes_not_changed, run_fault, drained_by, not_taken}
 use Rattle.fl_top.proofs.running.batch.Goals as goal
 
 pub returns-in_err-bytes-clause-moments : goal.returns-in_err-bytes-clause-moments
 returns-in_err-bytes-clause-moments g c =
     let left = g.I.Source.left c.args.input.now in
-    goes_none Batch left (end_of_input c.in_err-bytes.field-0.0) c.from_residual.result (g.met.H.Host.is_tree c.args.host.now) c.from_residual.ensures.1 (input_ends left (g.I.Source.faults c.args.input.now) (g.I.Source.faults c.read_input.new.input) c.in_err-bytes.field-0.0 c.in_err-bytes.ensures.stops)
+    goes_none Batch left (end_of_input c.in_err-bytes.field-0.0) c.from_residual.result (g.met.H.Host.is_tree c.args.host.now) c.from_residual.ensures.1 (input_ends Batch batch_by batch_input left (g.I.Source.faults c.args.input.now) (g.I.Source.faults c.read_input.new.input) c.in_err-bytes.field-0.0 c.in_err-bytes.ensures.stops)
 
 pub returns-in_err-bytes-clause-input : goal.returns-in_err-bytes-clause-input
 returns-in_err-bytes-clause-input g c = input_failed (g.I.Source.left c.args.input.now) (g.I.Source.faults c.args.input.now) (g.I.Source.faults c.read_input.new.input) c.in_err-bytes.field-0.0 c.from_residual.result (g.met.H.Host.is_tree c.args.host.now) c.from_residual.ensures.1 c.in_err-bytes.ensures.stops

@@ -1,12 +1,12 @@
-use Rattle.std.proofs.Common.{◌≡◌, ◌∙◌, [], ◌∷◌, Ok, refl, sym, subst, false, ap, arith}
+use Rattle.std.proofs.Common.{[], ◌∷◌, Ok, refl, sym, subst, ap, arith}
 use Rattle.fp_host.specs.Moments.{Goes}
 use Rattle.fl_words.specs.declared.command.Command.{Command}
 use Rattle.fl_words.specs.declared.command.Command.TheVariants.{ListPins, ListRemotes}
 use Rattle.fl_top.specs.Answer.{changing, told_pins, told_remotes}
 use Rattle.fl_top.specs.Performs.{RunsOn, EndedOn}
-use Rattle.fl_top.specs.Status.{only_looks, reads_input, is_show}
-use Rattle.fl_top.proofs.Finishing.{goes_look, goes_not_looked, goes_change, goes_not_changed, caused_change, run_fault, run_input, other_changes, other_answers, takes_none, takes_all, other_reads}
-use Rattle.fl_top.proofs.ShowInput.{show_reads, show_causes}
+use Rattle.fl_top.specs.Status.{only_looks, reads_input}
+use Rattle.fl_top.proofs.Finishing.{goes_look, goes_not_looked, goes_change, goes_not_changed, caused_change, run_fault, run_input, other, takes_none, takes_all}
+use Rattle.fl_top.proofs.ShowInput.{show_causes}
 use Rattle.fl_top.proofs.running.perform.Goals as goal
 
 pub returns-in_err-list_pins-in-ListPins-clause-moments : goal.returns-in_err-list_pins-in-ListPins-clause-moments
@@ -48,16 +48,15 @@ pub returns-in_err-change-in_default : goal.returns-in_err-change-in_default
 returns-in_err-change-in_default g c =
     let command = c.args.command in
     let left = g.I.Source.left c.args.input.now in
-    let other : is_show command ≡ false = sym c.is_show.ensures ∙ c.if-is_show.false in
-    let changes : only_looks command ≡ false = other_changes command other c.in_default.not-ListPins c.in_default.not-ListRemotes in
+    let is = other command c.in_default.not-ListPins c.in_default.not-ListRemotes c.in_default.not-Batch c.in_default.not-ShowCommit c.in_default.not-ShowDirTree c.in_default.not-ShowDirMeta c.in_default.not-ShowValue in
     let e = c.in_err-change-in_default.field-0.0 in
     let r = c.from_residual-in_err-change-in_default.result in
     let err = c.from_residual-in_err-change-in_default.ensures.1 in
     record {
-      moments = goes_not_changed command left (changing (command ∷ [])) e r (g.met.H.Host.is_tree c.args.host.now) changes (other_answers left command other c.in_default.not-ListPins c.in_default.not-ListRemotes c.in_default.not-Batch) c.in_err-change-in_default.ensures.moments err;
-      cause = caused_change command _ _ changes c.change.ensures.cause (run_fault c.change.result r e c.in_err-change-in_default.was err);
-      input = λ is. absurd (run_input r e err is);
-      taken = takes_none command r left (other_reads command other c.in_default.not-Batch);
+      moments = goes_not_changed command left (changing (command ∷ [])) e r (g.met.H.Host.is_tree c.args.host.now) is.looks (is.answers left) c.in_err-change-in_default.ensures.moments err;
+      cause = caused_change command _ _ is.looks c.change.ensures.cause (run_fault c.change.result r e c.in_err-change-in_default.was err);
+      input = λ failed. absurd (run_input r e err failed);
+      taken = takes_none command r left is.reads;
       later = omega arith;
     }
 
@@ -65,13 +64,12 @@ pub returns-in_ok-change-in_default : goal.returns-in_ok-change-in_default
 returns-in_ok-change-in_default g c =
     let command = c.args.command in
     let left = g.I.Source.left c.args.input.now in
-    let other : is_show command ≡ false = sym c.is_show.ensures ∙ c.if-is_show.false in
-    let changes : only_looks command ≡ false = other_changes command other c.in_default.not-ListPins c.in_default.not-ListRemotes in
+    let is = other command c.in_default.not-ListPins c.in_default.not-ListRemotes c.in_default.not-Batch c.in_default.not-ShowCommit c.in_default.not-ShowDirTree c.in_default.not-ShowDirMeta c.in_default.not-ShowValue in
     record {
-      moments = goes_change command left (changing (command ∷ [])) (g.met.H.Host.is_tree c.args.host.now) changes (other_answers left command other c.in_default.not-ListPins c.in_default.not-ListRemotes c.in_default.not-Batch) c.in_ok-change-in_default.ensures.moments;
-      cause = record { later = c.change.ensures.cause.later; fault = λ is. absurd (cc is) };
-      input = λ is. absurd (cc is);
-      taken = takes_none command (Ok tt) left (other_reads command other c.in_default.not-Batch);
+      moments = goes_change command left (changing (command ∷ [])) (g.met.H.Host.is_tree c.args.host.now) is.looks (is.answers left) c.in_ok-change-in_default.ensures.moments;
+      cause = record { later = c.change.ensures.cause.later; fault = λ same. absurd (cc same) };
+      input = λ same. absurd (cc same);
+      taken = takes_none command (Ok tt) left is.reads;
       later = omega arith;
     }
 
@@ -90,14 +88,29 @@ returns-in_ok-list_remotes-in-ListRemotes-clause-taken g c = takes_none c.args.c
 pub returns-in-Batch-clause-taken : goal.returns-in-Batch-clause-taken
 returns-in-Batch-clause-taken g c = takes_all c.args.command c.batch.result (g.I.Source.left c.args.input.now) (g.I.Source.left c.batch.new.input) (ap reads_input c.in-Batch.is) c.batch.ensures.taken
 
-pub returns-then-is_show-clause-cause : goal.returns-then-is_show-clause-cause
-returns-then-is_show-clause-cause g c = show_causes c.args.command c.show.ensures.cause
+pub returns-in-ShowCommit-clause-cause : goal.returns-in-ShowCommit-clause-cause
+returns-in-ShowCommit-clause-cause g c = show_causes c.args.command c.show.ensures.cause
 
-pub returns-then-is_show-clause-input : goal.returns-then-is_show-clause-input
-returns-then-is_show-clause-input g c = λ is. let failed = c.show.ensures.input is in (show_reads c.args.command (sym c.is_show.ensures ∙ c.if-is_show.true), failed.0, failed.1)
+pub returns-in-ShowCommit-clause-taken : goal.returns-in-ShowCommit-clause-taken
+returns-in-ShowCommit-clause-taken g c = takes_all c.args.command c.show.result (g.I.Source.left c.args.input.now) (g.I.Source.left c.show.new.input) (ap reads_input c.in-ShowCommit.is) c.show.ensures.taken
 
-pub returns-then-is_show-clause-taken : goal.returns-then-is_show-clause-taken
-returns-then-is_show-clause-taken g c = takes_all c.args.command c.show.result (g.I.Source.left c.args.input.now) (g.I.Source.left c.show.new.input) (show_reads c.args.command (sym c.is_show.ensures ∙ c.if-is_show.true)) c.show.ensures.taken
+pub returns-in-ShowDirTree-clause-cause : goal.returns-in-ShowDirTree-clause-cause
+returns-in-ShowDirTree-clause-cause g c = show_causes c.args.command c.show-in-ShowDirTree.ensures.cause
+
+pub returns-in-ShowDirTree-clause-taken : goal.returns-in-ShowDirTree-clause-taken
+returns-in-ShowDirTree-clause-taken g c = takes_all c.args.command c.show-in-ShowDirTree.result (g.I.Source.left c.args.input.now) (g.I.Source.left c.show-in-ShowDirTree.new.input) (ap reads_input c.in-ShowDirTree.is) c.show-in-ShowDirTree.ensures.taken
+
+pub returns-in-ShowDirMeta-clause-cause : goal.returns-in-ShowDirMeta-clause-cause
+returns-in-ShowDirMeta-clause-cause g c = show_causes c.args.command c.show-in-ShowDirMeta.ensures.cause
+
+pub returns-in-ShowDirMeta-clause-taken : goal.returns-in-ShowDirMeta-clause-taken
+returns-in-ShowDirMeta-clause-taken g c = takes_all c.args.command c.show-in-ShowDirMeta.result (g.I.Source.left c.args.input.now) (g.I.Source.left c.show-in-ShowDirMeta.new.input) (ap reads_input c.in-ShowDirMeta.is) c.show-in-ShowDirMeta.ensures.taken
+
+pub returns-in-ShowValue-clause-cause : goal.returns-in-ShowValue-clause-cause
+returns-in-ShowValue-clause-cause g c = show_causes c.args.command c.show-in-ShowValue.ensures.cause
+
+pub returns-in-ShowValue-clause-taken : goal.returns-in-ShowValue-clause-taken
+returns-in-ShowValue-clause-taken g c = takes_all c.args.command c.show-in-ShowValue.result (g.I.Source.left c.args.input.now) (g.I.Source.left c.show-in-ShowValue.new.input) (ap reads_input c.in-ShowValue.is) c.show-in-ShowValue.ensures.taken
 
 pub returns-in_err-list_pins-in-ListPins-clause-cause : goal.returns-in_err-list_pins-in-ListPins-clause-cause
 returns-in_err-list_pins-in-ListPins-clause-cause g c = record {

@@ -1,14 +1,14 @@
 use Rattle.std.proofs.Common.{◌≡◌, sym, subst, rules, arith, List, ℕ, Ok, Err}
-use Rattle.fl_top.specs.Answer.{shown_by, told}
+use Rattle.fl_top.specs.Answer.{shown_by, showing, told}
 use Rattle.fl_top.specs.Ends.{end_of_host, end_of_input, end_of_run, Prints}
-use Rattle.fl_top.proofs.Finishing.{goes_none, input_failed, run_input, drained_by, not_taken}
-use Rattle.fl_top.proofs.ShowInput.{input_stops, show_ends, no_fault, goes_shown, goes_not_shown, said_fault}
+use Rattle.fl_top.proofs.Finishing.{goes_none, input_failed, input_ends, run_input, drained_by, not_taken}
+use Rattle.fl_top.proofs.ShowInput.{show_by, show_input, show_ends, no_fault, goes_shown, goes_not_shown, said_fault}
 use Rattle.fl_top.proofs.running.show.Goals as goal
 
 pub returns-in_err-given-clause-moments : goal.returns-in_err-given-clause-moments
 returns-in_err-given-clause-moments g c =
     let left = g.I.Source.left c.args.input.now in
-    goes_none c.args.command.now left (end_of_input c.in_err-given.field-0.0) c.from_residual.result (g.met.H.Host.is_tree c.args.host.now) c.from_residual.ensures.1 (input_stops c.args.command.now left (g.I.Source.faults c.args.input.now) (g.I.Source.faults c.read_input.new.input) c.in_err-given.field-0.0 c.requires c.in_err-given.ensures.stops)
+    goes_none (showing c.args.thing.now) left (end_of_input c.in_err-given.field-0.0) c.from_residual.result (g.met.H.Host.is_tree c.args.host.now) c.from_residual.ensures.1 (input_ends (showing c.args.thing.now) (show_by c.args.thing.now) (show_input c.args.thing.now) left (g.I.Source.faults c.args.input.now) (g.I.Source.faults c.read_input.new.input) c.in_err-given.field-0.0 c.in_err-given.ensures.stops)
 
 pub returns-in_err-given-clause-input : goal.returns-in_err-given-clause-input
 returns-in_err-given-clause-input g c = input_failed (g.I.Source.left c.args.input.now) (g.I.Source.faults c.args.input.now) (g.I.Source.faults c.read_input.new.input) c.in_err-given.field-0.0 c.from_residual.result (g.met.H.Host.is_tree c.args.host.now) c.from_residual.ensures.1 c.in_err-given.ensures.stops
@@ -17,15 +17,15 @@ pub returns-in_err-text-clause-moments : goal.returns-in_err-text-clause-moments
 returns-in_err-text-clause-moments g c =
     let left = g.I.Source.left c.args.input.now in
     let e = c.in_err-text.field-0.0 in
-    let shown : Prints (shown_by c.args.command.now c.in_ok-given.given) (Err e) = subst (λ (b : List ℕ). Prints (shown_by c.args.command.now b) (Err e)) c.as_slice.ensures c.in_err-text.ensures in
-    goes_none c.args.command.now left (end_of_run e) c.from_residual-in_err-text.result (g.met.H.Host.is_tree c.args.host.now) c.from_residual-in_err-text.ensures.1 (show_ends c.args.command.now left c.in_ok-given.given e c.requires c.in_ok-given.ensures.ok shown)
+    let shown : Prints (shown_by c.args.thing.now c.in_ok-given.given) (Err e) = subst (λ (b : List ℕ). Prints (shown_by c.args.thing.now b) (Err e)) c.as_slice.ensures c.in_err-text.ensures in
+    goes_none (showing c.args.thing.now) left (end_of_run e) c.from_residual-in_err-text.result (g.met.H.Host.is_tree c.args.host.now) c.from_residual-in_err-text.ensures.1 (show_ends c.args.thing.now left c.in_ok-given.given e c.in_ok-given.ensures.ok shown)
 
 pub returns-in_err-text-clause-cause : goal.returns-in_err-text-clause-cause
 returns-in_err-text-clause-cause g c =
     let e = c.in_err-text.field-0.0 in
     record {
       later = omega arith;
-      fault = λ is. absurd (no_fault c.args.command.now c.as_slice.result.now e c.from_residual-in_err-text.result c.in_err-text.ensures c.from_residual-in_err-text.ensures.1 is);
+      fault = λ is. absurd (no_fault c.args.thing.now c.as_slice.result.now e c.from_residual-in_err-text.result c.in_err-text.ensures c.from_residual-in_err-text.ensures.1 is);
     }
 
 pub returns-in_err-text-clause-input : goal.returns-in_err-text-clause-input
@@ -35,8 +35,8 @@ pub returns-in_err-say-clause-moments : goal.returns-in_err-say-clause-moments
 returns-in_err-say-clause-moments g c =
     let left = g.I.Source.left c.args.input.now in
     let said : c.as_bytes.result.now ≡ c.in_ok-text.text = search rules in
-    let shown : shown_by c.args.command.now c.in_ok-given.given ≡ told c.as_bytes.result.now = subst (λ (t : List ℕ). shown_by c.args.command.now c.in_ok-given.given ≡ told t) (sym said) (subst (λ (b : List ℕ). shown_by c.args.command.now b ≡ told c.in_ok-text.text) c.as_slice.ensures c.in_ok-text.ensures) in
-    goes_not_shown c.args.command.now left c.in_ok-given.given c.as_bytes.result.now c.say.result c.in_err-say.field-0.0 c.from_residual-in_err-say.result (g.met.H.Host.is_tree c.args.host.now) c.requires c.in_ok-given.ensures.ok shown c.in_err-say.was c.say.ensures.moments c.from_residual-in_err-say.ensures.1
+    let shown : shown_by c.args.thing.now c.in_ok-given.given ≡ told c.as_bytes.result.now = subst (λ (t : List ℕ). shown_by c.args.thing.now c.in_ok-given.given ≡ told t) (sym said) (subst (λ (b : List ℕ). shown_by c.args.thing.now b ≡ told c.in_ok-text.text) c.as_slice.ensures c.in_ok-text.ensures) in
+    goes_not_shown c.args.thing.now left c.in_ok-given.given c.as_bytes.result.now c.say.result c.in_err-say.field-0.0 c.from_residual-in_err-say.result (g.met.H.Host.is_tree c.args.host.now) c.in_ok-given.ensures.ok shown c.in_err-say.was c.say.ensures.moments c.from_residual-in_err-say.ensures.1
 
 pub returns-in_err-say-clause-cause : goal.returns-in_err-say-clause-cause
 returns-in_err-say-clause-cause g c = record {
@@ -51,8 +51,8 @@ pub returns-clause-moments : goal.returns-clause-moments
 returns-clause-moments g c =
     let left = g.I.Source.left c.args.input.now in
     let said : c.as_bytes.result.now ≡ c.in_ok-text.text = search rules in
-    let shown : shown_by c.args.command.now c.in_ok-given.given ≡ told c.as_bytes.result.now = subst (λ (t : List ℕ). shown_by c.args.command.now c.in_ok-given.given ≡ told t) (sym said) (subst (λ (b : List ℕ). shown_by c.args.command.now b ≡ told c.in_ok-text.text) c.as_slice.ensures c.in_ok-text.ensures) in
-    goes_shown c.args.command.now left c.in_ok-given.given c.as_bytes.result.now (g.met.H.Host.is_tree c.args.host.now) c.requires c.in_ok-given.ensures.ok shown c.in_ok-say.ensures.moments
+    let shown : shown_by c.args.thing.now c.in_ok-given.given ≡ told c.as_bytes.result.now = subst (λ (t : List ℕ). shown_by c.args.thing.now c.in_ok-given.given ≡ told t) (sym said) (subst (λ (b : List ℕ). shown_by c.args.thing.now b ≡ told c.in_ok-text.text) c.as_slice.ensures c.in_ok-text.ensures) in
+    goes_shown c.args.thing.now left c.in_ok-given.given c.as_bytes.result.now (g.met.H.Host.is_tree c.args.host.now) c.in_ok-given.ensures.ok shown c.in_ok-say.ensures.moments
 
 pub returns-in_err-given-clause-taken : goal.returns-in_err-given-clause-taken
 returns-in_err-given-clause-taken g c = not_taken c.in_err-given.field-0.0 c.from_residual.result (g.I.Source.left c.args.input.now) (g.I.Source.left c.read_input.new.input) (g.I.Source.faults c.args.input.now) (g.I.Source.faults c.read_input.new.input) c.from_residual.ensures.1 c.in_err-given.ensures.stops
