@@ -16,6 +16,7 @@ mod refs;
 mod shows;
 mod specification;
 mod stops;
+mod store;
 
 const PLATFORM: &str = "runtime/org.x.Platform/*/*";
 
@@ -84,43 +85,45 @@ fn printed_from(host: &MemHost, start: usize) -> &[u8] {
     host.printed().get(start..).unwrap_or(&[])
 }
 
+// Commands on pins one after another, what each prints, and its status.
+const ON_PINS: [(&[&str], &str, u8); 15] = [
+    (&["list", "--pins"], "", 0),
+    (
+        &["unpin", PLATFORM],
+        "error: no pin runtime/org.x.Platform/*/*\n",
+        1,
+    ),
+    (&["pin", PLATFORM], "pinned runtime/org.x.Platform/*/*\n", 0),
+    (&["list", "--pins"], "runtime/org.x.Platform/*/*\n", 0),
+    (
+        &["pin", PLATFORM],
+        "error: pin exists runtime/org.x.Platform/*/*\n",
+        1,
+    ),
+    (&["pin", "app/*/*/*"], "pinned app/*/*/*\n", 0),
+    (
+        &["list", "--pins"],
+        "app/*/*/*\nruntime/org.x.Platform/*/*\n",
+        0,
+    ),
+    (&[], "error: words 0\n", 2),
+    (&["pin"], "error: words 1\n", 2),
+    (&["pim"], "error: words 0\n", 2),
+    (&["pin", "x"], "error: words 1\n", 2),
+    (
+        &["unpin", PLATFORM],
+        "unpinned runtime/org.x.Platform/*/*\n",
+        0,
+    ),
+    (&["list", "--pins"], "app/*/*/*\n", 0),
+    (&["unpin", "app/*/*/*"], "unpinned app/*/*/*\n", 0),
+    (&["list", "--pins"], "", 0),
+];
+
 #[test]
 fn commands_print_their_lines(rt: HostRuntime) -> Result<(), Fail> {
-    let table: [(&[&str], &str, u8); 15] = [
-        (&["list", "--pins"], "", 0),
-        (
-            &["unpin", PLATFORM],
-            "error: no pin runtime/org.x.Platform/*/*\n",
-            1,
-        ),
-        (&["pin", PLATFORM], "pinned runtime/org.x.Platform/*/*\n", 0),
-        (&["list", "--pins"], "runtime/org.x.Platform/*/*\n", 0),
-        (
-            &["pin", PLATFORM],
-            "error: pin exists runtime/org.x.Platform/*/*\n",
-            1,
-        ),
-        (&["pin", "app/*/*/*"], "pinned app/*/*/*\n", 0),
-        (
-            &["list", "--pins"],
-            "app/*/*/*\nruntime/org.x.Platform/*/*\n",
-            0,
-        ),
-        (&[], "error: words 0\n", 2),
-        (&["pin"], "error: words 1\n", 2),
-        (&["pim"], "error: words 0\n", 2),
-        (&["pin", "x"], "error: words 1\n", 2),
-        (
-            &["unpin", PLATFORM],
-            "unpinned runtime/org.x.Platform/*/*\n",
-            0,
-        ),
-        (&["list", "--pins"], "app/*/*/*\n", 0),
-        (&["unpin", "app/*/*/*"], "unpinned app/*/*/*\n", 0),
-        (&["list", "--pins"], "", 0),
-    ];
     let mut host = MemHost::new(rt.alloc())?;
-    for (words, line, want) in table {
+    for (words, line, want) in ON_PINS {
         let start = host.printed().len();
         let status = run_words(&rt, rt.alloc(), &mut host, words)?;
         assert_eq!(rt; status, want, "{words:?}");
@@ -128,60 +131,62 @@ fn commands_print_their_lines(rt: HostRuntime) -> Result<(), Fail> {
     }
     Ok(())
 }
+
+// The same of commands on remotes.
+const ON_REMOTES: [(&[&str], &str, u8); 15] = [
+    (&["list", "--remotes"], "", 0),
+    (
+        &["remote-modify", "lab", "file:///l"],
+        "error: no remote lab\n",
+        1,
+    ),
+    (&["remote-delete", "lab"], "error: no remote lab\n", 1),
+    (
+        &["remote-add", "lab", "file:///lab"],
+        "remote added lab\n",
+        0,
+    ),
+    (
+        &["remote-add", "lab", "file:///lab"],
+        "error: remote exists lab\n",
+        1,
+    ),
+    (
+        &["remote-modify", "lux", "file:///l"],
+        "error: no remote lux\n",
+        1,
+    ),
+    (
+        &["remote-add", "art", "file:///art"],
+        "remote added art\n",
+        0,
+    ),
+    (
+        &["list", "--remotes"],
+        "art file:///art\nlab file:///lab\n",
+        0,
+    ),
+    (
+        &["remote-modify", "lab", "file:///l"],
+        "remote modified lab\n",
+        0,
+    ),
+    (
+        &["list", "--remotes"],
+        "art file:///art\nlab file:///l\n",
+        0,
+    ),
+    (&["remote-delete", "art"], "remote deleted art\n", 0),
+    (&["remote-delete", "art"], "error: no remote art\n", 1),
+    (&["list", "--remotes"], "lab file:///l\n", 0),
+    (&["remote-add", "lab"], "error: words 2\n", 2),
+    (&["remote-add", "lab", "lab"], "error: words 2\n", 2),
+];
 
 #[test]
 fn commands_on_remotes_print_their_lines(rt: HostRuntime) -> Result<(), Fail> {
-    let table: [(&[&str], &str, u8); 15] = [
-        (&["list", "--remotes"], "", 0),
-        (
-            &["remote-modify", "lab", "file:///l"],
-            "error: no remote lab\n",
-            1,
-        ),
-        (&["remote-delete", "lab"], "error: no remote lab\n", 1),
-        (
-            &["remote-add", "lab", "file:///lab"],
-            "remote added lab\n",
-            0,
-        ),
-        (
-            &["remote-add", "lab", "file:///lab"],
-            "error: remote exists lab\n",
-            1,
-        ),
-        (
-            &["remote-modify", "lux", "file:///l"],
-            "error: no remote lux\n",
-            1,
-        ),
-        (
-            &["remote-add", "art", "file:///art"],
-            "remote added art\n",
-            0,
-        ),
-        (
-            &["list", "--remotes"],
-            "art file:///art\nlab file:///lab\n",
-            0,
-        ),
-        (
-            &["remote-modify", "lab", "file:///l"],
-            "remote modified lab\n",
-            0,
-        ),
-        (
-            &["list", "--remotes"],
-            "art file:///art\nlab file:///l\n",
-            0,
-        ),
-        (&["remote-delete", "art"], "remote deleted art\n", 0),
-        (&["remote-delete", "art"], "error: no remote art\n", 1),
-        (&["list", "--remotes"], "lab file:///l\n", 0),
-        (&["remote-add", "lab"], "error: words 2\n", 2),
-        (&["remote-add", "lab", "lab"], "error: words 2\n", 2),
-    ];
     let mut host = MemHost::new(rt.alloc())?;
-    for (words, line, want) in table {
+    for (words, line, want) in ON_REMOTES {
         let start = host.printed().len();
         let status = run_words(&rt, rt.alloc(), &mut host, words)?;
         assert_eq!(rt; status, want, "{words:?}");
@@ -190,49 +195,51 @@ fn commands_on_remotes_print_their_lines(rt: HostRuntime) -> Result<(), Fail> {
     Ok(())
 }
 
+// Commands one after another, and `config` behind each.
+const WRITTEN: [(&[&str], &str); 10] = [
+    (
+        &["pin", PLATFORM],
+        "[installation]\nlayout=2\n[pins]\nruntime/org.x.Platform/*/*=true\n",
+    ),
+    (
+        &["pin", PLATFORM],
+        "[installation]\nlayout=2\n[pins]\nruntime/org.x.Platform/*/*=true\n",
+    ),
+    (
+        &["pin", "app/*/*/*"],
+        "[installation]\nlayout=2\n[pins]\napp/*/*/*=true\nruntime/org.x.Platform/*/*=true\n",
+    ),
+    (
+        &["unpin", PLATFORM],
+        "[installation]\nlayout=2\n[pins]\napp/*/*/*=true\n",
+    ),
+    (
+        &["remote-add", "lab", "file:///lab"],
+        "[installation]\nlayout=2\n[remote \"lab\"]\nurl=file:///lab\n[pins]\napp/*/*/*=true\n",
+    ),
+    (
+        &["remote-modify", "lab", "file:///l"],
+        "[installation]\nlayout=2\n[remote \"lab\"]\nurl=file:///l\n[pins]\napp/*/*/*=true\n",
+    ),
+    (
+        &["remote-add", "art", "file:///art"],
+        "[installation]\nlayout=2\n[remote \"art\"]\nurl=file:///art\n[remote \"lab\"]\nurl=file:///l\n[pins]\napp/*/*/*=true\n",
+    ),
+    (
+        &["remote-delete", "art"],
+        "[installation]\nlayout=2\n[remote \"lab\"]\nurl=file:///l\n[pins]\napp/*/*/*=true\n",
+    ),
+    (
+        &["unpin", "app/*/*/*"],
+        "[installation]\nlayout=2\n[remote \"lab\"]\nurl=file:///l\n",
+    ),
+    (&["remote-delete", "lab"], "[installation]\nlayout=2\n"),
+];
+
 #[test]
 fn commands_write_config(rt: HostRuntime) -> Result<(), Fail> {
-    let table: [(&[&str], &str); 10] = [
-        (
-            &["pin", PLATFORM],
-            "[installation]\nlayout=2\n[pins]\nruntime/org.x.Platform/*/*=true\n",
-        ),
-        (
-            &["pin", PLATFORM],
-            "[installation]\nlayout=2\n[pins]\nruntime/org.x.Platform/*/*=true\n",
-        ),
-        (
-            &["pin", "app/*/*/*"],
-            "[installation]\nlayout=2\n[pins]\napp/*/*/*=true\nruntime/org.x.Platform/*/*=true\n",
-        ),
-        (
-            &["unpin", PLATFORM],
-            "[installation]\nlayout=2\n[pins]\napp/*/*/*=true\n",
-        ),
-        (
-            &["remote-add", "lab", "file:///lab"],
-            "[installation]\nlayout=2\n[remote \"lab\"]\nurl=file:///lab\n[pins]\napp/*/*/*=true\n",
-        ),
-        (
-            &["remote-modify", "lab", "file:///l"],
-            "[installation]\nlayout=2\n[remote \"lab\"]\nurl=file:///l\n[pins]\napp/*/*/*=true\n",
-        ),
-        (
-            &["remote-add", "art", "file:///art"],
-            "[installation]\nlayout=2\n[remote \"art\"]\nurl=file:///art\n[remote \"lab\"]\nurl=file:///l\n[pins]\napp/*/*/*=true\n",
-        ),
-        (
-            &["remote-delete", "art"],
-            "[installation]\nlayout=2\n[remote \"lab\"]\nurl=file:///l\n[pins]\napp/*/*/*=true\n",
-        ),
-        (
-            &["unpin", "app/*/*/*"],
-            "[installation]\nlayout=2\n[remote \"lab\"]\nurl=file:///l\n",
-        ),
-        (&["remote-delete", "lab"], "[installation]\nlayout=2\n"),
-    ];
     let mut host = MemHost::new(rt.alloc())?;
-    for (words, text) in table {
+    for (words, text) in WRITTEN {
         let status = run_words(&rt, rt.alloc(), &mut host, words)?;
         assert!(rt; status < 2, "{words:?}");
         assert!(rt; has_config(rt.alloc(), &mut host, text)?, "{words:?}");

@@ -54,42 +54,52 @@ fn answers(
     Ok(status == want.1 && printed_from(host, start) == want.0.as_bytes())
 }
 
+// Batches one after another, what each prints, and its status.
+const BATCHES: [(&[u8], &str, u8); 14] = [
+    (b"", "", 0),
+    (b"\n", "error: record 1\n", 1),
+    (
+        b"pin runtime/org.x.Platform/*/*\nlist\n",
+        "error: record 2\n",
+        1,
+    ),
+    (b"pin app/*/*/*\nlist --pins\n", "error: record 2\n", 1),
+    (
+        b"pin app/*/*/*\nunpin app/*/*/*\nshow dirtree\n",
+        "error: record 3\n",
+        1,
+    ),
+    (b"show value y\npin app/*/*/*\n", "error: record 1\n", 1),
+    (b"batch\n", "error: record 1\n", 1),
+    (b"unpin app/*/*/*", "error: no pin app/*/*/*\n", 1),
+    (
+        b"pin runtime/org.x.Platform/*/*\npin runtime/org.x.Platform/*/*\n",
+        "pinned runtime/org.x.Platform/*/*\nerror: pin exists runtime/org.x.Platform/*/*\n",
+        1,
+    ),
+    (
+        b"remote-add lab file:///lab\nremote-add lab file:///lab\n",
+        "remote added lab\nerror: remote exists lab\n",
+        1,
+    ),
+    (
+        b"remote-modify lux file:///l\npin app/*/*/*\n",
+        "error: no remote lux\n",
+        1,
+    ),
+    (
+        b"remote-add art file:///art\npin app/*/*/*\nremote-modify lab file:///l\nremote-delete art\nunpin app/*/*/*",
+        "remote added art\npinned app/*/*/*\nremote modified lab\nremote deleted art\nunpinned app/*/*/*\n",
+        0,
+    ),
+    (b"pin app/*/*/*\r\n", "error: record 1\n", 1),
+    (b"pin app/*/*/*\n\xff\n", "error: record 2\n", 1),
+];
+
 #[test]
 fn batches_print_their_lines(rt: HostRuntime) -> Result<(), Fail> {
-    let table: [(&[u8], &str, u8); 10] = [
-        (b"", "", 0),
-        (b"\n", "error: record 1\n", 1),
-        (
-            b"pin runtime/org.x.Platform/*/*\nlist\n",
-            "error: record 2\n",
-            1,
-        ),
-        (b"unpin app/*/*/*", "error: no pin app/*/*/*\n", 1),
-        (
-            b"pin runtime/org.x.Platform/*/*\npin runtime/org.x.Platform/*/*\n",
-            "pinned runtime/org.x.Platform/*/*\nerror: pin exists runtime/org.x.Platform/*/*\n",
-            1,
-        ),
-        (
-            b"remote-add lab file:///lab\nremote-add lab file:///lab\n",
-            "remote added lab\nerror: remote exists lab\n",
-            1,
-        ),
-        (
-            b"remote-modify lux file:///l\npin app/*/*/*\n",
-            "error: no remote lux\n",
-            1,
-        ),
-        (
-            b"remote-add art file:///art\npin app/*/*/*\nremote-modify lab file:///l\nremote-delete art\nunpin app/*/*/*",
-            "remote added art\npinned app/*/*/*\nremote modified lab\nremote deleted art\nunpinned app/*/*/*\n",
-            0,
-        ),
-        (b"pin app/*/*/*\r\n", "error: record 1\n", 1),
-        (b"pin app/*/*/*\n\xff\n", "error: record 2\n", 1),
-    ];
     let mut host = MemHost::new(rt.alloc())?;
-    for (batch, line, status) in table {
+    for (batch, line, status) in BATCHES {
         assert!(rt;
             answers(&rt, rt.alloc(), &mut host, batch, (line, status))?,
             "{line}"

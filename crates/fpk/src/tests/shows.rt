@@ -22,50 +22,52 @@ fn shows(
     Ok(status == want.1 && host.printed() == want.0.as_bytes())
 }
 
+// Commands, the bytes that they show, what they print, and their status.
+const SMALL: [(&[&str], &[u8], &str, u8); 9] = [
+    (
+        &["show", "dirtree"],
+        b"\x00",
+        "6e340b9cffb37a989ca544e6bb780a2c78901d3fb33738768511a30617afa01d dirtree\n",
+        0,
+    ),
+    (
+        &["show", "value", "(si)"],
+        b"foo\x00\xff\xff\xff\xff\x04",
+        "normal 9\n",
+        0,
+    ),
+    (
+        &["show", "dirmeta"],
+        b"\x00\x00\x00\x00\x00\x00\x00\x00\x00\x00\x41\xed",
+        "446a0ef11b7cc167f3b603e585c7eeeeb675faa412d5ec73f62988eb0b6c5488 dirmeta\nmode 040755\n",
+        0,
+    ),
+    (
+        &["show", "dirtree"],
+        b"",
+        "error: malformed object e3b0c44298fc1c149afbf4c8996fb92427ae41e4649b934ca495991b7852b855.dirtree value\n",
+        1,
+    ),
+    (
+        &["show", "commit"],
+        b"",
+        "error: malformed object e3b0c44298fc1c149afbf4c8996fb92427ae41e4649b934ca495991b7852b855.commit value\n",
+        1,
+    ),
+    (
+        &["show", "value", "y"],
+        b"",
+        "error: malformed object e3b0c44298fc1c149afbf4c8996fb92427ae41e4649b934ca495991b7852b855.value value\n",
+        1,
+    ),
+    (&["show", "value", "as"], b"", "normal 0\n", 0),
+    (&["show", "value", "a"], b"", "error: words 2\n", 2),
+    (&["show", "file"], b"", "error: words 1\n", 2),
+];
+
 #[test]
 fn small_objects(rt: HostRuntime) -> Result<(), Fail> {
-    let table: [(&[&str], &[u8], &str, u8); 9] = [
-        (
-            &["show", "dirtree"],
-            b"\x00",
-            "6e340b9cffb37a989ca544e6bb780a2c78901d3fb33738768511a30617afa01d dirtree\n",
-            0,
-        ),
-        (
-            &["show", "value", "(si)"],
-            b"foo\x00\xff\xff\xff\xff\x04",
-            "normal 9\n",
-            0,
-        ),
-        (
-            &["show", "dirmeta"],
-            b"\x00\x00\x00\x00\x00\x00\x00\x00\x00\x00\x41\xed",
-            "446a0ef11b7cc167f3b603e585c7eeeeb675faa412d5ec73f62988eb0b6c5488 dirmeta\nmode 040755\n",
-            0,
-        ),
-        (
-            &["show", "dirtree"],
-            b"",
-            "error: malformed object e3b0c44298fc1c149afbf4c8996fb92427ae41e4649b934ca495991b7852b855.dirtree value\n",
-            1,
-        ),
-        (
-            &["show", "commit"],
-            b"",
-            "error: malformed object e3b0c44298fc1c149afbf4c8996fb92427ae41e4649b934ca495991b7852b855.commit value\n",
-            1,
-        ),
-        (
-            &["show", "value", "y"],
-            b"",
-            "error: malformed object e3b0c44298fc1c149afbf4c8996fb92427ae41e4649b934ca495991b7852b855.value value\n",
-            1,
-        ),
-        (&["show", "value", "as"], b"", "normal 0\n", 0),
-        (&["show", "value", "a"], b"", "error: words 2\n", 2),
-        (&["show", "file"], b"", "error: words 1\n", 2),
-    ];
-    for (words, bytes, text, status) in table {
+    for (words, bytes, text, status) in SMALL {
         assert!(rt;
             shows(&rt, rt.alloc(), words, bytes, (text, status))?,
             "{words:?}"

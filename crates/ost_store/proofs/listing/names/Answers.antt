@@ -1,0 +1,24 @@
+use Rattle.std.proofs.Common.{◌∙◌, subst}
+use Rattle.fp_host.specs.Paths.{Elements}
+use Rattle.fp_host.proofs.Cause.{same_fault}
+use Rattle.fp_host.proofs.Ending.{ends_to}
+use Rattle.ost_store.specs.Walks.{AreLeavesBelow}
+use Rattle.ost_store.proofs.Levels.{within_reach}
+use Rattle.ost_store.proofs.Sorted.{lists_names}
+use Rattle.ost_store.proofs.listing.names.Goals as goal
+
+pub returns-clause-tells : goal.returns-clause-tells
+returns-clause-tells g c =
+    let root = c.args.root.now in
+    ends_to c.in_ok-found.ensures.tells (λ u w leaves.
+    lists_names root c.in_ok-found.found.items c.in_ok-keyed.keyed.entries c.from_vec.result
+    (subst (λ (p : Elements). AreLeavesBelow p u c.in_ok-found.found.items) c.in_ok-objects.ensures leaves) c.in_ok-keyed.ensures
+    (c.from_vec.ensures ∙ c.in_ok-in_order.ensures.paths) c.in_ok-in_order.ensures.ordered)
+
+pub returns-in_err-found-clause-cause : goal.returns-in_err-found-clause-cause
+returns-in_err-found-clause-cause g c =
+    let told = c.leaves_below.ensures.cause in
+    record {
+      later = told.later;
+      fault = λ is m at can. told.fault (same_fault _ _ _ c.in_err-found.was c.from_residual-in_err-found.ensures.1 is) m at (within_reach c.args.root.now c.in_ok-objects.objects c.in_ok-objects.ensures can);
+    }

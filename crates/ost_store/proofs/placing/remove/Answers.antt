@@ -1,0 +1,32 @@
+use Rattle.std.proofs.Common.{refl, sym, subst, arith}
+use Rattle.fp_host.specs.Paths.{Elements}
+use Rattle.fp_host.specs.Calls.{Can, unlinks}
+use Rattle.fp_host.proofs.Cause.{clash_step}
+use Rattle.fp_host.proofs.Framed.{frame_start, frame_unlink}
+use Rattle.fp_host.proofs.Ending.{ends_start, ends_call, ends_to, call_caused}
+use Rattle.fp_small.proofs.Emptying.{unlinked}
+use Rattle.ost_store.specs.Place.{WasRemoved, HasObject}
+use Rattle.ost_store.proofs.Gets.{can_remove}
+use Rattle.ost_store.proofs.placing.remove.Goals as goal
+
+pub returns-in_err-unlink-clause-frame : goal.returns-in_err-unlink-clause-frame
+returns-in_err-unlink-clause-frame g c =
+    let t = g.met.H.Host.is_tree in
+    frame_unlink c.unlink.ensures.step (frame_start (t c.args.host.now)) (t c.args.host.now) (c.in_ok-name.ensures, refl) (c.in_ok-name.ensures, refl)
+
+pub returns-in_err-unlink-clause-cause : goal.returns-in_err-unlink-clause-cause
+returns-in_err-unlink-clause-cause g c =
+    let t = g.met.H.Host.is_tree in
+    let e = c.in_err-unlink.ensures in
+    call_caused (HasObject c.args.root.now c.args.digest.now c.args.kind) (Can (unlinks c.in_ok-name.name)) _ _ _ _ _ (t c.args.host.now) (omega arith) (ends_start (t c.args.host.now)) e.step e.cause c.from_residual-in_err-unlink.ensures.1 (λ v w step. clash_step step)
+    (λ u v tree q can. subst (Can (unlinks c.in_ok-name.name)) (sym q) (can_remove c.args.root.now c.args.digest.now c.args.kind c.in_ok-name.ensures tree can))
+
+pub returns-clause-frame : goal.returns-clause-frame
+returns-clause-frame g c =
+    let t = g.met.H.Host.is_tree in
+    frame_unlink c.unlink.ensures.step (frame_start (t c.args.host.now)) (t c.args.host.now) (c.in_ok-name.ensures, refl) (c.in_ok-name.ensures, refl)
+
+pub returns-clause-done : goal.returns-clause-done
+returns-clause-done g c =
+    let t = g.met.H.Host.is_tree in
+    ends_to (ends_call (t c.args.host.now) c.in_ok-unlink.ensures.step) (λ u w s. subst (λ (q : Elements). WasRemoved q u w) c.in_ok-name.ensures (record { leaf = s.how.0; left = unlinked s }))

@@ -1,0 +1,15 @@
+use Rattle.std.proofs.Common.{List, ℕ, sym, subst}
+use Rattle.fp_host.specs.Moments.{Goes}
+use Rattle.ost_model.specs.declared.object.Object.{Object}
+use Rattle.ost_model.specs.declared.object.Object.TheVariants as objects
+use Rattle.ost_store.specs.Stage.{Stages}
+use Rattle.ost_store.proofs.Staged.{as_meta}
+use Rattle.ost_store.proofs.staging.stage.Goals as goal
+
+pub returns-in-Meta-clause-moments : goal.returns-in-Meta-clause-moments
+returns-in-Meta-clause-moments g c =
+    let t = c.args.tmp.now in
+    let a = g.H.Host.moments c.args.host.now in
+    let b = g.H.Host.moments c.stage_bytes.new.host in
+    subst (λ (o : Object). Goes a b (Stages t o) (Stages t o)) (sym c.in-Meta.is)
+    (subst (λ (bytes : List ℕ). Goes a b (Stages t (objects.Meta bytes)) (Stages t (objects.Meta bytes))) c.as_slice.ensures (as_meta (g.met.H.Host.is_tree c.args.host.now) c.stage_bytes.ensures.moments))

@@ -1,0 +1,30 @@
+use Rattle.std.proofs.Common.{[]}
+use Rattle.fp_host.specs.Calls.{CanCreate}
+use Rattle.fp_host.proofs.Cause.{clash_create}
+use Rattle.fp_host.proofs.Ending.{ends_call, ends_on, ends_both, ends_frame, goes_last, call_caused}
+use Rattle.ost_model.specs.declared.object.Object.TheVariants as objects
+use Rattle.ost_store.specs.Stage.{CanStage}
+use Rattle.ost_store.proofs.Staged.{making, creating, created, can_create}
+use Rattle.ost_store.proofs.staging.stage_file.Goals as goal
+
+pub returns-in_err-make_above-clause-moments : goal.returns-in_err-make_above-clause-moments
+returns-in_err-make_above-clause-moments g c = goes_last (making (objects.File c.args.mode []) (g.met.H.Host.is_tree c.args.host.now) c.make_above.ensures.frame)
+
+pub returns-in_err-create-clause-moments : goal.returns-in_err-create-clause-moments
+returns-in_err-create-clause-moments g c = let t = g.met.H.Host.is_tree in creating (t c.args.host.now) c.make_above.ensures.frame (t c.make_above.new.host) c.create.ensures.step
+
+pub returns-in_err-create-clause-cause : goal.returns-in_err-create-clause-cause
+returns-in_err-create-clause-cause g c =
+    let t = g.met.H.Host.is_tree in
+    let e = c.in_err-create.ensures in
+    let made = ends_both (ends_frame (t c.args.host.now) c.make_above.ensures.frame) c.in_ok-make_above.ensures.done in
+    call_caused (CanStage c.args.tmp.now (objects.File c.args.mode [])) (CanCreate c.args.tmp.now c.args.mode) _ _ _ _ _ (t c.args.host.now) c.make_above.ensures.cause.later made e.step e.cause c.from_residual-in_err-create.ensures.1 (λ v w step. clash_create step)
+    (λ u v tree q can. can_create tree q.0 q.1 can)
+
+pub returns-clause-moments : goal.returns-clause-moments
+returns-clause-moments g c = let t = g.met.H.Host.is_tree in creating (t c.args.host.now) c.make_above.ensures.frame (t c.make_above.new.host) c.create.ensures.step
+
+pub returns-clause-done : goal.returns-clause-done
+returns-clause-done g c =
+    let t = g.met.H.Host.is_tree in
+    ends_on (ends_call (t c.make_above.new.host) c.in_ok-create.ensures.step) (ends_frame (t c.args.host.now) c.make_above.ensures.frame) (t c.make_above.new.host) (λ u v w tree made step. created made step)

@@ -1,0 +1,5 @@
+pub mod Reads
+pub mod Stage
+pub mod Place
+pub mod Names
+pub mod Walks

@@ -1,0 +1,100 @@
+-- Objects on their way to their names.
+use Rattle.std.specs.Prelude.{◌≡◌, ◌⊎◌, ℕ, List, ◌++◌, Some, Bool, true, false}
+use Rattle.fp_host.specs.Paths.{Elements, Slot, absent, file, link, is_link_text}
+use Rattle.fp_host.specs.View.{View}
+use Rattle.fp_host.specs.Calls.{IsDirty, IsFile}
+use Rattle.fp_host.specs.Outcome.{Spot, holds, points}
+use Rattle.fp_host.specs.Frame.{Keeps, Only}
+use Rattle.fp_small.specs.Files.{KeepsFiles}
+use Rattle.fp_small.specs.Folders.{ancestors, FoldersAt, DirsAt, AreFree}
+use Rattle.ost_model.specs.declared.object.ObjKind.{ObjKind}
+use Rattle.ost_model.specs.declared.object.Object.{Object}
+use Rattle.ost_model.specs.declared.object.Object.TheVariants as objects
+use Rattle.ost_model.specs.Contents.{is_permission}
+use Rattle.ost_store.specs.Reads.{may_be_link}
+
+-- the permission bits of the file that keeps a metadata object: 0644
+abbrev pub meta_mode : ℕ
+meta_mode = 420
+
+-- a file with these permission bits, and any bytes
+abbrev pub IsOfMode : ℕ → Spot → Type 0
+IsOfMode mode spot = (id : ℕ) × (bytes : List ℕ) × (spot ≡ holds id mode bytes)
+
+-- what a stop may leave of an object that isn't synced yet
+abbrev pub MayBeStaged : Object → Spot → Type 0
+MayBeStaged (objects.Meta bytes) spot = IsOfMode meta_mode spot
+MayBeStaged (objects.File mode bytes) spot = IsOfMode mode spot
+MayBeStaged (objects.Link text) spot = spot ≡ points text
+
+-- what its name may come to hold
+abbrev pub MayBeHeld : Object → Slot → Type 0
+MayBeHeld (objects.Meta bytes) e = IsFile e
+MayBeHeld (objects.File mode bytes) e = IsFile e
+MayBeHeld (objects.Link text) e = e ≡ link text
+
+-- the object may come to the path, and the folders above may be made
+abbrev pub StagesAt : Elements → Object → Elements → Spot → Type 0
+StagesAt t object q spot = ((q ≡ t) × MayBeStaged object spot) ⊎ FoldersAt (ancestors t) q spot
+
+abbrev pub StagesName : Elements → Object → Elements → Slot → Type 0
+StagesName t object q e = ((q ≡ t) × MayBeHeld object e) ⊎ DirsAt (ancestors t) q e
+
+-- The object may come to t. Only a new file gets bytes: each file that was there keeps its mode and its bytes, also one that
+-- stood at t.
+pub record Stages (t : Elements) (object : Object) (u w : View) : Type 0 where
+  pub keeps : Keeps (StagesAt t object) (StagesName t object) (Only t) u w
+  pub files : KeepsFiles u w
+
+-- no name changes
+abbrev pub NoName : Elements → Slot → Type 0
+NoName q e = ⊥
+
+-- the path is a file with these permission bits and these bytes, created since the last sync
+pub record IsOpen (t : Elements) (mode : ℕ) (bytes : List ℕ) (v : View) : Type 0 where
+  pub id : ℕ
+  pub name : v.names t ≡ file id
+  pub row : v.files id ≡ Some (record { mode = mode; bytes = bytes })
+  pub dirty : v.dirty id ≡ true
+
+-- the path holds the object
+abbrev pub IsStaged : Elements → Object → View → Type 0
+IsStaged t (objects.Meta bytes) v = IsOpen t meta_mode bytes v
+IsStaged t (objects.File mode bytes) v = IsOpen t mode bytes v
+IsStaged t (objects.Link text) v = v.names t ≡ link text
+
+-- where nothing stood before
+pub record WasStaged (t : Elements) (object : Object) (u w : View) : Type 0 where
+  pub free : u.names t ≡ absent
+  pub there : IsStaged t object w
+
+-- these bytes came to the end of a file that was created since the last sync
+pub record Grows (t : Elements) (piece : List ℕ) (u w : View) : Type 0 where
+  pub was : IsDirty u (u.names t)
+  pub grown : (mode : ℕ) (bytes : List ℕ) → IsOpen t mode bytes u → IsOpen t mode (bytes ++ piece) w
+
+-- a file's permission bits are within 0775, and a link's text is one
+abbrev pub IsKeepable : Object → Type 0
+IsKeepable (objects.Meta bytes) = Unit {0}
+IsKeepable (objects.File mode bytes) = is_permission mode ≡ true
+IsKeepable (objects.Link text) = is_link_text text ≡ true
+
+-- a file or a link
+abbrev pub is_content : Object → Bool
+is_content (objects.Meta bytes) = false
+is_content (objects.File mode bytes) = true
+is_content (objects.Link text) = true
+
+-- the object is one of the kind
+abbrev pub IsOfKind : ObjKind → Object → Type 0
+IsOfKind kind object = may_be_link kind ≡ is_content object
+
+-- where the object may be staged: nothing stands at the path, and what is above it is absent or a folder
+pub record CanStage (t : Elements) (object : Object) (v : View) : Type 0 where
+  pub keepable : IsKeepable object
+  pub free : v.names t ≡ absent
+  pub folders : AreFree (ancestors t) v
+
+-- the file at the path was created since the last sync
+abbrev pub CanGrow : Elements → View → Type 0
+CanGrow t v = IsDirty v (v.names t)

@@ -1,0 +1,15 @@
+//! The objects of a store: each at the name that its digest and its kind give it, below the store's folder.
+#![tactic(auto)]
+
+pub mod laws;
+mod listing;
+mod naming;
+mod placing;
+mod reading;
+mod staging;
+mod walking;
+
+pub use listing::names;
+pub use placing::{place, remove};
+pub use reading::{Got, get, has, read_piece};
+pub use staging::{stage, stage_file, stage_piece};

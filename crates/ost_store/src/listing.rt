@@ -1,0 +1,50 @@
+// The names of a store in a list.
+ghost use Rattle.std.specs.Prelude.{◌≡◌, IfOk, IsErrOf};
+ghost use Rattle.std.specs.String.{string_cmp};
+ghost use Rattle.std.specs.BTreeMap.{IsOrdered, values};
+ghost use Rattle.fp_host.specs.Causes.{IsCaused};
+ghost use Rattle.fp_host.specs.Frame.{Ends, Still};
+ghost use Rattle.ost_store.specs.Names.{ListsNames, CanList};
+ghost use Rattle.ost_store.specs.Walks.{AreKeyed};
+
+use crate::walking::leaves_below;
+use fp_host::{Host, HostEnd, Items, Path};
+use std::alloc::{AllocError, Global};
+use std::collections::BTreeMap;
+
+/// The files and links below `objects` in the store in this folder, at any depth, ascending by the bytes of their paths,
+/// whether or not they are objects. It isn't for paths of more than 128 elements.
+pub fn names<H: Host>(alloc: Global, host: &mut H, root: &Path) -> Result<Items<Path>, HostEnd>
+    ensures still { Still (H.moments host.old) (H.moments host.new) }
+    ensures tells { IfOk result (λ paths. Ends (λ u w. ListsNames root.now u paths) (H.moments host.old) (H.moments host.new)) }
+    ensures cause { IsCaused (IsErrOf result HostEnd.Fault) (H.moments host.old) (CanList root.now) (H.faults host.old) (H.faults host.new) }
+{
+    let objects = root.child("objects")?;
+    let found = leaves_below(alloc, host, objects)?;
+    let keyed = by_text(alloc, found)?;
+    Ok(Items::from_vec(in_order(alloc, keyed)?))
+}
+
+/// The paths by their texts.
+fn by_text(alloc: Global, paths: Vec<Path>) -> Result<BTreeMap<String, Path>, AllocError>
+    ensures { IfOk result (λ keyed. AreKeyed paths.items keyed.entries) }
+{
+    let mut keyed = BTreeMap::new(alloc);
+    for path in paths {
+        let text = String::from_str(alloc, path.text())?;
+        keyed.insert(text, path)?;
+    }
+    Ok(keyed)
+}
+
+/// The paths in the order of the texts.
+fn in_order(alloc: Global, mut keyed: BTreeMap<String, Path>) -> Result<Vec<Path>, AllocError>
+    ensures paths { IfOk result (λ paths. paths.items ≡ values keyed) }
+    ensures ordered { IsOrdered string_cmp keyed }
+{
+    let mut paths = Vec::with_capacity(alloc, keyed.len())?;
+    while let Some((_, path)) = keyed.pop_first() {
+        paths.push(path)?;
+    }
+    Ok(paths)
+}

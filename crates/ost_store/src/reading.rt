@@ -1,0 +1,127 @@
+// Objects that are looked up and read.
+ghost use Rattle.std.specs.Prelude.{◌≡◌, ◌≤◌, length, IfOk, IsErrOf};
+ghost use Rattle.fp_host.specs.Causes.{IsCaused};
+ghost use Rattle.fp_host.specs.Frame.{Ends, Still};
+ghost use Rattle.ost_model.specs.declared.object.ObjKind.TheVariants as kinds;
+ghost use Rattle.ost_store.specs.Reads.{may_be_link, IsThere, Gets, GetsAt, ReadsPiece, HasFile};
+
+use crate::naming::path_of;
+use fp_host::{Blob, Host, HostEnd, Path, Stat, Text};
+use fp_name::Digest;
+use fp_small::{Loaded, load};
+use ost_model::ObjKind;
+use std::alloc::Global;
+
+/// What a store has of an object.
+#[derive(Debug, Drop)]
+pub enum Got {
+    /// The bytes of a metadata object.
+    Meta(Blob),
+    /// A file's permission bits and the number of its bytes.
+    File { mode: u32, size: u64 },
+    /// A link's text.
+    Link(Text),
+    /// There is no such object.
+    Absent,
+    /// The file that keeps it has so many bytes, more than were allowed.
+    TooLong(u64),
+}
+
+/// Whether a link may keep an object of the kind.
+fn may_be_link(kind: ObjKind) -> bool
+    ensures { result ≡ may_be_link kind }
+{
+    match kind {
+        ObjKind::File => true,
+        _ => false,
+    }
+}
+
+/// Whether the store in this folder has the object: whether a file has its name, or a link for the kind `File`. Whether the
+/// name is true isn't looked at.
+pub fn has<H: Host>(
+    alloc: Global,
+    host: &mut H,
+    root: &Path,
+    digest: &Digest,
+    kind: ObjKind,
+) -> Result<bool, HostEnd>
+    ensures still { Still (H.moments host.old) (H.moments host.new) }
+    ensures tells { IfOk result (λ there. Ends (λ u w. IsThere root.now digest.now kind u there) (H.moments host.old) (H.moments host.new)) }
+    ensures cause { IsCaused (IsErrOf result HostEnd.Fault) (H.moments host.old) (λ v. Unit {0}) (H.faults host.old) (H.faults host.new) }
+{
+    let path = path_of(alloc, root, digest, kind)?;
+    match host.stat(&path)? {
+        Stat::Absent | Stat::Dir => Ok(false),
+        Stat::File { .. } => Ok(true),
+        Stat::Link => Ok(may_be_link(kind)),
+    }
+}
+
+/// The object as the store in this folder has it, where it has at most so many bytes: a metadata object's bytes, a file's
+/// permission bits and size, a link's text. Whether its name is true isn't looked at. `Absent` comes exactly where `has` is
+/// false.
+pub fn get<H: Host>(
+    alloc: Global,
+    host: &mut H,
+    root: &Path,
+    digest: &Digest,
+    kind: ObjKind,
+    max: u64,
+) -> Result<Got, HostEnd>
+    ensures still { Still (H.moments host.old) (H.moments host.new) }
+    ensures tells { IfOk result (λ got. Ends (λ u w. Gets root.now digest.now kind max u got) (H.moments host.old) (H.moments host.new)) }
+    ensures cause { IsCaused (IsErrOf result HostEnd.Fault) (H.moments host.old) (λ v. Unit {0}) (H.faults host.old) (H.faults host.new) }
+{
+    let path = path_of(alloc, root, digest, kind)?;
+    match kind {
+        ObjKind::File => get_content(alloc, host, &path, max),
+        _ => get_meta(alloc, host, &path, max),
+    }
+}
+
+/// The file or link at the path, as an object.
+fn get_content<H: Host>(alloc: Global, host: &mut H, path: &Path, max: u64) -> Result<Got, HostEnd>
+    ensures still { Still (H.moments host.old) (H.moments host.new) }
+    ensures tells { IfOk result (λ got. Ends (λ u w. GetsAt kinds.File path.now max u got) (H.moments host.old) (H.moments host.new)) }
+    ensures cause { IsCaused (IsErrOf result HostEnd.Fault) (H.moments host.old) (λ v. Unit {0}) (H.faults host.old) (H.faults host.new) }
+{
+    match host.stat(path)? {
+        Stat::Absent | Stat::Dir => Ok(Got::Absent),
+        Stat::File { size, .. } if size > max => Ok(Got::TooLong(size)),
+        Stat::File { mode, size, .. } => Ok(Got::File { mode, size }),
+        Stat::Link => Ok(Got::Link(host.read_link(alloc, path)?)),
+    }
+}
+
+/// The metadata object at the path.
+fn get_meta<H: Host>(alloc: Global, host: &mut H, path: &Path, max: u64) -> Result<Got, HostEnd>
+    ensures still { Still (H.moments host.old) (H.moments host.new) }
+    ensures tells { IfOk result (λ got. Ends (λ u w. GetsAt kinds.Commit path.now max u got) (H.moments host.old) (H.moments host.new)) }
+    ensures cause { IsCaused (IsErrOf result HostEnd.Fault) (H.moments host.old) (λ v. Unit {0}) (H.faults host.old) (H.faults host.new) }
+{
+    match load(alloc, host, path, max)? {
+        Loaded::Bytes(bytes) => Ok(Got::Meta(bytes)),
+        Loaded::TooLong(size) => Ok(Got::TooLong(size)),
+        Loaded::Absent | Loaded::NotFile => Ok(Got::Absent),
+    }
+}
+
+/// Bytes of a `file` object that is there as a file, from a place on: as many as the buffer has room for, or as are left. It
+/// is for an object that is there so.
+pub fn read_piece<H: Host>(
+    alloc: Global,
+    host: &mut H,
+    root: &Path,
+    digest: &Digest,
+    at: u64,
+    into: &mut [u8],
+) -> Result<usize, HostEnd>
+    ensures bound { IfOk result (λ n. n ≤ length into.old) }
+    ensures still { Still (H.moments host.old) (H.moments host.new) }
+    ensures tells { IfOk result (λ n. Ends (λ u w. ReadsPiece root.now digest.now at into.new u n) (H.moments host.old) (H.moments host.new)) }
+    ensures cause { IsCaused (IsErrOf result HostEnd.Fault) (H.moments host.old) (HasFile root.now digest.now) (H.faults host.old) (H.faults host.new) }
+{
+    let path = path_of(alloc, root, digest, ObjKind::File)?;
+    Ok(host.read_at(&path, at, into)?)
+}

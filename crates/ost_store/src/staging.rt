@@ -1,0 +1,97 @@
+// Objects that are written on their way to their names.
+ghost use Rattle.std.specs.Prelude.{◌≡◌, [], OnOk, IsErrOf};
+ghost use Rattle.fp_host.specs.Moments.{Goes};
+ghost use Rattle.fp_host.specs.Causes.{IsCaused};
+ghost use Rattle.fp_host.specs.Outcome.{Nothing};
+ghost use Rattle.fp_host.specs.Frame.{Frame, Ends, Only};
+ghost use Rattle.ost_model.specs.declared.object.Object.TheVariants as objects;
+ghost use Rattle.ost_store.specs.Stage.{Stages, NoName, WasStaged, Grows, CanStage, CanGrow};
+
+use fp_host::{Host, HostEnd, Path};
+use fp_small::make_above;
+use ost_model::Object;
+use std::alloc::Global;
+
+/// The permission bits of the file that keeps a metadata object.
+const META_MODE: u32 = 0o644;
+
+/// Makes the absent path hold the object, and the folders above it where they are absent. A metadata object's file has the
+/// permission bits 0644. Nothing is synced: that is done before the object is placed. It is for a path above which each name is
+/// absent or a folder, and for a file whose permission bits are within 0775, or a link whose text may be a link's. All memory is
+/// taken before the first change.
+pub fn stage<H: Host>(
+    alloc: Global,
+    host: &mut H,
+    tmp: &Path,
+    object: &Object,
+) -> Result<(), HostEnd>
+    // A stop at any moment leaves at the path what some stop before would have left, or such a file or link, and all else
+    // as it was, but for folders above. Each file that was there keeps its bytes.
+    ensures moments { Goes (H.moments host.old) (H.moments host.new) (Stages tmp.now object.now) (Stages tmp.now object.now) }
+    ensures done { OnOk result (Ends (WasStaged tmp.now object.now) (H.moments host.old) (H.moments host.new)) }
+    ensures cause { IsCaused (IsErrOf result HostEnd.Fault) (H.moments host.old) (CanStage tmp.now object.now) (H.faults host.old) (H.faults host.new) }
+    ensures memory { IsErrOf result HostEnd.NoMemory → Ends (λ u w. w ≡ u) (H.moments host.old) (H.moments host.new) }
+{
+    match object {
+        Object::Meta(bytes) => stage_bytes(alloc, host, tmp, META_MODE, bytes.as_slice()),
+        Object::File { mode, bytes } => stage_bytes(alloc, host, tmp, *mode, bytes.as_slice()),
+        Object::Link(text) => stage_link(alloc, host, tmp, text.as_str()),
+    }
+}
+
+/// Makes the absent path a file with these permission bits and these bytes.
+fn stage_bytes<H: Host>(
+    alloc: Global,
+    host: &mut H,
+    tmp: &Path,
+    mode: u32,
+    bytes: &[u8],
+) -> Result<(), HostEnd>
+    ensures moments { Goes (H.moments host.old) (H.moments host.new) (Stages tmp.now (objects.File mode bytes.now)) (Stages tmp.now (objects.File mode bytes.now)) }
+    ensures done { OnOk result (Ends (WasStaged tmp.now (objects.File mode bytes.now)) (H.moments host.old) (H.moments host.new)) }
+    ensures cause { IsCaused (IsErrOf result HostEnd.Fault) (H.moments host.old) (CanStage tmp.now (objects.File mode bytes.now)) (H.faults host.old) (H.faults host.new) }
+    ensures memory { IsErrOf result HostEnd.NoMemory → Ends (λ u w. w ≡ u) (H.moments host.old) (H.moments host.new) }
+{
+    stage_file(alloc, host, tmp, mode)?;
+    stage_piece(host, tmp, bytes)
+}
+
+/// Makes the absent path a link with this text.
+fn stage_link<H: Host>(alloc: Global, host: &mut H, tmp: &Path, text: &str) -> Result<(), HostEnd>
+    ensures moments { Goes (H.moments host.old) (H.moments host.new) (Stages tmp.now (objects.Link text.now)) (Stages tmp.now (objects.Link text.now)) }
+    ensures done { OnOk result (Ends (WasStaged tmp.now (objects.Link text.now)) (H.moments host.old) (H.moments host.new)) }
+    ensures cause { IsCaused (IsErrOf result HostEnd.Fault) (H.moments host.old) (CanStage tmp.now (objects.Link text.now)) (H.faults host.old) (H.faults host.new) }
+    ensures memory { IsErrOf result HostEnd.NoMemory → Ends (λ u w. w ≡ u) (H.moments host.old) (H.moments host.new) }
+{
+    make_above(alloc, host, tmp)?;
+    Ok(host.symlink(text, tmp)?)
+}
+
+/// Makes the absent path an empty file with these permission bits, and the folders above it where they are absent, for a
+/// content that comes in pieces. It is for a path above which each name is absent or a folder, and for permission bits within
+/// 0775. All memory is taken before the first change.
+pub fn stage_file<H: Host>(
+    alloc: Global,
+    host: &mut H,
+    tmp: &Path,
+    mode: u32,
+) -> Result<(), HostEnd>
+    ensures moments { Goes (H.moments host.old) (H.moments host.new) (Stages tmp.now (objects.File mode [])) (Stages tmp.now (objects.File mode [])) }
+    ensures done { OnOk result (Ends (WasStaged tmp.now (objects.File mode [])) (H.moments host.old) (H.moments host.new)) }
+    ensures cause { IsCaused (IsErrOf result HostEnd.Fault) (H.moments host.old) (CanStage tmp.now (objects.File mode [])) (H.faults host.old) (H.faults host.new) }
+    ensures memory { IsErrOf result HostEnd.NoMemory → Ends (λ u w. w ≡ u) (H.moments host.old) (H.moments host.new) }
+{
+    make_above(alloc, host, tmp)?;
+    Ok(host.create(tmp, mode)?)
+}
+
+/// Adds the piece at the end of the file, which was created since the last sync.
+pub fn stage_piece<H: Host>(host: &mut H, tmp: &Path, piece: &[u8]) -> Result<(), HostEnd>
+    // No name changes, and no file but this.
+    ensures frame { Frame Nothing NoName (Only tmp.now) (H.moments host.old) (H.moments host.new) }
+    ensures done { OnOk result (Ends (Grows tmp.now piece.now) (H.moments host.old) (H.moments host.new)) }
+    ensures cause { IsCaused (IsErrOf result HostEnd.Fault) (H.moments host.old) (CanGrow tmp.now) (H.faults host.old) (H.faults host.new) }
+    ensures memory { IsErrOf result HostEnd.NoMemory → ⊥ }
+{
+    Ok(host.append(tmp, piece)?)
+}

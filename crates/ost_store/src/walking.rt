@@ -1,0 +1,117 @@
+// The files and links below a folder.
+ghost use Rattle.std.specs.Prelude.{◌≡◌, ◌++◌, ◌∷◌, [], true, map, IfOk, OnOk, IsErrOf};
+ghost use Rattle.std.specs.List.{list_all};
+ghost use Rattle.fp_host.specs.Paths.{is_element};
+ghost use Rattle.fp_host.specs.Causes.{IsCaused};
+ghost use Rattle.fp_host.specs.Frame.{Ends, Still};
+ghost use Rattle.fp_small.specs.Clear.{Reaches};
+ghost use Rattle.ost_store.specs.Walks.{Visits, VisitsAll, AreLeavesWithin, AreLeavesBelow};
+
+use fp_host::{Host, HostEnd, Path, Stat, Text};
+use std::alloc::{AllocError, Global};
+
+/// How many levels of paths are looked at: no path below has more elements.
+const MOST_ELEMENTS: usize = 128;
+
+/// Adds the path.
+fn add_path(path: &Path, paths: &mut Vec<Path>) -> Result<(), AllocError>
+    ensures { OnOk result (paths.new.items ≡ paths.old.items ++ path.now ∷ []) }
+{
+    paths.push(path.copy()?)?;
+    Ok(())
+}
+
+/// Adds the paths of these names in the folder.
+fn add_names(folder: &Path, names: &[Text], paths: &mut Vec<Path>) -> Result<(), AllocError>
+    requires { list_all is_element names.now ≡ true }
+    ensures { OnOk result (paths.new.items ≡ paths.old.items ++ map (λ x. x ∷ folder.now) names.now) }
+{
+    for name in names {
+        paths.push(folder.child(name.as_str())?)?;
+    }
+    Ok(())
+}
+
+/// Adds the path to those that were found, where a file or link stands there, and what is in it to the next ones, where it is
+/// a folder.
+fn visit<H: Host>(
+    alloc: Global,
+    host: &mut H,
+    path: &Path,
+    found: &mut Vec<Path>,
+    next: &mut Vec<Path>,
+) -> Result<(), HostEnd>
+    ensures still { Still (H.moments host.old) (H.moments host.new) }
+    ensures tells { OnOk result (Ends (λ u w. Visits path.now u found.old.items next.old.items found.new.items next.new.items) (H.moments host.old) (H.moments host.new)) }
+    ensures cause { IsCaused (IsErrOf result HostEnd.Fault) (H.moments host.old) (λ v. Unit {0}) (H.faults host.old) (H.faults host.new) }
+{
+    match host.stat(path)? {
+        Stat::Absent => Ok(()),
+        Stat::Dir => {
+            let names = host.list(alloc, path)?;
+            Ok(add_names(path, names.as_slice(), next)?)
+        }
+        _ => Ok(add_path(path, found)?),
+    }
+}
+
+/// Does so with each of these paths, and gives the next ones.
+fn visit_all<H: Host>(
+    alloc: Global,
+    host: &mut H,
+    paths: &[Path],
+    found: &mut Vec<Path>,
+) -> Result<Vec<Path>, HostEnd>
+    ensures still { Still (H.moments host.old) (H.moments host.new) }
+    ensures tells { IfOk result (λ next. Ends (λ u w. VisitsAll paths.now u found.old.items found.new.items next.items) (H.moments host.old) (H.moments host.new)) }
+    ensures cause { IsCaused (IsErrOf result HostEnd.Fault) (H.moments host.old) (λ v. Unit {0}) (H.faults host.old) (H.faults host.new) }
+{
+    let mut next = Vec::new(alloc);
+    for path in paths {
+        visit(alloc, host, path, found, &mut next)?;
+    }
+    Ok(next)
+}
+
+/// A list of this path.
+fn alone(alloc: Global, path: Path) -> Result<Vec<Path>, AllocError>
+    ensures { IfOk result (λ paths. paths.items ≡ path ∷ []) }
+{
+    let mut paths = Vec::new(alloc);
+    paths.push(path)?;
+    Ok(paths)
+}
+
+/// The files and links at the path and below. It isn't for what is 128 folders deep.
+fn leaves_within<H: Host>(alloc: Global, host: &mut H, folder: Path) -> Result<Vec<Path>, HostEnd>
+    ensures still { Still (H.moments host.old) (H.moments host.new) }
+    ensures tells { IfOk result (λ found. Ends (λ u w. AreLeavesWithin folder u found.items) (H.moments host.old) (H.moments host.new)) }
+    ensures cause { IsCaused (IsErrOf result HostEnd.Fault) (H.moments host.old) (Reaches folder 127) (H.faults host.old) (H.faults host.new) }
+{
+    let mut found = Vec::new(alloc);
+    let mut level = alone(alloc, folder)?;
+    for _depth in 0..MOST_ELEMENTS {
+        level = visit_all(alloc, host, &level, &mut found)?;
+    }
+    if level.is_empty() {
+        Ok(found)
+    } else {
+        Err(HostEnd::Fault)
+    }
+}
+
+/// The files and links below the path; none where it is no folder.
+pub(crate) fn leaves_below<H: Host>(
+    alloc: Global,
+    host: &mut H,
+    folder: Path,
+) -> Result<Vec<Path>, HostEnd>
+    ensures still { Still (H.moments host.old) (H.moments host.new) }
+    ensures tells { IfOk result (λ found. Ends (λ u w. AreLeavesBelow folder u found.items) (H.moments host.old) (H.moments host.new)) }
+    ensures cause { IsCaused (IsErrOf result HostEnd.Fault) (H.moments host.old) (Reaches folder 127) (H.faults host.old) (H.faults host.new) }
+{
+    match host.stat(&folder)? {
+        Stat::Dir => leaves_within(alloc, host, folder),
+        _ => Ok(Vec::new(alloc)),
+    }
+}
