@@ -1,0 +1,67 @@
+-- Extension points of metadata: flatpak-metadata(5), the groups `[Extension NAME]`.
+use Rattle.std.specs.Prelude.{ℕ, Bool, not, ◌&&◌, List, [], ◌∷◌, false, Option, Some, None, option_map, unwrap_or, codes, if◌then◌else◌}
+use Rattle.std.specs.List.{list_all, slice_split, flat_map}
+use Rattle.std.specs.Option.{option_map_or}
+use Rattle.std.specs.Str.{bytes_eq}
+use Rattle.fp_host.specs.Paths.{is_element, cut}
+use Rattle.fp_keyfile.specs.Grammar.{is_key_byte}
+use Rattle.fp_keyfile.specs.KeyFile.{pair_at}
+use Rattle.fp_keyfile.specs.declared.group.Group.{Group}
+use Rattle.fp_name.specs.Grammar.{is_id, is_branch}
+use Rattle.fp_name.specs.Refs.{Ref, ref_with}
+use Rattle.fp_name.specs.declared.kind.RefKind.TheVariants.{Runtime}
+use Rattle.fp_small.specs.Order.{sorted_by}
+use Rattle.fl_meta.specs.Entries.{is_semicolon}
+use Rattle.fl_meta.specs.Metadata.{extension_of}
+use Rattle.fl_extension.specs.declared.point.Point.{Point}
+
+-- the value of a key in a group
+abbrev pub value_of : Group → List ℕ → Option (List ℕ)
+value_of g key = option_map (λ p. p.value) (pair_at g.pairs key)
+
+-- the key has the value `true`
+abbrev pub is_on : Group → List ℕ → Bool
+is_on g key = option_map_or (λ value. bytes_eq value (codes "true")) (value_of g key) false
+
+-- The text of a path that isn't the root, without `=` and control characters: in a line `/app/DIRECTORY=VALUE` the first `=` ends the
+-- directory.
+abbrev pub is_directory : List ℕ → Bool
+is_directory text = list_all is_element (cut text) && list_all is_key_byte text
+
+-- ---- candidates
+
+-- the versions that are tried: the entries of `versions`, else the value of `version`, else the ref's own branch
+abbrev pub versions_of : Group → Ref → List (List ℕ)
+versions_of g r = option_map_or (slice_split is_semicolon) (value_of g (codes "versions")) (unwrap_or (value_of g (codes "version")) r.branch ∷ [])
+
+-- the ref of a version that is a branch
+abbrev pub candidate_of : List ℕ → List ℕ → List ℕ → List Ref
+candidate_of name arch version = if is_branch version then ref_with Runtime name arch version ∷ [] else []
+
+unfoldable pub candidates_of : Group → Ref → List ℕ → List Ref
+candidates_of g r name = flat_map (candidate_of name r.arch) (versions_of g r)
+
+-- ---- points
+
+abbrev pub point_with : Group → Ref → List ℕ → List ℕ → Point
+point_with g r name directory = record { name = name; directory = directory; candidates = candidates_of g r name; auto = not (is_on g (codes "no-autodownload")) }
+
+-- a group with this NAME and this `directory` is a point, where the one is a directory
+abbrev pub point_at : Group → Ref → List ℕ → Option (List ℕ) → List Point
+point_at g r name None = []
+point_at g r name (Some directory) = if is_directory directory then point_with g r name directory ∷ [] else []
+
+-- where NAME is an ID, and `subdirectories` isn't on
+abbrev pub point_named : Group → Ref → List ℕ → List Point
+point_named g r name = if is_id name && not (is_on g (codes "subdirectories")) then point_at g r name (value_of g (codes "directory")) else []
+
+-- the point that a group `Extension NAME` says, where it says one
+unfoldable pub point_of : Ref → Group → List Point
+point_of r g = flat_map (point_named g r) (extension_of g)
+
+abbrev pub name_of : Point → List ℕ
+name_of point = point.name
+
+-- the points of metadata for a ref, in the order of their names
+unfoldable pub points_of : List Group → Ref → List Point
+points_of file r = sorted_by name_of (flat_map (point_of r) file)

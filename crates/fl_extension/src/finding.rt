@@ -1,0 +1,23 @@
+//! The candidate of a point that is installed.
+
+ghost use Rattle.std.specs.Prelude.{◌≡◌};
+ghost use Rattle.fl_extension.specs.Found as spec;
+
+use crate::point::Point;
+use fp_name::RefName;
+use fp_small::State;
+
+/// Whether the state has the ref.
+fn has_ref(state: &State, name: &RefName) -> bool
+    ensures { result ≡ spec.has_ref state.now name.now }
+{
+    state.refs.as_slice().iter().any(|row| row.name == *name)
+}
+
+/// The place of the first of the point's candidates that is in the state, which takes no memory.
+pub fn found(point: &Point, state: &State) -> Option<usize>
+    ensures { result ≡ spec.found point.now state.now }
+{
+    let mut candidates = point.candidates.as_slice().iter();
+    candidates.position(|name| has_ref(state, name))
+}

@@ -1,0 +1,67 @@
+//! What a group of metadata says, read by its keys.
+
+ghost use Rattle.std.specs.Prelude.{◌≡◌};
+ghost use Rattle.std.specs.List.{list_all};
+ghost use Rattle.std.specs.Option.{option_copied, option_to_list};
+ghost use Rattle.fp_host.specs.Paths.{cut, is_element as is_path_element};
+ghost use Rattle.fp_keyfile.specs.Grammar.{is_key_byte};
+ghost use Rattle.fl_meta.specs.Metadata as metadata;
+ghost use Rattle.fl_extension.specs.Points as spec;
+
+use fp_host::is_element;
+use fp_keyfile::Group;
+
+/// The NAME of a group `Extension NAME`, which isn't empty.
+pub(crate) fn extension_name(group: &Group) -> Option<&str>
+    ensures { option_to_list (option_copied result) ≡ metadata.extension_of group.now }
+{
+    let name = group.name.as_str().strip_prefix("Extension ")?;
+    if name.is_empty() { None } else { Some(name) }
+}
+
+/// The value of the key, where the group has it.
+pub(crate) fn value_of<'a>(group: &'a Group, key: &str) -> Option<&'a str>
+    ensures { option_copied result ≡ spec.value_of group.now key.now }
+{
+    let mut pairs = group.pairs.as_slice().iter();
+    let pair = pairs.find(|pair| pair.key.as_str() == key)?;
+    Some(pair.value.as_str())
+}
+
+/// Whether the key has the value `true`.
+pub(crate) fn is_on(group: &Group, key: &str) -> bool
+    ensures { result ≡ spec.is_on group.now key.now }
+{
+    match value_of(group, key) {
+        Some(value) => value == "true",
+        None => false,
+    }
+}
+
+/// Whether the text is that of a path that isn't the root.
+fn is_path(text: &str) -> bool
+    ensures { result ≡ list_all is_path_element (cut text.now) }
+{
+    text.split('/').all(|element| is_element(element))
+}
+
+/// Whether a byte is neither `=` nor a control character.
+fn is_plain(byte: u8) -> bool
+    ensures { result ≡ is_key_byte byte }
+{
+    byte != b'=' && byte >= 0x20 && byte != 0x7f
+}
+
+/// Whether no byte is `=` or a control character.
+fn are_plain(text: &str) -> bool
+    ensures { result ≡ list_all is_key_byte text.now }
+{
+    text.bytes().all(is_plain)
+}
+
+/// Whether an extension may be mounted at the text: a path that isn't the root, without `=` and control characters.
+pub(crate) fn is_directory(text: &str) -> bool
+    ensures { result ≡ spec.is_directory text.now }
+{
+    is_path(text) && are_plain(text)
+}

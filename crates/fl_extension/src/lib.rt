@@ -1,0 +1,16 @@
+//! Extension points: what metadata says of the extensions of an application or a runtime.
+#![tactic(auto)]
+
+mod candidates;
+mod finding;
+mod group;
+pub mod laws;
+mod point;
+mod reading;
+
+pub use finding::found;
+pub use point::Point;
+pub use reading::points;
+
+#[cfg(test)]
+mod tests;
