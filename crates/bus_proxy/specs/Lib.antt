@@ -1,0 +1,4 @@
+pub mod Arrivals
+pub mod Outs
+pub mod Streaming
+pub mod Filters

@@ -1,0 +1,4 @@
+pub mod Patterns
+pub mod Ruling
+pub mod Lines
+pub mod Pushes

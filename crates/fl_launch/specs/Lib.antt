@@ -1,0 +1,5 @@
+pub mod Layers
+pub mod Granted
+pub mod Extensions
+pub mod Launch
+pub mod Policies
