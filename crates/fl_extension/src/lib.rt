@@ -8,7 +8,7 @@ pub mod laws;
 mod point;
 mod reading;
 
-pub use finding::{found, has_ref};
+pub use finding::found;
 pub use point::Point;
 pub use reading::points;
 

@@ -87,7 +87,7 @@ fn push_entry(out: &mut String, list: PermList, mention: &Mention) -> Result<(),
 
 /// The entries of a list, each followed by `;`.
 #[tactic(auto, unfolding(crate::specs::Written::list_text))]
-pub fn list_text(alloc: Global, list: PermList, mentions: &[Mention]) -> Result<String, AllocError>
+fn list_text(alloc: Global, list: PermList, mentions: &[Mention]) -> Result<String, AllocError>
     ensures { IfOk result (λ t. string_bytes t ≡ written.list_text list mentions.now) }
 {
     let mut out = String::new(alloc);
@@ -183,11 +183,7 @@ fn named_pairs(
 }
 
 /// Adds a group, where it has pairs.
-pub fn push_group(
-    groups: &mut Items<Group>,
-    name: &str,
-    pairs: Items<Pair>,
-) -> Result<(), AllocError>
+fn push_group(groups: &mut Items<Group>, name: &str, pairs: Items<Pair>) -> Result<(), AllocError>
     ensures { OnOk result (groups.new ≡ groups.old ++ written.group_if name.now pairs) }
 {
     if pairs.is_empty() {
@@ -199,7 +195,7 @@ pub fn push_group(
 
 /// The groups of a file with these mentions.
 #[tactic(auto, unfolding(crate::specs::Written::file_with))]
-pub fn groups_of(alloc: Global, mentions: &[Mention]) -> Result<Items<Group>, AllocError>
+pub(crate) fn groups_of(alloc: Global, mentions: &[Mention]) -> Result<Items<Group>, AllocError>
     ensures { IfOk result (λ groups. groups ≡ written.file_with mentions.now) }
 {
     let mut groups = Items::new(alloc);

@@ -1,5 +1,0 @@
-use Rattle.bus_proxy.proofs.Naming.{unique_len}
-use Rattle.bus_proxy.proofs.proxy.Filter.new.Goals as goal
-
-pub new-requires-2 : goal.new-requires-2
-new-requires-2 c = record { client = λ t is. unique_len t.now (c.requires.client t is) }

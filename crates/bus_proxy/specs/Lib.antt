@@ -1,4 +1,0 @@
-pub mod Arrivals
-pub mod Outs
-pub mod Streaming
-pub mod Filters

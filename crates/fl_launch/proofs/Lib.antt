@@ -1,4 +1,0 @@
-pub mod Patterns
-pub mod Ruling
-pub mod Lines
-pub mod Pushes

@@ -1,5 +1,0 @@
-pub mod Layers
-pub mod Granted
-pub mod Extensions
-pub mod Launch
-pub mod Policies
