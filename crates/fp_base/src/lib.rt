@@ -1,0 +1,24 @@
+//! What every crate of fpk speaks with: texts, bytes and lists, and the words that are printed.
+#![tactic(auto)]
+
+mod blob;
+mod frame_rule;
+mod items;
+mod key_rule;
+mod meta_rule;
+mod object;
+mod rule;
+mod side;
+mod text;
+mod what;
+
+pub use blob::Blob;
+pub use frame_rule::FrameRule;
+pub use items::Items;
+pub use key_rule::KeyRule;
+pub use meta_rule::MetaRule;
+pub use object::ObjKind;
+pub use rule::Rule;
+pub use side::Side;
+pub use text::Text;
+pub use what::What;
