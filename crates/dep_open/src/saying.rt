@@ -7,7 +7,8 @@ ghost use Rattle.dep_states.specs.Shown.{state_of, new_state};
 ghost use Rattle.dep_open.specs.Loads.{is_away, settings_in, remotes_in, pins_in, old_said, part_of, IsPart, IsSaid};
 
 use crate::open_end::OpenEnd;
-use fp_host::{Items, Path};
+use fp_base::Items;
+use fp_host::Path;
 use fp_name::PinPattern;
 use fp_small::{
     ConfigFault, Layout, Loaded, RemoteRow, Settings, State, read_config, read_pins, read_remotes,

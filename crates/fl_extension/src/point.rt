@@ -1,7 +1,7 @@
 //! A point at which an extension may be mounted.
 
-use fp_host::Items;
-use fp_name::{AppId, RefName, Text};
+use fp_base::{Items, Text};
+use fp_name::{AppId, RefName};
 
 /// An extension point of an application or a runtime, after flatpak-metadata(5), "Extension NAME".
 #[derive(Drop)]

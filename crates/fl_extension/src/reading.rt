@@ -10,9 +10,9 @@ ghost use Rattle.fl_extension.specs.Points as spec;
 use crate::candidates::candidates_of;
 use crate::group::{extension_name, is_directory, is_on, value_of};
 use crate::point::Point;
-use fp_host::Items;
+use fp_base::{Items, Text};
 use fp_keyfile::{Group, KeyFile};
-use fp_name::{AppId, RefName, Text, is_id};
+use fp_name::{AppId, RefName, is_id};
 use std::alloc::{AllocError, Global};
 
 /// The point of a group with this name and this directory.

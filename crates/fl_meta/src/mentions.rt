@@ -9,7 +9,8 @@ use crate::entries::{is_off, push_list};
 use crate::names::{level_of, list_of_key, list_of_unknown_key};
 use crate::pattern::is_pattern;
 use crate::permission::{Layer, Mention, PermList, Value};
-use fp_keyfile::{Group, KeyFile, Pair, Text};
+use fp_base::Text;
+use fp_keyfile::{Group, KeyFile, Pair};
 use std::alloc::{AllocError, Global};
 
 /// Where mentions are read from.

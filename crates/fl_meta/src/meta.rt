@@ -6,7 +6,8 @@ ghost use Rattle.fl_meta.specs.Metadata as metadata;
 use crate::fault::{MetaError, MetaRule};
 use crate::mentions::{Source, mentions_of};
 use crate::permission::Layer;
-use fp_keyfile::{Group, Items, KeyFile, Text};
+use fp_base::{Items, Text};
+use fp_keyfile::{Group, KeyFile};
 use fp_name::{NameFault, RefKind, RefName};
 use std::alloc::{AllocError, Global};
 

@@ -6,7 +6,7 @@ ghost use Rattle.std.specs.Cmp.Rules.{comparing};
 ghost use Rattle.std.proofs.Common.{rules};
 ghost use Rattle.fl_meta.specs.Order.{place_of, is_same, permission_cmp, same_ties};
 
-use fp_keyfile::{Items, Text};
+use fp_base::{Items, Text};
 use std::alloc::{AllocError, Global};
 use std::cmp::Ordering;
 

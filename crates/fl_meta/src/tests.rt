@@ -1,7 +1,8 @@
 //! Metadata files with the permissions that they mention, worked out from the rules by hand.
 
 use super::*;
-use fp_keyfile::{KeyError, KeyFile, Text};
+use fp_base::Text;
+use fp_keyfile::{KeyError, KeyFile};
 use std::alloc::{AllocError, Global};
 
 /// The name of a list in these tables.

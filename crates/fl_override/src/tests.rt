@@ -1,7 +1,8 @@
 //! Overrides, read, changed and written, worked out by hand.
 
 use super::*;
-use fp_keyfile::{KeyError, KeyFile, Text};
+use fp_base::Text;
+use fp_keyfile::{KeyError, KeyFile};
 use std::alloc::{AllocError, Global};
 
 /// The set of an override's text.

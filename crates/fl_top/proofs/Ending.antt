@@ -9,7 +9,7 @@ use Rattle.fp_small.specs.declared.state.State.{State}
 use Rattle.fp_small.specs.declared.op.Op.{Op}
 use Rattle.fp_small.specs.declared.refusal.Refusal.{Refusal}
 use Rattle.fp_small.specs.declared.refusal.Refusal.TheVariants.{MalformedObject, Limit, BadRecord, Damaged}
-use Rattle.fp_small.specs.declared.refusal.What.TheVariants.{Input}
+use Rattle.fp_base.specs.declared.what.What.TheVariants.{Input}
 use Rattle.dep_states.specs.Shown.{IsShown}
 use Rattle.dep_states.specs.Sound.{IsSound}
 use Rattle.dep_states.specs.After.{after_all}

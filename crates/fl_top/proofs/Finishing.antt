@@ -11,7 +11,7 @@ use Rattle.fp_host.proofs.Goes.{begins, stays, goes_on}
 use Rattle.fp_small.specs.declared.state.State.{State}
 use Rattle.fp_small.specs.declared.refusal.Refusal.{Refusal}
 use Rattle.fp_small.specs.declared.refusal.Refusal.TheVariants.{BadWords, BadRecord, Limit}
-use Rattle.fp_small.specs.declared.refusal.What.TheVariants.{Input}
+use Rattle.fp_base.specs.declared.what.What.TheVariants.{Input}
 use Rattle.dep_states.specs.Shown.{seen}
 use Rattle.fl_words.specs.Lines.{refusal_text}
 use Rattle.fl_words.specs.Words.{command_of, bad_index}

@@ -7,7 +7,7 @@ use Rattle.fp_small.specs.declared.op.Op.{Op}
 use Rattle.fp_small.specs.declared.op.Op.TheVariants.{AddPin, DropPin, AddRemote, ModifyRemote, DropRemote, Migrate}
 use Rattle.fp_small.specs.declared.refusal.Refusal.{Refusal}
 use Rattle.fp_small.specs.declared.refusal.Refusal.TheVariants.{NoSuchRemote, RemoteExists, PinExists, NoSuchPin, Limit}
-use Rattle.fp_small.specs.declared.refusal.What.TheVariants.{Pins, Remotes}
+use Rattle.fp_base.specs.declared.what.What.TheVariants.{Pins, Remotes}
 use Rattle.fp_small.specs.Config.{name_of}
 use Rattle.fp_small.specs.Order.{has_name}
 use Rattle.dep_states.specs.After.{after_all}

@@ -9,7 +9,7 @@ use Rattle.fp_small.specs.declared.op.Op.{Op}
 use Rattle.fp_small.specs.declared.op.Op.TheVariants.{AddPin, DropPin, AddRemote, ModifyRemote, DropRemote, Migrate}
 use Rattle.fp_small.specs.declared.refusal.Refusal.{Refusal}
 use Rattle.fp_small.specs.declared.refusal.Refusal.TheVariants.{PinExists, NoSuchPin, NoSuchRemote, RemoteExists, Limit}
-use Rattle.fp_small.specs.declared.refusal.What.TheVariants.{Pins, Remotes}
+use Rattle.fp_base.specs.declared.what.What.TheVariants.{Pins, Remotes}
 use Rattle.fp_small.specs.declared.state.Layout.TheVariants.{Two}
 use Rattle.dep_states.specs.After.{after, May, Allows, layout_for}
 use Rattle.fl_words.specs.declared.command.Command.{Command}

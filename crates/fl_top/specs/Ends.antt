@@ -6,7 +6,7 @@ use Rattle.dep_open.specs.declared.open_end.OpenEnd.{OpenEnd}
 use Rattle.dep_open.specs.declared.open_end.OpenEnd.TheVariants as open_end
 use Rattle.fp_small.specs.declared.refusal.Refusal.{Refusal}
 use Rattle.fp_small.specs.declared.refusal.Refusal.TheVariants.{Damaged, BadRecord, Limit}
-use Rattle.fp_small.specs.declared.refusal.What.TheVariants.{Input}
+use Rattle.fp_base.specs.declared.what.What.TheVariants.{Input}
 use Rattle.fl_words.specs.declared.batch.BatchError.{BatchError}
 use Rattle.fl_words.specs.declared.batch.BatchError.TheVariants as batch
 use Rattle.fl_top.specs.Answer.{Answer, told, refused}

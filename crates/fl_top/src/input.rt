@@ -2,7 +2,8 @@
 ghost use Rattle.std.specs.Prelude.{◌≡◌, ◌≤◌, ◌<◌, IfOk, IfErr, length};
 ghost use Rattle.fl_top.specs.Input.{input_most, IsWhole, IsTaken, InputStops, Adds, StepStops};
 
-use fp_host::{Blob, Source, Taken};
+use fp_base::Blob;
+use fp_host::{Source, Taken};
 use std::alloc::{AllocError, Global};
 
 /// Why the input wasn't read.

@@ -11,8 +11,8 @@ ghost use Rattle.fl_top.specs.Objects.{head, root_lines, commit_lines, tree_line
 ghost use Rattle.fl_top.specs.declared.end.RunEnd.TheVariants.{Refused};
 
 use crate::end::RunEnd;
+use fp_base::Text;
 use fl_words::{ValueType, digits_of, escape};
-use fp_host::Text;
 use fp_name::Digest;
 use fp_small::Refusal;
 use gv_decode::{DecodeError, decode};

@@ -5,8 +5,8 @@ use Rattle.fp_host.specs.Paths.{path_text}
 use Rattle.fp_name.specs.Hex.{hex}
 use Rattle.fp_small.specs.declared.refusal.Refusal.{Refusal}
 use Rattle.fp_small.specs.declared.refusal.Refusal.TheVariants.{BadWords, NoSuchRemote, RemoteExists, MalformedObject, PinExists, NoSuchPin, Limit, BadRecord, Damaged}
-use Rattle.fp_small.specs.declared.refusal.What.{What}
-use Rattle.fp_small.specs.declared.refusal.What.TheVariants.{Pins, Remotes, Input}
+use Rattle.fp_base.specs.declared.what.What.{What}
+use Rattle.fp_base.specs.declared.what.What.TheVariants.{Pins, Remotes, Input}
 use Rattle.fp_small.specs.declared.op.Op.{Op}
 use Rattle.fp_small.specs.declared.state.RemoteRow.{RemoteRow}
 use Rattle.fp_small.specs.declared.op.Op.TheVariants.{AddPin, DropPin, AddRemote, ModifyRemote, DropRemote, Migrate}

@@ -6,7 +6,7 @@ ghost use Rattle.fl_words.specs.declared.batch.BatchError.TheVariants.{NoMemory}
 
 use crate::command::{Command, WordsError};
 use crate::reading::read_words;
-use fp_host::Items;
+use fp_base::Items;
 use fp_keyfile::first_line;
 use std::alloc::{AllocError, Global};
 use std::error::Error;

@@ -4,7 +4,7 @@ ghost use Rattle.fp_name.specs.Hex.{hex, is_digest};
 ghost use Rattle.fl_words.specs.Lines.{what_word, malformed_text, refusal_text, op_text, pins_text, remotes_text};
 
 use crate::escaping::escape;
-use fp_host::Text;
+use fp_base::Text;
 use fp_name::{Digest, PinPattern};
 use fp_small::{Op, Refusal, RemoteRow, What};
 use std::alloc::{AllocError, Global};

@@ -1,5 +1,6 @@
 use crate::{Command, WordsError, op_line, pins_text, read_words, refusal_line, remotes_text};
-use fp_host::{Path, Text};
+use fp_base::Text;
+use fp_host::Path;
 use fp_name::{Digest, PinPattern, RemoteName, RemoteUrl};
 use fp_small::{Op, Refusal, RemoteRow, What};
 use std::alloc::{AllocError, Global};

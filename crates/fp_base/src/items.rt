@@ -1,5 +1,7 @@
 //! A list that contracts see as one.
 ghost use Rattle.std.specs.Prelude.{◌≡◌, ◌<◌, ◌++◌, ◌∷◌, ◌==◌, [], length, slice_set, slice_index_or, OnOk, OnErr};
+ghost use Rattle.std.specs.Borrow.{Lends, sem};
+ghost use Rattle.fp_base.specs.contracts.items.Items.{the_row};
 ghost use Rattle.std.specs.List.{remove};
 
 use std::alloc::{AllocError, Global};
@@ -86,6 +88,15 @@ impl<T: Drop> Items<T> {
         ensures { self.new ≡ slice_set self.old at item }
     {
         self.inner[at] = item;
+    }
+
+    /// The item at this index, to be changed in its place.
+    pub fn at_mut(&mut self, at: usize) -> &mut T
+        requires { at < length self.old }
+        ensures* writes_back { sem 𝓛 (Lends (the_row T.row) T.row self.entry result (slice_set self.old at)) }
+        ensures value { result.now ≡ slice_index_or self.old at result.now }
+    {
+        &mut self.inner[at]
     }
 
     /// Takes the item at this index out, which takes no memory.

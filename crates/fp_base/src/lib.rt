@@ -16,7 +16,7 @@ pub use blob::Blob;
 pub use frame_rule::FrameRule;
 pub use items::Items;
 pub use key_rule::KeyRule;
-pub use meta_rule::MetaRule;
+pub use meta_rule::{MetaRule, MetadataRule};
 pub use object::ObjKind;
 pub use rule::Rule;
 pub use side::Side;

@@ -1,5 +1,7 @@
 //! The rules of metadata files.
 
+use crate::KeyRule;
+
 /// The rule that a metadata file breaks. Where it breaks several, it is the first of them in this order. They belong
 /// to no line of the file.
 #[derive(Clone, Copy, Debug, PartialEq, Eq)]
@@ -10,4 +12,13 @@ pub enum MetaRule {
     Group,
     /// An application has no key `runtime`, or its value isn't `ID/ARCH/BRANCH`.
     Runtime,
+}
+
+/// A rule of a metadata file: of its form as a key file, or of what it has to say.
+#[derive(Clone, Copy, Debug, PartialEq, Eq)]
+pub enum MetadataRule {
+    /// The line of the fault breaks this rule of key files.
+    Key(KeyRule),
+    /// The file breaks this rule of metadata.
+    Meta(MetaRule),
 }

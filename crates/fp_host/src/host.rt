@@ -5,7 +5,8 @@ ghost use Rattle.fp_host.specs.Calls.{Change, Step, Creates, makes_dir, appends,
 ghost use Rattle.fp_host.specs.Moments.{Moments, Makes, HasCause, NeedsNoMemory};
 ghost use Rattle.fp_host.specs.Reads.{StatOf, ListOf, ReadOf, LinkOf, AreNames, HasBits};
 
-use crate::{Items, Path, PathFault, Text};
+use crate::{Path, PathFault};
+use fp_base::{Items, Text};
 use std::alloc::{AllocError, Global};
 
 /// Why a call of a host was not done.

@@ -2,18 +2,17 @@
 #![tactic(auto)]
 
 mod host;
-mod items;
 mod path;
 mod remotes;
 mod source;
 mod text;
 
+pub use fp_base::{Blob, Items, Text};
 pub use host::{Entry, Host, HostEnd, HostError, Stat};
-pub use items::Items;
 pub use path::{Path, PathFault, is_element};
 pub use remotes::{NoRemotes, Node, RemoteError, Remotes};
 pub use source::{Source, Taken};
-pub use text::{Blob, Text, is_link_text};
+pub use text::is_link_text;
 
 #[cfg(test)]
 mod tests;

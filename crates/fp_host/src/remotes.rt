@@ -3,7 +3,8 @@ ghost use Rattle.std.specs.Prelude.{◌≡◌, ◌≤◌, Option, Some, None, �
 ghost use Rattle.fp_host.specs.Moments.{Rose};
 ghost use Rattle.fp_host.specs.Remote.{Holdings, IsNode, HasNodeBits, bytes_of, CameFrom};
 
-use crate::{Path, Text};
+use crate::Path;
+use fp_base::Text;
 use std::alloc::Global;
 
 /// What stands at a path of a remote.

@@ -6,7 +6,7 @@ use Rattle.std.specs.Str.{is_utf8, IsUtf8}
 use Rattle.std.proofs.lemmas.Bool.{ne_eqb, false_from_ne_true}
 use Rattle.std.proofs.lemmas.Str.{IsUtf8-from_is_utf8, is_utf8-from_IsUtf8}
 use Rattle.std.proofs.lemmas.Str.Pattern.{IsSplitOnceResult, split_parts}
-use Rattle.fp_keyfile.specs.declared.fault.KeyRule.TheVariants as rules
+use Rattle.fp_base.specs.declared.key_rule.KeyRule.TheVariants as rules
 use Rattle.fp_keyfile.specs.Grammar.{is_blank, is_return, is_name, is_key}
 use Rattle.fp_keyfile.specs.Lines.{byte_before, lines_of, trimmed_front, trimmed_end, split_at, nothing, header, entry, header_at, header_of, entry_at, entry_of, marked, line_says}
 use Rattle.fp_keyfile.proofs.Texts.{split_at_found, split_at_none}

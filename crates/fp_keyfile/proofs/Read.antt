@@ -8,7 +8,7 @@ use Rattle.std.proofs.lemmas.List.{append-nil}
 use Rattle.std.proofs.lemmas.List.Folds.{list_any-append}
 use Rattle.fp_keyfile.specs.declared.group.Pair.{Pair}
 use Rattle.fp_keyfile.specs.declared.group.Group.{Group}
-use Rattle.fp_keyfile.specs.declared.fault.KeyRule.{KeyRule}
+use Rattle.fp_base.specs.declared.key_rule.KeyRule.{KeyRule}
 use Rattle.fp_keyfile.specs.declared.fault.KeyFault.{KeyFault}
 use Rattle.fp_keyfile.specs.Grammar.{is_name}
 use Rattle.fp_keyfile.specs.Lines.{in_front, byte_before, lines_of, Statement, nothing, header, entry, line_says}

@@ -4,7 +4,7 @@ use Rattle.std.specs.List.{list_all, list_any}
 use Rattle.std.specs.Str.{is_utf8}
 use Rattle.std.proofs.lemmas.Bool.{cases_Bool, and_parts, or_parts, not-true, eqb-true}
 use Rattle.std.proofs.lemmas.List.Folds.{list_any-append}
-use Rattle.fp_keyfile.specs.declared.fault.KeyRule.{KeyRule}
+use Rattle.fp_base.specs.declared.key_rule.KeyRule.{KeyRule}
 use Rattle.fp_keyfile.specs.Grammar.{is_blank, is_return, ends_so, is_name, is_key, is_value_byte, is_value}
 use Rattle.fp_keyfile.specs.Lines.{trimmed_front, trimmed_end, split_at, Statement, nothing, header, entry, is_text, header_at, entry_with, entry_at, marked, text_says, line_says}
 use Rattle.fp_keyfile.specs.KeyFile.{is_good_pair}

@@ -8,7 +8,7 @@ use Rattle.fp_keyfile.specs.declared.table.Table.{Table}
 use Rattle.fp_keyfile.specs.declared.draft.Draft.{Draft}
 use Rattle.fp_keyfile.specs.declared.draft.LineError.{LineError}
 use Rattle.fp_keyfile.specs.declared.draft.LineError.TheVariants as errors
-use Rattle.fp_keyfile.specs.declared.fault.KeyRule.{KeyRule}
+use Rattle.fp_base.specs.declared.key_rule.KeyRule.{KeyRule}
 use Rattle.fp_keyfile.specs.KeyFile.{names_of, keys_of, Reading}
 use Rattle.fp_keyfile.specs.Index.{Indexes}
 

@@ -5,8 +5,8 @@ use Rattle.std.specs.Option.{option_map, option_map_or, option_and_then}
 use Rattle.std.specs.Str.{is_utf8, bytes_eq}
 use Rattle.fp_keyfile.specs.declared.group.Pair.{Pair}
 use Rattle.fp_keyfile.specs.declared.group.Group.{Group}
-use Rattle.fp_keyfile.specs.declared.fault.KeyRule.{KeyRule}
-use Rattle.fp_keyfile.specs.declared.fault.KeyRule.TheVariants as rules
+use Rattle.fp_base.specs.declared.key_rule.KeyRule.{KeyRule}
+use Rattle.fp_base.specs.declared.key_rule.KeyRule.TheVariants as rules
 use Rattle.fp_keyfile.specs.declared.fault.KeyFault.{KeyFault}
 use Rattle.fp_keyfile.specs.declared.fault.KeyError.{KeyError}
 use Rattle.fp_keyfile.specs.declared.fault.KeyError.TheVariants as errors
@@ -39,9 +39,13 @@ group_at file name = find (λ g. bytes_eq g.name name) file
 abbrev pub pair_at : List Pair → List ℕ → Option Pair
 pair_at pairs key = find (λ p. bytes_eq p.key key) pairs
 
--- the value of the key in the group, where the file has that pair
+-- the value of a key in a group, where the group has it
+abbrev pub value_in : Group → List ℕ → Option (List ℕ)
+value_in g key = option_map (λ p. p.value) (pair_at g.pairs key)
+
+-- the value of the key in the group of that name, where the file has that pair
 unfoldable pub value_at : List Group → List ℕ → List ℕ → Option (List ℕ)
-value_at file name key = option_and_then (λ g. option_map (λ p. p.value) (pair_at g.pairs key)) (group_at file name)
+value_at file name key = option_and_then (λ g. value_in g key) (group_at file name)
 
 -- the keys of the group of a name, none where it isn't there
 unfoldable pub keys_at : List Group → List ℕ → List (List ℕ)

@@ -1,6 +1,6 @@
 -- A line as the code holds it.
 use Rattle.std.specs.Prelude.{Result, Ok, Err}
-use Rattle.fp_keyfile.specs.declared.fault.KeyRule.{KeyRule}
+use Rattle.fp_base.specs.declared.key_rule.KeyRule.{KeyRule}
 use Rattle.fp_keyfile.specs.declared.line.Line.{Line}
 use Rattle.fp_keyfile.specs.declared.line.Line.TheVariants as lines
 use Rattle.fp_keyfile.specs.Lines.{Statement, nothing, header, entry}

@@ -2,8 +2,8 @@
 use Rattle.std.specs.Prelude.{ℕ, Bool, not, if◌then◌else◌, ◌&&◌, List, [], ◌∷◌, ◌==◌, Option, Some, None, Result, Ok, Err}
 use Rattle.std.specs.List.{list_all, list_any}
 use Rattle.std.specs.Str.{is_utf8}
-use Rattle.fp_keyfile.specs.declared.fault.KeyRule.{KeyRule}
-use Rattle.fp_keyfile.specs.declared.fault.KeyRule.TheVariants as rules
+use Rattle.fp_base.specs.declared.key_rule.KeyRule.{KeyRule}
+use Rattle.fp_base.specs.declared.key_rule.KeyRule.TheVariants as rules
 use Rattle.fp_keyfile.specs.Grammar.{is_blank, is_return, is_name, is_key}
 
 -- b in front of the first line

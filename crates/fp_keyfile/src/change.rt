@@ -4,9 +4,8 @@ ghost use Rattle.std.specs.Prelude.{◌≡◌, OnOk, OnErr};
 ghost use Rattle.fp_keyfile.specs.KeyFile.{value_at, with_pair, without_pair};
 
 use crate::group::Group;
-use crate::items::Items;
 use crate::places::group_place;
-use crate::text::Text;
+use fp_base::{Items, Text};
 use std::alloc::AllocError;
 
 /// Sets the value of the key in the group. Want of memory changes nothing.
@@ -21,7 +20,7 @@ pub(crate) fn set_pair(
 {
     match group_place(groups.as_slice(), name) {
         Some(at) => {
-            let group = &mut groups.inner[at];
+            let group = groups.at_mut(at);
             group.put(key, value)
         }
         None => {
@@ -37,7 +36,7 @@ pub(crate) fn take_pair(groups: &mut Items<Group>, name: &str, key: &str) -> Opt
     ensures after { groups.new ≡ without_pair groups.old name.now key.now }
 {
     let at = group_place(groups.as_slice(), name)?;
-    let group = &mut groups.inner[at];
+    let group = groups.at_mut(at);
     let value = group.take(key)?;
     let is_last = group.pairs.is_empty();
     if is_last {

@@ -5,12 +5,11 @@ ghost use Rattle.fp_keyfile.specs.declared.draft.LineError.TheVariants.{NoMemory
 ghost use Rattle.fp_keyfile.specs.KeyFile.{beginning, with_group, with_pair, with_entry, after_line};
 ghost use Rattle.fp_keyfile.specs.Draft.{groups_of, reading, IsIndexed, Takes};
 
-use crate::fault::KeyRule;
 use crate::group::Group;
 use crate::index::place_or_next;
-use crate::items::Items;
 use crate::line::{Line, read_line};
 use crate::table::Table;
+use fp_base::{Items, KeyRule};
 use std::alloc::{AllocError, AllocFailed, Global};
 use std::collections::BTreeMap;
 

@@ -1,10 +1,10 @@
+//! A group and its pairs.
 ghost use Rattle.std.specs.Prelude.{◌≡◌, ◌∷◌, [], IfOk, OnOk, OnErr, OnSome, IfNone};
-ghost use Rattle.std.specs.Option.{option_map};
-ghost use Rattle.fp_keyfile.specs.KeyFile.{pair_at, with_key, without_key};
+ghost use Rattle.std.specs.Option.{option_copied, option_map};
+ghost use Rattle.fp_keyfile.specs.KeyFile.{pair_at, value_in, with_key, without_key};
 
-use crate::items::Items;
-use crate::places::pair_place;
-use crate::text::Text;
+use crate::places::{find_pair, pair_place};
+use fp_base::{Items, Text};
 use std::alloc::{AllocError, Global};
 
 /// A key and its value.
@@ -59,6 +59,14 @@ impl Group {
             name: Text::from_str(alloc, name)?,
             pairs,
         })
+    }
+
+    /// The value of the key, where the group has it. It takes no memory.
+    pub fn get(&self, key: &str) -> Option<&str>
+        ensures { option_copied result ≡ value_in self.now key.now }
+    {
+        let pair = find_pair(self.pairs.as_slice(), key)?;
+        Some(pair.value.as_str())
     }
 
     /// Sets the value at the key, at its place or in a new pair at the end. Want of memory changes nothing.

@@ -6,11 +6,10 @@ ghost use Rattle.fp_keyfile.specs.KeyFile.{value_at, with_pair, without_pair, fi
 use crate::change::{set_pair, take_pair};
 use crate::fault::KeyError;
 use crate::group::Group;
-use crate::items::Items;
 use crate::parsing::read_groups;
-use crate::places::{find_group, find_pair};
-use crate::text::Text;
+use crate::places::find_group;
 use crate::writing::text_of_groups;
+use fp_base::{Items, Text};
 use std::alloc::{AllocError, Global};
 use std::marker::Model;
 
@@ -90,8 +89,7 @@ impl KeyFile {
         ensures { option_copied result ≡ value_at self.now group.now key.now }
     {
         let group = find_group(self.groups.as_slice(), group)?;
-        let pair = find_pair(group.pairs.as_slice(), key)?;
-        Some(pair.value.as_str())
+        group.get(key)
     }
 
     /// Sets the value of the key in the group, at its place or in a new pair at the end of the group. A group that

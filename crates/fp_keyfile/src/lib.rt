@@ -7,23 +7,20 @@ mod fault;
 mod grammar;
 mod group;
 mod index;
-mod items;
 mod key_file;
 pub mod laws;
 mod line;
 mod parsing;
 mod places;
 mod table;
-mod text;
 mod writing;
 
-pub use fault::{KeyError, KeyFault, KeyRule};
+pub use fault::{KeyError, KeyFault};
+pub use fp_base::{Items, KeyRule, Text};
 pub use grammar::{is_group_name, is_pair_key, is_pair_value};
 pub use group::{Group, Pair};
-pub use items::Items;
 pub use key_file::KeyFile;
 pub use line::{first_line, trim_front};
-pub use text::Text;
 
 #[cfg(test)]
 mod tests;

@@ -6,8 +6,8 @@ ghost use Rattle.fp_keyfile.specs.Grammar as grammar;
 ghost use Rattle.fp_keyfile.specs.Lines.{lines_of, trimmed_front, trimmed_end, header_of, entry_of, marked, line_says};
 ghost use Rattle.fp_keyfile.specs.Line.{said};
 
-use crate::fault::KeyRule;
 use crate::grammar::{are_blank, has_zero, is_blank, is_group_name, is_pair_key};
+use fp_base::KeyRule;
 
 /// What a good line says.
 #[derive(Clone, Copy)]

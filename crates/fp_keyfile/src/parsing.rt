@@ -5,8 +5,8 @@ ghost use Rattle.fp_keyfile.specs.KeyFile.{file_of, Gives};
 use crate::draft::{Draft, LineError};
 use crate::fault::{KeyError, KeyFault};
 use crate::group::Group;
-use crate::items::Items;
 use crate::line::first_line;
+use fp_base::Items;
 use std::alloc::Global;
 
 /// The groups of a key file's bytes, or the first bad line with the rule that it breaks.

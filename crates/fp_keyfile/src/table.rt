@@ -6,8 +6,7 @@ ghost use Rattle.fp_keyfile.specs.Index.{Indexes};
 
 use crate::group::{Group, Pair};
 use crate::index::place_or_next;
-use crate::items::Items;
-use crate::text::Text;
+use fp_base::{Items, Text};
 use std::alloc::{AllocError, Global};
 use std::collections::BTreeMap;
 

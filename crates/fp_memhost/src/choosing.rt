@@ -14,7 +14,8 @@ use crate::files::{Content, is_new};
 use crate::image::{Choice, FileRow, Image};
 use crate::names::{Name, find};
 use crate::scene::Scene;
-use fp_host::{Blob, Entry, Items, Path};
+use fp_base::{Blob, Items};
+use fp_host::{Entry, Path};
 use std::alloc::{AllocError, Global};
 
 // How many entries a stop may bring back at the name with this text.

@@ -3,7 +3,8 @@ ghost use Rattle.std.specs.Prelude.{◌≡◌, IfSome};
 ghost use Rattle.fp_host.specs.Calls.{makes_dir, creates, appends, links, makes_link, renames, unlinks, removes_dir, says};
 ghost use Rattle.fp_memhost.specs.Replay.{change_of, is_sync};
 
-use fp_host::{Blob, Path, Text};
+use fp_base::{Blob, Text};
+use fp_host::Path;
 use std::alloc::Global;
 
 /// A change of the host.

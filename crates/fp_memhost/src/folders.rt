@@ -5,7 +5,8 @@ ghost use Rattle.fp_host.specs.Paths.{elements_of, is_element};
 ghost use Rattle.fp_memhost.specs.Folders.{child_in, is_above, is_child, children_of, last_of};
 
 use crate::names::Name;
-use fp_host::{Path, Text};
+use fp_base::Text;
+use fp_host::Path;
 use std::alloc::{AllocError, Global};
 
 /// The text of the folder above; the root has none.

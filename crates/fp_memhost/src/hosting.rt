@@ -16,7 +16,8 @@ use crate::files::fresh_id;
 use crate::mem::MemHost;
 use crate::reads::{link_of, list_of, read_of, stat_of};
 use crate::story::Recorder;
-use fp_host::{Host, HostError, Items, Path, Stat, Text};
+use fp_base::{Items, Text};
+use fp_host::{Host, HostError, Path, Stat};
 use std::alloc::Global;
 
 impl Recorder for MemHost {

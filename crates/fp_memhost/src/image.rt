@@ -6,7 +6,8 @@ ghost use Rattle.fp_memhost.specs.Images.{slots_of, rows_of, IsImage};
 ghost use Rattle.fp_memhost.specs.Soundness.{row_in, is_good_slot, is_good_row, are_good_names, are_good_rows};
 
 use crate::opening::listed;
-use fp_host::{Blob, Entry, Items, Path, is_link_text};
+use fp_base::{Blob, Items};
+use fp_host::{Entry, Path, is_link_text};
 
 /// A file of an image, by its id: its permission bits and its bytes.
 #[derive(Debug, Drop)]

@@ -16,7 +16,8 @@ use crate::image::{Choice, Image};
 use crate::opening::open_image;
 use crate::scene::Scene;
 use crate::story::Recorder;
-use fp_host::{Host, HostError, Items, Path};
+use fp_base::Items;
+use fp_host::{Host, HostError, Path};
 use std::alloc::{AllocError, Global};
 
 /// A host in memory. It keeps what was done, and tells what a stop after any number of calls would leave.

@@ -15,7 +15,8 @@ use crate::files::{Content, file};
 use crate::folders::children;
 use crate::names::entry;
 use crate::scene::Scene;
-use fp_host::{Entry, HostError, Items, Path, Stat, Text};
+use fp_base::{Items, Text};
+use fp_host::{Entry, HostError, Path, Stat};
 use std::alloc::Global;
 
 // The file's id, where the entry is one.

@@ -9,7 +9,8 @@ ghost use Rattle.fp_memhost.specs.RemoteRows.{has_bits, is_row, row_at, covers, 
 use crate::copying::copy_out;
 use crate::folders::is_below;
 use crate::story::Keeper;
-use fp_host::{Blob, Node, Path, RemoteError, Remotes, Text};
+use fp_base::{Blob, Text};
+use fp_host::{Node, Path, RemoteError, Remotes};
 use std::alloc::{AllocError, Global};
 
 /// What may be put at a path of a remote.

@@ -4,7 +4,8 @@ ghost use Rattle.fp_memhost.specs.Supply.{fails_now};
 
 use crate::copying::copy_front;
 use crate::story::Supplier;
-use fp_host::{Blob, Source, Taken};
+use fp_base::Blob;
+use fp_host::{Source, Taken};
 
 /// A source of given bytes, which may fail at one call.
 #[derive(Drop)]

@@ -1,5 +1,6 @@
 use crate::{Choice, FileRow, Image, MemHost, MemNode, MemRemotes, MemSource};
-use fp_host::{Blob, Entry, Host, Items, Node, Path, PathFault, Remotes, Source, Stat, Taken};
+use fp_base::{Blob, Items};
+use fp_host::{Entry, Host, Node, Path, PathFault, Remotes, Source, Stat, Taken};
 use std::alloc::{AllocError, Global};
 use std::test::Fail;
 

@@ -5,7 +5,7 @@ ghost use Rattle.fp_name.specs.Grammar.{is_id};
 
 use crate::fault::NameFault;
 use crate::grammar::is_id;
-use crate::text::Text;
+use fp_base::Text;
 use std::alloc::{AllocError, Global};
 use std::marker::Model;
 use std::str;

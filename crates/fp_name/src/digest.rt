@@ -6,7 +6,7 @@ ghost use Rattle.std.specs.Char.{is_ascii_uppercase};
 ghost use Rattle.fp_name.specs.Hex.{hex as hex_text, unhex, is_digest};
 
 use crate::fault::NameFault;
-use crate::text::Text;
+use fp_base::Text;
 use hex::FromHex;
 use std::alloc::{AllocError, Global};
 use std::marker::Model;

@@ -16,7 +16,7 @@ use crate::pin_pattern::PinPattern;
 use crate::ref_name::RefName;
 use crate::remote_name::RemoteName;
 use crate::remote_url::RemoteUrl;
-use crate::text::Text;
+use fp_base::Text;
 
 /// A ref determines its text and the text its ref: what is written reads back, and only the text of a
 /// good ref reads as it.

@@ -12,11 +12,11 @@ mod pin_pattern;
 mod ref_name;
 mod remote_name;
 mod remote_url;
-mod text;
 
 pub use app_id::AppId;
 pub use digest::Digest;
 pub use fault::NameFault;
+pub use fp_base::Text;
 pub use grammar::{is_arch, is_branch, is_id, is_remote_name, is_url};
 pub use kind::RefKind;
 pub use laws::{
@@ -28,7 +28,6 @@ pub use pin_pattern::PinPattern;
 pub use ref_name::RefName;
 pub use remote_name::RemoteName;
 pub use remote_url::RemoteUrl;
-pub use text::Text;
 
 #[cfg(test)]
 mod tests;

@@ -9,7 +9,7 @@ ghost use Rattle.fp_name.specs.Pins.{are_pin_parts, is_pin, part_matches, parts_
 
 use crate::grammar::{is_arch, is_branch, is_id};
 use crate::kind::RefKind;
-use crate::text::Text;
+use fp_base::Text;
 use std::alloc::{AllocError, Global};
 
 /// KIND/ID/ARCH/BRANCH, whatever stands in the last three.

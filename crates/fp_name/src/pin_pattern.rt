@@ -6,7 +6,7 @@ ghost use Rattle.fp_name.specs.Pins.{is_pin, pin_matches};
 use crate::fault::NameFault;
 use crate::parts::{is_pin, parts_of};
 use crate::ref_name::RefName;
-use crate::text::Text;
+use fp_base::Text;
 use std::alloc::{AllocError, Global};
 use std::marker::Model;
 use std::str;

@@ -13,7 +13,7 @@ use crate::app_id::AppId;
 use crate::fault::NameFault;
 use crate::kind::RefKind;
 use crate::parts::{Parts, is_ref, parts_behind, parts_of};
-use crate::text::Text;
+use fp_base::Text;
 use std::alloc::{AllocError, Global};
 use std::cmp::Ordering;
 use std::marker::Model;

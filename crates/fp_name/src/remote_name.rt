@@ -5,7 +5,7 @@ ghost use Rattle.fp_name.specs.Grammar.{is_remote_name};
 
 use crate::fault::NameFault;
 use crate::grammar::is_remote_name;
-use crate::text::Text;
+use fp_base::Text;
 use std::alloc::{AllocError, Global};
 use std::marker::Model;
 use std::str;

@@ -4,7 +4,7 @@ ghost use Rattle.fp_small.specs.ConfigFaults.{key_fault, name_fault};
 ghost use Rattle.fp_small.specs.declared.config.ConfigFault.TheVariants.{NoMemory};
 
 use crate::state::RemoteRow;
-use fp_host::Items;
+use fp_base::Items;
 use fp_keyfile::KeyError;
 use fp_name::{NameFault, PinPattern};
 use std::alloc::{AllocError, AllocFailed};

@@ -11,7 +11,7 @@ ghost use Rattle.fp_small.specs.Config.{IsSettings, config_of, settings_of, remo
 use crate::config::{ConfigFault, Settings};
 use crate::ordering::insert_by_name;
 use crate::state::RemoteRow;
-use fp_host::Items;
+use fp_base::Items;
 use fp_keyfile::{Group, KeyFile, Pair};
 use fp_name::{PinPattern, RemoteName, RemoteUrl, is_pin, is_remote_name, is_url};
 use std::alloc::Global;

@@ -4,7 +4,8 @@ ghost use Rattle.fp_small.specs.Config as spec;
 ghost use Rattle.fp_small.specs.Config.{IsSettings, config_of, config_text, config_file, pin_pair};
 
 use crate::state::RemoteRow;
-use fp_keyfile::{Group, Items, KeyFile, Pair, Text};
+use fp_base::{Items, Text};
+use fp_keyfile::{Group, KeyFile, Pair};
 use fp_name::PinPattern;
 use std::alloc::{AllocError, Global};
 

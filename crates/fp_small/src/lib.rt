@@ -27,7 +27,7 @@ pub use old_pins::read_pins;
 pub use old_remotes::read_remotes;
 pub use op::Op;
 pub use ordering::{has_pin, has_remote, insert_pin, insert_remote, remove_pin, remove_remote};
-pub use refusal::{Refusal, What};
+pub use refusal::Refusal;
 pub use replacing::replace;
 pub use state::{Layout, OverrideRow, Previous, RefRow, RemoteRow, State};
 pub use taking::take_away;

@@ -5,7 +5,8 @@ ghost use Rattle.fp_host.specs.Frame.{Ends, Still};
 ghost use Rattle.fp_small.specs.Load.{Loads, IsWhole};
 ghost use Rattle.fp_host.specs.Calls.{IsFile};
 
-use fp_host::{Blob, Host, HostEnd, Path, Stat};
+use fp_base::Blob;
+use fp_host::{Host, HostEnd, Path, Stat};
 use std::alloc::Global;
 
 /// What was read of a small file.

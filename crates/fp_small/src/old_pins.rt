@@ -11,7 +11,7 @@ ghost use Rattle.fp_small.specs.Old.{ArePatterns, pins_of};
 
 use crate::config::ConfigFault;
 use crate::config_reading::MOST_PINS;
-use fp_host::Items;
+use fp_base::Items;
 use fp_keyfile::first_line;
 use fp_name::PinPattern;
 use std::alloc::Global;

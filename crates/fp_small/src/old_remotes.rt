@@ -9,7 +9,7 @@ ghost use Rattle.fp_small.specs.Old.{AreRows, remotes_of, remotes_seen};
 use crate::config::ConfigFault;
 use crate::config_reading::{MOST_REMOTES, count_remotes, is_remote, remote_rows};
 use crate::state::RemoteRow;
-use fp_host::Items;
+use fp_base::Items;
 use fp_keyfile::{Group, KeyFile};
 use std::alloc::Global;
 

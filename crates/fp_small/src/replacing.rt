@@ -13,7 +13,8 @@ ghost use Rattle.fp_small.specs.Move.{Moves, WasMoved, CanMove};
 ghost use Rattle.fp_small.specs.Naming.{IsFirstFree, ListsIn};
 ghost use Rattle.fp_small.specs.Replace.{folders_of, IsStaging, Replaces, WasReplaced, CanReplace};
 
-use fp_host::{Host, HostEnd, Items, Path, Stat, Text};
+use fp_base::{Items, Text};
+use fp_host::{Host, HostEnd, Path, Stat};
 use std::alloc::{AllocError, Global};
 
 /// Makes the folder where it is absent.

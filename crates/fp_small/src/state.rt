@@ -1,9 +1,9 @@
 // What an installation holds, apart from its objects.
 ghost use Rattle.std.specs.Prelude.{◌≡◌, IfOk};
 
-use fp_host::Items;
+use fp_base::{Items, Text};
 use fp_keyfile::KeyFile;
-use fp_name::{Digest, PinPattern, RefName, RemoteName, RemoteUrl, Text};
+use fp_name::{Digest, PinPattern, RefName, RemoteName, RemoteUrl};
 use std::alloc::AllocError;
 
 /// How an installation keeps its settings.

@@ -1,6 +1,7 @@
 // Commands over the host in memory.
+use fp_base::Blob;
 use fl_top::run;
-use fp_host::{Blob, Host, HostEnd, Path, Stat};
+use fp_host::{Host, HostEnd, Path, Stat};
 use fp_memhost::{MemHost, MemRemotes, MemSource};
 use std::alloc::{AllocError, Global};
 use std::test::Fail;

@@ -2,7 +2,8 @@
 use crate::tests::{
     PLATFORM, has_config, printed_from, run_input, run_source, run_words, with_config,
 };
-use fp_host::{Blob, Host, HostEnd, Path, Stat};
+use fp_base::Blob;
+use fp_host::{Host, HostEnd, Path, Stat};
 use fp_memhost::{MemHost, MemSource};
 use std::alloc::{AllocError, Global};
 use std::test::Fail;

@@ -1,8 +1,9 @@
 use crate::tests::glib::VECTORS;
 use crate::tests::specification::EXAMPLES;
+use fp_base::Text;
 use gv_decode::{DecodeError, decode};
 use gv_encode::encode;
-use gv_value::{GvType, GvValue, Text};
+use gv_value::{GvType, GvValue};
 use std::alloc::Global;
 use std::test::Fail;
 

@@ -3,7 +3,7 @@ use crate::tests::glib::VECTORS;
 use crate::tests::made::OBJECTS;
 use crate::tests::specification::EXAMPLES;
 use crate::tests::{run_input, run_source, with_config};
-use fp_host::Blob;
+use fp_base::Blob;
 use fp_memhost::{MemHost, MemSource};
 use std::alloc::{AllocError, Global};
 use std::test::Fail;

@@ -1,6 +1,7 @@
 // A script of commands that is stopped at every moment and by every failure of the host.
 use crate::tests::{PLATFORM, run_words};
-use fp_host::{Blob, Host, Items, Path, Stat};
+use fp_base::{Blob, Items};
+use fp_host::{Host, Path, Stat};
 use fp_memhost::{Choice, Image, MemHost};
 use std::alloc::{AllocError, Global};
 use std::test::Fail;

@@ -13,11 +13,11 @@ returns-in-Some-clause-ok c =
     let groups = c.args.groups.now in
     let name = c.args.name.now in
     let at = c.in-Some.at in
-    let g = c.index_mut-group.result.now in
+    let g = c.at_mut-group.result.now in
     let found = ap (position (λ (f : Group). bytes_eq f.name name)) (sym c.as_slice.ensures) ∙ sym c.in-Some.ensures in
     let place : place_of (names_of groups) name ≡ Some at = sym (position-map (λ (n : List ℕ). bytes_eq n name) (λ (f : Group). f.name) groups) ∙ found in
-    let is : g ≡ get_or groups at g = c.index_mut-group.ensures.value ∙ ap (λ (gs : List Group). get_or gs at g) c.groups.view_is in
-    on_ok_weaker c.put.result (λ e. ap (λ (gs : List Group). set gs at c.put.new.self) c.groups.view_is ∙ ap (set groups at) e ∙ sym (with_pair_found groups name c.args.key.now c.args.value.now at g place is)) c.put.ensures.ok
+    let is : g ≡ get_or groups at g = c.at_mut-group.ensures.value in
+    on_ok_weaker c.put.result (λ e. ap (set groups at) e ∙ sym (with_pair_found groups name c.args.key.now c.args.value.now at g place is)) c.put.ensures.ok
 
 pub returns-in_ok-group-in-None-clause-ok : goal.returns-in_ok-group-in-None-clause-ok
 returns-in_ok-group-in-None-clause-ok c =

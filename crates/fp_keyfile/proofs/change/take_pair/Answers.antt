@@ -24,9 +24,9 @@ returns-in_err-value-clause-value c =
     let groups = c.args.groups.now in
     let name = c.args.name.now in
     let at = c.in_ok-at.at in
-    let g = c.index_mut-group.result.now in
+    let g = c.at_mut-group.result.now in
     let place = ap (position (λ (f : Group). bytes_eq f.name name)) (sym c.as_slice.ensures) ∙ sym c.in_ok-at.ensures in
-    let is : g ≡ get_or groups at g = c.index_mut-group.ensures.value ∙ ap (λ (gs : List Group). get_or gs at g) c.groups.view_is in
+    let is : g ≡ get_or groups at g = c.at_mut-group.ensures.value in
     c.from_residual-in_err-value.ensures ∙ c.in_err-value.ensures.value ∙ sym (value_at_place groups name c.args.key.now at g place is)
 
 pub returns-in_err-value-clause-after : goal.returns-in_err-value-clause-after
@@ -34,20 +34,20 @@ returns-in_err-value-clause-after c =
     let groups = c.args.groups.now in
     let name = c.args.name.now in
     let at = c.in_ok-at.at in
-    let g = c.index_mut-group.result.now in
+    let g = c.at_mut-group.result.now in
     let place = ap (position (λ (f : Group). bytes_eq f.name name)) (sym c.as_slice.ensures) ∙ sym c.in_ok-at.ensures in
-    let is : g ≡ get_or groups at g = c.index_mut-group.ensures.value ∙ ap (λ (gs : List Group). get_or gs at g) c.groups.view_is in
+    let is : g ≡ get_or groups at g = c.at_mut-group.ensures.value in
     let placed : IsPlaced groups name at g = record { place = place; is = is } in
-    ap (λ (gs : List Group). set gs at c.take.new.self) c.groups.view_is ∙ ap (set groups at) c.in_err-value.ensures.missed ∙ sym (without_pair_kept groups name c.args.key.now at g placed c.in_err-value.ensures.value)
+    ap (set groups at) c.in_err-value.ensures.missed ∙ sym (without_pair_kept groups name c.args.key.now at g placed c.in_err-value.ensures.value)
 
 pub returns-clause-value : goal.returns-clause-value
 returns-clause-value c =
     let groups = c.args.groups.now in
     let name = c.args.name.now in
     let at = c.in_ok-at.at in
-    let g = c.index_mut-group.result.now in
+    let g = c.at_mut-group.result.now in
     let place = ap (position (λ (f : Group). bytes_eq f.name name)) (sym c.as_slice.ensures) ∙ sym c.in_ok-at.ensures in
-    let is : g ≡ get_or groups at g = c.index_mut-group.ensures.value ∙ ap (λ (gs : List Group). get_or gs at g) c.groups.view_is in
+    let is : g ≡ get_or groups at g = c.at_mut-group.ensures.value in
     c.in_ok-value.ensures.value ∙ sym (value_at_place groups name c.args.key.now at g place is)
 
 pub returns-clause-after : goal.returns-clause-after
@@ -55,17 +55,16 @@ returns-clause-after c =
     let groups = c.args.groups.now in
     let name = c.args.name.now in
     let at = c.in_ok-at.at in
-    let g = c.index_mut-group.result.now in
+    let g = c.at_mut-group.result.now in
     let place = ap (position (λ (f : Group). bytes_eq f.name name)) (sym c.as_slice.ensures) ∙ sym c.in_ok-at.ensures in
-    let is : g ≡ get_or groups at g = c.index_mut-group.ensures.value ∙ ap (λ (gs : List Group). get_or gs at g) c.groups.view_is in
+    let is : g ≡ get_or groups at g = c.at_mut-group.ensures.value in
     let placed : IsPlaced groups name at g = record { place = place; is = is } in
     let u = c.take.new.self in
-    let written : set c.groups.inside.inner.items at u ≡ set groups at u = ap (λ (gs : List Group). set gs at u) c.groups.view_is in
     elim c.if-is_last.branch [
       | then-is_last w ↦
           let none = eqb-true (length u.pairs) 0 (sym c.is_empty-is_last.ensures ∙ w.if-is_last.true) in
-          w.groups-is ∙ w.remove.ensures.items ∙ ap (λ (gs : List Group). remove gs at) written ∙ sym (without_pair_last groups name c.args.key.now at g u c.in_ok-value.value placed c.in_ok-value.ensures.value c.in_ok-value.ensures.found none)
+          w.groups-is ∙ w.remove.ensures.items ∙ sym (without_pair_last groups name c.args.key.now at g u c.in_ok-value.value placed c.in_ok-value.ensures.value c.in_ok-value.ensures.found none)
       | else-is_last w ↦
           let more = eqb-false (length u.pairs) 0 (sym c.is_empty-is_last.ensures ∙ w.if-is_last.false) in
-          w.groups-is ∙ written ∙ sym (without_pair_left groups name c.args.key.now at g u c.in_ok-value.value placed c.in_ok-value.ensures.value c.in_ok-value.ensures.found more)
+          w.groups-is ∙ sym (without_pair_left groups name c.args.key.now at g u c.in_ok-value.value placed c.in_ok-value.ensures.value c.in_ok-value.ensures.found more)
     ]
