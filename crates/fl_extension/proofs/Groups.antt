@@ -13,7 +13,8 @@ use Rattle.fp_name.specs.Grammar.{is_id}
 use Rattle.fp_name.specs.Refs.{Ref}
 use Rattle.fp_small.proofs.Ordered.{bytes_eq-is}
 use Rattle.fl_meta.specs.Entries.{is_empty}
-use Rattle.fl_extension.specs.Points.{value_of, is_on, is_directory, point_at, point_named, point_of, name_of}
+use Rattle.fp_keyfile.specs.KeyFile.{value_in}
+use Rattle.fl_extension.specs.Points.{is_on, is_directory, point_at, point_named, point_of, name_of}
 use Rattle.fl_extension.specs.declared.point.Point.{Point}
 
 abbrev header : List ℕ → List ℕ
@@ -34,7 +35,7 @@ at_directory g r name (Some directory) is =
 at_name : (g : Group) (r : Ref) (name : List ℕ) → g.name ≡ header name → IsNamed g.name (map name_of (point_named g r name))
 at_name g r name is =
     elim (cases_Bool (is_id name && not (is_on g (codes "subdirectories")))) [
-      | inl e ↦ rw e (at_directory g r name (value_of g (codes "directory")) is)
+      | inl e ↦ rw e (at_directory g r name (value_in g (codes "directory")) is)
       | inr e ↦ rw e (inl refl)
     ]
 

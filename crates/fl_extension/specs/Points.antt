@@ -5,7 +5,7 @@ use Rattle.std.specs.Option.{option_map_or}
 use Rattle.std.specs.Str.{bytes_eq}
 use Rattle.fp_host.specs.Paths.{is_element, cut}
 use Rattle.fp_keyfile.specs.Grammar.{is_key_byte}
-use Rattle.fp_keyfile.specs.KeyFile.{pair_at}
+use Rattle.fp_keyfile.specs.KeyFile.{value_in}
 use Rattle.fp_keyfile.specs.declared.group.Group.{Group}
 use Rattle.fp_name.specs.Grammar.{is_id, is_branch}
 use Rattle.fp_name.specs.Refs.{Ref, ref_with}
@@ -15,13 +15,9 @@ use Rattle.fl_meta.specs.Entries.{is_semicolon}
 use Rattle.fl_meta.specs.Metadata.{extension_of}
 use Rattle.fl_extension.specs.declared.point.Point.{Point}
 
--- the value of a key in a group
-abbrev pub value_of : Group → List ℕ → Option (List ℕ)
-value_of g key = option_map (λ p. p.value) (pair_at g.pairs key)
-
 -- the key has the value `true`
 abbrev pub is_on : Group → List ℕ → Bool
-is_on g key = option_map_or (λ value. bytes_eq value (codes "true")) (value_of g key) false
+is_on g key = option_map_or (λ value. bytes_eq value (codes "true")) (value_in g key) false
 
 -- The text of a path that isn't the root, without `=` and control characters: in a line `/app/DIRECTORY=VALUE` the first `=` ends the
 -- directory.
@@ -32,7 +28,7 @@ is_directory text = list_all is_element (cut text) && list_all is_key_byte text
 
 -- the versions that are tried: the entries of `versions`, else the value of `version`, else the ref's own branch
 abbrev pub versions_of : Group → Ref → List (List ℕ)
-versions_of g r = option_map_or (slice_split is_semicolon) (value_of g (codes "versions")) (unwrap_or (value_of g (codes "version")) r.branch ∷ [])
+versions_of g r = option_map_or (slice_split is_semicolon) (value_in g (codes "versions")) (unwrap_or (value_in g (codes "version")) r.branch ∷ [])
 
 -- the ref of a version that is a branch
 abbrev pub candidate_of : List ℕ → List ℕ → List ℕ → List Ref
@@ -53,7 +49,7 @@ point_at g r name (Some directory) = if is_directory directory then point_with g
 
 -- where NAME is an ID, and `subdirectories` isn't on
 abbrev pub point_named : Group → Ref → List ℕ → List Point
-point_named g r name = if is_id name && not (is_on g (codes "subdirectories")) then point_at g r name (value_of g (codes "directory")) else []
+point_named g r name = if is_id name && not (is_on g (codes "subdirectories")) then point_at g r name (value_in g (codes "directory")) else []
 
 -- the point that a group `Extension NAME` says, where it says one
 unfoldable pub point_of : Ref → Group → List Point

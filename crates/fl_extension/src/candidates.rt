@@ -6,7 +6,6 @@ ghost use Rattle.fl_meta.specs.Entries.{is_semicolon};
 ghost use Rattle.fp_name.specs.Grammar as grammar;
 ghost use Rattle.fl_extension.specs.Points as spec;
 
-use crate::group::value_of;
 use fp_keyfile::Group;
 use fp_name::{NameFault, RefKind, RefName};
 use std::alloc::{AllocError, Global};
@@ -61,10 +60,10 @@ pub(crate) fn candidates_of(
     ensures { IfOk result (λ refs. refs.items ≡ spec.candidates_of group.now of.now name.now) }
 {
     let mut refs = Vec::new(alloc);
-    match value_of(group, "versions") {
+    match group.get("versions") {
         Some(versions) => push_entries(&mut refs, name, of.arch(), versions)?,
         None => {
-            let version = value_of(group, "version").unwrap_or(of.branch());
+            let version = group.get("version").unwrap_or(of.branch());
             push_candidate(&mut refs, name, of.arch(), version)?;
         }
     }

@@ -2,37 +2,18 @@
 
 ghost use Rattle.std.specs.Prelude.{◌≡◌};
 ghost use Rattle.std.specs.List.{list_all};
-ghost use Rattle.std.specs.Option.{option_copied, option_to_list};
 ghost use Rattle.fp_host.specs.Paths.{cut, is_element as is_path_element};
 ghost use Rattle.fp_keyfile.specs.Grammar.{is_key_byte};
-ghost use Rattle.fl_meta.specs.Metadata as metadata;
 ghost use Rattle.fl_extension.specs.Points as spec;
 
 use fp_host::is_element;
 use fp_keyfile::Group;
 
-/// The NAME of a group `Extension NAME`, which isn't empty.
-pub(crate) fn extension_name(group: &Group) -> Option<&str>
-    ensures { option_to_list (option_copied result) ≡ metadata.extension_of group.now }
-{
-    let name = group.name.as_str().strip_prefix("Extension ")?;
-    if name.is_empty() { None } else { Some(name) }
-}
-
-/// The value of the key, where the group has it.
-pub(crate) fn value_of<'a>(group: &'a Group, key: &str) -> Option<&'a str>
-    ensures { option_copied result ≡ spec.value_of group.now key.now }
-{
-    let mut pairs = group.pairs.as_slice().iter();
-    let pair = pairs.find(|pair| pair.key.as_str() == key)?;
-    Some(pair.value.as_str())
-}
-
 /// Whether the key has the value `true`.
 pub(crate) fn is_on(group: &Group, key: &str) -> bool
     ensures { result ≡ spec.is_on group.now key.now }
 {
-    match value_of(group, key) {
+    match group.get(key) {
         Some(value) => value == "true",
         None => false,
     }

@@ -8,9 +8,10 @@ ghost use Rattle.fp_small.specs.Order.{sorted_by};
 ghost use Rattle.fl_extension.specs.Points as spec;
 
 use crate::candidates::candidates_of;
-use crate::group::{extension_name, is_directory, is_on, value_of};
+use crate::group::{is_directory, is_on};
 use crate::point::Point;
 use fp_base::{Items, Text};
+use fl_meta::extension_name;
 use fp_keyfile::{Group, KeyFile};
 use fp_name::{AppId, RefName, is_id};
 use std::alloc::{AllocError, Global};
@@ -46,7 +47,7 @@ fn push_named(
     if !is_id(name) || is_on(group, "subdirectories") {
         return Ok(());
     }
-    match value_of(group, "directory") {
+    match group.get("directory") {
         Some(directory) if is_directory(directory) => {
             let point = point_with(*out.allocator(), group, of, name, directory)?;
             out.push(point)?;

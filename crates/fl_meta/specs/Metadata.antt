@@ -10,8 +10,8 @@ use Rattle.fp_name.specs.declared.kind.RefKind.TheVariants as refs
 use Rattle.fl_meta.specs.declared.meta.MetaKind.{MetaKind}
 use Rattle.fl_meta.specs.declared.meta.MetaKind.TheVariants as kinds
 use Rattle.fl_meta.specs.declared.meta.Meta.{Meta}
-use Rattle.fl_meta.specs.declared.fault.MetaRule.{MetaRule}
-use Rattle.fl_meta.specs.declared.fault.MetaRule.TheVariants as rules
+use Rattle.fp_base.specs.declared.meta_rule.MetaRule.{MetaRule}
+use Rattle.fp_base.specs.declared.meta_rule.MetaRule.TheVariants as rules
 use Rattle.fl_meta.specs.declared.fault.MetaError.{MetaError}
 use Rattle.fl_meta.specs.declared.fault.MetaError.TheVariants as errors
 use Rattle.fl_meta.specs.declared.mentions.Source.TheVariants as sources

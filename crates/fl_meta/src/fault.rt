@@ -3,17 +3,8 @@
 ghost use Rattle.std.specs.Prelude.{◌≡◌};
 ghost use Rattle.fl_meta.specs.declared.fault.MetaError.TheVariants.{NoMemory};
 
+use fp_base::MetaRule;
 use std::alloc::{AllocError, AllocFailed};
-
-/// The rule that a metadata file breaks. Where it breaks several, it is the first of them in this order. They belong
-/// to no line of the file.
-#[derive(Clone, Copy, Debug, PartialEq, Eq)]
-pub enum MetaRule {
-    /// An application has no group `Application`, or a runtime no group `Runtime`.
-    Group,
-    /// An application has no key `runtime`, or its value isn't `ID/ARCH/BRANCH`.
-    Runtime,
-}
 
 /// Why a key file could not be read as metadata.
 #[derive(Clone, Copy, Debug, PartialEq, Eq)]

@@ -10,9 +10,10 @@ mod names;
 mod pattern;
 mod permission;
 
-pub use fault::{MetaError, MetaRule};
+pub use fault::MetaError;
+pub use fp_base::MetaRule;
 pub use mentions::{Source, mentions_of};
-pub use meta::{Meta, MetaKind};
+pub use meta::{Meta, MetaKind, extension_name};
 pub use pattern::is_pattern;
 pub use permission::{Layer, Mention, PermList, Permission, Value};
 

@@ -1,12 +1,13 @@
 //! Metadata of applications and runtimes.
 
 ghost use Rattle.std.specs.Prelude.{◌≡◌, ◌++◌, ◌∷◌, IfOk, OnOk};
+ghost use Rattle.std.specs.Option.{option_copied, option_to_list};
 ghost use Rattle.fl_meta.specs.Metadata as metadata;
 
-use crate::fault::{MetaError, MetaRule};
+use crate::fault::MetaError;
 use crate::mentions::{Source, mentions_of};
 use crate::permission::Layer;
-use fp_base::{Items, Text};
+use fp_base::{Items, MetaRule, Text};
 use fp_keyfile::{Group, KeyFile};
 use fp_name::{NameFault, RefKind, RefName};
 use std::alloc::{AllocError, Global};
@@ -44,18 +45,22 @@ fn has_group(file: &KeyFile, name: &str) -> bool
         .any(|g| g.name.as_str() == name)
 }
 
+/// The NAME of a group `Extension NAME`, which isn't empty. It takes no memory.
+pub fn extension_name(group: &Group) -> Option<&str>
+    ensures { option_to_list (option_copied result) ≡ metadata.extension_of group.now }
+{
+    let name = group.name.as_str().strip_prefix("Extension ")?;
+    if name.is_empty() { None } else { Some(name) }
+}
+
 /// Adds the name of an extension's group.
 fn push_extension(out: &mut Items<Text>, group: &Group) -> Result<(), AllocError>
     ensures { OnOk result (out.new ≡ out.old ++ metadata.extension_of group.now) }
 {
-    let Some(name) = group.name.as_str().strip_prefix("Extension ") else {
-        return Ok(());
-    };
-    if name.is_empty() {
-        return Ok(());
+    match extension_name(group) {
+        Some(name) => out.push(Text::from_str(out.allocator(), name)?),
+        None => Ok(()),
     }
-    let name = Text::from_str(out.allocator(), name)?;
-    out.push(name)
 }
 
 /// The names of the extensions' groups.
