@@ -1,3 +1,4 @@
 pub mod Law
 pub mod Rows
 pub mod Good
+pub mod Worked

@@ -3,3 +3,4 @@ pub mod Shown
 pub mod Zones
 pub mod Sound
 pub mod After
+pub mod Worked

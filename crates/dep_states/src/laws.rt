@@ -8,7 +8,14 @@ ghost use Rattle.dep_states.specs.Names.{config, remotes_conf, pins_file};
 ghost use Rattle.dep_states.specs.Shown.{Shows, state_of, empty_settings};
 ghost use Rattle.dep_states.specs.Sound.{Opens, Sound, IsSound, Spares, Spared, HasConfig, OldGone};
 ghost use Rattle.dep_states.specs.After.{IsGood};
-ghost use Rattle.dep_states.specs.Zones.{IsFileOrGone, IsFolderOrGone};
+ghost use Rattle.std.specs.Prelude.{◌≤◌, List, ℕ, length};
+ghost use Rattle.fp_host.specs.Paths.{Elements, absent};
+ghost use Rattle.fp_host.specs.Outcome.{folder};
+ghost use Rattle.fp_small.specs.Config.{IsSettings, config_text};
+ghost use Rattle.fp_small.specs.declared.config.Settings.{Settings};
+ghost use Rattle.dep_states.specs.Shown.{config_most};
+ghost use Rattle.dep_states.specs.Worked.{empty_image, bare_image, image_with_config};
+ghost use Rattle.dep_states.specs.Zones.{Allowed, IsFileOrGone, IsFolderOrGone, anything, outward, zone};
 
 /// At most one state is shown.
 pub fn one_state_is_shown()
@@ -61,4 +68,24 @@ pub fn what_a_sound_image_holds()
     ensures pins { (disk : Disk) → Sound disk → IsFileOrGone (disk pins_file) }
     ensures repo { (disk : Disk) → Sound disk → IsFolderOrGone (disk (codes "repo" ∷ [])) }
     ensures tmp { (disk : Disk) → Sound disk → IsFolderOrGone (disk (codes "tmp" ∷ codes "repo" ∷ [])) }
+{}
+
+/// Sound images: the empty one; the root alone, which shows the empty state of layout 2; and the root with a `config` as it is
+/// written, which shows its settings.
+pub fn sound_images()
+    ensures nothing { Sound empty_image }
+    ensures root { Sound bare_image × Shows bare_image (state_of Two empty_settings) }
+    ensures written { (s : Settings) → IsSettings s → length (config_text s) ≤ config_most
+        → Sound (image_with_config (config_text s)) × Shows (image_with_config (config_text s)) (state_of Two s) }
+{}
+
+/// A view in which the root stands alone is sound where every stop leaves what stands.
+pub fn a_bare_view_is_sound()
+    ensures { (v : View) → IsTree v → IsSettled v → ((x : List ℕ) (up : Elements) → v.names (x ∷ up) ≡ absent) → IsSound v }
+{}
+
+/// A path of 128 elements that is for nothing else may be a folder, and one of 129 may not.
+pub fn paths_have_a_longest()
+    ensures longest { (p : Elements) → length p ≡ 128 → zone (outward p) ≡ anything → Allowed p folder }
+    ensures too_long { (p : Elements) → length p ≡ 129 → Allowed p folder → ⊥ }
 {}

@@ -78,6 +78,7 @@ abbrev pub NoRuntime : MetaError → Option Ref → Type 0
 NoRuntime errors.NoMemory read = Unit {0}
 NoRuntime (errors.Rule rules.Runtime) read = read ≡ None
 NoRuntime (errors.Rule rules.Group) read = ⊥
+NoRuntime (errors.Rule rules.Absent) read = ⊥
 
 abbrev pub GivesRuntime : Result Ref MetaError → Option Ref → Type 0
 GivesRuntime (Ok runtime) read = read ≡ Some runtime

@@ -7,6 +7,7 @@ pub mod Replacement
 pub mod Staging
 pub mod Whole
 pub mod Ordered
+pub mod Sorted
 pub mod Pinning
 pub mod ConfigReads
 pub mod ConfigTexts

@@ -2,8 +2,14 @@
 //! does nothing.
 
 ghost use Rattle.std.specs.Prelude.{◌≡◌, ◌≢◌, ◌↔◌, ◌⊎◌, ◌<◌, ℕ, List, length, true, false, Some, Contains};
+ghost use Rattle.std.specs.Prelude.{map, not, ◌∷◌};
+ghost use Rattle.std.specs.List.{filter};
+ghost use Rattle.std.specs.List.Sorted.{IsPermutation};
+ghost use Rattle.std.specs.Str.{bytes_eq};
+ghost use Rattle.fp_host.specs.Reads.{is_ascending};
+ghost use Rattle.fp_keyfile.specs.KeyFile.{are_distinct};
 ghost use Rattle.fp_name.specs.Pins.{is_pin};
-ghost use Rattle.fp_small.specs.Order.{inserted, removed, replaced, has_name};
+ghost use Rattle.fp_small.specs.Order.{inserted, removed, replaced, has_name, sorted_by};
 ghost use Rattle.fp_small.specs.Config.{IsSettings, config_of, config_text, is_row, name_of};
 ghost use Rattle.fp_small.specs.Old.{remotes_of, pins_of, AreRows, ArePatterns};
 ghost use Rattle.fp_small.specs.declared.config.Settings.{Settings};
@@ -53,4 +59,17 @@ pub fn modified_remote()
 /// Without a remote the settings can be written.
 pub fn dropped_remote()
     ensures { (s : Settings) (name : List ℕ) → IsSettings s → IsSettings (record s { remotes = removed name_of s.remotes name }) }
+{}
+
+/// A list that is put in order by names keeps its elements, each as often as it was there. Where no name comes twice, the names
+/// ascend.
+pub fn sorted_lists<T>()
+    ensures keeps { (name : T → List ℕ) (xs : List T) → IsPermutation xs (sorted_by name xs) }
+    ensures ascends { (name : T → List ℕ) (xs : List T) → are_distinct (map name xs) ≡ true → is_ascending (map name (sorted_by name xs)) ≡ true }
+{}
+
+/// With one more remote the rows are those of before and this one; without the remotes of a name they are all others, in order.
+pub fn rows_of_remotes()
+    ensures added { (rows : List RemoteRow) (row : RemoteRow) → IsPermutation (row ∷ rows) (inserted name_of rows row) }
+    ensures dropped { (rows : List RemoteRow) (name : List ℕ) → removed name_of rows name ≡ filter (λ row. not (bytes_eq row.name name)) rows }
 {}
