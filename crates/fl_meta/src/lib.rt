@@ -15,6 +15,3 @@ pub use mentions::{Source, mentions_of};
 pub use meta::{Meta, MetaKind};
 pub use pattern::is_pattern;
 pub use permission::{Layer, Mention, PermList, Permission, Value};
-
-#[cfg(test)]
-mod tests;

@@ -24,6 +24,3 @@ pub use items::Items;
 pub use key_file::KeyFile;
 pub use line::{first_line, trim_front};
 pub use text::Text;
-
-#[cfg(test)]
-mod tests;

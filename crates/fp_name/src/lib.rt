@@ -29,6 +29,3 @@ pub use ref_name::RefName;
 pub use remote_name::RemoteName;
 pub use remote_url::RemoteUrl;
 pub use text::Text;
-
-#[cfg(test)]
-mod tests;

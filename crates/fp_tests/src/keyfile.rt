@@ -1,8 +1,11 @@
 //! Key files with what they read as, worked out from the rules by hand.
 
-use super::*;
+use fp_keyfile::{
+    Group, Items, KeyError, KeyFault, KeyFile, KeyRule, Pair, Text, is_group_name, is_pair_key,
+    is_pair_value, trim_front,
+};
 use std::alloc::{AllocError, Global};
-use std::test::*;
+use std::test::Fail;
 
 /// Bytes that are a key file, and the text that is written for it.
 const FILES: [(&str, &str); 44] = [
@@ -308,15 +311,37 @@ fn key_length(alloc: Global, key: &str) -> Result<usize, AllocError> {
     Ok(length)
 }
 
+/// How many pairs the groups of a file have, and copies of them.
+fn counts(alloc: Global, bytes: &str) -> Result<(usize, usize), KeyError> {
+    let file = KeyFile::parse(alloc, bytes.as_bytes())?;
+    Ok(pair_counts(file.groups().as_slice())?)
+}
+
+/// Whether what is taken is this.
+fn is_taken(
+    alloc: Global,
+    bytes: &str,
+    group: &str,
+    key: &str,
+    want: &str,
+) -> Result<bool, KeyError> {
+    Ok(match taken(alloc, bytes, group, key)? {
+        Some(text) => text.as_str() == want,
+        None => want.is_empty(),
+    })
+}
+
 #[test]
 fn plain_groups(rt: HostRuntime) -> Result<(), Fail> {
     let text = "[a]\nx=1\ny=2\n[b]\n";
-    assert!(rt; taken(rt.alloc(), text, "b", "x")?.is_none());
-    assert!(rt; taken(rt.alloc(), text, "a", "y")?.is_some_and(|t| t.as_str() == "2"));
-    assert_eq!(rt; group_count(rt.alloc(), text)?, Some(2));
-    let file = KeyFile::parse(rt.alloc(), text.as_bytes())?;
-    assert_eq!(rt; pair_counts(file.groups().as_slice())?, (2, 2));
-    assert_eq!(rt; key_length(rt.alloc(), "key")?, 3);
+    assert!(rt;
+        is_taken(rt.alloc(), text, "b", "x", "")? && is_taken(rt.alloc(), text, "a", "y", "2")?
+    );
+    assert!(rt;
+        group_count(rt.alloc(), text)? == Some(2)
+            && counts(rt.alloc(), text)? == (2, 2)
+            && key_length(rt.alloc(), "key")? == 3
+    );
     Ok(())
 }
 
@@ -358,4 +383,49 @@ fn first_other_part<'a>(texts: &'a [(&'a str, bool, bool, bool)]) -> Option<&'a 
 fn parts(rt: HostRuntime) {
     assert_eq!(rt; first_other_part(&PARTS), None);
     assert_eq!(rt; trim_front(" \t a "), "a ");
+}
+
+/// A file of so many groups with a pair each, whose value has so many bytes.
+fn many_groups(alloc: Global, count: usize, length: usize) -> Result<String, AllocError> {
+    let value = "v".repeat(alloc, length)?;
+    let mut text = String::new(alloc);
+    for number in 0..count {
+        let group = format!(in alloc; "[g{number}]\nk=")?;
+        text.push_str(&group)?;
+        text.push_str(&value)?;
+        text.push('\n')?;
+    }
+    Ok(text)
+}
+
+/// How many groups a file has after so many pairs of one group and so many groups were set in it, and how long it is
+/// written.
+fn grown(alloc: Global, count: usize) -> Result<(usize, usize), AllocError> {
+    let mut file = KeyFile::new(alloc);
+    for number in 0..count {
+        let name = format!(in alloc; "n{number:04}")?;
+        change(&mut file, "g", &name, Some("v"))?;
+        change(&mut file, &name, "k", Some("v"))?;
+    }
+    let copy = file.copy()?;
+    Ok((copy.groups().len(), copy.write()?.as_str().len()))
+}
+
+/// Files of a mebibyte, in one value and in 1,100 groups, are read, written and copied.
+#[test]
+fn long_files(rt: HostRuntime) -> Result<(), Fail> {
+    let alloc = rt.alloc();
+    let one = many_groups(alloc, 1, 1 << 20)?;
+    let many = many_groups(alloc, 1_100, 1_000)?;
+    assert!(rt;
+        group_count(alloc, &one)? == Some(1)
+            && group_count(alloc, &many)? == Some(1_100)
+            && counts(alloc, &many)? == (1_100, 1_100)
+    );
+    assert!(rt; is_taken(alloc, &one, "g0", "k", &"v".repeat(alloc, 1 << 20)?)?);
+    assert!(rt;
+        grown(alloc, 1_100)? == (1_101, 4 + 1_100 * 8 + 1_100 * 12)
+            && key_length(alloc, &"k".repeat(alloc, 1 << 20)?)? == 1 << 20
+    );
+    Ok(())
 }

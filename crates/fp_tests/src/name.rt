@@ -1,4 +1,9 @@
-use super::*;
+//! Names of applications, runtimes and remotes, and digests.
+
+use fp_name::{
+    AppId, Digest, NameFault, PinPattern, RefKind, RefName, RemoteName, RemoteUrl, Text, is_arch,
+    is_branch, is_id, is_pin, is_ref,
+};
 use std::alloc::{AllocError, Global};
 use std::cmp::Ordering;
 use std::test::Fail;
@@ -75,12 +80,11 @@ fn reads_id(alloc: Global, length: usize) -> Result<bool, AllocError> {
 #[test]
 fn ids(rt: HostRuntime) -> Result<(), Fail> {
     assert_eq!(rt; first_other_id(rt.alloc(), &IDS), None);
-    assert_eq!(rt;
-        AppId::parse(rt.alloc(), b"org.x.\xff").err(),
-        Some(NameFault::Bad)
+    assert!(rt;
+        AppId::parse(rt.alloc(), b"org.x.\xff").err() == Some(NameFault::Bad)
+            && reads_id(rt.alloc(), 255)?
+            && !reads_id(rt.alloc(), 256)?
     );
-    assert!(rt; reads_id(rt.alloc(), 255)?);
-    assert!(rt; !reads_id(rt.alloc(), 256)?);
     Ok(())
 }
 
@@ -133,9 +137,11 @@ fn reads_branch(alloc: Global, length: usize) -> Result<(bool, bool), AllocError
 #[test]
 fn archs_and_branches(rt: HostRuntime) -> Result<(), Fail> {
     assert_eq!(rt; first_other_branch(&ARCHS_AND_BRANCHES), None);
-    assert_eq!(rt; reads_branch(rt.alloc(), 1)?, (true, true));
-    assert_eq!(rt; reads_branch(rt.alloc(), 255)?, (true, true));
-    assert_eq!(rt; reads_branch(rt.alloc(), 256)?, (false, false));
+    assert!(rt;
+        reads_branch(rt.alloc(), 1)? == (true, true)
+            && reads_branch(rt.alloc(), 255)? == (true, true)
+            && reads_branch(rt.alloc(), 256)? == (false, false)
+    );
     Ok(())
 }
 
@@ -216,10 +222,14 @@ fn reads_url(alloc: Global, length: usize) -> Result<bool, AllocError> {
 fn remotes(rt: HostRuntime) -> Result<(), Fail> {
     assert_eq!(rt; first_other_remote(rt.alloc(), &REMOTES), None);
     assert_eq!(rt; first_other_url(rt.alloc(), &URLS), None);
-    assert!(rt; RemoteName::parse(rt.alloc(), b"a\x80").is_err());
-    assert!(rt; RemoteUrl::parse(rt.alloc(), b"file:///\xc3").is_err());
-    assert!(rt; reads_remote(rt.alloc(), 64)? && !reads_remote(rt.alloc(), 65)?);
-    assert!(rt; reads_url(rt.alloc(), 1024)? && !reads_url(rt.alloc(), 1025)?);
+    assert!(rt;
+        RemoteName::parse(rt.alloc(), b"a\x80").is_err()
+            && RemoteUrl::parse(rt.alloc(), b"file:///\xc3").is_err()
+            && reads_remote(rt.alloc(), 64)?
+            && !reads_remote(rt.alloc(), 65)?
+            && reads_url(rt.alloc(), 1024)?
+            && !reads_url(rt.alloc(), 1025)?
+    );
     Ok(())
 }
 
@@ -284,10 +294,9 @@ fn refs_and_patterns(rt: HostRuntime) {
     assert_eq!(rt; first_other_ref(rt.alloc(), &REFS_AND_PATTERNS), None);
     assert_eq!(rt; first_other_pattern(rt.alloc(), &REFS_AND_PATTERNS), None);
     let odd = b"app/org.x.App/x86_64/\xfe";
-    assert_eq!(rt; RefName::parse(rt.alloc(), odd).err(), Some(NameFault::Bad));
-    assert_eq!(rt;
-        PinPattern::parse(rt.alloc(), odd).err(),
-        Some(NameFault::Bad)
+    assert!(rt;
+        RefName::parse(rt.alloc(), odd).err() == Some(NameFault::Bad)
+            && PinPattern::parse(rt.alloc(), odd).err() == Some(NameFault::Bad)
     );
 }
 
@@ -319,17 +328,17 @@ fn made_alike(alloc: Global, kind: RefKind, id: &str, text: &str) -> Result<bool
     Ok(made == read)
 }
 
-#[test]
-fn parts_of_refs(rt: HostRuntime) -> Result<(), Fail> {
-    let text = "runtime/org.x.Y-z/x86_64/22.08";
-    let name = RefName::parse(rt.alloc(), text.as_bytes())?;
-    assert!(rt; has_parts(&name, RefKind::Runtime, "org.x.Y-z", "x86_64", "22.08"));
-    assert!(rt; is_written(&name, text)?);
-    assert!(rt; is_copied(&name)?);
-    Ok(())
+/// Whether the text is read as these parts, written and copied.
+fn is_whole(alloc: Global, text: &str) -> Result<bool, NameFault> {
+    let name = RefName::parse(alloc, text.as_bytes())?;
+    Ok(
+        has_parts(&name, RefKind::Runtime, "org.x.Y-z", "x86_64", "22.08")
+            && is_written(&name, text)?
+            && is_copied(&name)?,
+    )
 }
 
-/// Texts behind a kind that make no ref.
+/// Texts after a kind that make no ref.
 const NO_REFS: [&str; 5] = [
     "org.x.Y/x86_64",
     "org.x.Y/x86_64/1/2",
@@ -355,13 +364,18 @@ fn is_no_ref(alloc: Global, id: &str, arch: &str, branch: &str) -> bool {
 #[test]
 fn refs_of_parts(rt: HostRuntime) -> Result<(), Fail> {
     let text = "runtime/org.x.Y-z/x86_64/22.08";
-    assert!(rt; made_alike(rt.alloc(), RefKind::Runtime, "org.x.Y-z", text)?);
     let rest = "org.x.Y-z/x86_64/22.08";
-    assert!(rt; of_kind_alike(rt.alloc(), RefKind::Runtime, rest, text)?);
+    assert!(rt;
+        is_whole(rt.alloc(), text)?
+            && made_alike(rt.alloc(), RefKind::Runtime, "org.x.Y-z", text)?
+            && of_kind_alike(rt.alloc(), RefKind::Runtime, rest, text)?
+    );
     assert_eq!(rt; first_made(rt.alloc(), &NO_REFS), None);
-    assert!(rt; is_no_ref(rt.alloc(), "org.x", "a", "1"));
-    assert!(rt; is_no_ref(rt.alloc(), "a.b.c", "", "1"));
-    assert!(rt; is_no_ref(rt.alloc(), "a.b.c", "a", "1/2"));
+    assert!(rt;
+        is_no_ref(rt.alloc(), "org.x", "a", "1")
+            && is_no_ref(rt.alloc(), "a.b.c", "", "1")
+            && is_no_ref(rt.alloc(), "a.b.c", "a", "1/2")
+    );
     Ok(())
 }
 
@@ -462,20 +476,23 @@ fn digest_is_written(alloc: Global, digest: &Digest, text: &str) -> Result<bool,
     Ok(written.as_str() == text && digest.digits().as_slice() == text.as_bytes())
 }
 
+/// The same digest as bytes.
+const EMPTY_BYTES: [u8; 32] = [
+    0xe3, 0xb0, 0xc4, 0x42, 0x98, 0xfc, 0x1c, 0x14, 0x9a, 0xfb, 0xf4, 0xc8, 0x99, 0x6f, 0xb9, 0x24,
+    0x27, 0xae, 0x41, 0xe4, 0x64, 0x9b, 0x93, 0x4c, 0xa4, 0x95, 0x99, 0x1b, 0x78, 0x52, 0xb8, 0x55,
+];
+
 #[test]
 fn digest(rt: HostRuntime) -> Result<(), Fail> {
-    let bytes: [u8; 32] = [
-        0xe3, 0xb0, 0xc4, 0x42, 0x98, 0xfc, 0x1c, 0x14, 0x9a, 0xfb, 0xf4, 0xc8, 0x99, 0x6f, 0xb9,
-        0x24, 0x27, 0xae, 0x41, 0xe4, 0x64, 0x9b, 0x93, 0x4c, 0xa4, 0x95, 0x99, 0x1b, 0x78, 0x52,
-        0xb8, 0x55,
-    ];
-    let digest = Digest::from_bytes(bytes);
+    let digest = Digest::from_bytes(EMPTY_BYTES);
     assert!(rt; digest_is_written(rt.alloc(), &digest, EMPTY)?);
-    assert_eq!(rt; Digest::parse(EMPTY.as_bytes()), Ok(digest));
-    assert_eq!(rt; *digest.as_bytes(), bytes);
-    assert_eq!(rt; Digest::from_slice(&bytes), Some(digest));
-    assert_eq!(rt; Digest::from_slice(&bytes[1..]), None);
-    assert!(rt; Digest::from_bytes([0; 32]) < digest);
+    assert!(rt;
+        Digest::parse(EMPTY.as_bytes()) == Ok(digest)
+            && *digest.as_bytes() == EMPTY_BYTES
+            && Digest::from_slice(&EMPTY_BYTES) == Some(digest)
+            && Digest::from_slice(&EMPTY_BYTES[1..]) == None
+            && Digest::from_bytes([0; 32]) < digest
+    );
     Ok(())
 }
 
@@ -545,12 +562,57 @@ fn text_is_copied(alloc: Global) -> Result<bool, AllocError> {
     Ok(copy.into_string().as_str() == "b" && less < text)
 }
 
+/// The longest ref: an ID, an ARCH and a BRANCH of 255 bytes each.
+fn longest(alloc: Global) -> Result<String, AllocError> {
+    let mut text = String::from_str(alloc, "runtime/")?;
+    text.push_str(&filled(alloc, "org.x.", 255)?)?;
+    for _ in 0..2 {
+        text.push('/')?;
+        text.push_str(&filled(alloc, "", 255)?)?;
+    }
+    Ok(text)
+}
+
+/// Whether the longest ref is read, taken apart and made again, and its text is a pattern that matches it.
+fn longest_is_read(alloc: Global) -> Result<bool, NameFault> {
+    let text = longest(alloc)?;
+    let name = RefName::parse(alloc, text.as_bytes())?;
+    let made = RefName::new(alloc, name.kind(), name.id(), name.arch(), name.branch())?;
+    if made != name || !is_written(&name, &text)? || !is_copied(&name)? {
+        return Ok(false);
+    }
+    Ok(pattern_is_written(alloc, &text)? && is_match(alloc, &text, &text)?)
+}
+
+/// Whether the longest id, name of a remote and url are written and copied.
+fn longest_are_written(alloc: Global) -> Result<bool, NameFault> {
+    let id = filled(alloc, "org.x.", 255)?;
+    let remote = filled(alloc, "", 64)?;
+    let url = filled(alloc, "file:///", 1024)?;
+    Ok(
+        id_is_written(alloc, &id)?
+            && remote_is_written(alloc, &remote)?
+            && url_is_written(alloc, &url)?,
+    )
+}
+
+/// Whether a text of a mebibyte is copied.
+fn copies_long(alloc: Global) -> Result<bool, AllocError> {
+    let text = Text::from_str(alloc, &filled(alloc, "", 1 << 20)?)?;
+    Ok(text.copy()?.as_str().len() == 1 << 20)
+}
+
 #[test]
 fn texts_of_names(rt: HostRuntime) -> Result<(), Fail> {
-    assert!(rt; id_is_written(rt.alloc(), "org.x.App")?);
-    assert!(rt; remote_is_written(rt.alloc(), "flathub")?);
-    assert!(rt; url_is_written(rt.alloc(), "file:///srv")?);
-    assert!(rt; pattern_is_written(rt.alloc(), "app/*/*/stable")?);
-    assert!(rt; text_is_copied(rt.alloc())?);
+    assert!(rt;
+        id_is_written(rt.alloc(), "org.x.App")?
+            && remote_is_written(rt.alloc(), "flathub")?
+            && url_is_written(rt.alloc(), "file:///srv")?
+            && pattern_is_written(rt.alloc(), "app/*/*/stable")?
+            && text_is_copied(rt.alloc())?
+    );
+    assert!(rt;
+        longest_is_read(rt.alloc())? && longest_are_written(rt.alloc())? && copies_long(rt.alloc())?
+    );
     Ok(())
 }
