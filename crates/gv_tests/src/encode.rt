@@ -1,110 +1,104 @@
-use crate::encoding::encode;
-use crate::error::EncodeError;
-use gv_value::{Blob, GvType, GvValue, Text};
+//! The bytes that values are written as.
+
+use crate::value::{parsed, text_of};
+use gv_encode::{EncodeError, encode};
+use gv_value::{Blob, GvType, GvValue};
 use std::alloc::Global;
 use std::test::Fail;
 
-/// A text of its own.
-fn text(alloc: Global, letters: &str) -> Result<Text, Fail> {
-    Ok(Text::from_string(String::from_str(alloc, letters)?))
-}
-
-/// A text of so many letters a.
-fn letters(alloc: Global, count: usize) -> Result<Text, Fail> {
-    let mut text = String::new(alloc);
-    for _ in 0..count {
-        text.push('a')?;
-    }
-    Ok(Text::from_string(text))
-}
-
 /// A tuple of two.
-fn pair(alloc: Global, first: GvValue, second: GvValue) -> Result<GvValue, Fail> {
+pub fn pair(alloc: Global, first: GvValue, second: GvValue) -> Result<GvValue, Fail> {
     let mut members = Vec::new(alloc);
     members.push(first)?;
     members.push(second)?;
     Ok(GvValue::Tuple(members))
 }
 
-/// What a value of a type string is written as.
-fn written(alloc: Global, of: &str, value: &GvValue) -> Result<Blob, Fail> {
-    let of = GvType::parse(alloc, of.as_bytes())?;
-    Ok(encode(alloc, &of, value)?)
+/// Whether a value of a type string is written as these bytes.
+fn is_written(alloc: Global, of: &str, value: &GvValue, want: &[u8]) -> Result<bool, Fail> {
+    let of = parsed(alloc, of)?;
+    Ok(encode(alloc, &of, value)?.as_slice() == want)
 }
 
-#[test]
-fn writes_a_text_and_a_number(rt: HostRuntime) -> Result<(), Fail> {
-    let alloc = rt.alloc();
-    let value = pair(alloc, GvValue::Str(text(alloc, "foo")?), GvValue::Int32(-1))?;
-    let bytes = written(alloc, "(si)", &value)?;
-    assert_eq!(rt; bytes.as_slice(), b"foo\0\xff\xff\xff\xff\x04".as_slice());
-    Ok(())
+/// The text in a value.
+fn string(alloc: Global, letters: &str) -> Result<GvValue, Fail> {
+    Ok(GvValue::Str(text_of(alloc, letters)?))
 }
 
-#[test]
-fn writes_maybes_and_variants(rt: HostRuntime) -> Result<(), Fail> {
-    let alloc = rt.alloc();
-    let nothing = written(alloc, "ms", &GvValue::Maybe(None))?;
-    assert_eq!(rt; nothing.as_slice(), b"".as_slice());
-    let just = GvValue::Maybe(Some(Box::new(alloc, GvValue::Str(text(alloc, "a")?))?));
-    assert_eq!(rt;
-        written(alloc, "ms", &just)?.as_slice(),
-        b"a\0\0".as_slice()
-    );
+/// The number 1 in a variant.
+fn one(alloc: Global) -> Result<GvValue, Fail> {
     let of = Box::new(alloc, GvType::Uint32)?;
-    let one = GvValue::Variant(of, Box::new(alloc, GvValue::Uint32(1))?);
-    assert_eq!(rt;
-        written(alloc, "v", &one)?.as_slice(),
-        b"\x01\0\0\0\0u".as_slice()
-    );
-    Ok(())
+    let value = Box::new(alloc, GvValue::Uint32(1))?;
+    Ok(GvValue::Variant(of, value))
 }
 
-#[test]
-fn writes_an_array_of_texts(rt: HostRuntime) -> Result<(), Fail> {
-    let alloc = rt.alloc();
+/// An array of these texts.
+fn array(alloc: Global, words: &[&str]) -> Result<GvValue, Fail> {
     let mut texts = Vec::new(alloc);
-    let none = written(alloc, "as", &GvValue::Array(Vec::new(alloc)))?;
-    assert_eq!(rt; none.as_slice(), b"".as_slice());
-    for word in ["i", "can", "has", "strings?"] {
-        texts.push(GvValue::Str(text(alloc, word)?))?;
+    for word in words {
+        texts.push(string(alloc, word)?)?;
     }
-    let bytes = written(alloc, "as", &GvValue::Array(texts))?;
-    assert_eq!(rt;
-        bytes.as_slice(),
-        b"i\0can\0has\0strings?\0\x02\x06\x0a\x13".as_slice()
-    );
-    Ok(())
+    Ok(GvValue::Array(texts))
 }
 
-/// Two texts of so many letters, as they are written.
-fn two_texts(alloc: Global, first: usize, second: usize) -> Result<Blob, Fail> {
-    let first = GvValue::Str(letters(alloc, first)?);
-    let second = GvValue::Str(letters(alloc, second)?);
-    written(alloc, "(ss)", &pair(alloc, first, second)?)
+/// A maybe with this text in it.
+fn just(alloc: Global, letters: &str) -> Result<GvValue, Fail> {
+    let value = Box::new(alloc, string(alloc, letters)?)?;
+    Ok(GvValue::Maybe(Some(value)))
+}
+
+/// Whether tuples, maybes and variants are written as GLib writes them.
+fn are_small_ones_written(alloc: Global) -> Result<bool, Fail> {
+    let tuple = pair(alloc, string(alloc, "foo")?, GvValue::Int32(-1))?;
+    Ok(
+        is_written(alloc, "(si)", &tuple, b"foo\0\xff\xff\xff\xff\x04")?
+            && is_written(alloc, "ms", &GvValue::Maybe(None), b"")?
+            && is_written(alloc, "ms", &just(alloc, "a")?, b"a\0\0")?
+            && is_written(alloc, "v", &one(alloc)?, b"\x01\0\0\0\0u")?,
+    )
+}
+
+/// Whether arrays of texts are written as GLib writes them.
+fn are_arrays_written(alloc: Global) -> Result<bool, Fail> {
+    let words = array(alloc, &["i", "can", "has", "strings?"])?;
+    Ok(
+        is_written(alloc, "as", &array(alloc, &[])?, b"")?
+            && is_written(
+                alloc,
+                "as",
+                &words,
+                b"i\0can\0has\0strings?\0\x02\x06\x0a\x13",
+            )?,
+    )
+}
+
+/// The array of so many bytes.
+pub fn bytes(alloc: Global, count: usize) -> Result<GvValue, Fail> {
+    Ok(GvValue::Bytes(Blob::from_vec(vec![in alloc; 0; count]?)))
+}
+
+/// How an array of so many bytes is written: as so many, or not.
+fn length_of(alloc: Global, count: usize) -> Result<Result<usize, EncodeError>, Fail> {
+    let of = parsed(alloc, "ay")?;
+    Ok(match encode(alloc, &of, &bytes(alloc, count)?) {
+        Ok(written) => Ok(written.as_slice().len()),
+        Err(error) => Err(error),
+    })
 }
 
 #[test]
-fn offsets_have_the_least_width(rt: HostRuntime) -> Result<(), Fail> {
-    let alloc = rt.alloc();
-    let short = two_texts(alloc, 200, 52)?;
-    assert_eq!(rt; short.as_slice().len(), 255);
-    assert!(rt; short.as_slice().ends_with(b"a\0\xc9"));
-    let long = two_texts(alloc, 200, 53)?;
-    assert_eq!(rt; long.as_slice().len(), 257);
-    assert!(rt; long.as_slice().ends_with(b"a\0\xc9\0"));
+fn writes(rt: HostRuntime) -> Result<(), Fail> {
+    assert!(rt; are_small_ones_written(rt.alloc())? && are_arrays_written(rt.alloc())?);
     Ok(())
 }
 
+/// 16 MiB are written, and no more.
 #[test]
 fn refuses_other_types_and_long_values(rt: HostRuntime) -> Result<(), Fail> {
     let alloc = rt.alloc();
-    let word = GvValue::Str(text(alloc, "a")?);
-    let refused = encode(alloc, &GvType::Uint32, &word);
+    let refused = encode(alloc, &GvType::Uint32, &string(alloc, "a")?);
     assert!(rt; matches!(refused, Err(EncodeError::NotOfType)));
-    let of = GvType::Array(Box::new(alloc, GvType::Byte)?);
-    let bytes = vec![in alloc; 0; 0x100_0001]?;
-    let long = encode(alloc, &of, &GvValue::Bytes(Blob::from_vec(bytes)));
-    assert!(rt; matches!(long, Err(EncodeError::TooLong)));
+    assert!(rt; matches!(length_of(alloc, 0x100_0000)?, Ok(0x100_0000)));
+    assert!(rt; matches!(length_of(alloc, 0x100_0001)?, Err(EncodeError::TooLong)));
     Ok(())
 }

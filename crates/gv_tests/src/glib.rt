@@ -1,5 +1,9 @@
-use crate::tests::glib::VECTORS;
-use crate::tests::specification::EXAMPLES;
+//! Bytes that GLib takes or refuses, and the sizes at which its offsets widen.
+
+use crate::encode::pair;
+use crate::examples::EXAMPLES;
+use crate::value::parsed;
+use crate::vectors::VECTORS;
 use gv_decode::{DecodeError, decode};
 use gv_encode::encode;
 use gv_value::{GvType, GvValue, Text};
@@ -21,28 +25,30 @@ fn agrees(alloc: Global, normal: bool, of: &GvType, bytes: &[u8]) -> Result<bool
 fn line_agrees(alloc: Global, line: &str) -> Result<bool, Fail> {
     let (normal, rest) = line.split_once(' ').ok_or("no word")?;
     let (of, digits) = rest.split_once(' ').ok_or("no type")?;
-    let of = GvType::parse(alloc, of.as_bytes())?;
+    let of = parsed(alloc, of)?;
     agrees(alloc, normal == "yes", &of, &hex::decode(alloc, digits)?)
+}
+
+/// The first of the lines that isn't right.
+fn first_wrong<'a>(alloc: Global, lines: &'a str) -> Result<Option<&'a str>, Fail> {
+    for line in lines.lines() {
+        if !line_agrees(alloc, line)? {
+            return Ok(Some(line));
+        }
+    }
+    Ok(None)
 }
 
 #[test]
 fn reads_and_writes_as_glib_does(rt: HostRuntime) -> Result<(), Fail> {
-    for line in VECTORS.lines() {
-        assert!(rt; line_agrees(rt.alloc(), line)?, "{line}");
-    }
-    for line in EXAMPLES.lines() {
-        assert!(rt; line_agrees(rt.alloc(), line)?, "{line}");
-    }
+    assert_eq!(rt; first_wrong(rt.alloc(), VECTORS)?, None);
+    assert_eq!(rt; first_wrong(rt.alloc(), EXAMPLES)?, None);
     Ok(())
 }
 
 /// A text of so many letters a.
 fn letters(alloc: Global, count: usize) -> Result<GvValue, Fail> {
-    let mut text = String::new(alloc);
-    for _ in 0..count {
-        text.push('a')?;
-    }
-    Ok(GvValue::Str(Text::from_string(text)))
+    Ok(GvValue::Str(Text::from_string("a".repeat(alloc, count)?)))
 }
 
 /// Whether a value is written in so many bytes with this ending, and is read again.
@@ -53,33 +59,32 @@ fn is_written(
     size: usize,
     ending: &[u8],
 ) -> Result<bool, Fail> {
-    let of = GvType::parse(alloc, of.as_bytes())?;
+    let of = parsed(alloc, of)?;
     let bytes = encode(alloc, &of, value)?;
     let bytes = bytes.as_slice();
     Ok(bytes.len() == size && bytes.ends_with(ending) && agrees(alloc, true, &of, bytes)?)
 }
 
-/// Two texts of so many letters.
-fn two_texts(alloc: Global, first: usize, second: usize) -> Result<GvValue, Fail> {
-    let mut members = Vec::new(alloc);
-    members.push(letters(alloc, first)?)?;
-    members.push(letters(alloc, second)?)?;
-    Ok(GvValue::Tuple(members))
-}
+/// The letters of two texts, the bytes that they are written in, and how those end.
+const PAIRS: [(usize, usize, usize, &[u8]); 4] = [
+    (200, 52, 255, b"a\0\xc9"),
+    (200, 53, 257, b"a\0\xc9\0"),
+    (65000, 531, 65535, b"a\0\xe9\xfd"),
+    (65000, 532, 65538, b"a\0\xe9\xfd\0\0"),
+];
 
-#[test]
-fn offsets_widen_as_glib_widens_them(rt: HostRuntime) -> Result<(), Fail> {
-    let alloc = rt.alloc();
-    for (first, second, size, ending) in [
-        (200, 52, 255, b"a\0\xc9".as_slice()),
-        (200, 53, 257, b"a\0\xc9\0".as_slice()),
-        (65000, 531, 65535, b"a\0\xe9\xfd".as_slice()),
-        (65000, 532, 65538, b"a\0\xe9\xfd\0\0".as_slice()),
-    ] {
-        let value = two_texts(alloc, first, second)?;
-        assert!(rt; is_written(alloc, "(ss)", &value, size, ending)?);
+/// The first place where two texts are written otherwise.
+fn first_other_pair(
+    alloc: Global,
+    rows: &[(usize, usize, usize, &[u8])],
+) -> Result<Option<usize>, Fail> {
+    for (at, (first, second, size, ending)) in rows.iter().enumerate() {
+        let value = pair(alloc, letters(alloc, *first)?, letters(alloc, *second)?)?;
+        if !is_written(alloc, "(ss)", &value, *size, ending)? {
+            return Ok(Some(at));
+        }
     }
-    Ok(())
+    Ok(None)
 }
 
 /// So many texts of one letter.
@@ -91,17 +96,28 @@ fn many_texts(alloc: Global, count: usize) -> Result<GvValue, Fail> {
     Ok(GvValue::Array(items))
 }
 
-#[test]
-fn arrays_of_many_texts_are_as_glib_writes_them(rt: HostRuntime) -> Result<(), Fail> {
-    let alloc = rt.alloc();
-    for (count, size, ending) in [
-        (255, 1020, b"\xfc\x01\xfe\x01".as_slice()),
-        (256, 1024, b"\xfe\x01\0\x02".as_slice()),
-        (65535, 393210, b"\xfe\xff\x01\0".as_slice()),
-        (65536, 393216, b"\0\0\x02\0".as_slice()),
-    ] {
-        let value = many_texts(alloc, count)?;
-        assert!(rt; is_written(alloc, "as", &value, size, ending)?);
+/// How many texts an array has, the bytes that it is written in, and how those end.
+const ARRAYS: [(usize, usize, &[u8]); 4] = [
+    (255, 1020, b"\xfc\x01\xfe\x01"),
+    (256, 1024, b"\xfe\x01\0\x02"),
+    (65535, 393210, b"\xfe\xff\x01\0"),
+    (65536, 393216, b"\0\0\x02\0"),
+];
+
+/// The first place where an array is written otherwise.
+fn first_other_array(alloc: Global, rows: &[(usize, usize, &[u8])]) -> Result<Option<usize>, Fail> {
+    for (at, (count, size, ending)) in rows.iter().enumerate() {
+        let value = many_texts(alloc, *count)?;
+        if !is_written(alloc, "as", &value, *size, ending)? {
+            return Ok(Some(at));
+        }
     }
+    Ok(None)
+}
+
+#[test]
+fn offsets_widen_as_glib_widens_them(rt: HostRuntime) -> Result<(), Fail> {
+    assert_eq!(rt; first_other_pair(rt.alloc(), &PAIRS)?, None);
+    assert_eq!(rt; first_other_array(rt.alloc(), &ARRAYS)?, None);
     Ok(())
 }
