@@ -3,31 +3,32 @@
 ghost use Rattle.std.specs.Prelude.{◌≡◌, ◌<◌, true};
 ghost use Rattle.ost_model.specs.Contents.{file_digest as digest_of_file, is_permission as may_be_mode};
 
-mod made;
-
-use super::*;
+use crate::made_contents::{FILES, LINKS, LONG_LINKS, METADATA};
 use fp_host::is_link_text;
 use fp_name::Digest;
-use made::{FILES, LINKS, LONG_LINKS, METADATA};
+use ost_content::{
+    ContentHasher, file_digest, header, is_permission, link_digest, link_header, meta_digest,
+};
 use std::alloc::Global;
 use std::test::Fail;
 
-#[test]
-fn header_of_a_file(rt: HostRuntime) {
-    let bytes = header(0o644);
-    assert!(rt; bytes == *b"\0\0\0\x12\0\0\0\0\0\0\0\0\0\0\0\0\0\0\x81\xa4\0\0\0\0\0\x11");
+/// Whether the header of a link with this text is these bytes.
+fn is_link_header(alloc: Global, text: &str, want: &[u8]) -> bool {
+    if !is_link_text(text) {
+        return false;
+    }
+    match link_header(alloc, text) {
+        Ok(bytes) => bytes.as_slice() == want,
+        Err(_) => false,
+    }
 }
 
 #[test]
-fn header_of_a_link(rt: HostRuntime) -> Result<(), Fail> {
-    let text = "f0";
-    assert!(rt; is_link_text(text));
-    let bytes = link_header(rt.alloc(), text)?;
-    assert!(rt;
-        bytes.as_slice()
-            == b"\0\0\0\x14\0\0\0\0\0\0\0\0\0\0\0\0\0\0\xa1\xff\0\0\0\0f0\0\x13".as_slice()
-    );
-    Ok(())
+fn headers(rt: HostRuntime) {
+    let file = header(0o644);
+    assert!(rt; file == *b"\0\0\0\x12\0\0\0\0\0\0\0\0\0\0\0\0\0\0\x81\xa4\0\0\0\0\0\x11");
+    let link = b"\0\0\0\x14\0\0\0\0\0\0\0\0\0\0\0\0\0\0\xa1\xff\0\0\0\0f0\0\x13";
+    assert!(rt; is_link_header(rt.alloc(), "f0", link));
 }
 
 /// Whether a digest is written so.
@@ -51,26 +52,34 @@ fn digest_in_pieces(mode: u32, bytes: &[u8], size: usize) -> Digest
     hasher.finish()
 }
 
+/// The sizes of pieces.
+const SIZES: [usize; 6] = [1, 7, 32, 38, 64, 255];
+
 /// Whether a file has a name, and has it too where its content comes in pieces of these sizes.
 fn is_file_named(mode: u32, bytes: &[u8], name: &str) -> bool {
     if !is_permission(mode) || !is_written(&file_digest(mode, bytes), name) {
         return false;
     }
-    for size in [1, 7, 32, 38, 64, 255] {
-        if !is_written(&digest_in_pieces(mode, bytes, size), name) {
+    for size in &SIZES {
+        if *size == 0 || !is_written(&digest_in_pieces(mode, bytes, *size), name) {
             return false;
         }
     }
     true
 }
 
-#[test]
-fn files_of_a_repository(rt: HostRuntime) -> Result<(), Fail> {
-    for (mode, digits, name) in FILES {
-        let bytes = hex::decode(rt.alloc(), digits)?;
-        assert!(rt; is_file_named(mode, &bytes, name), "{name}");
+/// The first of the files that has another name.
+fn first_other_file<'a>(
+    alloc: Global,
+    files: &'a [(u32, &'a str, &'a str)],
+) -> Result<Option<&'a str>, Fail> {
+    for (mode, digits, name) in files {
+        let bytes = hex::decode(alloc, digits)?;
+        if !is_file_named(*mode, &bytes, name) {
+            return Ok(Some(*name));
+        }
     }
-    Ok(())
+    Ok(None)
 }
 
 /// Whether a link has a name.
@@ -84,46 +93,97 @@ fn is_link_named(alloc: Global, text: &str, name: &str) -> bool {
     }
 }
 
-#[test]
-fn links_of_a_repository(rt: HostRuntime) {
-    for (text, name) in LINKS {
-        assert!(rt; is_link_named(rt.alloc(), text, name), "{name}");
+/// The first of the links that has another name.
+fn first_other_link<'a>(alloc: Global, links: &'a [(&'a str, &'a str)]) -> Option<&'a str> {
+    for (text, name) in links {
+        if !is_link_named(alloc, text, name) {
+            return Some(*name);
+        }
     }
+    None
+}
+
+/// The first of the links of so many letters that has another name.
+fn first_other_long_link<'a>(
+    alloc: Global,
+    links: &'a [(usize, &'a str)],
+) -> Result<Option<&'a str>, Fail> {
+    for (count, name) in links {
+        let text = "n".repeat(alloc, *count)?;
+        if !is_link_named(alloc, &text, name) {
+            return Ok(Some(*name));
+        }
+    }
+    Ok(None)
+}
+
+/// The first of the metadata objects that has another name.
+fn first_other_metadata<'a>(
+    alloc: Global,
+    objects: &'a [(&'a str, &'a str)],
+) -> Result<Option<&'a str>, Fail> {
+    for (digits, name) in objects {
+        let bytes = hex::decode(alloc, digits)?;
+        if !is_written(&meta_digest(&bytes), name) {
+            return Ok(Some(*name));
+        }
+    }
+    Ok(None)
 }
 
 #[test]
-fn long_links_of_a_repository(rt: HostRuntime) -> Result<(), Fail> {
-    for (count, name) in LONG_LINKS {
-        let text = "n".repeat(rt.alloc(), count)?;
-        assert!(rt; is_link_named(rt.alloc(), &text, name), "{name}");
-    }
+fn objects_of_a_repository(rt: HostRuntime) -> Result<(), Fail> {
+    assert_eq!(rt; first_other_file(rt.alloc(), &FILES)?, None);
+    assert_eq!(rt; first_other_link(rt.alloc(), &LINKS), None);
+    assert_eq!(rt; first_other_long_link(rt.alloc(), &LONG_LINKS)?, None);
+    assert_eq!(rt; first_other_metadata(rt.alloc(), &METADATA)?, None);
     Ok(())
 }
 
-#[test]
-fn metadata_of_a_repository(rt: HostRuntime) -> Result<(), Fail> {
-    for (digits, name) in METADATA {
-        let bytes = hex::decode(rt.alloc(), digits)?;
-        assert!(rt; is_written(&meta_digest(&bytes), name), "{name}");
+/// The bytes of an empty directory, which are one zero byte, and no bytes, with the digests that `sha256sum` writes.
+const EMPTY: [(&str, &str); 2] = [
+    (
+        "00",
+        "6e340b9cffb37a989ca544e6bb780a2c78901d3fb33738768511a30617afa01d",
+    ),
+    (
+        "",
+        "e3b0c44298fc1c149afbf4c8996fb92427ae41e4649b934ca495991b7852b855",
+    ),
+];
+
+/// Permission bits, and whether files have them.
+const MODES: [(u32, bool); 15] = [
+    (0, true),
+    (0o644, true),
+    (0o755, true),
+    (0o664, true),
+    (0o775, true),
+    (0o444, true),
+    (0o400, true),
+    (0o1, true),
+    (0o2, false),
+    (0o777, false),
+    (0o646, false),
+    (0o1755, false),
+    (0o2755, false),
+    (0o4755, false),
+    (0o100644, false),
+];
+
+/// The first of the modes that is taken otherwise.
+fn first_other_mode(modes: &[(u32, bool)]) -> Option<u32> {
+    for (mode, good) in modes {
+        if is_permission(*mode) != *good {
+            return Some(*mode);
+        }
     }
+    None
+}
+
+#[test]
+fn metadata_and_modes(rt: HostRuntime) -> Result<(), Fail> {
+    assert_eq!(rt; first_other_metadata(rt.alloc(), &EMPTY)?, None);
+    assert_eq!(rt; first_other_mode(&MODES), None);
     Ok(())
-}
-
-/// The digest of an empty directory's bytes, which are one zero byte, and of no bytes, as `sha256sum` writes them.
-#[test]
-fn empty_metadata(rt: HostRuntime) {
-    let zero = "6e340b9cffb37a989ca544e6bb780a2c78901d3fb33738768511a30617afa01d";
-    assert!(rt; is_written(&meta_digest(b"\0"), zero));
-    let none = "e3b0c44298fc1c149afbf4c8996fb92427ae41e4649b934ca495991b7852b855";
-    assert!(rt; is_written(&meta_digest(b""), none));
-}
-
-#[test]
-fn permissions(rt: HostRuntime) {
-    for mode in [0, 0o644, 0o755, 0o664, 0o775, 0o444, 0o400, 0o1] {
-        assert!(rt; is_permission(mode), "{mode}");
-    }
-    for mode in [0o2, 0o777, 0o646, 0o1755, 0o2755, 0o4755, 0o100644] {
-        assert!(rt; !is_permission(mode), "{mode}");
-    }
 }

@@ -1,14 +1,13 @@
 //! What no contract says: digests that `sha256sum` gives, and that both halves are at work at one time.
 
-mod meeting;
-
-use super::*;
+use crate::meeting::Meeting;
 use fp_host::Blob;
 use fp_name::Digest;
-use meeting::Meeting;
+use par_digest::{Item, digests, digests_gated};
 use sha2::{Digest as Hash, Sha256};
 use std::alloc::{AllocError, Global};
 use std::test::Fail;
+use std::thread::Threads;
 
 /// An item of these bytes.
 fn item(alloc: Global, head: &str, body: &str) -> Result<Item, AllocError> {
@@ -33,7 +32,7 @@ fn is_written(digest: &Digest, name: &str) -> bool {
     digest.digits().as_slice() == name.as_bytes()
 }
 
-/// The digest of all digests, one behind another.
+/// The digest of all digests, one after another.
 fn digest_of_all(all: &[Digest]) -> Digest {
     let mut hasher = Sha256::new();
     for digest in all {
@@ -42,7 +41,7 @@ fn digest_of_all(all: &[Digest]) -> Digest {
     Digest::from_bytes(hasher.finalize())
 }
 
-/// Counts of items, and the digest of their digests, one behind another, as one thread of another program gives it.
+/// Counts of items, and the digest of their digests, one after another, as one thread of another program gives it.
 const COUNTS: [(usize, &str); 8] = [
     (
         0,
@@ -78,18 +77,20 @@ const COUNTS: [(usize, &str); 8] = [
     ),
 ];
 
-#[test]
-fn counts_of_items(rt: HostRuntime) -> Result<(), Fail> {
-    for (count, name) in COUNTS {
-        let items = numbered(rt.alloc(), count)?;
-        let all = digests(&rt, rt.alloc(), &items)?;
-        assert_eq!(rt; all.len(), count);
-        assert!(rt;
-            is_written(&digest_of_all(all.as_slice()), name),
-            "{count} items"
-        );
+/// The first of the counts whose digests are others.
+fn first_other_count(
+    rt: &(impl Threads + Sync),
+    alloc: Global,
+    counts: &[(usize, &str)],
+) -> Result<Option<usize>, AllocError> {
+    for (count, name) in counts {
+        let items = numbered(alloc, *count)?;
+        let all = digests(rt, alloc, &items)?;
+        if all.len() != *count || !is_written(&digest_of_all(all.as_slice()), name) {
+            return Ok(Some(*count));
+        }
     }
-    Ok(())
+    Ok(None)
 }
 
 /// Items, and their digests as `sha256sum` writes them.
@@ -121,36 +122,83 @@ const ITEMS: [(&str, &str, &str); 5] = [
     ),
 ];
 
+/// The items of a table.
+fn listed(alloc: Global, rows: &[(&str, &str, &str)]) -> Result<Vec<Item>, AllocError> {
+    let mut items = Vec::new(alloc);
+    for (head, body, _) in rows {
+        items.push(item(alloc, head, body)?)?;
+    }
+    Ok(items)
+}
+
+/// Whether the digests are written as the rows have them.
+fn are_written(all: &[Digest], rows: &[(&str, &str, &str)]) -> bool {
+    if all.len() != rows.len() {
+        return false;
+    }
+    for (digest, (_, _, name)) in all.iter().zip(rows) {
+        if !is_written(digest, name) {
+            return false;
+        }
+    }
+    true
+}
+
 #[test]
-fn heads_and_bodies(rt: HostRuntime) -> Result<(), Fail> {
-    let mut items = Vec::new(rt.alloc());
-    for (head, body, _) in ITEMS {
-        items.push(item(rt.alloc(), head, body)?)?;
-    }
-    let all = digests(&rt, rt.alloc(), &items)?;
-    assert_eq!(rt; all.len(), ITEMS.len());
-    for (digest, (head, body, name)) in all.as_slice().iter().zip(ITEMS) {
-        assert!(rt; is_written(digest, name), "{head}{body}");
-    }
+fn digests_of_items(rt: HostRuntime) -> Result<(), Fail> {
+    let alloc = rt.alloc();
+    assert_eq!(rt; first_other_count(&rt, alloc, &COUNTS)?, None);
+    let all = digests(&rt, alloc, &listed(alloc, &ITEMS)?)?;
+    assert!(rt; are_written(all.as_slice(), &ITEMS));
     Ok(())
+}
+
+/// Whether both halves of so many items met, or neither was begun where the items aren't cut.
+fn is_met(gate: &Meeting, count: usize) -> bool {
+    if count > 16 {
+        gate.both_met()
+    } else {
+        gate.is_untouched()
+    }
+}
+
+/// The first of the counts whose halves aren't at work at one time.
+fn first_apart(
+    rt: &(impl Threads + Sync),
+    alloc: Global,
+    counts: &[(usize, &str)],
+) -> Result<Option<usize>, AllocError> {
+    for (count, name) in counts {
+        let gate = Meeting::new();
+        let items = numbered(alloc, *count)?;
+        let all = digests_gated(rt, alloc, &items, &gate)?;
+        if !is_written(&digest_of_all(all.as_slice()), name) || !is_met(&gate, *count) {
+            return Ok(Some(*count));
+        }
+    }
+    Ok(None)
 }
 
 /// One thread alone would look for the other's flag until it gives up. Only the first cut is told.
 #[test]
 fn both_halves_are_at_work(rt: HostRuntime) -> Result<(), Fail> {
-    for (count, name) in COUNTS {
-        let gate = Meeting::new();
-        let items = numbered(rt.alloc(), count)?;
-        let all = digests_gated(&rt, rt.alloc(), &items, &gate)?;
-        assert!(rt;
-            is_written(&digest_of_all(all.as_slice()), name),
-            "{count} items"
-        );
-        if count > 16 {
-            assert!(rt; gate.both_met(), "{count} items");
-        } else {
-            assert!(rt; gate.is_untouched(), "{count} items");
+    assert_eq!(rt; first_apart(&rt, rt.alloc(), &COUNTS)?, None);
+    Ok(())
+}
+
+/// A body of a mebibyte is hashed, and the digest is that of the same bytes in the head.
+#[test]
+fn long_items(rt: HostRuntime) -> Result<(), Fail> {
+    let long = "x".repeat(rt.alloc(), 1 << 20)?;
+    let mut items = Vec::new(rt.alloc());
+    items.push(item(rt.alloc(), &long, "")?)?;
+    items.push(item(rt.alloc(), "", &long)?)?;
+    let all = digests(&rt, rt.alloc(), &items)?;
+    assert!(rt;
+        match all.as_slice() {
+            [first, second] => first == second,
+            _ => false,
         }
-    }
+    );
     Ok(())
 }

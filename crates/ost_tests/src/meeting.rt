@@ -1,6 +1,6 @@
 //! A gate at which each half looks for the other.
 
-use crate::Gate;
+use par_digest::Gate;
 use std::sync::atomic::{AtomicBool, AtomicU64, Ordering};
 
 /// How often a half looks for the other's flag.

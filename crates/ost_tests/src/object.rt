@@ -1,13 +1,16 @@
-use crate::error::ObjectError;
-use crate::real::OBJECTS;
-use crate::{
-    Commit, DirEntry, DirMeta, DirTree, FileEntry, binding, read_commit, read_dirmeta,
-    read_dirtree, write_commit, write_dirmeta, write_dirtree,
-};
+//! Metadata objects: what they are read as, the first rule that they break, and how they are written.
+
+use crate::made_objects::{OBJECTS, SHOWN};
 use fp_host::Items;
 use fp_name::Digest;
-use gv_value::{GvValue, Text};
-use ost_model::Rule;
+use gv_encode::encode;
+use gv_value::{Blob, GvType, GvValue, Text};
+use ost_content::meta_digest;
+use ost_model::{ObjKind, Rule};
+use ost_object::{
+    Commit, DirEntry, DirMeta, DirTree, FileEntry, ObjectError, binding, read_commit, read_dirmeta,
+    read_dirtree, write_commit, write_dirmeta, write_dirtree,
+};
 use std::alloc::Global;
 use std::test::Fail;
 
@@ -45,7 +48,9 @@ const COMMITS: [(&str, Option<Rule>); 5] = [
 ];
 
 /// Dirtrees that GLib spelled.
-const TREES: [(&str, Option<Rule>); 9] = [
+const TREES: [(&str, Option<Rule>); 10] = [
+    // no bytes
+    ("", Some(Rule::Value)),
     (
         "42000101010101010101010101010101010101010101010101010101010101010101026100010101010101010101010101010101010101010101010101010101010101010102234643000101010101010101010101010101010101010101010101010101010101010101010101010101010101010101010101010101010101010101010101010101010122024448",
         None,
@@ -92,45 +97,36 @@ const METAS: [(&str, Option<Rule>); 4] = [
     ("0000000000000000000081a4", Some(Rule::Kind)),
 ];
 
-/// What a commit's reading names.
-fn commit_rule(alloc: Global, digits: &str) -> Result<Option<Rule>, Fail> {
-    let bytes = hex::decode(alloc, digits)?;
-    Ok(rule_of(read_commit(alloc, &bytes))?)
+/// The rule that the reading of an object names.
+fn read_rule(alloc: Global, kind: ObjKind, bytes: &[u8]) -> Result<Option<Rule>, ObjectError> {
+    match kind {
+        ObjKind::Commit => rule_of(read_commit(alloc, bytes)),
+        ObjKind::DirTree => rule_of(read_dirtree(alloc, bytes)),
+        _ => rule_of(read_dirmeta(alloc, bytes)),
+    }
 }
 
-/// What a dirtree's reading names.
-fn tree_rule(alloc: Global, digits: &str) -> Result<Option<Rule>, Fail> {
-    let bytes = hex::decode(alloc, digits)?;
-    Ok(rule_of(read_dirtree(alloc, &bytes))?)
-}
-
-/// What a dirmeta's reading names.
-fn meta_rule(alloc: Global, digits: &str) -> Result<Option<Rule>, Fail> {
-    let bytes = hex::decode(alloc, digits)?;
-    Ok(rule_of(read_dirmeta(alloc, &bytes))?)
+/// The first of the objects that breaks another rule.
+fn first_other_rule<'a>(
+    alloc: Global,
+    kind: ObjKind,
+    rows: &'a [(&'a str, Option<Rule>)],
+) -> Result<Option<&'a str>, Fail> {
+    for (digits, rule) in rows {
+        let bytes = hex::decode(alloc, digits)?;
+        if read_rule(alloc, kind, &bytes)? != *rule {
+            return Ok(Some(*digits));
+        }
+    }
+    Ok(None)
 }
 
 #[test]
-fn names_the_first_broken_rule_of_commits(rt: HostRuntime) -> Result<(), Fail> {
-    for (digits, rule) in COMMITS {
-        assert_eq!(rt; commit_rule(rt.alloc(), digits)?, rule);
-    }
-    Ok(())
-}
-
-#[test]
-fn names_the_first_broken_rule_of_dirtrees(rt: HostRuntime) -> Result<(), Fail> {
-    for (digits, rule) in TREES {
-        assert_eq!(rt; tree_rule(rt.alloc(), digits)?, rule);
-    }
-    Ok(())
-}
-
-#[test]
-fn names_the_first_broken_rule_of_dirmetas(rt: HostRuntime) -> Result<(), Fail> {
-    for (digits, rule) in METAS {
-        assert_eq!(rt; meta_rule(rt.alloc(), digits)?, rule);
-    }
+fn names_the_first_broken_rule(rt: HostRuntime) -> Result<(), Fail> {
+    let alloc = rt.alloc();
+    assert_eq!(rt; first_other_rule(alloc, ObjKind::Commit, &COMMITS)?, None);
+    assert_eq!(rt; first_other_rule(alloc, ObjKind::DirTree, &TREES)?, None);
+    assert_eq!(rt; first_other_rule(alloc, ObjKind::DirMeta, &METAS)?, None);
     Ok(())
 }
 
@@ -140,30 +136,9 @@ fn counts(alloc: Global, bytes: &[u8]) -> Result<(usize, usize), Fail> {
     Ok((tree.files.len(), tree.dirs.len()))
 }
 
-#[test]
-fn reads_the_empty_directory(rt: HostRuntime) -> Result<(), Fail> {
-    assert_eq!(rt; counts(rt.alloc(), b"\0")?, (0, 0));
-    Ok(())
-}
-
-#[test]
-fn no_bytes_are_no_dirtree(rt: HostRuntime) -> Result<(), Fail> {
-    assert_eq!(rt; tree_rule(rt.alloc(), "")?, Some(Rule::Value));
-    Ok(())
-}
-
 /// The mode of a dirmeta.
 fn mode_of(alloc: Global, bytes: &[u8]) -> Result<u32, Fail> {
     Ok(read_dirmeta(alloc, bytes)?.mode)
-}
-
-#[test]
-fn reads_the_mode_of_a_directory(rt: HostRuntime) -> Result<(), Fail> {
-    assert_eq!(rt;
-        mode_of(rt.alloc(), b"\0\0\0\0\0\0\0\0\0\0\x41\xed")?,
-        0o40755
-    );
-    Ok(())
 }
 
 /// The timestamp of a commit, and how long its subject and its body are.
@@ -180,27 +155,16 @@ fn lengths_of(alloc: Global, digits: &str) -> Result<(u64, usize, usize), Fail> 
 #[test]
 fn reads_real_commits(rt: HostRuntime) -> Result<(), Fail> {
     let alloc = rt.alloc();
-    assert_eq!(rt; lengths_of(alloc, OBJECTS[0].1)?, (1000000000, 9, 0));
-    assert_eq!(rt; lengths_of(alloc, OBJECTS[10].1)?, (1700000000, 18, 19));
-    Ok(())
-}
-
-/// What a real object's reading names, by the end of its name.
-fn real_rule(alloc: Global, name: &str, digits: &str) -> Result<Option<Rule>, Fail> {
-    if name.ends_with(".commit") {
-        return commit_rule(alloc, digits);
-    }
-    if name.ends_with(".dirtree") {
-        return tree_rule(alloc, digits);
-    }
-    meta_rule(alloc, digits)
-}
-
-#[test]
-fn reads_real_objects(rt: HostRuntime) -> Result<(), Fail> {
-    for (name, digits) in OBJECTS {
-        assert_eq!(rt; real_rule(rt.alloc(), name, digits)?, None);
-    }
+    assert!(rt;
+        lengths_of(alloc, OBJECTS[0].1)? == (1000000000, 9, 0)
+            && lengths_of(alloc, OBJECTS[10].1)? == (1700000000, 18, 19)
+    );
+    assert!(rt;
+        counts(alloc, b"\0")? == (0, 0)
+            && mode_of(alloc, b"\0\0\0\0\0\0\0\0\0\0\x41\xed")? == 0o40755
+    );
+    assert!(rt; is_bound_to(alloc, OBJECTS[0].1, "app/org.x.App/x86_64/stable")?);
+    assert_eq!(rt; first_other_binding(alloc, &BOUND)?, None);
     Ok(())
 }
 
@@ -222,12 +186,6 @@ fn is_only(texts: &[Text], text: &str) -> bool {
     }
 }
 
-#[test]
-fn tells_the_ref_of_a_real_commit(rt: HostRuntime) -> Result<(), Fail> {
-    assert!(rt; is_bound_to(rt.alloc(), OBJECTS[0].1, "app/org.x.App/x86_64/stable")?);
-    Ok(())
-}
-
 /// Commits with metadata that GLib spelled: the last binding decides, and one of type `s` is none.
 const BOUND: [(&str, bool); 3] = [
     (
@@ -244,64 +202,81 @@ const BOUND: [(&str, bool); 3] = [
     ),
 ];
 
-#[test]
-fn the_last_binding_decides(rt: HostRuntime) -> Result<(), Fail> {
-    for (digits, bound) in BOUND {
-        assert_eq!(rt; is_bound_to(rt.alloc(), digits, "b")?, bound);
+/// The place of the first commit that is bound otherwise.
+fn first_other_binding(alloc: Global, rows: &[(&str, bool)]) -> Result<Option<usize>, Fail> {
+    for (at, (digits, bound)) in rows.iter().enumerate() {
+        if is_bound_to(alloc, digits, "b")? != *bound {
+            return Ok(Some(at));
+        }
     }
-    Ok(())
+    Ok(None)
 }
 
-/// Whether a real object is written as it was read, by the end of its name.
-fn is_written_back(alloc: Global, name: &str, digits: &str) -> Result<bool, Fail> {
+/// The kind at the end of an object's name.
+fn kind_of(name: &str) -> ObjKind {
     if name.ends_with(".dirtree") {
-        return tree_is_written_back(alloc, digits);
+        return ObjKind::DirTree;
     }
     if name.ends_with(".dirmeta") {
-        return meta_is_written_back(alloc, digits);
+        return ObjKind::DirMeta;
     }
-    commit_is_written_back(alloc, digits)
+    ObjKind::Commit
+}
+
+/// Whether an object is written as it was read.
+fn is_written_back(alloc: Global, kind: ObjKind, bytes: &[u8]) -> Result<bool, ObjectError> {
+    match kind {
+        ObjKind::Commit => commit_is_written_back(alloc, bytes),
+        ObjKind::DirTree => tree_is_written_back(alloc, bytes),
+        _ => meta_is_written_back(alloc, bytes),
+    }
 }
 
 /// Whether a commit is written as it was read.
-fn commit_is_written_back(alloc: Global, digits: &str) -> Result<bool, Fail> {
-    let bytes = hex::decode(alloc, digits)?;
-    let commit = read_commit(alloc, &bytes)?;
-    Ok(write_commit(alloc, &commit)?.as_slice() == bytes.as_slice())
+fn commit_is_written_back(alloc: Global, bytes: &[u8]) -> Result<bool, ObjectError> {
+    let commit = read_commit(alloc, bytes)?;
+    Ok(write_commit(alloc, &commit)?.as_slice() == bytes)
 }
 
 /// Whether a dirtree is written as it was read.
-fn tree_is_written_back(alloc: Global, digits: &str) -> Result<bool, Fail> {
-    let bytes = hex::decode(alloc, digits)?;
-    let tree = read_dirtree(alloc, &bytes)?;
-    Ok(write_dirtree(alloc, &tree)?.as_slice() == bytes.as_slice())
+fn tree_is_written_back(alloc: Global, bytes: &[u8]) -> Result<bool, ObjectError> {
+    let tree = read_dirtree(alloc, bytes)?;
+    Ok(write_dirtree(alloc, &tree)?.as_slice() == bytes)
 }
 
 /// Whether a dirmeta is written as it was read.
-fn meta_is_written_back(alloc: Global, digits: &str) -> Result<bool, Fail> {
-    let bytes = hex::decode(alloc, digits)?;
-    let meta = read_dirmeta(alloc, &bytes)?;
-    Ok(write_dirmeta(alloc, &meta)?.as_slice() == bytes.as_slice())
+fn meta_is_written_back(alloc: Global, bytes: &[u8]) -> Result<bool, ObjectError> {
+    let meta = read_dirmeta(alloc, bytes)?;
+    Ok(write_dirmeta(alloc, &meta)?.as_slice() == bytes)
+}
+
+/// The first of the real objects that has another name, or isn't written as it was read.
+fn first_changed<'a>(
+    alloc: Global,
+    objects: &'a [(&'a str, &'a str)],
+) -> Result<Option<&'a str>, Fail> {
+    for (name, digits) in objects {
+        let bytes = hex::decode(alloc, digits)?;
+        let digest = meta_digest(&bytes).digits();
+        if !name.as_bytes().starts_with(digest.as_slice())
+            || !is_written_back(alloc, kind_of(name), &bytes)?
+        {
+            return Ok(Some(*name));
+        }
+    }
+    Ok(None)
 }
 
 #[test]
 fn writes_real_objects_back(rt: HostRuntime) -> Result<(), Fail> {
-    for (name, digits) in OBJECTS {
-        assert!(rt; is_written_back(rt.alloc(), name, digits)?);
-    }
+    assert_eq!(rt; first_changed(rt.alloc(), &OBJECTS)?, None);
+    assert_eq!(rt; first_changed(rt.alloc(), &SHOWN)?, None);
     Ok(())
 }
 
 /// The rule that the writing of a dirmeta of this mode names.
 fn written_meta_rule(alloc: Global, mode: u32) -> Result<Option<Rule>, Fail> {
     Ok(rule_of(write_dirmeta(alloc, &DirMeta { mode }))?)
-}
-
-#[test]
-fn writes_the_modes_of_directories_alone(rt: HostRuntime) -> Result<(), Fail> {
-    assert_eq!(rt; written_meta_rule(rt.alloc(), 0o40755)?, None);
-    assert_eq!(rt; written_meta_rule(rt.alloc(), 0o100755)?, Some(Rule::Kind));
-    Ok(())
 }
 
 /// The rule that the writing of a dirtree of files of these names and one directory `d` names.
@@ -326,14 +301,25 @@ fn written_tree_rule(alloc: Global, names: &[&str]) -> Result<Option<Rule>, Fail
     Ok(rule_of(write_dirtree(alloc, &tree))?)
 }
 
-#[test]
-fn writes_good_names_alone(rt: HostRuntime) -> Result<(), Fail> {
-    let alloc = rt.alloc();
-    assert_eq!(rt; written_tree_rule(alloc, &["a", "b"])?, None);
-    assert_eq!(rt; written_tree_rule(alloc, &["a/b"])?, Some(Rule::Name));
-    assert_eq!(rt; written_tree_rule(alloc, &["b", "a"])?, Some(Rule::Order));
-    assert_eq!(rt; written_tree_rule(alloc, &["d"])?, Some(Rule::Both));
-    Ok(())
+/// Names of files beside the directory `d`, and the first rule that they break.
+const NAMES: [(&[&str], Option<Rule>); 4] = [
+    (&["a", "b"], None),
+    (&["a/b"], Some(Rule::Name)),
+    (&["b", "a"], Some(Rule::Order)),
+    (&["d"], Some(Rule::Both)),
+];
+
+/// The place of the first names that break another rule.
+fn first_other_names(
+    alloc: Global,
+    rows: &[(&[&str], Option<Rule>)],
+) -> Result<Option<usize>, Fail> {
+    for (at, (names, rule)) in rows.iter().enumerate() {
+        if written_tree_rule(alloc, names)? != *rule {
+            return Ok(Some(at));
+        }
+    }
+    Ok(None)
 }
 
 /// A commit with nothing in it but its subject.
@@ -358,12 +344,6 @@ fn bare_is(alloc: Global, digits: &str) -> Result<bool, Fail> {
     Ok(write_commit(alloc, &commit)?.as_slice() == bytes.as_slice())
 }
 
-#[test]
-fn writes_a_bare_commit(rt: HostRuntime) -> Result<(), Fail> {
-    assert!(rt; bare_is(rt.alloc(), COMMITS[0].0)?);
-    Ok(())
-}
-
 /// The rule that the writing of a commit of this subject names.
 fn written_commit_rule(alloc: Global, subject: &str) -> Result<Option<Rule>, Fail> {
     let commit = bare_commit(alloc, subject)?;
@@ -371,8 +351,139 @@ fn written_commit_rule(alloc: Global, subject: &str) -> Result<Option<Rule>, Fai
 }
 
 #[test]
-fn writes_no_text_with_a_zero_byte(rt: HostRuntime) -> Result<(), Fail> {
-    assert_eq!(rt; written_commit_rule(rt.alloc(), "a subject")?, None);
-    assert_eq!(rt; written_commit_rule(rt.alloc(), "a\0b")?, Some(Rule::Value));
+fn writes_what_keeps_the_rules_alone(rt: HostRuntime) -> Result<(), Fail> {
+    let alloc = rt.alloc();
+    assert_eq!(rt; first_other_names(alloc, &NAMES)?, None);
+    assert!(rt;
+        written_meta_rule(alloc, 0o40755)? == None
+            && written_meta_rule(alloc, 0o100755)? == Some(Rule::Kind)
+            && written_commit_rule(alloc, "a subject")? == None
+            && written_commit_rule(alloc, "a\0b")? == Some(Rule::Value)
+            && bare_is(alloc, COMMITS[0].0)?
+    );
+    Ok(())
+}
+
+/// The text in a value.
+fn string(alloc: Global, text: &str) -> Result<GvValue, Fail> {
+    Ok(GvValue::Str(Text::from_string(String::from_str(alloc, text)?)))
+}
+
+/// So many equal bytes in a value.
+fn bytes(alloc: Global, count: usize, byte: u8) -> Result<GvValue, Fail> {
+    Ok(GvValue::Bytes(Blob::from_vec(vec![in alloc; byte; count]?)))
+}
+
+/// So many texts `r0000`, `r0001` and so on in a value.
+fn many_texts(alloc: Global, count: usize) -> Result<GvValue, Fail> {
+    let mut texts = Vec::new(alloc);
+    for number in 0..count {
+        texts.push(string(alloc, &numbered(alloc, "r", number)?)?)?;
+    }
+    Ok(GvValue::Array(texts))
+}
+
+/// A letter and a number of four digits.
+fn numbered(alloc: Global, letter: &str, number: usize) -> Result<String, Fail> {
+    Ok(format!(in alloc; "{letter}{number:04}")?)
+}
+
+/// An entry of metadata.
+fn entry(alloc: Global, key: &str, of: &str, value: GvValue) -> Result<GvValue, Fail> {
+    let of = Box::new(alloc, GvType::parse(alloc, of.as_bytes())?)?;
+    let value = Box::new(alloc, GvValue::Variant(of, Box::new(alloc, value)?))?;
+    let key = Box::new(alloc, string(alloc, key)?)?;
+    Ok(GvValue::Entry(key, value))
+}
+
+/// Metadata of 100 KiB, with a binding to so many refs.
+fn long_metadata(alloc: Global, count: usize) -> Result<GvValue, Fail> {
+    let mut entries = Vec::new(alloc);
+    entries.push(entry(alloc, "a", "ay", bytes(alloc, 100 << 10, 7)?)?)?;
+    let refs = many_texts(alloc, count)?;
+    entries.push(entry(alloc, "ostree.ref-binding", "as", refs)?)?;
+    Ok(GvValue::Array(entries))
+}
+
+/// So many related objects.
+fn many_related(alloc: Global, count: usize) -> Result<GvValue, Fail> {
+    let mut rows = Vec::new(alloc);
+    for number in 0..count {
+        let name = string(alloc, &numbered(alloc, "o", number)?)?;
+        rows.push(tuple(alloc, name, bytes(alloc, 32, 1)?)?)?;
+    }
+    Ok(GvValue::Array(rows))
+}
+
+/// A tuple of two.
+fn tuple(alloc: Global, first: GvValue, second: GvValue) -> Result<GvValue, Fail> {
+    let mut members = Vec::new(alloc);
+    members.push(first)?;
+    members.push(second)?;
+    Ok(GvValue::Tuple(members))
+}
+
+/// A commit whose parts are all long, in GVariant's spelling.
+fn long_commit(alloc: Global) -> Result<Blob, Fail> {
+    let of = GvType::parse(alloc, b"(a{sv}aya(say)sstayay)")?;
+    let text = "t".repeat(alloc, 100 << 10)?;
+    let mut members = Vec::new(alloc);
+    members.push(long_metadata(alloc, 1_100)?)?;
+    members.push(bytes(alloc, 32, 2)?)?;
+    members.push(many_related(alloc, 1_100)?)?;
+    members.push(string(alloc, &text)?)?;
+    members.push(string(alloc, &text)?)?;
+    members.push(GvValue::Uint64(1))?;
+    members.push(bytes(alloc, 32, 3)?)?;
+    members.push(bytes(alloc, 32, 4)?)?;
+    Ok(encode(alloc, &of, &GvValue::Tuple(members))?)
+}
+
+/// How many refs a commit is bound to.
+fn bound(alloc: Global, bytes: &[u8]) -> Result<Option<usize>, Fail> {
+    let commit = read_commit(alloc, bytes)?;
+    Ok(match binding(alloc, &commit)? {
+        Some(texts) => Some(texts.as_slice().len()),
+        None => None,
+    })
+}
+
+/// So many files and as many directories.
+fn long_tree(alloc: Global, count: usize) -> Result<DirTree, Fail> {
+    let digest = Digest::from_bytes([1; 32]);
+    let mut files = Vec::new(alloc);
+    let mut dirs = Vec::new(alloc);
+    for number in 0..count {
+        let name = Text::from_string(numbered(alloc, "f", number)?);
+        files.push(FileEntry { name, digest })?;
+        let name = Text::from_string(numbered(alloc, "d", number)?);
+        dirs.push(DirEntry {
+            name,
+            tree: digest,
+            meta: digest,
+        })?;
+    }
+    Ok(DirTree {
+        files: Items::from_vec(files),
+        dirs: Items::from_vec(dirs),
+    })
+}
+
+/// Whether a dirtree of 1,100 files and as many directories is written, read and written again.
+fn long_tree_is_written(alloc: Global) -> Result<bool, Fail> {
+    let bytes = write_dirtree(alloc, &long_tree(alloc, 1_100)?)?;
+    Ok(
+        counts(alloc, bytes.as_slice())? == (1_100, 1_100)
+            && tree_is_written_back(alloc, bytes.as_slice())?,
+    )
+}
+
+#[test]
+fn long_objects(rt: HostRuntime) -> Result<(), Fail> {
+    let alloc = rt.alloc();
+    let commit = long_commit(alloc)?;
+    assert!(rt; commit_is_written_back(alloc, commit.as_slice())?);
+    assert!(rt; bound(alloc, commit.as_slice())? == Some(1_100));
+    assert!(rt; long_tree_is_written(alloc)?);
     Ok(())
 }

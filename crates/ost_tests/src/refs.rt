@@ -1,4 +1,5 @@
-// Refs of a store in the host in memory.
+//! Refs of a store in the host in memory.
+
 use fp_host::{Host, HostEnd, Path, Stat};
 use fp_memhost::MemHost;
 use fp_name::{Digest, NameFault, RefName, RemoteName};
@@ -20,7 +21,7 @@ fn remote(alloc: Global, origin: &str, text: &str) -> Result<RefPlace, NameFault
     Ok(RefPlace::Remote(origin, name))
 }
 
-// Makes the folders above the path that are absent, and a file of these bytes.
+/// Makes the folders above the path that are absent, and a file of these bytes.
 fn put_file(alloc: Global, host: &mut MemHost, text: &str, bytes: &str) -> Result<(), HostEnd> {
     let path = Path::parse(alloc, text)?;
     for at in 1..path.len() {
@@ -34,7 +35,7 @@ fn put_file(alloc: Global, host: &mut MemHost, text: &str, bytes: &str) -> Resul
     Ok(())
 }
 
-// Whether the file at the path has these bytes.
+/// Whether the file at the path has these bytes.
 fn holds(alloc: Global, host: &mut MemHost, text: &str, want: &str) -> Result<bool, HostEnd> {
     let path = Path::parse(alloc, text)?;
     let mut bytes = [0u8; 128];
@@ -42,7 +43,7 @@ fn holds(alloc: Global, host: &mut MemHost, text: &str, want: &str) -> Result<bo
     Ok(bytes.get(..n) == Some(want.as_bytes()))
 }
 
-// What the ref says in a store where its file has these bytes.
+/// What the ref says in a store where its file has these bytes.
 fn said(alloc: Global, bytes: &str) -> Result<RefFile, Fail> {
     let mut host = MemHost::new(alloc)?;
     let text = format!(in alloc; "repo/refs/heads/{EDITOR}")?;
@@ -51,50 +52,89 @@ fn said(alloc: Global, bytes: &str) -> Result<RefFile, Fail> {
     Ok(read_ref(alloc, &mut host, &root, &head(alloc, EDITOR)?)?)
 }
 
-#[test]
-fn a_ref_reads_as_it_was_written(rt: HostRuntime) -> Result<(), Fail> {
-    let alloc = rt.alloc();
-    let mut host = MemHost::new(alloc)?;
+/// Whether the ref is absent, then reads as it is written, and its file is its digest and a newline.
+fn is_written(alloc: Global, host: &mut MemHost) -> Result<bool, Fail> {
     let root = Path::parse(alloc, "repo")?;
     let place = remote(alloc, "lab", EDITOR)?;
     let digest = Digest::parse(DIGITS.as_bytes())?;
-    assert_eq!(rt; read_ref(alloc, &mut host, &root, &place)?, RefFile::Absent);
-    write_ref(alloc, &mut host, &root, &place, &digest)?;
-    assert_eq!(rt;
-        read_ref(alloc, &mut host, &root, &place)?,
-        RefFile::Digest(digest)
-    );
-    let text = "repo/refs/remotes/lab/app/org.x.Editor/x86_64/stable";
+    let before = read_ref(alloc, host, &root, &place)?;
+    write_ref(alloc, host, &root, &place, &digest)?;
+    let after = read_ref(alloc, host, &root, &place)?;
     let want = format!(in alloc; "{DIGITS}\n")?;
-    assert!(rt; holds(alloc, &mut host, text, &want)?);
-    Ok(())
+    Ok(
+        before == RefFile::Absent
+            && after == RefFile::Digest(digest)
+            && holds(
+                alloc,
+                host,
+                "repo/refs/remotes/lab/app/org.x.Editor/x86_64/stable",
+                &want,
+            )?,
+    )
 }
 
-#[test]
-fn only_64_digits_and_a_newline_are_a_ref(rt: HostRuntime) -> Result<(), Fail> {
-    let alloc = rt.alloc();
+/// Whether the ref is absent after it is dropped, as often as it is, and a stop leaves that.
+fn is_dropped(alloc: Global, host: &mut MemHost) -> Result<bool, Fail> {
+    let root = Path::parse(alloc, "repo")?;
+    let place = head(alloc, EDITOR)?;
     let digest = Digest::parse(DIGITS.as_bytes())?;
-    let whole = format!(in alloc; "{DIGITS}\n")?;
-    assert_eq!(rt; said(alloc, &whole)?, RefFile::Digest(digest));
-    assert_eq!(rt; said(alloc, DIGITS)?, RefFile::Bad);
-    let longer = format!(in alloc; "{DIGITS}\n\n")?;
-    assert_eq!(rt; said(alloc, &longer)?, RefFile::Bad);
-    let spaced = format!(in alloc; "{DIGITS} ")?;
-    assert_eq!(rt; said(alloc, &spaced)?, RefFile::Bad);
-    assert_eq!(rt; said(alloc, "")?, RefFile::Bad);
-    assert_eq!(rt;
-        said(
-            alloc,
-            "0123456789ABCDEF0123456789abcdef0123456789abcdef0123456789abcdef\n"
-        )?,
-        RefFile::Bad
-    );
-    Ok(())
+    drop_ref(alloc, host, &root, &place)?;
+    write_ref(alloc, host, &root, &place, &digest)?;
+    drop_ref(alloc, host, &root, &place)?;
+    let after = read_ref(alloc, host, &root, &place)?;
+    drop_ref(alloc, host, &root, &place)?;
+    Ok(after == RefFile::Absent && host.choices(host.calls())?.as_slice().is_empty())
 }
 
 #[test]
-fn a_folder_is_a_bad_ref(rt: HostRuntime) -> Result<(), Fail> {
+fn refs_come_and_go(rt: HostRuntime) -> Result<(), Fail> {
     let alloc = rt.alloc();
+    assert!(rt; is_written(alloc, &mut MemHost::new(alloc)?)?);
+    assert!(rt; is_dropped(alloc, &mut MemHost::new(alloc)?)?);
+    Ok(())
+}
+
+/// What follows 64 digits in a file, and whether it is a ref.
+const ENDINGS: [(&str, bool); 4] = [("\n", true), ("", false), ("\n\n", false), (" ", false)];
+
+/// Files that are no refs.
+const NO_REFS: [&str; 2] = [
+    "",
+    "0123456789ABCDEF0123456789abcdef0123456789abcdef0123456789abcdef\n",
+];
+
+/// The first of the endings after which the ref says something else.
+fn first_other_ending<'a>(
+    alloc: Global,
+    endings: &'a [(&'a str, bool)],
+) -> Result<Option<&'a str>, Fail> {
+    let digest = Digest::parse(DIGITS.as_bytes())?;
+    for (ending, good) in endings {
+        let bytes = format!(in alloc; "{DIGITS}{ending}")?;
+        let want = if *good {
+            RefFile::Digest(digest)
+        } else {
+            RefFile::Bad
+        };
+        if said(alloc, &bytes)? != want {
+            return Ok(Some(*ending));
+        }
+    }
+    Ok(None)
+}
+
+/// The first of the files that is a ref.
+fn first_ref<'a>(alloc: Global, files: &'a [&'a str]) -> Result<Option<&'a str>, Fail> {
+    for bytes in files {
+        if said(alloc, bytes)? != RefFile::Bad {
+            return Ok(Some(*bytes));
+        }
+    }
+    Ok(None)
+}
+
+/// What a ref says where a folder stands.
+fn said_by_folder(alloc: Global) -> Result<RefFile, Fail> {
     let mut host = MemHost::new(alloc)?;
     let root = Path::parse(alloc, "repo")?;
     put_file(
@@ -103,28 +143,23 @@ fn a_folder_is_a_bad_ref(rt: HostRuntime) -> Result<(), Fail> {
         "repo/refs/heads/app/org.x.Editor/x86_64/stable/x",
         "",
     )?;
-    let place = head(alloc, EDITOR)?;
-    assert_eq!(rt; read_ref(alloc, &mut host, &root, &place)?, RefFile::Bad);
-    Ok(())
+    Ok(read_ref(alloc, &mut host, &root, &head(alloc, EDITOR)?)?)
 }
 
+/// A file of a mebibyte is no ref either.
 #[test]
-fn a_dropped_ref_is_absent(rt: HostRuntime) -> Result<(), Fail> {
+fn only_64_digits_and_a_newline_are_a_ref(rt: HostRuntime) -> Result<(), Fail> {
     let alloc = rt.alloc();
-    let mut host = MemHost::new(alloc)?;
-    let root = Path::parse(alloc, "repo")?;
-    let place = head(alloc, EDITOR)?;
-    let digest = Digest::parse(DIGITS.as_bytes())?;
-    drop_ref(alloc, &mut host, &root, &place)?;
-    write_ref(alloc, &mut host, &root, &place, &digest)?;
-    drop_ref(alloc, &mut host, &root, &place)?;
-    assert_eq!(rt; read_ref(alloc, &mut host, &root, &place)?, RefFile::Absent);
-    drop_ref(alloc, &mut host, &root, &place)?;
-    assert!(rt; host.choices(host.calls())?.as_slice().is_empty());
+    assert_eq!(rt; first_other_ending(alloc, &ENDINGS)?, None);
+    assert_eq!(rt; first_ref(alloc, &NO_REFS)?, None);
+    assert!(rt;
+        said(alloc, &"a".repeat(alloc, 1 << 20)?)? == RefFile::Bad
+            && said_by_folder(alloc)? == RefFile::Bad
+    );
     Ok(())
 }
 
-// Adds the place's name, and a newline.
+/// Adds the place's name, and a newline.
 fn add_name(text: &mut String, place: &RefPlace) -> Result<(), AllocError> {
     match place {
         RefPlace::Head(name) => text.push_str(name.as_str())?,
@@ -137,7 +172,7 @@ fn add_name(text: &mut String, place: &RefPlace) -> Result<(), AllocError> {
     text.push('\n')
 }
 
-// The places of the store in `repo`, one a line.
+/// The places of the store in `repo`, one a line.
 fn listed(alloc: Global, host: &mut MemHost) -> Result<String, HostEnd> {
     let root = Path::parse(alloc, "repo")?;
     let places = list_refs(alloc, host, &root)?;
@@ -164,14 +199,37 @@ const FILES: [&str; 10] = [
 const LISTED: &str =
     "app/org.x.Editor-2/x86_64/stable\napp/org.x.Editor/x86_64/stable\nlab-2:app/org.x.Editor/x86_64/stable\nlab:app/org.x.Editor/x86_64/stable\nlab:runtime/org.x.Platform/x86_64/1\n";
 
+/// Puts these files.
+fn put_files(alloc: Global, host: &mut MemHost, files: &[&str]) -> Result<(), HostEnd> {
+    for text in files {
+        put_file(alloc, host, text, "")?;
+    }
+    Ok(())
+}
+
 #[test]
 fn refs_are_listed_in_the_order_of_their_paths(rt: HostRuntime) -> Result<(), Fail> {
     let alloc = rt.alloc();
     let mut host = MemHost::new(alloc)?;
     assert_eq!(rt; listed(alloc, &mut host)?.as_str(), "");
-    for text in FILES {
-        put_file(alloc, &mut host, text, "")?;
-    }
+    put_files(alloc, &mut host, &FILES)?;
     assert_eq!(rt; listed(alloc, &mut host)?.as_str(), LISTED);
+    Ok(())
+}
+
+/// How many refs are listed where so many branches of a name stand.
+fn count_of(alloc: Global, branches: usize) -> Result<usize, Fail> {
+    let mut host = MemHost::new(alloc)?;
+    for number in 0..branches {
+        let text = format!(in alloc; "repo/refs/heads/app/org.x.Editor/x86_64/{number}")?;
+        put_file(alloc, &mut host, &text, "")?;
+    }
+    let root = Path::parse(alloc, "repo")?;
+    Ok(list_refs(alloc, &mut host, &root)?.len())
+}
+
+#[test]
+fn many_refs(rt: HostRuntime) -> Result<(), Fail> {
+    assert!(rt; count_of(rt.alloc(), 1_100)? == 1_100);
     Ok(())
 }
