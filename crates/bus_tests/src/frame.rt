@@ -1,6 +1,10 @@
 //! Worked messages: the header that is read, the rule that is broken, and what is written.
 
-use super::*;
+use bus_frame::{
+    Blob, FrameError, FrameRule, Header, Items, ReadFrame, Text, error_frame, first_string,
+    is_bus_name, is_interface_name, is_member_name, is_names, is_object_path, is_unique_name,
+    is_well_known_name, names_body, read_frame, three_strings, with_names,
+};
 use std::alloc::{AllocError, Global};
 use std::test::Fail;
 
@@ -61,44 +65,84 @@ fn header_of(alloc: Global, bytes: &[u8]) -> Result<Header, Fail> {
     }
 }
 
-fn text_of(text: &Option<Text>) -> Option<&str> {
+fn text_of(text: &Option<Text>) -> &str {
     match text {
-        Some(text) => Some(text.as_str()),
-        None => None,
+        Some(text) => text.as_str(),
+        None => "-",
     }
 }
 
-/// Beginnings of a message lack what its fixed part says, and what follows it isn't looked at.
+/// How long a beginning of the worked call is, and how many bytes lack: what its fixed part says, and what follows that
+/// isn't looked at.
+const LENGTHS: [(usize, u64); 5] = [(0, 16), (15, 1), (16, 48), (17, 47), (63, 1)];
+
+/// The first of the lengths of which other bytes lack.
+fn first_other_length(alloc: Global, lengths: &[(usize, u64)]) -> Option<usize> {
+    for (count, wanted) in lengths {
+        if lacking(alloc, CALL.get(..*count).unwrap_or(&[])) != Some(*wanted) {
+            return Some(*count);
+        }
+    }
+    None
+}
+
+/// The length of the message at the front of these bytes.
+fn front_length(alloc: Global, bytes: &[u8]) -> Result<u64, Fail> {
+    match read_frame(alloc, bytes)? {
+        ReadFrame::Frame(_, len) => Ok(len),
+        ReadFrame::Need(_) => Err(Fail::from("no message")),
+    }
+}
+
+/// The worked call, and a byte that follows it.
+fn with_more(alloc: Global) -> Result<Vec<u8>, AllocError> {
+    let mut longer = Vec::from_slice(alloc, CALL)?;
+    longer.push(0xff)?;
+    Ok(longer)
+}
+
 #[test]
 fn lengths(rt: HostRuntime) -> Result<(), Fail> {
-    for (count, wanted) in [(0, 16), (15, 1), (16, 48), (17, 47), (63, 1)] {
-        assert_eq!(rt; lacking(rt.alloc(), &CALL[..count]), Some(wanted));
-    }
-    let mut longer = Vec::from_slice(rt.alloc(), CALL)?;
-    longer.push(0xff)?;
-    let ReadFrame::Frame(_, len) = read_frame(rt.alloc(), &longer)? else {
-        return Err(Fail::from("no message"));
-    };
-    assert_eq!(rt; len, 64);
+    assert_eq!(rt; first_other_length(rt.alloc(), &LENGTHS), None);
+    assert!(rt; front_length(rt.alloc(), &with_more(rt.alloc())?)? == 64);
     Ok(())
+}
+
+/// Whether these are the numbers of a header: its type, flags and serial, and the serial that it replies to.
+fn has_numbers(header: &Header, kind: u8, flags: u8, serial: u32, reply: Option<u32>) -> bool {
+    header.kind == kind
+        && header.flags == flags
+        && header.serial == serial
+        && header.reply_serial == reply
+}
+
+/// Whether these are the texts of a header that say what is called.
+fn has_names(header: &Header, path: &str, interface: &str, member: &str, error_name: &str) -> bool {
+    text_of(&header.path) == path
+        && text_of(&header.interface) == interface
+        && text_of(&header.member) == member
+        && text_of(&header.error_name) == error_name
+}
+
+/// Whether these are the other texts of a header.
+fn has_ends(header: &Header, destination: &str, sender: &str, signature: &str) -> bool {
+    text_of(&header.destination) == destination
+        && text_of(&header.sender) == sender
+        && text_of(&header.signature) == signature
 }
 
 /// The header of the worked call.
 #[test]
 fn call(rt: HostRuntime) -> Result<(), Fail> {
     let header = header_of(rt.alloc(), CALL)?;
-    assert!(rt; header.little);
-    assert_eq!(rt; (header.kind, header.flags, header.serial), (1, 0, 1));
-    assert_eq!(rt; text_of(&header.path).ok_or("path")?, "/a");
-    assert_eq!(rt; text_of(&header.member).ok_or("member")?, "M");
-    assert_eq!(rt;
-        text_of(&header.destination).ok_or("destination")?,
-        "org.bar"
+    assert!(rt;
+        header.little
+            && has_numbers(&header, 1, 0, 1, None)
+            && has_names(&header, "/a", "-", "M", "-")
+            && has_ends(&header, "org.bar", "-", "-")
+            && header.body_at == 64
+            && header.body_len == 0
     );
-    assert!(rt; header.interface.is_none() && header.error_name.is_none());
-    assert!(rt; header.sender.is_none() && header.signature.is_none());
-    assert_eq!(rt; header.reply_serial, None);
-    assert_eq!(rt; (header.body_at, header.body_len), (64, 0));
     Ok(())
 }
 
@@ -143,79 +187,117 @@ fn with_byte(alloc: Global, message: &[u8], at: usize, byte: u8) -> Result<Vec<u
     Ok(bytes)
 }
 
+/// The first of the changes of the worked call that breaks another rule.
+fn first_other_rule(
+    alloc: Global,
+    rows: &[(usize, u8, FrameRule)],
+) -> Result<Option<(usize, u8)>, AllocError> {
+    for (at, byte, rule) in rows {
+        let bytes = with_byte(alloc, CALL, *at, *byte)?;
+        if broken_rule(alloc, &bytes) != Some(*rule) {
+            return Ok(Some((*at, *byte)));
+        }
+    }
+    Ok(None)
+}
+
+/// The rule that a message breaks with one byte changed.
+fn rule_with_byte(
+    alloc: Global,
+    message: &[u8],
+    at: usize,
+    byte: u8,
+) -> Result<Option<FrameRule>, AllocError> {
+    let bytes = with_byte(alloc, message, at, byte)?;
+    Ok(broken_rule(alloc, &bytes))
+}
+
+/// Whether a body without a signature breaks its rule once it is there.
+fn breaks_body(alloc: Global) -> Result<bool, AllocError> {
+    let mut bytes = with_byte(alloc, CALL, 4, 1)?;
+    let lacks = lacking(alloc, &bytes);
+    bytes.push(0)?;
+    Ok(lacks == Some(1) && broken_rule(alloc, &bytes) == Some(FrameRule::Body))
+}
+
+/// The last are the byte between the fields and the body, and a reply serial of 0.
 #[test]
 fn broken_rules(rt: HostRuntime) -> Result<(), Fail> {
-    for (at, byte, rule) in BROKEN {
-        let bytes = with_byte(rt.alloc(), CALL, at, byte)?;
-        assert_eq!(rt;
-            broken_rule(rt.alloc(), &bytes).ok_or("no rule")?,
-            rule,
-            "{at} {byte}"
-        );
-    }
-    // the byte between the fields and the body, and a reply serial of 0
-    let bytes = with_byte(rt.alloc(), OWNER, 79, 1)?;
-    assert_eq!(rt;
-        broken_rule(rt.alloc(), &bytes).ok_or("no rule")?,
-        FrameRule::Padding
-    );
-    let bytes = with_byte(rt.alloc(), NAMES, 23, 0)?;
-    assert_eq!(rt;
-        broken_rule(rt.alloc(), &bytes).ok_or("no rule")?,
-        FrameRule::Value
-    );
-    // a body without a signature
-    let mut bytes = with_byte(rt.alloc(), CALL, 4, 1)?;
-    assert_eq!(rt; lacking(rt.alloc(), &bytes), Some(1));
-    bytes.push(0)?;
-    assert_eq!(rt;
-        broken_rule(rt.alloc(), &bytes).ok_or("no rule")?,
-        FrameRule::Body
+    assert_eq!(rt; first_other_rule(rt.alloc(), &BROKEN)?, None);
+    assert!(rt;
+        breaks_body(rt.alloc())?
+            && rule_with_byte(rt.alloc(), OWNER, 79, 1)? == Some(FrameRule::Padding)
+            && rule_with_byte(rt.alloc(), NAMES, 23, 0)? == Some(FrameRule::Value)
     );
     Ok(())
 }
 
-/// The answer to the worked call, byte for byte.
+/// Whether the answer to the worked call is this, byte for byte.
+fn is_answered(alloc: Global) -> Result<bool, AllocError> {
+    let name = "org.freedesktop.DBus.Error.ServiceUnknown";
+    Ok(error_frame(alloc, true, name, 1, None)?.as_slice() == ANSWER)
+}
+
 #[test]
 fn answer(rt: HostRuntime) -> Result<(), Fail> {
-    let name = "org.freedesktop.DBus.Error.ServiceUnknown";
-    let bytes = error_frame(rt.alloc(), true, name, 1, None)?;
-    assert_eq!(rt; bytes.as_slice(), ANSWER);
     let bytes = error_frame(rt.alloc(), false, "a.b", 7, Some(":1.1"))?;
     let header = header_of(rt.alloc(), bytes.as_slice())?;
-    assert!(rt; !header.little);
-    assert_eq!(rt;
-        (header.kind, header.flags, header.serial),
-        (3, 1, 4_294_967_295)
+    assert!(rt;
+        is_answered(rt.alloc())?
+            && !header.little
+            && has_numbers(&header, 3, 1, 4_294_967_295, Some(7))
+            && has_names(&header, "-", "-", "-", "a.b")
+            && has_ends(&header, ":1.1", "org.freedesktop.DBus", "-")
     );
-    assert_eq!(rt; text_of(&header.error_name).ok_or("error name")?, "a.b");
-    assert_eq!(rt; text_of(&header.destination).ok_or("destination")?, ":1.1");
-    assert_eq!(rt;
-        text_of(&header.sender).ok_or("sender")?,
-        "org.freedesktop.DBus"
-    );
-    assert_eq!(rt; header.reply_serial, Some(7));
     Ok(())
 }
 
-/// The texts of bodies, where there are such.
+/// The text at the start of a message's body.
+fn first_of(alloc: Global, message: &[u8]) -> Result<Option<String>, Fail> {
+    let header = header_of(alloc, message)?;
+    match first_string(&header, message) {
+        Some(text) => Ok(Some(String::from_str(alloc, text)?)),
+        None => Ok(None),
+    }
+}
+
+/// Whether the body of a message is these three texts.
+fn has_three(alloc: Global, message: &[u8], wanted: (&str, &str, &str)) -> Result<bool, Fail> {
+    let header = header_of(alloc, message)?;
+    Ok(match three_strings(&header, message) {
+        Some((name, old, new)) => name == wanted.0 && old == wanted.1 && new == wanted.2,
+        None => false,
+    })
+}
+
+/// Whether the body of a message is three texts.
+fn is_three(alloc: Global, message: &[u8]) -> Result<bool, Fail> {
+    let header = header_of(alloc, message)?;
+    Ok(three_strings(&header, message).is_some())
+}
+
+/// Whether the body of a message is a list of names.
+fn is_list(alloc: Global, message: &[u8]) -> Result<bool, Fail> {
+    let header = header_of(alloc, message)?;
+    Ok(is_names(&header, message))
+}
+
+/// The texts of bodies, where there are such. Where the second length says one byte more, the first text is there alone.
 #[test]
 fn texts(rt: HostRuntime) -> Result<(), Fail> {
-    let header = header_of(rt.alloc(), OWNER)?;
-    assert_eq!(rt; first_string(&header, OWNER).ok_or("text")?, "a");
-    let (name, old, new) = three_strings(&header, OWNER).ok_or("texts")?;
-    assert_eq!(rt; name, "a");
-    assert_eq!(rt; old, "");
-    assert_eq!(rt; new, ":1.1");
-    assert!(rt; !is_names(&header, OWNER));
-    let header = header_of(rt.alloc(), CALL)?;
-    assert!(rt; first_string(&header, CALL).is_none());
-    assert!(rt; three_strings(&header, CALL).is_none());
-    // the second length says one byte more
-    let bytes = with_byte(rt.alloc(), OWNER, 88, 1)?;
-    let header = header_of(rt.alloc(), &bytes)?;
-    assert!(rt; first_string(&header, &bytes).is_some());
-    assert!(rt; three_strings(&header, &bytes).is_none());
+    let alloc = rt.alloc();
+    let changed = with_byte(alloc, OWNER, 88, 1)?;
+    assert!(rt;
+        first_of(alloc, OWNER)?.is_some_and(|text| text.as_str() == "a")
+            && has_three(alloc, OWNER, ("a", "", ":1.1"))?
+            && !is_list(alloc, OWNER)?
+    );
+    assert!(rt;
+        first_of(alloc, CALL)?.is_none()
+            && !is_three(alloc, CALL)?
+            && first_of(alloc, &changed)?.is_some()
+            && !is_three(alloc, &changed)?
+    );
     Ok(())
 }
 
@@ -237,12 +319,28 @@ fn renamed(alloc: Global, message: &[u8], name: Option<&str>) -> Result<Blob, Fa
     Ok(with_names(alloc, &header, message, &Items::from_vec(names))?)
 }
 
+/// A message with the names that it has, written anew.
+fn named_again(alloc: Global, message: &[u8]) -> Result<Blob, Fail> {
+    let ReadFrame::Frame(header, len) = read_frame(alloc, message)? else {
+        return Err(Fail::from("no message"));
+    };
+    if len != message.len() as u64 {
+        return Err(Fail::from("more than a message"));
+    }
+    let Some(names) = names_body(alloc, &header, message)? else {
+        return Err(Fail::from("no names"));
+    };
+    Ok(with_names(alloc, &header, message, &names)?)
+}
+
 #[test]
 fn other_names(rt: HostRuntime) -> Result<(), Fail> {
-    let fewer = renamed(rt.alloc(), NAMES, Some("org.bar"))?;
-    assert_eq!(rt; fewer.as_slice(), FEWER_NAMES);
-    let none = renamed(rt.alloc(), FEWER_NAMES, None)?;
-    assert_eq!(rt; none.as_slice(), NO_NAMES);
+    let alloc = rt.alloc();
+    assert!(rt;
+        renamed(alloc, NAMES, Some("org.bar"))?.as_slice() == FEWER_NAMES
+            && renamed(alloc, FEWER_NAMES, None)?.as_slice() == NO_NAMES
+            && named_again(alloc, NAMES)?.as_slice() == NAMES
+    );
     Ok(())
 }
 
@@ -260,13 +358,21 @@ fn joined_names(alloc: Global, message: &[u8]) -> Result<Option<String>, Fail> {
     Ok(Some(joined))
 }
 
+/// Whether the names of a message are these, joined by commas.
+fn has_joined(alloc: Global, message: &[u8], wanted: &str) -> Result<bool, Fail> {
+    Ok(match joined_names(alloc, message)? {
+        Some(names) => names.as_str() == wanted,
+        None => false,
+    })
+}
+
 #[test]
 fn names(rt: HostRuntime) -> Result<(), Fail> {
-    let names = joined_names(rt.alloc(), NAMES)?.ok_or("names")?;
-    assert_eq!(rt; names.as_str(), "org.bar,:1.1,");
-    let names = joined_names(rt.alloc(), NO_NAMES)?.ok_or("names")?;
-    assert_eq!(rt; names.as_str(), "");
-    assert!(rt; joined_names(rt.alloc(), OWNER)?.is_none());
+    assert!(rt;
+        has_joined(rt.alloc(), NAMES, "org.bar,:1.1,")?
+            && has_joined(rt.alloc(), NO_NAMES, "")?
+            && joined_names(rt.alloc(), OWNER)?.is_none()
+    );
     Ok(())
 }
 
@@ -288,19 +394,182 @@ const KINDS: [(&str, &str); 14] = [
     ("/a-b", "......"),
 ];
 
-#[test]
-fn kinds_of_names(rt: HostRuntime) {
-    for (name, kinds) in KINDS {
-        let bytes = name.as_bytes();
-        for (kind, is_that) in [
-            (b'i', is_interface_name(bytes)),
-            (b'm', is_member_name(bytes)),
-            (b'u', is_unique_name(bytes)),
-            (b'w', is_well_known_name(bytes)),
-            (b'b', is_bus_name(bytes)),
-            (b'p', is_object_path(bytes)),
-        ] {
-            assert_eq!(rt; kinds.as_bytes().contains(&kind), is_that, "{name}");
+/// The letters of what a name is: `.` in the place of each that it isn't.
+fn kinds_of(name: &[u8]) -> [u8; 6] {
+    let mark = |is_that: bool, letter: u8| if is_that { letter } else { b'.' };
+    [
+        mark(is_interface_name(name), b'i'),
+        mark(is_member_name(name), b'm'),
+        mark(is_unique_name(name), b'u'),
+        mark(is_well_known_name(name), b'w'),
+        mark(is_bus_name(name), b'b'),
+        mark(is_object_path(name), b'p'),
+    ]
+}
+
+/// The first of the names that is something else.
+fn first_other_kind<'a>(names: &'a [(&'a str, &'a str)]) -> Option<&'a str> {
+    for (name, kinds) in names {
+        if kinds_of(name.as_bytes()).as_slice() != kinds.as_bytes() {
+            return Some(*name);
         }
     }
+    None
+}
+
+#[test]
+fn kinds_of_names(rt: HostRuntime) {
+    assert_eq!(rt; first_other_kind(&KINDS), None);
+}
+
+/// A number of four bytes, the last first.
+fn put_number(out: &mut Vec<u8>, number: usize) -> Result<(), AllocError> {
+    let number = u32::try_from(number).unwrap_or(0);
+    out.extend_from_slice(&number.to_le_bytes())?;
+    Ok(())
+}
+
+/// Zeros up to a multiple of so many bytes.
+fn pad(out: &mut Vec<u8>, to: usize) -> Result<(), AllocError> {
+    for _ in 0..to {
+        if to == 0 || out.len() % to == 0 {
+            return Ok(());
+        }
+        out.push(0)?;
+    }
+    Ok(())
+}
+
+/// A text with its length and a zero byte.
+fn put_text(out: &mut Vec<u8>, text: &str) -> Result<(), AllocError> {
+    pad(out, 4)?;
+    put_number(out, text.len())?;
+    out.extend_from_slice(text.as_bytes())?;
+    out.push(0)?;
+    Ok(())
+}
+
+/// A field of a header that is a text.
+fn put_field(out: &mut Vec<u8>, code: u8, letter: u8, text: &str) -> Result<(), AllocError> {
+    pad(out, 8)?;
+    out.extend_from_slice(&[code, 1, letter, 0])?;
+    put_text(out, text)
+}
+
+/// The fields that a message of any type may have. The path and the signature are these.
+fn fields(alloc: Global, path: &str, signature: &str) -> Result<Vec<u8>, Fail> {
+    let mut out = Vec::new(alloc);
+    put_field(&mut out, 1, b'o', path)?;
+    put_field(&mut out, 2, b's', "a.b")?;
+    put_field(&mut out, 3, b's', "M")?;
+    put_field(&mut out, 4, b's', "a.b.Error")?;
+    put_field(&mut out, 6, b's', "org.bar")?;
+    put_field(&mut out, 7, b's', ":1.1")?;
+    pad(&mut out, 8)?;
+    out.extend_from_slice(&[5, 1, b'u', 0, 9, 0, 0, 0])?;
+    out.extend_from_slice(&[8, 1, b'g', 0])?;
+    out.push(u8::try_from(signature.len()).unwrap_or(0))?;
+    out.extend_from_slice(signature.as_bytes())?;
+    out.push(0)?;
+    Ok(out)
+}
+
+/// A message of this type with this body.
+pub fn message(
+    alloc: Global,
+    kind: u8,
+    path: &str,
+    signature: &str,
+    body: &[u8],
+) -> Result<Vec<u8>, Fail> {
+    let fields = fields(alloc, path, signature)?;
+    let mut out = Vec::new(alloc);
+    out.extend_from_slice(&[b'l', kind, 0, 1])?;
+    put_number(&mut out, body.len())?;
+    put_number(&mut out, 1)?;
+    put_number(&mut out, fields.len())?;
+    out.extend_from_slice(&fields)?;
+    pad(&mut out, 8)?;
+    out.extend_from_slice(body)?;
+    Ok(out)
+}
+
+/// A list of so many names, as a body.
+fn names_of(alloc: Global, count: usize) -> Result<Vec<u8>, Fail> {
+    let mut elements = Vec::new(alloc);
+    for number in 0..count {
+        let name = format!(in alloc; "org.bar.n{number}")?;
+        put_text(&mut elements, &name)?;
+    }
+    let mut out = Vec::new(alloc);
+    put_number(&mut out, elements.len())?;
+    out.extend_from_slice(&elements)?;
+    Ok(out)
+}
+
+/// The first type of 1 to 255 of which a message isn't read whole, with each of its fields.
+fn first_unread(alloc: Global) -> Result<Option<u8>, Fail> {
+    for kind in 1..=255u8 {
+        let bytes = message(alloc, kind, "/a", "s", b"\x01\0\0\0t\0")?;
+        let header = header_of(alloc, &bytes)?;
+        if !has_numbers(&header, kind, 0, 1, Some(9))
+            || !has_names(&header, "/a", "a.b", "M", "a.b.Error")
+            || !has_ends(&header, "org.bar", ":1.1", "s")
+            || first_string(&header, &bytes) != Some("t")
+        {
+            return Ok(Some(kind));
+        }
+    }
+    Ok(None)
+}
+
+/// Whether a message whose path and body have 100 KiB and a mebibyte is read.
+fn long_is_read(alloc: Global) -> Result<bool, Fail> {
+    let mut path = String::from_str(alloc, "/")?;
+    path.push_str(&"p".repeat(alloc, 100 << 10)?)?;
+    let mut body = Vec::new(alloc);
+    put_text(&mut body, &"t".repeat(alloc, 1 << 20)?)?;
+    let bytes = message(alloc, 1, &path, "s", &body)?;
+    let header = header_of(alloc, &bytes)?;
+    Ok(
+        text_of(&header.path).len() == (100 << 10) + 1
+            && first_string(&header, &bytes).is_some_and(|text| text.len() == 1 << 20),
+    )
+}
+
+/// Whether 1,100 names are read, and written again as they were.
+fn many_are_renamed(alloc: Global) -> Result<bool, Fail> {
+    let bytes = message(alloc, 2, "/a", "as", &names_of(alloc, 1_100)?)?;
+    let header = header_of(alloc, &bytes)?;
+    let count = match names_body(alloc, &header, &bytes)? {
+        Some(names) => names.as_slice().len(),
+        None => 0,
+    };
+    Ok(count == 1_100 && named_again(alloc, &bytes)?.as_slice() == bytes.as_slice())
+}
+
+/// Whether the answer with the longest names is read.
+fn longest_is_answered(alloc: Global) -> Result<bool, Fail> {
+    let mut name = String::from_str(alloc, "a.")?;
+    name.push_str(&"b".repeat(alloc, 253)?)?;
+    if name.len() > 255 {
+        return Ok(false);
+    }
+    let bytes = error_frame(alloc, true, &name, 1, Some(&name))?;
+    let header = header_of(alloc, bytes.as_slice())?;
+    Ok(
+        text_of(&header.error_name) == name.as_str()
+            && text_of(&header.destination) == name.as_str(),
+    )
+}
+
+#[test]
+fn each_type_and_long_messages(rt: HostRuntime) -> Result<(), Fail> {
+    assert_eq!(rt; first_unread(rt.alloc())?, None);
+    assert!(rt;
+        long_is_read(rt.alloc())?
+            && many_are_renamed(rt.alloc())?
+            && longest_is_answered(rt.alloc())?
+    );
+    Ok(())
 }

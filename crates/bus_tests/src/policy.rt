@@ -1,7 +1,7 @@
 //! Worked policies: levels of names, and what becomes of messages one after another.
 
-use super::*;
 use bus_frame::{Header, Items, Side, Text};
+use bus_policy::{Level, Policy, PolicyError, RuleKind, Verdict, Watch};
 use std::alloc::{AllocError, Global};
 use std::test::Fail;
 
@@ -13,6 +13,7 @@ fn some_text(alloc: Global, text: &str) -> Result<Option<Text>, AllocError> {
 }
 
 /// A message, and what becomes of it. Empty texts and a reply serial of 0 aren't there.
+#[derive(Drop)]
 struct Step {
     side: Side,
     kind: u8,
@@ -92,8 +93,8 @@ const LEVELS: [(&str, Level); 4] = [
 
 fn policy(alloc: Global) -> Result<Policy, Fail> {
     let mut policy = Policy::new(alloc);
-    for (pattern, level) in LEVELS {
-        policy.add(alloc, pattern, level)?;
+    for (pattern, level) in &LEVELS {
+        policy.add(alloc, pattern, *level)?;
     }
     policy.add_rule(alloc, RuleKind::Call, "org.ruled.*", "a.b.C@/x/*")?;
     policy.add_rule(alloc, RuleKind::Broadcast, "org.cast", "a.b.*")?;
@@ -133,30 +134,50 @@ const NAMES: [(&str, Level); 14] = [
     (":1.8", Level::None),
 ];
 
+/// The first of the names that is at another level.
+fn first_other_level<'a>(watch: &Watch, names: &'a [(&'a str, Level)]) -> Option<&'a str> {
+    for (name, level) in names {
+        if watch.level(name) != *level {
+            return Some(*name);
+        }
+    }
+    None
+}
+
 #[test]
 fn levels(rt: HostRuntime) -> Result<(), Fail> {
     let watch = watch(rt.alloc())?;
-    for (name, level) in NAMES {
-        assert_eq!(rt; watch.level(name), level, "{name}");
-    }
+    assert_eq!(rt; first_other_level(&watch, &NAMES), None);
     Ok(())
 }
 
-/// Patterns and rules that are none.
+/// Patterns that are none, and rules that are none for a name.
+const BAD_PATTERNS: [&str; 8] = ["", "org", ":1.2", "org.*.b", "*", ".*", "org.**", "o-g..b"];
+
+/// Whether nothing is added at this pattern with this rule.
+fn is_bad(policy: &mut Policy, alloc: Global, pattern: &str, rule: &str) -> bool {
+    let added = policy.add_rule(alloc, RuleKind::Call, pattern, rule);
+    added.err() == Some(PolicyError::Bad)
+}
+
+/// The first of the patterns that is one.
+fn first_good<'a>(policy: &mut Policy, alloc: Global, patterns: &'a [&'a str]) -> Option<&'a str> {
+    for pattern in patterns {
+        let added = policy.add(alloc, pattern, Level::Own);
+        if added.err() != Some(PolicyError::Bad) || !is_bad(policy, alloc, pattern, "*") {
+            return Some(*pattern);
+        }
+    }
+    None
+}
+
 #[test]
 fn bad_rules(rt: HostRuntime) -> Result<(), Fail> {
     let mut policy = policy(rt.alloc())?;
-    for pattern in ["", "org", ":1.2", "org.*.b", "*", ".*", "org.**", "o-g..b"] {
-        let added = policy.add(rt.alloc(), pattern, Level::Own);
-        assert_eq!(rt; added.err().ok_or("no error")?, PolicyError::Bad);
-        let added = policy.add_rule(rt.alloc(), RuleKind::Call, pattern, "*");
-        assert_eq!(rt; added.err().ok_or("no error")?, PolicyError::Bad);
-    }
-    let added = policy.add_rule(rt.alloc(), RuleKind::Call, "org.*", "a.b");
-    assert_eq!(rt; added.err().ok_or("no error")?, PolicyError::Bad);
-    assert_eq!(rt; policy.rules().len(), 6);
+    assert_eq!(rt; first_good(&mut policy, rt.alloc(), &BAD_PATTERNS), None);
+    assert!(rt; is_bad(&mut policy, rt.alloc(), "org.*", "a.b") && policy.rules().len() == 6);
     policy.add(rt.alloc(), "org.*", Level::See)?;
-    assert_eq!(rt; policy.rules().len(), 7);
+    assert!(rt; policy.rules().len() == 7);
     Ok(())
 }
 
@@ -672,37 +693,84 @@ const SIGNALS: [Step; 17] = [
     },
 ];
 
-#[test]
-fn calls(rt: HostRuntime) -> Result<(), Fail> {
-    let mut watch = watch(rt.alloc())?;
-    assert_eq!(rt; count_steps(rt.alloc(), &mut watch, &CALLS)?, 13);
-    Ok(())
+/// How many steps go as they are to, from the opening on.
+fn count(alloc: Global, steps: &[Step]) -> Result<usize, Fail> {
+    count_steps(alloc, &mut watch(alloc)?, steps)
 }
 
 #[test]
-fn calls_of_the_bus(rt: HostRuntime) -> Result<(), Fail> {
-    let mut watch = watch(rt.alloc())?;
-    assert_eq!(rt; count_steps(rt.alloc(), &mut watch, &DRIVER_CALLS)?, 16);
+fn verdicts(rt: HostRuntime) -> Result<(), Fail> {
+    assert!(rt;
+        count(rt.alloc(), &CALLS)? == 13
+            && count(rt.alloc(), &DRIVER_CALLS)? == 16
+            && count(rt.alloc(), &REPLIES)? == 12
+            && count(rt.alloc(), &PEER_CALLS)? == 8
+            && count(rt.alloc(), &SIGNALS)? == 17
+    );
     Ok(())
 }
 
-#[test]
-fn replies(rt: HostRuntime) -> Result<(), Fail> {
-    let mut watch = watch(rt.alloc())?;
-    assert_eq!(rt; count_steps(rt.alloc(), &mut watch, &REPLIES)?, 12);
-    Ok(())
+/// A policy of so many rules, and as many for calls.
+fn long_policy(alloc: Global, count: usize) -> Result<Policy, Fail> {
+    let mut policy = Policy::new(alloc);
+    for number in 0..count {
+        let pattern = format!(in alloc; "org.n{number}.*")?;
+        policy.add(alloc, &pattern, Level::Talk)?;
+        policy.add_rule(alloc, RuleKind::Call, &pattern, "a.b.C@/x/*")?;
+    }
+    Ok(policy)
+}
+
+/// So many names, each with an owner of its own.
+fn many_owners(alloc: Global, count: usize) -> Result<Items<(Text, Text)>, Fail> {
+    let mut owners = Vec::new(alloc);
+    for number in 0..count {
+        let name = Text::from_string(format!(in alloc; "org.n{number}.a")?);
+        let owner = Text::from_string(format!(in alloc; ":2.{number}")?);
+        owners.push((name, owner))?;
+    }
+    Ok(Items::from_vec(owners))
+}
+
+/// Notes so many calls of the client, and whether each was forwarded.
+fn notes_many(alloc: Global, watch: &mut Watch, count: u32) -> Result<bool, Fail> {
+    for number in 0..count {
+        let serial = number.saturating_add(1);
+        let step = Step {
+            destination: "org.n1.a",
+            serial,
+            ..STEP
+        };
+        let header = header(alloc, &step)?;
+        let verdict = watch.verdict(Side::Client, &header, b"");
+        watch.note(Side::Client, &header, b"", verdict)?;
+        if verdict != Verdict::Forward {
+            return Ok(false);
+        }
+    }
+    Ok(true)
+}
+
+/// Whether a watch of so many rules and owners notes 1,100 calls, and forwards the reply to the last.
+fn watches(alloc: Global, rules: usize, owners: usize) -> Result<bool, Fail> {
+    let policy = long_policy(alloc, rules)?;
+    let owners = many_owners(alloc, owners)?;
+    let mut watch = Watch::new(alloc, policy, Some(":1.1"), &owners)?;
+    let forwards = notes_many(alloc, &mut watch, 1_100)?;
+    let reply = Step {
+        side: Side::Bus,
+        kind: 2,
+        reply: 1_100,
+        sender: ":2.1",
+        destination: ":1.1",
+        ..STEP
+    };
+    let steps = [reply];
+    Ok(forwards && count_steps(alloc, &mut watch, &steps)? == 1)
 }
 
 #[test]
-fn calls_of_peers(rt: HostRuntime) -> Result<(), Fail> {
-    let mut watch = watch(rt.alloc())?;
-    assert_eq!(rt; count_steps(rt.alloc(), &mut watch, &PEER_CALLS)?, 8);
-    Ok(())
-}
-
-#[test]
-fn signals(rt: HostRuntime) -> Result<(), Fail> {
-    let mut watch = watch(rt.alloc())?;
-    assert_eq!(rt; count_steps(rt.alloc(), &mut watch, &SIGNALS)?, 17);
+fn much(rt: HostRuntime) -> Result<(), Fail> {
+    assert!(rt; watches(rt.alloc(), 550, 2)? && watches(rt.alloc(), 2, 1_100)?);
     Ok(())
 }

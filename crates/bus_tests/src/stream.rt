@@ -1,12 +1,10 @@
 //! What no contract says: messages of the real bus, and worked streams and recordings.
 
-mod captured;
-
-use super::*;
-use bus_frame::{FrameError, FrameRule, Header, ReadFrame, Text, read_frame};
-use captured::{CAPTURED, CASES, CHANGED, DIFFERENT, PING};
+use crate::captured::{CAPTURED, CASES, CHANGED, DIFFERENT, PING};
+use crate::frame::message;
+use bus_frame::{FrameError, FrameRule, Header, ReadFrame, Side, Text, read_frame};
+use bus_stream::{Cut, Cutter, RecordError, Recording, read_recording};
 use std::alloc::{AllocError, Global};
-use std::process::Abort;
 use std::test::Fail;
 
 fn word(text: &Option<Text>) -> &str {
@@ -51,15 +49,22 @@ fn header_line(alloc: Global, bytes: &[u8]) -> Result<String, Fail> {
     }
 }
 
+/// The first of the lines whose message is read otherwise.
+fn first_other_line<'a>(alloc: Global, table: &'a str) -> Result<Option<&'a str>, Fail> {
+    for line in table.lines() {
+        let (digits, wanted) = line.split_once(' ').ok_or("line")?;
+        let message = hex::decode(alloc, digits)?;
+        if header_line(alloc, &message)?.as_str() != wanted {
+            return Ok(Some(line));
+        }
+    }
+    Ok(None)
+}
+
 /// Real messages read as the libraries of GDBus and libdbus read them.
 #[test]
 fn real_messages(rt: HostRuntime) -> Result<(), Fail> {
-    for line in CAPTURED.lines() {
-        let (digits, wanted) = line.split_once(' ').ok_or("line")?;
-        let message = hex::decode(rt.alloc(), digits)?;
-        let found = header_line(rt.alloc(), &message)?;
-        assert_eq!(rt; found.as_str(), wanted);
-    }
+    assert_eq!(rt; first_other_line(rt.alloc(), CAPTURED)?, None);
     Ok(())
 }
 
@@ -81,7 +86,7 @@ fn verdict(alloc: Global, bytes: &[u8]) -> Result<u8, Fail> {
     Ok(b'.')
 }
 
-/// A message with one byte changed, and more behind it.
+/// A message with one byte changed, and more after it.
 fn with_change(
     alloc: Global,
     message: &[u8],
@@ -150,15 +155,22 @@ fn count_changes(alloc: Global, message: &[u8], marks: &str) -> Result<usize, Fa
     Ok(agreed)
 }
 
+/// The first of the lines of which a change is taken otherwise.
+fn first_other_change<'a>(alloc: Global, table: &'a str) -> Result<Option<&'a str>, Fail> {
+    for line in table.lines() {
+        let (digits, marks) = line.split_once(' ').ok_or("line")?;
+        let message = hex::decode(alloc, digits)?;
+        if count_changes(alloc, &message, marks)? != marks.len() {
+            return Ok(Some(line));
+        }
+    }
+    Ok(None)
+}
+
 /// So it is with each byte changed.
 #[test]
 fn changed_bytes(rt: HostRuntime) -> Result<(), Fail> {
-    for line in CHANGED.lines() {
-        let (digits, marks) = line.split_once(' ').ok_or("line")?;
-        let message = hex::decode(rt.alloc(), digits)?;
-        let agreed = count_changes(rt.alloc(), &message, marks)?;
-        assert_eq!(rt; agreed, marks.len(), "{digits}");
-    }
+    assert_eq!(rt; first_other_change(rt.alloc(), CHANGED)?, None);
     Ok(())
 }
 
@@ -182,19 +194,35 @@ fn reads_changed(alloc: Global, message: &[u8], at: usize) -> Result<(), Fail> {
     Ok(())
 }
 
+/// The first place where a message that ends there lacks other bytes.
+fn first_other_end(alloc: Global, message: &[u8]) -> Result<Option<usize>, Fail> {
+    let total = message.len();
+    for at in 0..total {
+        let goal = if at < 16 { 16 } else { total };
+        if lacking(alloc, &message[..at])? != goal.saturating_sub(at) as u64 {
+            return Ok(Some(at));
+        }
+        reads_changed(alloc, message, at)?;
+    }
+    Ok(None)
+}
+
+/// The first of the lines whose message lacks other bytes somewhere.
+fn first_cut_otherwise<'a>(alloc: Global, table: &'a str) -> Result<Option<&'a str>, Fail> {
+    for line in table.lines() {
+        let (digits, _) = line.split_once(' ').ok_or("line")?;
+        let message = hex::decode(alloc, digits)?;
+        if first_other_end(alloc, &message)?.is_some() {
+            return Ok(Some(line));
+        }
+    }
+    Ok(None)
+}
+
 /// Real messages that end too early, and with each byte changed.
 #[test]
 fn hostile_messages(rt: HostRuntime) -> Result<(), Fail> {
-    for line in CAPTURED.lines() {
-        let (digits, _) = line.split_once(' ').ok_or("line")?;
-        let message = hex::decode(rt.alloc(), digits)?;
-        let total = message.len();
-        for at in 0..total {
-            let goal = if at < 16 { 16 } else { total };
-            assert_eq!(rt; lacking(rt.alloc(), &message[..at])?, (goal - at) as u64);
-            reads_changed(rt.alloc(), &message, at)?;
-        }
-    }
+    assert_eq!(rt; first_cut_otherwise(rt.alloc(), CAPTURED)?, None);
     Ok(())
 }
 
@@ -203,21 +231,60 @@ const CALL: &str =
     "6c01000100000000010000003000000001016f00020000002f6100000000000003017300010000004d000000000000000601730007000000\
 6f72672e62617200";
 
+/// Whether the next message is there, and these are its bytes.
+fn comes(cutter: &mut Cutter, wanted: &[u8]) -> Result<bool, Fail> {
+    Ok(match cutter.next()? {
+        Cut::Message(_, bytes) => bytes.as_slice() == wanted,
+        Cut::NotYet => false,
+    })
+}
+
+/// The first byte after which the message is there or isn't, other than it should.
+fn first_early(cutter: &mut Cutter, message: &[u8]) -> Result<Option<usize>, Fail> {
+    for (i, byte) in message.iter().enumerate() {
+        cutter.feed(&[*byte])?;
+        if cutter.pending() != (i as u64).saturating_add(1)
+            || comes(cutter, message)? != (i == 63)
+        {
+            return Ok(Some(i));
+        }
+    }
+    Ok(None)
+}
+
 /// A message that comes byte by byte is there with its last byte.
 #[test]
 fn byte_by_byte(rt: HostRuntime) -> Result<(), Fail> {
     let message = hex::decode(rt.alloc(), CALL)?;
     let mut cutter = Cutter::new(rt.alloc())?;
-    for (i, byte) in message.iter().enumerate() {
-        cutter.feed(&[*byte])?;
-        assert_eq!(rt; cutter.pending(), i as u64 + 1);
-        let is_there = match cutter.next()? {
-            Cut::Message(_, bytes) => bytes.as_slice() == message.as_slice(),
-            Cut::NotYet => false,
-        };
-        assert_eq!(rt; is_there, i == 63);
+    assert_eq!(rt; first_early(&mut cutter, &message)?, None);
+    assert!(rt; cutter.pending() == 0);
+    Ok(())
+}
+
+/// How many messages come of so many at once.
+fn count_cut(alloc: Global, message: &[u8], count: usize) -> Result<usize, Fail> {
+    let mut cutter = Cutter::new(alloc)?;
+    let mut bytes = Vec::new(alloc);
+    for _ in 0..count {
+        bytes.extend_from_slice(message)?;
     }
-    assert_eq!(rt; cutter.pending(), 0);
+    cutter.feed(&bytes)?;
+    for at in 0..count {
+        if !comes(&mut cutter, message)? {
+            return Ok(at);
+        }
+    }
+    Ok(if cutter.pending() == 0 { count } else { 0 })
+}
+
+/// A message of a mebibyte comes, and 1,100 messages at once.
+#[test]
+fn long_streams(rt: HostRuntime) -> Result<(), Fail> {
+    let alloc = rt.alloc();
+    let long = message(alloc, 1, "/a", "ay", &vec![in alloc; 0u8; 1 << 20]?)?;
+    assert!(rt; count_cut(alloc, &long, 1)? == 1);
+    assert!(rt; count_cut(alloc, &hex::decode(alloc, CALL)?, 1_100)? == 1_100);
     Ok(())
 }
 
@@ -258,34 +325,82 @@ fn first_bad_line(alloc: Global, text: &str) -> Result<u64, Fail> {
     }
 }
 
+/// The first of the recordings with another bad line.
+fn first_other_bad<'a>(alloc: Global, rows: &'a [(&'a str, u64)]) -> Result<Option<&'a str>, Fail> {
+    for (text, line) in rows {
+        if first_bad_line(alloc, text)? != *line {
+            return Ok(Some(*text));
+        }
+    }
+    Ok(None)
+}
+
+/// What a recording holds, in one line.
+fn told(alloc: Global, recording: &Recording) -> Result<String, AllocError> {
+    let mut text = String::from_str(alloc, word(&recording.client))?;
+    for (name, owner) in recording.owners.as_slice() {
+        text.push(' ')?;
+        text.push_str(name.as_str())?;
+        text.push('=')?;
+        text.push_str(owner.as_str())?;
+    }
+    for (side, piece) in recording.pieces.as_slice() {
+        text.push_str(if *side == Side::Client { " c" } else { " b" })?;
+        text.push_str(&hex::encode(alloc, piece.as_slice())?)?;
+    }
+    Ok(text)
+}
+
+/// The recording of a text.
+fn recording_of(alloc: Global, text: &str) -> Result<Recording, Fail> {
+    match read_recording(alloc, text.as_bytes()) {
+        Ok(recording) => Ok(recording),
+        Err(_) => Err(Fail::from("no recording")),
+    }
+}
+
 #[test]
 fn recordings(rt: HostRuntime) -> Result<(), Fail> {
-    for (text, wanted) in RECORDINGS {
-        assert_eq!(rt; first_bad_line(rt.alloc(), text)?, wanted, "{text}");
-    }
+    let alloc = rt.alloc();
+    assert_eq!(rt; first_other_bad(alloc, &RECORDINGS)?, None);
+    let text = "client :1.7\nowner org.a :1.1\nc 006c\nb ff\n";
+    assert_eq!(rt;
+        told(alloc, &recording_of(alloc, text)?)?.as_str(),
+        ":1.7 org.a=:1.1 c006c bff"
+    );
     Ok(())
 }
 
-/// What a recording holds.
-#[test]
-fn a_recording(rt: HostRuntime) -> Result<(), Fail> {
-    let text = "client :1.7\nowner org.a :1.1\nc 006c\nb ff\n";
-    let Ok(recording) = read_recording(rt.alloc(), text.as_bytes()) else {
-        return Err(Fail::from("no recording"));
-    };
-    assert_eq!(rt; word(&recording.client), ":1.7");
-    let owners = recording.owners.as_slice();
-    let (name, owner) = owners.first().ok_or("owner")?;
-    assert_eq!(rt; owners.len(), 1);
-    assert_eq!(rt; name.as_str(), "org.a");
-    assert_eq!(rt; owner.as_str(), ":1.1");
+/// A recording of so many owners and so many pieces, and a piece of a mebibyte.
+fn long_recording(alloc: Global, count: usize) -> Result<String, AllocError> {
+    let mut text = String::new(alloc);
+    for number in 0..count {
+        let line = format!(in alloc; "owner org.n{number} :1.{number}\n")?;
+        text.push_str(&line)?;
+    }
+    for _ in 0..count {
+        text.push_str("c 00\n")?;
+    }
+    text.push_str("b ")?;
+    text.push_str(&"00".repeat(alloc, 1 << 20)?)?;
+    text.push('\n')?;
+    Ok(text)
+}
+
+/// How many owners and pieces it has, and how long the last is.
+fn counted(recording: &Recording) -> (usize, usize, usize) {
     let pieces = recording.pieces.as_slice();
-    let (side, piece) = pieces.first().ok_or("piece")?;
-    assert_eq!(rt; pieces.len(), 2);
-    assert_eq!(rt; *side, Side::Client);
-    assert_eq!(rt; piece.as_slice(), [0, 0x6c].as_slice());
-    let (side, piece) = pieces.last().ok_or("piece")?;
-    assert_eq!(rt; *side, Side::Bus);
-    assert_eq!(rt; piece.as_slice(), [0xff].as_slice());
+    let last = match pieces.last() {
+        Some((_, piece)) => piece.as_slice().len(),
+        None => 0,
+    };
+    (recording.owners.as_slice().len(), pieces.len(), last)
+}
+
+#[test]
+fn long_recordings(rt: HostRuntime) -> Result<(), Fail> {
+    let text = long_recording(rt.alloc(), 1_100)?;
+    let recording = recording_of(rt.alloc(), &text)?;
+    assert!(rt; counted(&recording) == (1_100, 1_101, 1 << 20));
     Ok(())
 }
