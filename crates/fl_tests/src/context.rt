@@ -1,25 +1,11 @@
 //! Layers with what they grant, worked out by hand.
 
-use super::*;
-use fl_meta::{Layer, Mention, PermList, Permission, Source, Value, mentions_of};
+use crate::meta::value_word;
+use fl_context::{Grants, fold, is_granted};
+use fl_meta::{Layer, Mention, PermList, Permission, Source, mentions_of};
 use fp_keyfile::{KeyError, KeyFile};
 use std::alloc::{AllocError, Global};
-
-/// The name of a value in these tables.
-fn value_word(value: &Value) -> &str {
-    match value {
-        Value::Off => "off",
-        Value::On => "on",
-        Value::Ro => "ro",
-        Value::Rw => "rw",
-        Value::Create => "create",
-        Value::Text(text) => text.as_str(),
-        Value::NoBus => "none",
-        Value::See => "see",
-        Value::Talk => "talk",
-        Value::Own => "own",
-    }
-}
+use std::test::Fail;
 
 /// Adds `NAME=VALUE`, a `+` where it is granted, and a space.
 fn push_mention(out: &mut String, mention: &Mention) -> Result<(), AllocError> {
@@ -126,11 +112,6 @@ fn first_other<'a>(
     Ok(None)
 }
 
-#[test]
-fn layers(rt: HostRuntime) {
-    assert_eq!(rt; first_other(rt.alloc(), &LAYERS), Ok(None));
-}
-
 /// Whether the layers of a text give a permission this value.
 fn gives(
     alloc: Global,
@@ -173,11 +154,6 @@ fn first_other_value<'a>(
     Ok(None)
 }
 
-#[test]
-fn values(rt: HostRuntime) {
-    assert_eq!(rt; first_other_value(rt.alloc(), &VALUES), Ok(None));
-}
-
 /// How many permissions the grants of a text have, as they go through a layer.
 fn count(alloc: Global, text: &str) -> Result<usize, KeyError> {
     let layer = layer_of(alloc, text)?;
@@ -186,6 +162,43 @@ fn count(alloc: Global, text: &str) -> Result<usize, KeyError> {
 }
 
 #[test]
-fn counts(rt: HostRuntime) {
-    assert!(rt; count(rt.alloc(), LAYER) == Ok(3));
+fn layers(rt: HostRuntime) -> Result<(), Fail> {
+    assert_eq!(rt; first_other(rt.alloc(), &LAYERS)?, None);
+    assert_eq!(rt; first_other_value(rt.alloc(), &VALUES)?, None);
+    assert!(rt; count(rt.alloc(), LAYER)? == 3);
+    Ok(())
+}
+
+/// An override with so many variables, whose values are this.
+pub fn many_variables(alloc: Global, count: usize, value: &str) -> Result<String, AllocError> {
+    let mut text = String::from_str(alloc, "[Environment]\n")?;
+    for number in 0..count {
+        let line = format!(in alloc; "V{number:04}={value}\n")?;
+        text.push_str(&line)?;
+    }
+    Ok(text)
+}
+
+/// How many permissions twenty layers of so many grant, and how many of them have the last layer's value.
+fn folded(alloc: Global, count: usize) -> Result<(usize, usize), KeyError> {
+    let first = layer_of(alloc, &many_variables(alloc, count, "1")?)?;
+    let last = layer_of(alloc, &many_variables(alloc, count, "2")?)?;
+    let layers = [
+        &first, &first, &first, &first, &first, &first, &first, &first, &first, &first, &first,
+        &first, &first, &first, &first, &first, &first, &first, &first, &last,
+    ];
+    let grants = fold(alloc, &layers)?;
+    let mut right = 0usize;
+    for mention in grants.as_slice() {
+        if value_word(&mention.value) == "2" {
+            right = right.saturating_add(1);
+        }
+    }
+    Ok((grants.as_slice().len(), right))
+}
+
+#[test]
+fn many_layers(rt: HostRuntime) -> Result<(), Fail> {
+    assert!(rt; folded(rt.alloc(), 300)? == (300, 300));
+    Ok(())
 }

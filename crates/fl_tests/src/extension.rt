@@ -1,6 +1,6 @@
 //! Metadata files with the points that they have, worked out from the rules by hand.
 
-use super::*;
+use fl_extension::{Point, found, points};
 use fp_host::Items;
 use fp_keyfile::KeyFile;
 use fp_name::{Digest, RefName, RemoteName};
@@ -98,12 +98,17 @@ const POINTS: [(&str, &str); 19] = [
     ),
 ];
 
-#[test]
-fn points_of_metadata(rt: HostRuntime) -> Result<(), Fail> {
-    for (text, want) in POINTS {
-        assert_eq!(rt; shown(rt.alloc(), text, OF)?.as_str(), want);
+/// The first of the files that has other points.
+fn first_other_points<'a>(
+    alloc: Global,
+    files: &'a [(&'a str, &'a str)],
+) -> Result<Option<&'a str>, Fail> {
+    for (text, want) in files {
+        if shown(alloc, text, OF)?.as_str() != *want {
+            return Ok(Some(*text));
+        }
     }
-    Ok(())
+    Ok(None)
 }
 
 /// Texts of the key `directory`, and whether a group with each is a point.
@@ -137,18 +142,18 @@ const DIRECTORIES: [(&str, bool); 25] = [
     ("\u{1}", false),
 ];
 
-#[test]
-fn directories(rt: HostRuntime) -> Result<(), Fail> {
-    let alloc = rt.alloc();
-    for (directory, is_point) in DIRECTORIES {
+/// The first of the directories that is otherwise.
+fn first_other_directory<'a>(
+    alloc: Global,
+    rows: &'a [(&'a str, bool)],
+) -> Result<Option<&'a str>, Fail> {
+    for (directory, is_point) in rows {
         let text = format!(in alloc; "[Extension org.x.E]\ndirectory={directory}\n")?;
-        assert_eq!(rt;
-            !shown(alloc, &text, OF)?.is_empty(),
-            is_point,
-            "{directory:?}"
-        );
+        if shown(alloc, &text, OF)?.is_empty() == *is_point {
+            return Ok(Some(*directory));
+        }
     }
-    Ok(())
+    Ok(None)
 }
 
 /// Keys of a point's group, and its candidates for an application of the branch `stable`.
@@ -189,29 +194,35 @@ const CANDIDATES: [(&str, &str); 17] = [
     ),
 ];
 
-#[test]
-fn candidates(rt: HostRuntime) -> Result<(), Fail> {
-    let alloc = rt.alloc();
-    for (keys, want) in CANDIDATES {
+/// The first of the keys with other candidates.
+fn first_other_candidates<'a>(
+    alloc: Global,
+    rows: &'a [(&'a str, &'a str)],
+) -> Result<Option<&'a str>, Fail> {
+    for (keys, want) in rows {
         let text = format!(in alloc; "[Extension org.x.E]\ndirectory=e\n{keys}\n")?;
         let want = format!(in alloc; "org.x.E e auto: {want}|")?;
-        assert_eq!(rt;
-            shown(alloc, &text, OF)?.as_str(),
-            want.as_str(),
-            "{keys:?}"
-        );
+        if shown(alloc, &text, OF)?.as_str() != want.as_str() {
+            return Ok(Some(*keys));
+        }
     }
-    Ok(())
+    Ok(None)
+}
+
+/// Whether a runtime's branch is that of its extensions.
+fn has_branch_of_runtime(alloc: Global) -> Result<bool, Fail> {
+    let text = "[Runtime]\nname=org.x.Platform\n[Extension org.x.Platform.GL]\ndirectory=lib/GL\n";
+    let told = shown(alloc, text, "runtime/org.x.Platform/aarch64/1")?;
+    Ok(told.as_str() == "org.x.Platform.GL lib/GL auto: runtime/org.x.Platform.GL/aarch64/1 |")
 }
 
 #[test]
-fn candidates_of_a_runtime(rt: HostRuntime) -> Result<(), Fail> {
-    let text = "[Runtime]\nname=org.x.Platform\n[Extension org.x.Platform.GL]\ndirectory=lib/GL\n";
-    let told = shown(rt.alloc(), text, "runtime/org.x.Platform/aarch64/1")?;
-    assert_eq!(rt;
-        told.as_str(),
-        "org.x.Platform.GL lib/GL auto: runtime/org.x.Platform.GL/aarch64/1 |"
-    );
+fn points_of_metadata(rt: HostRuntime) -> Result<(), Fail> {
+    let alloc = rt.alloc();
+    assert_eq!(rt; first_other_points(alloc, &POINTS)?, None);
+    assert_eq!(rt; first_other_directory(alloc, &DIRECTORIES)?, None);
+    assert_eq!(rt; first_other_candidates(alloc, &CANDIDATES)?, None);
+    assert!(rt; has_branch_of_runtime(alloc)?);
     Ok(())
 }
 
@@ -279,17 +290,66 @@ fn place_found(alloc: Global, text: &str, state: &State) -> Result<Option<usize>
     }
 }
 
-#[test]
-fn found_candidates(rt: HostRuntime) -> Result<(), Fail> {
-    let alloc = rt.alloc();
-    for (versions, refs, want) in FOUND {
+/// The place of the first row in which another candidate is found.
+fn first_other_found(
+    alloc: Global,
+    rows: &[(&str, &str, Option<usize>)],
+) -> Result<Option<usize>, Fail> {
+    for (at, (versions, refs, want)) in rows.iter().enumerate() {
         let text = format!(in alloc; "[Extension org.x.E]\ndirectory=e\nversions={versions}\n")?;
         let state = state_of(alloc, refs)?;
-        assert_eq!(rt;
-            place_found(alloc, &text, &state)?,
-            want,
-            "{versions} {refs}"
-        );
+        if place_found(alloc, &text, &state)? != *want {
+            return Ok(Some(at));
+        }
     }
+    Ok(None)
+}
+
+/// So many versions, with a semicolon after each.
+fn many_versions(alloc: Global, count: usize) -> Result<String, AllocError> {
+    let mut text = String::new(alloc);
+    for number in 0..count {
+        let version = format!(in alloc; "v{number};")?;
+        text.push_str(&version)?;
+    }
+    Ok(text)
+}
+
+/// So many refs with a space after each, of which the last is a candidate.
+fn many_refs(alloc: Global, count: usize) -> Result<String, AllocError> {
+    let mut text = String::new(alloc);
+    for number in 0..count {
+        let name = format!(in alloc; "runtime/org.x.D{number}/x86_64/1 ")?;
+        text.push_str(&name)?;
+    }
+    text.push_str("runtime/org.x.E/x86_64/v299")?;
+    Ok(text)
+}
+
+/// The place that is found among 300 candidates in a state of 1,101 refs.
+fn found_among_many(alloc: Global) -> Result<Option<usize>, Fail> {
+    let versions = many_versions(alloc, 300)?;
+    let text = format!(in alloc; "[Extension org.x.E]\ndirectory=e\nversions={versions}\n")?;
+    place_found(alloc, &text, &state_of(alloc, &many_refs(alloc, 1_100)?)?)
+}
+
+/// How many points the metadata of so many has.
+fn count_points(alloc: Global, count: usize) -> Result<usize, Fail> {
+    let mut text = String::new(alloc);
+    for number in 0..count {
+        let group = format!(in alloc; "[Extension org.x.E{number}]\ndirectory=e\n")?;
+        text.push_str(&group)?;
+    }
+    let file = KeyFile::parse(alloc, text.as_bytes())?;
+    let of = RefName::parse(alloc, OF.as_bytes())?;
+    Ok(points(alloc, &file, &of)?.as_slice().len())
+}
+
+#[test]
+fn found_candidates(rt: HostRuntime) -> Result<(), Fail> {
+    assert_eq!(rt; first_other_found(rt.alloc(), &FOUND)?, None);
+    assert!(rt;
+        found_among_many(rt.alloc())? == Some(299) && count_points(rt.alloc(), 1_100)? == 1_100
+    );
     Ok(())
 }

@@ -1,8 +1,12 @@
 //! Metadata files with the permissions that they mention, worked out from the rules by hand.
 
-use super::*;
+use fl_meta::{
+    Layer, Mention, Meta, MetaError, MetaKind, MetaRule, PermList, Permission, Source, Value,
+    is_pattern, mentions_of,
+};
 use fp_keyfile::{KeyError, KeyFile, Text};
 use std::alloc::{AllocError, Global};
+use std::test::Fail;
 
 /// The name of a list in these tables.
 fn list_word(list: PermList) -> &'static str {
@@ -26,7 +30,7 @@ fn list_word(list: PermList) -> &'static str {
 }
 
 /// The name of a value in these tables.
-fn value_word(value: &Value) -> &str {
+pub fn value_word(value: &Value) -> &str {
     match value {
         Value::Off => "off",
         Value::On => "on",
@@ -190,8 +194,9 @@ fn first_other<'a>(
 }
 
 #[test]
-fn lists(rt: HostRuntime) {
-    assert_eq!(rt; first_other(rt.alloc(), &LISTS), Ok(None));
+fn lists(rt: HostRuntime) -> Result<(), Fail> {
+    assert_eq!(rt; first_other(rt.alloc(), &LISTS)?, None);
+    Ok(())
 }
 
 /// Overrides, and what they mention.
@@ -254,8 +259,9 @@ fn first_other_override<'a>(
 }
 
 #[test]
-fn overrides(rt: HostRuntime) {
-    assert_eq!(rt; first_other_override(rt.alloc(), &OVERRIDES), Ok(None));
+fn overrides(rt: HostRuntime) -> Result<(), Fail> {
+    assert_eq!(rt; first_other_override(rt.alloc(), &OVERRIDES)?, None);
+    Ok(())
 }
 
 /// A metadata file of the usual kind.
@@ -314,18 +320,15 @@ fn has_parts(alloc: Global, text: &str, kind: MetaKind, want: &str) -> Result<bo
 const RUNTIME: &str = "[Runtime]\ncommand=x\n[Extension ]\n[Extension a]\n[Extensions]";
 
 #[test]
-fn usual(rt: HostRuntime) {
-    let told = has_mentions(rt.alloc(), USUAL, MetaKind::App, USUAL_MENTIONS);
-    assert!(rt; told == Ok(true));
-}
-
-#[test]
-fn usual_parts(rt: HostRuntime) {
+fn usual(rt: HostRuntime) -> Result<(), Fail> {
+    let alloc = rt.alloc();
     let want = "runtime/org.x.Platform/x86_64/1 run org.x.App.Locale ";
-    let told = has_parts(rt.alloc(), USUAL, MetaKind::App, want);
-    assert!(rt; told == Ok(true));
-    let told = has_parts(rt.alloc(), RUNTIME, MetaKind::Runtime, "none none a ");
-    assert!(rt; told == Ok(true));
+    assert!(rt;
+        has_mentions(alloc, USUAL, MetaKind::App, USUAL_MENTIONS)?
+            && has_parts(alloc, USUAL, MetaKind::App, want)?
+            && has_parts(alloc, RUNTIME, MetaKind::Runtime, "none none a ")?
+    );
+    Ok(())
 }
 
 /// Files that are no metadata, of this kind, and the first rule that each breaks.
@@ -431,11 +434,14 @@ fn is_long_pattern(alloc: Global, length: usize, end: &str) -> Result<bool, Allo
 }
 
 #[test]
-fn patterns(rt: HostRuntime) {
+fn patterns(rt: HostRuntime) -> Result<(), Fail> {
     assert_eq!(rt; first_other_pattern(&PATTERNS), None);
-    assert!(rt; matches!(is_long_pattern(rt.alloc(), 255, ""), Ok(true)));
-    assert!(rt; matches!(is_long_pattern(rt.alloc(), 256, ""), Ok(false)));
-    assert!(rt; matches!(is_long_pattern(rt.alloc(), 300, ".*"), Ok(true)));
+    assert!(rt;
+        is_long_pattern(rt.alloc(), 255, "")?
+            && !is_long_pattern(rt.alloc(), 256, "")?
+            && is_long_pattern(rt.alloc(), 300, ".*")?
+    );
+    Ok(())
 }
 
 /// Whether copies of the mentions are shown alike.
@@ -461,8 +467,57 @@ fn copies(alloc: Global, text: &str) -> Result<bool, MetaError> {
 }
 
 #[test]
-fn permissions(rt: HostRuntime) {
-    assert!(rt; copies(rt.alloc(), USUAL) == Ok(true));
-    assert!(rt; matches!(is_before(rt.alloc(), "a", "b"), Ok(true)));
-    assert!(rt; matches!(is_before(rt.alloc(), "b", "a"), Ok(false)));
+fn permissions(rt: HostRuntime) -> Result<(), Fail> {
+    assert!(rt;
+        copies(rt.alloc(), USUAL)?
+            && is_before(rt.alloc(), "a", "b")?
+            && !is_before(rt.alloc(), "b", "a")?
+    );
+    Ok(())
+}
+
+/// Metadata with so many names in each of two lists, variables and extensions, each of 90 bytes and more.
+fn long_metadata(alloc: Global, count: usize) -> Result<String, AllocError> {
+    let name = "n".repeat(alloc, 90)?;
+    let mut text = String::from_str(
+        alloc,
+        "[Application]\nruntime=org.x.Platform/x86_64/1\n[Context]\nfilesystems=",
+    )?;
+    for number in 0..count {
+        let entry = format!(in alloc; "~/{name}{number}:ro;")?;
+        text.push_str(&entry)?;
+    }
+    text.push_str("\npersistent=")?;
+    for number in 0..count {
+        let entry = format!(in alloc; ".{name}{number};")?;
+        text.push_str(&entry)?;
+    }
+    text.push_str("\n[Environment]\n")?;
+    for number in 0..count {
+        let line = format!(in alloc; "V{number}={name}\n")?;
+        text.push_str(&line)?;
+    }
+    for number in 0..count {
+        let group = format!(in alloc; "[Extension org.x.E{number}]\ndirectory={name}\n")?;
+        text.push_str(&group)?;
+    }
+    Ok(text)
+}
+
+/// How many mentions and extensions the metadata has.
+fn counted(alloc: Global, text: &str) -> Result<(usize, usize), MetaError> {
+    let meta = read(alloc, text, MetaKind::App)?;
+    Ok((meta.mentions.len(), meta.extensions.as_slice().len()))
+}
+
+/// Metadata of 100 KiB is read, and its mentions are copied.
+#[test]
+fn long_files(rt: HostRuntime) -> Result<(), Fail> {
+    let text = long_metadata(rt.alloc(), 300)?;
+    assert!(rt;
+        text.len() > 100 << 10
+            && counted(rt.alloc(), &text)? == (900, 300)
+            && copies(rt.alloc(), &text)?
+    );
+    Ok(())
 }

@@ -1,8 +1,10 @@
 //! Overrides, read, changed and written, worked out by hand.
 
-use super::*;
+use crate::context::many_variables;
+use fl_override::OverrideSet;
 use fp_keyfile::{KeyError, KeyFile, Text};
 use std::alloc::{AllocError, Global};
+use std::test::Fail;
 
 /// The set of an override's text.
 fn set_of(alloc: Global, text: &str) -> Result<OverrideSet, KeyError> {
@@ -122,11 +124,6 @@ fn first_other<'a>(
     Ok(None)
 }
 
-#[test]
-fn files(rt: HostRuntime) {
-    assert_eq!(rt; first_other(rt.alloc(), &FILES), Ok(None));
-}
-
 /// An override changed by the mentions of another.
 fn changed(alloc: Global, old: &str, options: &str) -> Result<Text, KeyError> {
     let mut set = set_of(alloc, old)?;
@@ -183,7 +180,20 @@ fn first_other_change<'a>(
     Ok(None)
 }
 
+/// Whether an override of so many variables is written as it is read, and changed by another of as many.
+fn many_are_changed(alloc: Global, count: usize) -> Result<bool, KeyError> {
+    let old = many_variables(alloc, count, "1")?;
+    let new = many_variables(alloc, count, "2")?;
+    Ok(
+        written(alloc, &old)?.as_str() == old.as_str()
+            && changed(alloc, &old, &new)?.as_str() == new.as_str(),
+    )
+}
+
 #[test]
-fn changes(rt: HostRuntime) {
-    assert_eq!(rt; first_other_change(rt.alloc(), &CHANGES), Ok(None));
+fn files_and_changes(rt: HostRuntime) -> Result<(), Fail> {
+    assert_eq!(rt; first_other(rt.alloc(), &FILES)?, None);
+    assert_eq!(rt; first_other_change(rt.alloc(), &CHANGES)?, None);
+    assert!(rt; many_are_changed(rt.alloc(), 300)?);
+    Ok(())
 }
