@@ -16,4 +16,6 @@ mod object;
 #[cfg(test)]
 mod refs;
 #[cfg(test)]
+mod shown_objects;
+#[cfg(test)]
 mod store;

@@ -1,6 +1,7 @@
 //! Metadata objects: what they are read as, the first rule that they break, and how they are written.
 
-use crate::made_objects::{OBJECTS, SHOWN};
+use crate::made_objects::OBJECTS;
+use crate::shown_objects::SHOWN;
 use fp_host::Items;
 use fp_name::Digest;
 use gv_encode::encode;
