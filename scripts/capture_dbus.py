@@ -1,7 +1,7 @@
 #!/usr/bin/env python3
 """Captures D-Bus messages from a private dbus-daemon, and asks it which broken messages it disconnects for.
 
-    python3 scripts/capture_dbus.py > crates/bus_stream/src/tests/captured.rt && (cd crates/bus_stream && rt fmt)
+    python3 scripts/capture_dbus.py > crates/bus_tests/src/captured.rt && (cd crates/bus_tests && rt fmt)
 
 It needs Debian's packages dbus and libglib2.0-bin. The expected headers are those that GDBus reads, and libdbus
 where the message names no file descriptors, which libdbus wants to see. Nothing of ours is used.

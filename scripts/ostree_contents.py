@@ -1,7 +1,7 @@
 #!/usr/bin/env python3
 """Prints the objects of a small repository that OSTree makes, with their names, as tables for tests.
 
-    python3 scripts/ostree_contents.py > crates/ost_content/src/tests/made.rt && (cd crates/ost_content && rt fmt)
+    python3 scripts/ostree_contents.py > crates/ost_tests/src/made_contents.rt && (cd crates/ost_tests && rt fmt)
 
 It needs Debian's package ostree. Nothing of ours is used: the names are those that OSTree gave.
 """

@@ -2,7 +2,7 @@
 # Prints the metadata objects of a repository that the real `ostree` command made, as a test module: for each object its
 # name and its bytes in hexadecimal digits. It needs Debian's package ostree. The same tree gives the same objects.
 #
-#     scripts/ostree_objects.sh >crates/ost_object/src/real.rt
+#     scripts/ostree_objects.sh >crates/ost_tests/src/made_objects.rt
 set -eu
 work=$(mktemp -d)
 trap 'rm -rf "$work"' EXIT

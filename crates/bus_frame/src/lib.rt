@@ -35,6 +35,3 @@ pub use rule::{FrameError, FrameRule};
 pub use side::Side;
 pub use text::Text;
 pub use writing::error_frame;
-
-#[cfg(test)]
-mod tests;

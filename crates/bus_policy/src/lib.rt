@@ -18,6 +18,3 @@ pub use level::Level;
 pub use policy::{Grant, Policy, PolicyError, PolicyRule, RuleKind};
 pub use verdict::Verdict;
 pub use watch::Watch;
-
-#[cfg(test)]
-mod tests;

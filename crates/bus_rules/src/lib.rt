@@ -9,6 +9,3 @@ mod within;
 
 pub use rule::{Members, Objects, Rule, RuleError};
 pub use within::is_at_or_under;
-
-#[cfg(test)]
-mod tests;

@@ -8,6 +8,3 @@ mod recording;
 pub use bus_frame::Side;
 pub use cutter::{Cut, Cutter};
 pub use recording::{RecordError, Recording, read_recording};
-
-#[cfg(test)]
-mod tests;

@@ -8,6 +8,3 @@ pub mod laws;
 
 pub use folding::fold;
 pub use grants::{Grants, is_granted};
-
-#[cfg(test)]
-mod tests;

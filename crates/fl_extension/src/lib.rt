@@ -11,6 +11,3 @@ mod reading;
 pub use finding::found;
 pub use point::Point;
 pub use reading::points;
-
-#[cfg(test)]
-mod tests;

@@ -16,6 +16,3 @@ pub use mentions::{Source, mentions_of};
 pub use meta::{Meta, MetaKind, extension_name};
 pub use pattern::is_pattern;
 pub use permission::{Layer, Mention, PermList, Permission, Value};
-
-#[cfg(test)]
-mod tests;

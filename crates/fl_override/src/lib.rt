@@ -6,6 +6,3 @@ mod override_set;
 mod writing;
 
 pub use override_set::OverrideSet;
-
-#[cfg(test)]
-mod tests;

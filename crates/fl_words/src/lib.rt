@@ -19,6 +19,3 @@ pub use laws::{
 pub use lines::{digits_of, op_line, pins_text, refusal_line, remotes_text};
 pub use reading::read_words;
 pub use value_type::ValueType;
-
-#[cfg(test)]
-mod tests;

@@ -13,6 +13,3 @@ pub use path::{Path, PathFault, is_element};
 pub use remotes::{NoRemotes, Node, RemoteError, Remotes};
 pub use source::{Source, Taken};
 pub use text::is_link_text;
-
-#[cfg(test)]
-mod tests;

@@ -21,6 +21,3 @@ pub use grammar::{is_group_name, is_pair_key, is_pair_value};
 pub use group::{Group, Pair};
 pub use key_file::KeyFile;
 pub use line::{first_line, trim_front};
-
-#[cfg(test)]
-mod tests;

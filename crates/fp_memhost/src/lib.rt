@@ -25,6 +25,3 @@ pub use mem::MemHost;
 pub use remotes::{MemNode, MemRemotes};
 pub use source::MemSource;
 pub use story::{Keeper, Recorder, Supplier};
-
-#[cfg(test)]
-mod tests;

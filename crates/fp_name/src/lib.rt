@@ -28,6 +28,3 @@ pub use pin_pattern::PinPattern;
 pub use ref_name::RefName;
 pub use remote_name::RemoteName;
 pub use remote_url::RemoteUrl;
-
-#[cfg(test)]
-mod tests;

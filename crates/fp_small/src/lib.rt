@@ -31,6 +31,3 @@ pub use refusal::Refusal;
 pub use replacing::replace;
 pub use state::{Layout, OverrideRow, Previous, RefRow, RemoteRow, State};
 pub use taking::take_away;
-
-#[cfg(test)]
-mod tests;

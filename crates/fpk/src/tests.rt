@@ -9,15 +9,9 @@ use std::thread::Threads;
 
 mod batch_stops;
 mod batches;
-mod glib;
-mod gvariant;
 mod made;
-mod objects;
-mod refs;
 mod shows;
-mod specification;
 mod stops;
-mod store;
 
 const PLATFORM: &str = "runtime/org.x.Platform/*/*";
 

@@ -7,8 +7,6 @@ mod error;
 mod framing;
 mod numbers;
 mod reading;
-#[cfg(test)]
-mod tests;
 mod variants;
 
 pub use decoding::decode;

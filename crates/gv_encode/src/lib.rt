@@ -6,8 +6,6 @@ mod contents;
 mod encoding;
 mod error;
 mod framing;
-#[cfg(test)]
-mod tests;
 mod writing;
 
 pub use encoding::encode;

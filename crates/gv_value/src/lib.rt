@@ -17,8 +17,6 @@ mod plan;
 mod planning;
 mod sign;
 mod signatures;
-#[cfg(test)]
-mod tests;
 mod text;
 mod texts;
 mod type_strings;

@@ -6,8 +6,6 @@ mod digesting;
 mod hasher;
 mod headers;
 mod laws;
-#[cfg(test)]
-mod tests;
 
 pub use conditions::is_permission;
 pub use digesting::{file_digest, link_digest, meta_digest};

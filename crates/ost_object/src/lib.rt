@@ -13,12 +13,8 @@ mod reading_commits;
 mod reading_metas;
 mod reading_rows;
 mod reading_trees;
-#[cfg(test)]
-mod real;
 mod row_values;
 mod spelling;
-#[cfg(test)]
-mod tests;
 mod tree_rules;
 mod types;
 mod values;

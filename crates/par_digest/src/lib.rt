@@ -4,8 +4,6 @@
 mod gate;
 mod halves;
 mod item;
-#[cfg(test)]
-mod tests;
 
 pub use gate::{Gate, NoGate};
 pub use halves::{digests, digests_gated};

@@ -1,0 +1,15 @@
+//! Tests of what Flatpak's words and files mean: commands, metadata, permissions, overrides and extensions.
+#![tactic(auto)]
+
+#[cfg(test)]
+mod batches;
+#[cfg(test)]
+mod context;
+#[cfg(test)]
+mod extension;
+#[cfg(test)]
+mod meta;
+#[cfg(test)]
+mod overrides;
+#[cfg(test)]
+mod words;

@@ -1,0 +1,13 @@
+//! Tests of the lowest crates: the host, its fakes in memory, names, key files and an installation's small files.
+#![tactic(auto)]
+
+#[cfg(test)]
+mod host;
+#[cfg(test)]
+mod keyfile;
+#[cfg(test)]
+mod memhost;
+#[cfg(test)]
+mod name;
+#[cfg(test)]
+mod small;

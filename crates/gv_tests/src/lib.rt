@@ -1,0 +1,15 @@
+//! Tests of GVariant: types and values, and their bytes as GLib writes them.
+#![tactic(auto)]
+
+#[cfg(test)]
+mod decode;
+#[cfg(test)]
+mod encode;
+#[cfg(test)]
+mod examples;
+#[cfg(test)]
+mod glib;
+#[cfg(test)]
+mod value;
+#[cfg(test)]
+mod vectors;

@@ -1,0 +1,21 @@
+//! Tests of the store: objects that the `ostree` command made, their digests, refs and the calls of a store.
+#![tactic(auto)]
+
+#[cfg(test)]
+mod content;
+#[cfg(test)]
+mod halves;
+#[cfg(test)]
+mod made_contents;
+#[cfg(test)]
+mod made_objects;
+#[cfg(test)]
+mod meeting;
+#[cfg(test)]
+mod object;
+#[cfg(test)]
+mod refs;
+#[cfg(test)]
+mod shown_objects;
+#[cfg(test)]
+mod store;
