@@ -1,10 +1,7 @@
 //! Worked messages: the header that is read, the rule that is broken, and what is written.
 
-use bus_frame::{
-    Blob, FrameError, FrameRule, Header, Items, ReadFrame, Text, error_frame, first_string,
-    is_bus_name, is_interface_name, is_member_name, is_names, is_object_path, is_unique_name,
-    is_well_known_name, names_body, read_frame, three_strings, with_names,
-};
+use fp_base::{Blob, Items, Text};
+use bus_frame::{FrameError, FrameRule, Header, ReadFrame, error_frame, first_string, is_bus_name, is_interface_name, is_member_name, is_names, is_object_path, is_unique_name, is_well_known_name, names_body, read_frame, three_strings, with_names};
 use std::alloc::{AllocError, Global};
 use std::test::Fail;
 

@@ -1,6 +1,7 @@
 //! Worked policies: levels of names, and what becomes of messages one after another.
 
-use bus_frame::{Header, Items, Side, Text};
+use fp_base::{Items, Text};
+use bus_frame::{Header, Side};
 use bus_policy::{Level, Policy, PolicyError, RuleKind, Verdict, Watch};
 use std::alloc::{AllocError, Global};
 use std::test::Fail;

@@ -1,6 +1,7 @@
 //! Worked rules, and the messages that they match.
 
-use bus_frame::{Header, Text};
+use fp_base::Text;
+use bus_frame::Header;
 use bus_rules::{Rule, RuleError};
 use std::alloc::{AllocError, Global};
 use std::test::Fail;

@@ -2,7 +2,8 @@
 
 use crate::captured::{CAPTURED, CASES, CHANGED, DIFFERENT, PING};
 use crate::frame::message;
-use bus_frame::{FrameError, FrameRule, Header, ReadFrame, Side, Text, read_frame};
+use fp_base::Text;
+use bus_frame::{FrameError, FrameRule, Header, ReadFrame, Side, read_frame};
 use bus_stream::{Cut, Cutter, RecordError, Recording, read_recording};
 use std::alloc::{AllocError, Global};
 use std::test::Fail;

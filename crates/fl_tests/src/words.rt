@@ -1,9 +1,10 @@
 //! Words of command lines, and the lines that commands print.
 
+use fp_base::Text;
 use fl_words::{
     Command, WordsError, escape, op_line, pins_text, read_words, refusal_line, remotes_text,
 };
-use fp_host::{Path, Text};
+use fp_host::Path;
 use fp_name::{Digest, PinPattern, RemoteName, RemoteUrl};
 use fp_small::{Op, Refusal, RemoteRow, What};
 use std::alloc::{AllocError, Global};

@@ -1,6 +1,7 @@
 //! Paths, their elements, and the texts and bytes that a host is given.
 
-use fp_host::{Blob, NoRemotes, Node, Path, PathFault, Remotes, Text, is_element, is_link_text};
+use fp_base::{Blob, Text};
+use fp_host::{NoRemotes, Node, Path, PathFault, Remotes, is_element, is_link_text};
 use std::alloc::{AllocError, Global};
 use std::test::Fail;
 

@@ -1,6 +1,7 @@
 //! The host, remotes and source in memory: what is found after a stop, and calls that fail.
 
-use fp_host::{Blob, Entry, Host, Items, Node, Path, PathFault, Remotes, Source, Stat, Taken};
+use fp_base::{Blob, Items};
+use fp_host::{Entry, Host, Node, Path, PathFault, Remotes, Source, Stat, Taken};
 use fp_memhost::{Choice, FileRow, Image, MemHost, MemNode, MemRemotes, MemSource};
 use std::alloc::{AllocError, Global};
 use std::test::Fail;

@@ -1,8 +1,9 @@
 //! The bytes that values are written as.
 
 use crate::value::{parsed, text_of};
+use fp_base::Blob;
 use gv_encode::{EncodeError, encode};
-use gv_value::{Blob, GvType, GvValue};
+use gv_value::{GvType, GvValue};
 use std::alloc::Global;
 use std::test::Fail;
 

@@ -4,9 +4,10 @@ use crate::encode::pair;
 use crate::examples::EXAMPLES;
 use crate::value::parsed;
 use crate::vectors::VECTORS;
+use fp_base::Text;
 use gv_decode::{DecodeError, decode};
 use gv_encode::encode;
-use gv_value::{GvType, GvValue, Text};
+use gv_value::{GvType, GvValue};
 use std::alloc::Global;
 use std::test::Fail;
 

@@ -1,6 +1,7 @@
 //! Type strings, the sizes and alignments of types, and which values fit them.
 
-use gv_value::{GvType, GvValue, Text, TypeError, align_of, fits, plan_of, push_type, size_of};
+use fp_base::Text;
+use gv_value::{GvType, GvValue, TypeError, align_of, fits, plan_of, push_type, size_of};
 use std::alloc::Global;
 use std::test::Fail;
 

@@ -1,7 +1,7 @@
 //! What no contract says: digests that `sha256sum` gives, and that both halves are at work at one time.
 
 use crate::meeting::Meeting;
-use fp_host::Blob;
+use fp_base::Blob;
 use fp_name::Digest;
 use par_digest::{Item, digests, digests_gated};
 use sha2::{Digest as Hash, Sha256};

@@ -2,10 +2,10 @@
 
 use crate::made_objects::OBJECTS;
 use crate::shown_objects::SHOWN;
-use fp_host::Items;
+use fp_base::{Blob, Items, Text};
 use fp_name::Digest;
 use gv_encode::encode;
-use gv_value::{Blob, GvType, GvValue, Text};
+use gv_value::{GvType, GvValue};
 use ost_content::meta_digest;
 use ost_model::{ObjKind, Rule};
 use ost_object::{

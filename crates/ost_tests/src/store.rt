@@ -1,7 +1,8 @@
 //! Objects of a store in the host in memory. Their names are those that the `ostree` command gave them
 //! (`scripts/ostree_objects.sh`).
 
-use fp_host::{Blob, Host, HostEnd, Path, Stat, Text};
+use fp_base::{Blob, Text};
+use fp_host::{Host, HostEnd, Path, Stat};
 use fp_memhost::MemHost;
 use fp_name::{Digest, NameFault};
 use ost_model::{ObjKind, Object};
