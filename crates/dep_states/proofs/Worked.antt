@@ -51,7 +51,7 @@ config_sound bytes = record { kinds = kinds }
     kinds [] = root_allowed
     kinds (x ∷ up) = elim (cases_Bool (path_eq (x ∷ up) config)) [
       | inl is ↦ rw is (subst (λ (q : Elements). Allowed q (holds 0 420 bytes)) (sym ((path_decides (x ∷ up) config).0 is)) (config_allowed bytes))
-      | inr no ↦ rw no (absent_allowed (x ∷ up))
+      | inr other ↦ rw other (absent_allowed (x ∷ up))
     ]
 
 read_whole : (bytes : List ℕ) (s : Settings) → length bytes ≤ config_most → config_of bytes ≡ Some s → settings_at (holds 0 420 bytes) ≡ Some s
@@ -72,8 +72,10 @@ root_alone v tree settled none = record { shown = shown; sound = λ disk left. r
   where
     below : (disk : Disk) → Leaves v disk → (x : List ℕ) (up : Elements) → disk (x ∷ up) ≡ gone
     below disk left x up = settled_disk v tree settled disk left (x ∷ up) ∙ ap (spot_of v.files) (none x up)
+
     shown : (disk : Disk) → Leaves v disk → IsShown disk
     shown disk left = record { state = state_of Two empty_settings; shows = empty_shows disk (below disk left (codes "config") []) (below disk left (codes "remotes.conf") []) (below disk left (codes "pins") []) }
+
     kinds : (disk : Disk) → Leaves v disk → (p : Elements) → Allowed p (disk p)
     kinds disk left [] = subst (Allowed []) (sym (settled_disk v tree settled disk left [] ∙ ap (spot_of v.files) tree.root)) root_allowed
     kinds disk left (x ∷ up) = subst (Allowed (x ∷ up)) (sym (below disk left x up)) (absent_allowed (x ∷ up))

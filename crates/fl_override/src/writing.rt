@@ -4,8 +4,8 @@ ghost use Rattle.std.specs.Prelude.{◌≡◌, ◌++◌, ◌∷◌, [], OnOk, If
 ghost use Rattle.std.specs.List.{flat_map};
 ghost use Rattle.fl_override.specs.Written as written;
 
-use fp_base::{Items, Text};
 use fl_meta::{Mention, PermList, Value};
+use fp_base::{Items, Text};
 use fp_keyfile::{Group, Pair};
 use std::alloc::{AllocError, Global};
 
