@@ -11,6 +11,10 @@ use Rattle.fp_host.specs.declared.source.Taken.TheVariants as source
 abbrev pub one_more : ℕ → ℕ
 one_more n = min (n + 1) (2 ^ 64 - 1)
 
+-- the same for a number of things
+abbrev pub many_more : ℕ → ℕ → ℕ
+many_more n k = min (n + k) (2 ^ 64 - 1)
+
 -- A call of a host is counted exactly where it failed, and none clashes.
 abbrev pub CountsOf : {T : Type 0} → Result T HostError → ℕ → ℕ → Type 0
 CountsOf (Ok t) before now = now ≡ before

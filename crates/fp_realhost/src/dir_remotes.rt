@@ -4,7 +4,9 @@ ghost use Rattle.fp_host.specs.Remote.{HasNodeBits};
 ghost use Rattle.fp_realhost.specs.Counts.{RemoteCounts};
 
 use crate::fault::{Call, Faults, SystemError};
-use crate::files;
+use crate::files::{read_from, read_link};
+use crate::folders::Folders;
+use crate::found::{Kind, look};
 use fp_host::{Node, Path, RemoteError, Remotes, Text};
 use std::alloc::Global;
 use std::io;
@@ -16,12 +18,16 @@ use std::rt::Files;
 /// of faults.
 ///
 /// It tells nothing of what they hold. Whatever the system refuses, a url of another form and a socket, pipe or device
-/// are counted and answered `Failed`, and so is want of memory in `read_at`. A symlink in the place of a folder above a
-/// path is followed; at the end of a path none is.
+/// are counted and answered `Failed`, and so is want of memory in `read_at`.
+///
+/// The folder that a url names may be a symlink or stand below one. Below it no symlink is followed: a call fails where one
+/// stands in the place of a folder above its path. Each folder is looked at once: a symlink that another program puts in
+/// its place later is followed.
 #[derive(Drop)]
 pub struct DirRemotes<'a, R> {
     rt: &'a R,
     alloc: Global,
+    folders: Folders,
     faults: Faults,
 }
 
@@ -42,6 +48,7 @@ impl<'a, R: Files + AllocGlobal> DirRemotes<'a, R> {
         DirRemotes {
             rt,
             alloc,
+            folders: Folders::none(alloc),
             faults: Faults::none(),
         }
     }
@@ -103,7 +110,7 @@ impl<R: Files + AllocGlobal> Remotes for DirRemotes<'_, R> {
         ensures counts { RemoteCounts self.old self.new result }
         ensures bits { IfOk result HasNodeBits }
     {
-        match node_at(self.rt, alloc, url, path) {
+        match self.find_node(alloc, url, path) {
             Err(e) if e.kind() == ErrorKind::OutOfMemory => Err(RemoteError::NoMemory),
             done => self.answer(Call::Stat, url, path, done),
         }
@@ -120,14 +127,55 @@ impl<R: Files + AllocGlobal> Remotes for DirRemotes<'_, R> {
         ensures bound { IfOk result (λ n. n ≤ length into.old) }
         ensures memory { IsErrOf result RemoteError.NoMemory → ⊥ }
     {
-        let done = read_piece(self.rt, self.alloc, url, path, at, into);
+        let done = self.read_piece(url, path, at, into);
         self.answer(Call::Read, url, path, done)
     }
 }
 
+impl<R: Files + AllocGlobal> DirRemotes<'_, R> {
+    // The path for the system. No symlink stands above it, below the folder of the url.
+    fn reach(&mut self, url: &str, path: &Path) -> io::Result<String>
+        ensures same { self.new ≡ self.old }
+    {
+        let at = system_path(self.alloc, url, path)?;
+        let below = folder_of_url(url).len().saturating_add(1);
+        match self.folders.look_above(self.rt, &at, below) {
+            Ok(()) => Ok(at),
+            Err(e) => Err(e),
+        }
+    }
+
+    fn find_node(&mut self, alloc: Global, url: &str, path: &Path) -> io::Result<Node>
+        ensures bits { IfOk result HasNodeBits }
+        ensures same { self.new ≡ self.old }
+    {
+        let at = self.reach(url, path)?;
+        node_at(self.rt, alloc, &at)
+    }
+
+    fn read_piece(
+        &mut self,
+        url: &str,
+        path: &Path,
+        from: u64,
+        into: &mut [u8],
+    ) -> io::Result<usize>
+        ensures bound { IfOk result (λ n. n ≤ length into.old) }
+        ensures same { self.new ≡ self.old }
+    {
+        let at = self.reach(url, path)?;
+        read_at(self.rt, &at, from, into)
+    }
+}
+
+// The folder that the url names, which is absolute in a url of a remote.
+fn folder_of_url(url: &str) -> &str {
+    url.strip_prefix("file://").unwrap_or("")
+}
+
 // The path for the system: the folder of the url, a slash and the elements.
 fn system_path(alloc: Global, url: &str, path: &Path) -> io::Result<String> {
-    let folder = url.strip_prefix("file://").unwrap_or("");
+    let folder = folder_of_url(url);
     if !folder.starts_with('/') {
         return Err(io::Error::other("a url is file:// and an absolute path"));
     }
@@ -135,33 +183,24 @@ fn system_path(alloc: Global, url: &str, path: &Path) -> io::Result<String> {
     Ok(format!(in alloc; "{folder}/{below}")?)
 }
 
-fn node_at<R: Files>(rt: &R, alloc: Global, url: &str, path: &Path) -> io::Result<Node>
+fn node_at<R: Files>(rt: &R, alloc: Global, at: &str) -> io::Result<Node>
     ensures { IfOk result HasNodeBits }
 {
-    let at = system_path(alloc, url, path)?;
-    let Some(found) = files::look(rt, &at)? else {
-        return Ok(Node::Absent);
-    };
-    if found.is_symlink() {
-        return Ok(Node::Link(files::read_link(rt, alloc, &at)?));
+    match look(rt, at)? {
+        None => Ok(Node::Absent),
+        Some(found) if found.kind == Kind::Link => Ok(Node::Link(read_link(rt, alloc, at)?)),
+        Some(found) => found.node(),
     }
-    files::node_of(&found)
 }
 
 // What is no file has no bytes.
-fn read_piece<R: Files>(
-    rt: &R,
-    alloc: Global,
-    url: &str,
-    path: &Path,
-    from: u64,
-    into: &mut [u8],
-) -> io::Result<usize>
+fn read_at<R: Files>(rt: &R, at: &str, from: u64, into: &mut [u8]) -> io::Result<usize>
     ensures { IfOk result (λ n. n ≤ length into.old) }
 {
-    let at = system_path(alloc, url, path)?;
-    match files::look(rt, &at)? {
-        Some(found) if found.is_file() => files::read_from(rt, &at, &found, from, into),
+    match look(rt, at)? {
+        Some(found) if found.kind == Kind::File && from < found.size => {
+            read_from(rt, at, from, into)
+        }
         _ => Ok(0),
     }
 }

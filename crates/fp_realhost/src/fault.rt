@@ -22,6 +22,8 @@ pub enum Call {
     Rename,
     Unlink,
     RemoveDir,
+    /// Finding or making the root folder.
+    Enter,
     /// Opening a file or folder that is to be synced.
     Open,
     Sync,
@@ -46,6 +48,7 @@ impl fmt::Display for Call {
             Call::Rename => "rename to",
             Call::Unlink => "remove",
             Call::RemoveDir => "remove the folder",
+            Call::Enter => "use the folder",
             Call::Open => "open",
             Call::Sync => "sync",
             Call::Say => "print",

@@ -1,14 +1,19 @@
 //! A real folder as a host, folders behind `file://` as remotes, and the standard input as a source.
 #![tactic(auto)]
 
+mod changes;
 mod dir_remotes;
 mod fault;
 mod files;
+mod folders;
+mod found;
 mod host_dir;
+mod leftover;
 mod names;
+mod output;
+mod reading;
+mod roots;
 mod stdin_source;
-#[cfg(test)]
-mod tests;
 mod touched;
 mod tree;
 

@@ -6,21 +6,27 @@ ghost use Rattle.std.specs.Cmp.Lexicographic.{slice_cmp};
 ghost use Rattle.fp_host.specs.Paths.{is_element};
 ghost use Rattle.fp_host.specs.Reads.{AreNames, is_ascending};
 
-use fp_host::{Text, is_element};
+use fp_host::{Items, Text, is_element};
 use std::alloc::Global;
+use std::fs::DirEntry;
 use std::rt::Files;
 use std::{fs, io};
 
 // The names in the folder, ascending by their bytes. A name that no path may have is an error.
-pub fn list_names<R: Files + AllocGlobal>(rt: &R, alloc: Global, at: &str) -> io::Result<Vec<Text>>
-    ensures { IfOk result (λ names. AreNames names.items) }
+pub fn list_names<R: Files + AllocGlobal>(
+    rt: &R,
+    alloc: Global,
+    at: &str,
+) -> io::Result<Items<Text>>
+    ensures { IfOk result AreNames }
 {
     let mut names = read_names(rt, alloc, at)?;
     names.sort_unstable_by(|a, b| a.as_str().cmp(b.as_str()));
-    if !are_names(&names) {
-        return Err(io::Error::other("a name in it can stand in no path"));
+    if are_names(&names) {
+        Ok(Items::from_vec(names))
+    } else {
+        Err(io::Error::other("a name in it can stand in no path"))
     }
-    Ok(names)
 }
 
 // The names in the folder, in no order.
@@ -30,11 +36,29 @@ pub fn read_names<R: Files + AllocGlobal>(
     at: &str,
 ) -> io::Result<Vec<Text>> {
     let mut names = Vec::new(alloc);
-    for entry in fs::read_dir(&rt, at)? {
-        let name = entry?.file_name().to_string(alloc)?;
-        names.push(Text::from_string(name))?;
+    match add_names(rt, alloc, at, &mut names) {
+        Ok(()) => Ok(names),
+        Err(e) => Err(e),
     }
-    Ok(names)
+}
+
+fn add_names<R: Files + AllocGlobal>(
+    rt: &R,
+    alloc: Global,
+    at: &str,
+    names: &mut Vec<Text>,
+) -> io::Result<()> {
+    for entry in fs::read_dir(&rt, at)? {
+        names.push(name_of(alloc, entry)?)?;
+    }
+    Ok(())
+}
+
+fn name_of<R: Files + Drop>(alloc: Global, entry: io::Result<DirEntry<R>>) -> io::Result<Text> {
+    match entry {
+        Ok(entry) => Ok(Text::from_string(entry.file_name().to_string(alloc)?)),
+        Err(e) => Err(e),
+    }
 }
 
 // Whether each may be an element of a path, and each comes before the next.
