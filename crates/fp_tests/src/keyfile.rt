@@ -1,7 +1,10 @@
 //! Key files with what they read as, worked out from the rules by hand.
 
 use fp_base::{Items, Text};
-use fp_keyfile::{Group, KeyError, KeyFault, KeyFile, KeyRule, Pair, is_group_name, is_pair_key, is_pair_value, trim_front};
+use fp_keyfile::{
+    Group, KeyError, KeyFault, KeyFile, KeyRule, Pair, is_group_name, is_pair_key, is_pair_value,
+    trim_front,
+};
 use std::alloc::{AllocError, Global};
 use std::test::Fail;
 

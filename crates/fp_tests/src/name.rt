@@ -1,7 +1,10 @@
 //! Names of applications, runtimes and remotes, and digests.
 
 use fp_base::Text;
-use fp_name::{AppId, Digest, NameFault, PinPattern, RefKind, RefName, RemoteName, RemoteUrl, is_arch, is_branch, is_id, is_pin, is_ref};
+use fp_name::{
+    AppId, Digest, NameFault, PinPattern, RefKind, RefName, RemoteName, RemoteUrl, is_arch,
+    is_branch, is_id, is_pin, is_ref,
+};
 use std::alloc::{AllocError, Global};
 use std::cmp::Ordering;
 use std::test::Fail;

@@ -11,8 +11,8 @@ ghost use Rattle.dep_states.specs.Sound.{Opens};
 ghost use Rattle.dep_states.specs.After.{after, May, IsGood};
 ghost use Rattle.op_change.specs.Applied.{Applies, WasApplied};
 
-use fp_base::Items;
 use dep_states::Opened;
+use fp_base::Items;
 use fp_host::{Host, HostEnd, Path};
 use fp_small::{
     Layout, Op, State, insert_pin, insert_remote, remove_pin, remove_remote, replace, write_config,
