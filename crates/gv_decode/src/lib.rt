@@ -1,7 +1,9 @@
-//! Reads values of GVariant from bytes, in normal form alone.
+//! Reads values of GVariant from bytes, in normal form alone, or checks the bytes without their value.
 #![tactic(auto)]
 
+mod checking;
 mod contents;
+mod cutting;
 mod decoding;
 mod error;
 mod framing;
@@ -11,5 +13,6 @@ mod reading;
 mod tests;
 mod variants;
 
-pub use decoding::decode;
+pub use decoding::{check_normal, children, decode};
 pub use error::DecodeError;
+pub use variants::variant_parts;
