@@ -97,15 +97,15 @@ kept-not text other = by (is_utf8 text) refl
     by false is = refl
     by true is = absurd (other (IsUtf8-from_is_utf8 text is))
 
--- a text that is kept, from its bytes
-pub text-from : (kind : TextKind) (bytes text : List ℕ) (kept : Result (List ℕ) DecodeError) → Some text ≡ before_zero (length bytes - 1) bytes → is_text kind text ≡ true → is_utf8 text ≡ true →
-    Gives (λ t. t) kept (cond (is_utf8 text) (Some text) None) → Gives Content.text kept (text_at kind bytes)
-text-from kind bytes text kept before is utf8 gives = by kept (subst (λ (b : Bool). Gives (λ t. t) kept (cond b (Some text) None)) utf8 gives)
+-- a text of its kind, from its bytes
+pub text-from : {X : Type 0} (view : X → List ℕ) (kind : TextKind) (bytes text : List ℕ) (r : Result X DecodeError) → Some text ≡ before_zero (length bytes - 1) bytes → is_text kind text ≡ true → is_utf8 text ≡ true →
+    Gives view r (cond (is_utf8 text) (Some text) None) → Gives (λ x. Content.text (view x)) r (text_at kind bytes)
+text-from {X = X} view kind bytes text r before is utf8 gives = by r (subst (λ (b : Bool). Gives view r (cond b (Some text) None)) utf8 gives)
   where
     found : text_at kind bytes ≡ Some (Content.text text)
     found = ap (option_and_then (text_if kind)) (sym before) ∙ ap (λ (b : Bool). cond b (Some (Content.text text)) None) is
 
-    by : (r : Result (List ℕ) DecodeError) → Gives (λ t. t) r (Some text) → Gives Content.text r (text_at kind bytes)
+    by : (x : Result X DecodeError) → Gives view x (Some text) → Gives (λ y. Content.text (view y)) x (text_at kind bytes)
     by (Ok t) g = found ∙ ap (λ (o : Option (List ℕ)). option_map Content.text o) g
     by (Err errors.TooLong) g = g
     by (Err errors.NotNormal) g = absurd cc

@@ -1,6 +1,7 @@
 -- How large numbers of few bytes are.
-use Rattle.std.proofs.Common.{◌≡◌, ℕ, zero, suc, ◌+◌, ◌-◌, ◌*◌, ◌^◌, ◌<◌, ◌≤◌, List, [], ◌∷◌, length, get_or, drop, sym, ap, ◌∙◌, subst, arith, pow-suc, length-drop}
-use Rattle.std.proofs.lemmas.List.{drop_more}
+use Rattle.std.proofs.Common.{◌≡◌, ℕ, zero, suc, ◌+◌, ◌-◌, ◌*◌, ◌^◌, ◌<◌, ◌≤◌, List, [], ◌∷◌, length, slice_index, drop, sym, ap, ◌∙◌, subst, arith, pow-suc, length-drop}
+use Rattle.std.proofs.lemmas.List.{drop_more, drop_all}
+use Rattle.byteorder.specs.Endian.{little_from, little_number}
 use Rattle.gv_value.specs.Bytes.{le_value, AllBelow}
 
 pub value-below : (bytes : List ℕ) → AllBelow 256 bytes → le_value bytes < 256 ^ length bytes
@@ -27,15 +28,13 @@ AllBelow-drop zero bytes h = h
 AllBelow-drop (suc n) [] h = h
 AllBelow-drop (suc n) (b ∷ bytes) h = AllBelow-drop n bytes h.1
 
--- one more byte in front of at most seven
-pub one-more : (bytes : List ℕ) (at : ℕ) → AllBelow 256 bytes → length bytes ≤ 8 → 0 < at → at ≤ length bytes →
-    (le_value (drop (at - 1) bytes) ≡ get_or bytes (at - 1) 0 + 256 * le_value (drop at bytes)) × (le_value (drop (at - 1) bytes) < 2 ^ 64)
-one-more bytes at below short pos within =
-    let i = at - 1 in
-    let same : i + 1 ≡ at = omega arith in
-    let lt : i < length bytes = omega arith in
-    let here : drop i bytes ≡ get_or bytes i 0 ∷ drop at bytes = drop_more bytes i 0 lt ∙ ap (λ (x : ℕ). get_or bytes i 0 ∷ drop x bytes) same in
-    let small = value-below (drop i bytes) (AllBelow-drop i bytes below) in
-    let len : length (drop i bytes) ≤ 8 = omega (arith, length-drop i bytes) in
-    let most = pow_le (length (drop i bytes)) 8 len in
-    (ap le_value here, omega (arith, small, most))
+-- a number is that of its bytes
+little-from : (bytes : List ℕ) (n i : ℕ) → i + n ≡ length bytes → little_from i n bytes ≡ le_value (drop i bytes)
+little-from bytes zero i e = sym (ap le_value (drop_all i bytes (omega arith)))
+little-from bytes (suc n) i e =
+    let next : suc i ≡ i + 1 = omega arith in
+    ap (λ (m : ℕ). slice_index bytes i + 256 * m) (little-from bytes n (suc i) (omega arith) ∙ ap (λ (k : ℕ). le_value (drop k bytes)) next)
+    ∙ sym (ap le_value (drop_more bytes i 0 (omega arith)))
+
+pub little-is : (bytes : List ℕ) (n : ℕ) → n ≡ length bytes → little_number n bytes ≡ le_value bytes
+little-is bytes n e = little-from bytes n 0 (let zero_more : 0 + n ≡ n = omega arith in zero_more ∙ e)

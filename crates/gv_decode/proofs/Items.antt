@@ -2,15 +2,11 @@
 use Rattle.std.proofs.Common.{◌≡◌, ℕ, suc, ◌+◌, ◌-◌, ◌*◌, ◌<◌, ◌≤◌, List, [], ◌∷◌, ◌++◌, length, take, drop, map, Option, Some, None, sym, ap, ap₂, ◌∙◌, subst, arith}
 use Rattle.std.proofs.lemmas.List.{drop-drop}
 use Rattle.gv_value.specs.Bytes.{le_value}
-use Rattle.gv_value.specs.Framing.{Mark, child_at, numbers}
+use Rattle.gv_value.specs.Framing.{Mark, child_at, cut, numbers}
 use Rattle.gv_value.specs.Layout.{padding}
-use Rattle.gv_value.specs.Reading.{Reader}
-use Rattle.gv_value.specs.Tree.{Trees}
-use Rattle.gv_value.specs.Views.{plain, plains}
-use Rattle.gv_value.specs.declared.value.GvValue.{GvValue}
 use Rattle.gv_decode.specs.declared.error.DecodeError.{DecodeError}
 use Rattle.gv_decode.specs.Decoded.{Fails}
-use Rattle.gv_decode.proofs.Runs.{SoFar, so_far-fails, so_far-more, so_far-ends, all_from, all-ends, all-short, all-no_child, all-unread, all-read, fails-more}
+use Rattle.gv_decode.proofs.Runs.{SoFar, so_far-fails, so_far-more, so_far-ends, cut-ends, cut-short, cut-no_child, cut-child, fails-more}
 
 -- one offset, and those behind it
 numbers-next : (w count i : ℕ) (table : List ℕ) → i < count →
@@ -23,36 +19,32 @@ numbers-next w count i table lt =
 abbrev marks_from : ℕ → ℕ → ℕ → ℕ → List ℕ → List Mark
 marks_from a w count i table = map (λ e. (a, e)) (numbers w (count - i) (drop (i * w) table))
 
-module _ (one : Reader) (body : List ℕ) (at a w count i : ℕ) (table : List ℕ) (values : List GvValue) (whole : Option Trees) (lt : i < count) (end align : ℕ)
-    (is : end ≡ le_value (take w (drop (i * w) table))) (same : align ≡ a)
-    (so : SoFar values (all_from one body at (map (λ e. (a, e)) (numbers w (count - i) (drop (i * w) table)))) whole) where
-  item-next : SoFar values (all_from one body at ((align, end) ∷ marks_from a w count (i + 1) table)) whole
+module _ (body : List ℕ) (at a w count i : ℕ) (table : List ℕ) (children : List (List ℕ)) (whole : Option (List (List ℕ))) (lt : i < count) (end : ℕ)
+    (is : end ≡ le_value (take w (drop (i * w) table)))
+    (so : SoFar children (cut body at (map (λ e. (a, e)) (numbers w (count - i) (drop (i * w) table)))) whole) where
+  item-next : SoFar children (cut body at ((a, end) ∷ marks_from a w count (i + 1) table)) whole
   item-next =
-      subst (λ (ms : List Mark). SoFar values (all_from one body at ms) whole)
-      (ap (map (λ e. (a, e))) (numbers-next w count i table lt) ∙ ap₂ (λ (x y : ℕ). (x, y) ∷ marks_from a w count (i + 1) table) (sym same) (sym is)) so
+      subst (λ (ms : List Mark). SoFar children (cut body at ms) whole)
+      (ap (map (λ e. (a, e))) (numbers-next w count i table lt) ∙ ap (λ (y : ℕ). (a, y) ∷ marks_from a w count (i + 1) table) (sym is)) so
 
-  pub item-no_child : (e : DecodeError) → Fails e (child_at body at (at + padding at align) end) → Fails e whole
+  pub item-no_child : (e : DecodeError) → Fails e (child_at body at (at + padding at a) end) → Fails e whole
   item-no_child e f =
-      fails-more e (child_at body at (at + padding at align) end) whole (λ none. so_far-fails values _ whole item-next (all-no_child body at align end one (marks_from a w count (i + 1) table) none)) f
+      fails-more e (child_at body at (at + padding at a) end) whole (λ none. so_far-fails children _ whole item-next (cut-no_child body at a end (marks_from a w count (i + 1) table) none)) f
 
-  module _ (child : List ℕ) (found : child_at body at (at + padding at align) end ≡ Some child) where
-    pub item-fails : (e : DecodeError) → Fails e (one child) → Fails e whole
-    item-fails e f =
-        fails-more e (one child) whole (λ none. so_far-fails values _ whole item-next (all-unread body at align end child found one (marks_from a w count (i + 1) table) none)) f
+  pub item-more : (child : List ℕ) → child_at body at (at + padding at a) end ≡ Some child →
+      SoFar (children ++ child ∷ []) (cut body end (map (λ e. (a, e)) (numbers w (count - (i + 1)) (drop ((i + 1) * w) table)))) whole
+  item-more child found =
+      so_far-more children child _ (cut body end (marks_from a w count (i + 1) table)) whole item-next
+      (cut-child body at a end (marks_from a w count (i + 1) table) child found)
 
-    pub item-more : (x : GvValue) → one child ≡ Some (plain x) → SoFar (values ++ x ∷ []) (all_from one body end (map (λ e. (a, e)) (numbers w (count - (i + 1)) (drop ((i + 1) * w) table)))) whole
-    item-more x read =
-        so_far-more values x _ (all_from one body end (marks_from a w count (i + 1) table)) whole item-next
-        (all-read body at align end child found one (marks_from a w count (i + 1) table) (plain x) read)
-
-pub items-end : (one : Reader) (body : List ℕ) (at a w count i : ℕ) (table : List ℕ) (values : List GvValue) (whole : Option Trees) → count ≤ i → at ≡ length body →
-    SoFar values (all_from one body at (map (λ e. (a, e)) (numbers w (count - i) (drop (i * w) table)))) whole → whole ≡ Some (plains values)
-items-end one body at a w count i table values whole le e so =
+pub items-end : (body : List ℕ) (at a w count i : ℕ) (table : List ℕ) (children : List (List ℕ)) (whole : Option (List (List ℕ))) → count ≤ i → at ≡ length body →
+    SoFar children (cut body at (map (λ e. (a, e)) (numbers w (count - i) (drop (i * w) table)))) whole → whole ≡ Some children
+items-end body at a w count i table children whole le e so =
     let none : count - i ≡ 0 = omega arith in
-    so_far-ends values _ whole (subst (λ (k : ℕ). SoFar values (all_from one body at (map (λ x. (a, x)) (numbers w k (drop (i * w) table)))) whole) none so) (all-ends one body at e)
+    so_far-ends children _ whole (subst (λ (k : ℕ). SoFar children (cut body at (map (λ x. (a, x)) (numbers w k (drop (i * w) table)))) whole) none so) (cut-ends body at e)
 
-pub items-short : (one : Reader) (body : List ℕ) (at a w count i : ℕ) (table : List ℕ) (values : List GvValue) (whole : Option Trees) → count ≤ i → (at ≡ length body → ⊥) →
-    SoFar values (all_from one body at (map (λ e. (a, e)) (numbers w (count - i) (drop (i * w) table)))) whole → whole ≡ None
-items-short one body at a w count i table values whole le e so =
+pub items-short : (body : List ℕ) (at a w count i : ℕ) (table : List ℕ) (children : List (List ℕ)) (whole : Option (List (List ℕ))) → count ≤ i → (at ≡ length body → ⊥) →
+    SoFar children (cut body at (map (λ e. (a, e)) (numbers w (count - i) (drop (i * w) table)))) whole → whole ≡ None
+items-short body at a w count i table children whole le e so =
     let none : count - i ≡ 0 = omega arith in
-    so_far-fails values _ whole (subst (λ (k : ℕ). SoFar values (all_from one body at (map (λ x. (a, x)) (numbers w k (drop (i * w) table)))) whole) none so) (all-short one body at e)
+    so_far-fails children _ whole (subst (λ (k : ℕ). SoFar children (cut body at (map (λ x. (a, x)) (numbers w k (drop (i * w) table)))) whole) none so) (cut-short body at e)

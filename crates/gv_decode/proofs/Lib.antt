@@ -1,10 +1,14 @@
 pub mod Bounds
 pub mod Basics
+pub mod Contained
 pub mod Exactly
 pub mod Items
 pub mod Marks
+pub mod OneByOne
 pub mod Partings
+pub mod Passing
 pub mod Rooms
 pub mod Rows
+pub mod Short
 pub mod Runs
 pub mod Tables

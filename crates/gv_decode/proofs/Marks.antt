@@ -4,21 +4,17 @@ use Rattle.std.specs.Prelude.{slice_range}
 use Rattle.std.proofs.lemmas.Bool.{cases_lt, leb-true, eqb-true, and_parts}
 use Rattle.gv_value.specs.Bytes.{all_zero}
 use Rattle.gv_value.specs.Capped.{capped, capped_size, IsExtent}
-use Rattle.gv_value.specs.Framing.{child_at, is_none_left, member_end, marks}
+use Rattle.gv_value.specs.Framing.{child_at, cut, is_none_left, member_end, marks}
 use Rattle.gv_value.specs.Layout.{align_of, size_of, padding}
 use Rattle.gv_value.specs.Plans.{plan_shapes}
-use Rattle.gv_value.specs.Reading.{Reader}
 use Rattle.gv_value.specs.Shape.{Shape, Shapes, shape}
-use Rattle.gv_value.specs.Tree.{Trees, tree}
-use Rattle.gv_value.specs.Views.{plain}
 use Rattle.gv_value.specs.declared.extent.Extent.{Extent}
 use Rattle.gv_value.specs.declared.plan.Plan.{Plan}
-use Rattle.gv_value.specs.declared.value.GvValue.{GvValue}
 use Rattle.gv_value.proofs.Cutting.{child_at-found}
 use Rattle.gv_value.proofs.Lists.{guarded}
 use Rattle.gv_decode.specs.declared.error.DecodeError.{DecodeError}
 use Rattle.gv_decode.specs.Decoded.{Fails}
-use Rattle.gv_decode.proofs.Runs.{SoFar, so_far-fails, so_far-more, each_from, each-no_child, each-unread, each-read, fails-more}
+use Rattle.gv_decode.proofs.Runs.{SoFar, so_far-fails, so_far-more, cut-no_child, cut-child, fails-more}
 
 -- a child is inside its body
 inside : (body : List ℕ) (at start end : ℕ) (child : List ℕ) → child_at body at start end ≡ Some child → end ≤ length body
@@ -69,10 +65,10 @@ same-end body at a start (Some n) last os short = ⊎_elim large small (cases_lt
     large lt = record { same = inr (beyond body at start (at + padding at a + capped n) (omega arith), beyond body at start (at + padding at a + n) (omega arith)) }
 
 -- one member: what the code found, and what the definitions tell
-module _ (one : Shape → Reader) (body : List ℕ) (at : ℕ) (t : Shape) (ts : Shapes) (os : List ℕ) (values : List GvValue) (whole : Option Trees) (short : length body ≤ 16777216)
+module _ (body : List ℕ) (at : ℕ) (t : Shape) (ts : Shapes) (os : List ℕ) (children : List (List ℕ)) (whole : Option (List (List ℕ))) (short : length body ≤ 16777216)
     (e : Extent) (extent : IsExtent e t) (last : Bool) (final : last ≡ is_none_left ts) (end : ℕ) (fewer : List ℕ)
     (is : let p : End = (end, fewer) in p ≡ member_end e.size last (length body) at e.align os)
-    (so : SoFar values (each_from one body at (shape t ts) (marks (length body) at (shape t ts) os)) whole) where
+    (so : SoFar children (cut body at (marks (length body) at (shape t ts) os)) whole) where
   told : End
   told = member_end (size_of t) (is_none_left ts) (length body) at (align_of t) os
 
@@ -92,7 +88,7 @@ module _ (one : Shape → Reader) (body : List ℕ) (at : ℕ) (t : Shape) (ts :
       let start = at + padding at e.align in
       fails-more x (child_at body at start end) whole (λ none.
       let told-none : child_at body at start told.0 ≡ None = ⊎_elim (λ same. ap (λ (p : End). child_at body at start p.0) (sym same) ∙ none) (λ both. both.1) ends_same.same in
-      so_far-fails values _ whole so (each-no_child body at (align_of t) told.0 one t ts (marks (length body) told.0 ts told.1)
+      so_far-fails children _ whole so (cut-no_child body at (align_of t) told.0 (marks (length body) told.0 ts told.1)
       (ap (λ (a : ℕ). child_at body at (at + padding at a) told.0) (sym extent.align) ∙ told-none))) f
 
   module _ (child : List ℕ) (found : child_at body at (at + padding at e.align) end ≡ Some child) where
@@ -105,15 +101,9 @@ module _ (one : Shape → Reader) (body : List ℕ) (at : ℕ) (t : Shape) (ts :
     told-child : child_at body at (at + padding at (align_of t)) told.0 ≡ Some child
     told-child = ap₂ (λ (a : ℕ) (p : End). child_at body at (at + padding at a) p.0) (sym extent.align) (sym told-is) ∙ found
 
-    pub member-fails : (x : DecodeError) → Fails x (one t child) → Fails x whole
+    pub member-more : SoFar (children ++ child ∷ []) (cut body end (marks (length body) end ts fewer)) whole
     unfolding told
-    member-fails x f =
-        fails-more x (one t child) whole (λ none. so_far-fails values _ whole so
-        (each-unread body at (align_of t) told.0 child told-child one t ts (marks (length body) told.0 ts told.1) none)) f
-
-    pub member-more : (x : GvValue) → one t child ≡ Some (plain x) → SoFar (values ++ x ∷ []) (each_from one body end ts (marks (length body) end ts fewer)) whole
-    unfolding told
-    member-more x read =
-        so_far-more values x _ (each_from one body end ts (marks (length body) end ts fewer)) whole so
-        (each-read body at (align_of t) told.0 child told-child one t ts (marks (length body) told.0 ts told.1) (plain x) read
-        ∙ ap (λ (p : End). option_map (tree (plain x)) (each_from one body p.0 ts (marks (length body) p.0 ts p.1))) (sym told-is))
+    member-more =
+        so_far-more children child _ (cut body end (marks (length body) end ts fewer)) whole so
+        (cut-child body at (align_of t) told.0 (marks (length body) told.0 ts told.1) child told-child
+        ∙ ap (λ (p : End). option_map (λ others. child ∷ others) (cut body p.0 (marks (length body) p.0 ts p.1))) (sym told-is))

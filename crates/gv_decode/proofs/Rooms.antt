@@ -148,13 +148,15 @@ unfolding singles
 singles-spelled n [] h = tt
 singles-spelled n (b ∷ bytes) h = (byte-spelled n b h.0, singles-spelled n bytes h.1)
 
+-- bytes are an array of bytes
+pub byte_array-read : (n : ℕ) (bytes : List ℕ) → AllBelow 256 bytes → value_at (suc n) (Shape.array (Shape.basic basics.Byte)) bytes ≡ Some (Tree.array (byte_trees bytes))
+byte_array-read n bytes h =
+    value_at-spelled (suc n) (Shape.array (Shape.basic basics.Byte)) (Tree.array (byte_trees bytes)) bytes (singles bytes, singles-spelled n bytes h, singles-joined bytes)
+
 pub bytes-read : (n : ℕ) (p : Plan) (bytes : List ℕ) → AllBelow 256 bytes → plan_shape p ≡ Shape.basic basics.Byte →
     option_map Tree.array (option_and_then (read_all (value_at n (plan_shape p))) (array_children (align_of (plan_shape p)) (size_of (plan_shape p)) bytes)) ≡ Some (plain (values.Bytes bytes))
 bytes-read n p bytes h is =
-    let byte = Shape.basic basics.Byte in
-    let read : value_at (suc n) (Shape.array byte) bytes ≡ Some (Tree.array (byte_trees bytes)) =
-    value_at-spelled (suc n) (Shape.array byte) (Tree.array (byte_trees bytes)) bytes (singles bytes, singles-spelled n bytes h, singles-joined bytes) in
-    ap (λ (t : Shape). value_at (suc n) (Shape.array t) bytes) is ∙ read ∙ ap (λ (v : Tree). Some v) (sym (plain-Bytes bytes))
+    ap (λ (t : Shape). value_at (suc n) (Shape.array t) bytes) is ∙ byte_array-read n bytes h ∙ ap (λ (v : Tree). Some v) (sym (plain-Bytes bytes))
 
 -- ---- maybes
 

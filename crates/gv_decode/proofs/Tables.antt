@@ -14,7 +14,7 @@ use Rattle.gv_value.proofs.Numbers.{length-offsets, length-numbers, width_pos}
 use Rattle.gv_decode.proofs.Bounds.{AllBelow-drop}
 use Rattle.gv_decode.proofs.Basics.{le_bytes-value}
 
-AllBelow-take : (n : ℕ) (bytes : List ℕ) → AllBelow 256 bytes → AllBelow 256 (take n bytes)
+pub AllBelow-take : (n : ℕ) (bytes : List ℕ) → AllBelow 256 bytes → AllBelow 256 (take n bytes)
 AllBelow-take zero bytes h = tt
 AllBelow-take (suc n) [] h = tt
 AllBelow-take (suc n) (b ∷ bytes) h = (h.0, AllBelow-take n bytes h.1)

@@ -1,7 +1,12 @@
 -- What the reading of bytes answered.
-use Rattle.std.specs.Prelude.{◌≡◌, ℕ, ◌-◌, ◌*◌, ◌<◌, ◌≤◌, ⊤, List, length, take, reverse, Option, Some, None, Result, Ok, Err}
-use Rattle.gv_value.specs.Framing.{numbers}
+use Rattle.std.specs.Prelude.{◌≡◌, ℕ, map, ◌-◌, ◌*◌, ◌^◌, ◌<◌, ◌≤◌, ⊤, List, [], ◌∷◌, length, take, reverse, Option, Some, None, Result, Ok, Err}
+use denote.Ref.{Bor}
+use Rattle.std.specs.Option.{IsSome}
+use Rattle.gv_value.specs.Framing.{numbers, array_children, tuple_children}
+use Rattle.gv_value.specs.Layout.{align_of, size_of}
 use Rattle.gv_value.specs.Reading.{before_zero}
+use Rattle.gv_value.specs.Shape.{Shape}
+use Rattle.gv_value.specs.Spelled.{two_shapes}
 use Rattle.gv_decode.specs.declared.error.DecodeError.{DecodeError}
 use Rattle.gv_decode.specs.declared.framing.Frame.{Frame}
 use Rattle.gv_decode.specs.declared.error.DecodeError.TheVariants as errors
@@ -16,6 +21,27 @@ Fails errors.NoMemory read = ⊤
 abbrev pub Gives : {X Y : Type 0} → (X → Y) → Result X DecodeError → Option Y → Type 0
 Gives view (Ok x) read = read ≡ Some (view x)
 Gives view (Err e) read = Fails e read
+
+-- what was returned is whether the definitions read anything
+abbrev pub Passes : {X Y : Type 0} → Result X DecodeError → Option Y → Type 0
+Passes (Ok x) read = IsSome read
+Passes (Err e) read = Fails e read
+
+-- the bytes that borrowed slices are
+abbrev pub slices : List (Bor (List ℕ)) → List (List ℕ)
+slices children = map (λ child. child.now) children
+
+-- each has at most 16 MiB
+abbrev pub AreShort : List (List ℕ) → Type 0
+AreShort [] = ⊤
+AreShort (bytes ∷ others) = (length bytes ≤ 2 ^ 24) × AreShort others
+
+-- the bytes of the elements of an array, of the members of a tuple, or of a key and a value
+abbrev pub children_of : Shape → List ℕ → Option (List (List ℕ))
+children_of (Shape.array t) bytes = array_children (align_of t) (size_of t) bytes
+children_of (Shape.tuple ts) bytes = tuple_children (size_of (Shape.tuple ts)) ts bytes
+children_of (Shape.entry k v) bytes = tuple_children (size_of (Shape.entry k v)) (two_shapes k v) bytes
+children_of _ bytes = None
 
 -- the first offsets of a frame
 abbrev pub first_offsets : Frame → ℕ → List ℕ
@@ -34,7 +60,7 @@ pub record IsWhole (f : Frame) : Type 0 where
   pub pos : 0 < f.width
   pub small : f.width ≤ 4
 
--- the children of a container, and so many offsets behind them
+-- the children of a container, and so many offsets after them
 pub record IsFrame (f : Frame) (bytes : List ℕ) (before count : ℕ) : Type 0 where
   pub body : f.body.now ≡ take before bytes
   pub before_is : length f.body.now ≡ before

@@ -1,19 +1,22 @@
+//! Values of basic types, from their bytes.
 ghost use Rattle.std.specs.Prelude.{◌≡◌, ◌≤◌, ◌<◌, ◌^◌, ◌-◌, length, if◌then◌else◌, Some, None, IfOk, option_map};
 ghost use Rattle.std.specs.Str.{is_utf8};
 ghost use Rattle.gv_value.specs.Basics.{string, object_path, signature, form_of};
 ghost use Rattle.gv_value.specs.Reading.{truth_at, number_at, eight_at, before_zero as before_zero_byte, text_at, content_at};
 ghost use Rattle.gv_value.specs.Tree.{leaf, truth, eight, text as text_content};
 ghost use Rattle.gv_value.specs.Views.{plain};
-ghost use Rattle.gv_decode.specs.Decoded.{Gives};
+ghost use Rattle.gv_decode.specs.Decoded.{Gives, Passes};
 
 use crate::error::DecodeError;
 use crate::numbers::number;
-use gv_value::{Basic, GvValue, Text, has_zero, is_object_path, is_signature};
+use fp_base::Text;
+use gv_value::{Basic, GvValue, has_zero, is_object_path, is_signature};
 use std::alloc::Global;
 
 /// The number that so many bytes are.
 fn number_of(bytes: &[u8], size: usize) -> Result<u64, DecodeError>
-    requires { size ≤ 8 }
+    requires some { 0 < size }
+    requires few { size ≤ 8 }
     ensures value { Gives (λ n. n) result (number_at size bytes.now) }
     ensures below { IfOk result (λ n. n < 256 ^ size) }
 {
@@ -39,44 +42,44 @@ pub fn before_zero(bytes: &[u8]) -> Result<&[u8], DecodeError>
     }
 }
 
-/// A text of its own from UTF-8.
-fn kept(alloc: Global, text: &[u8]) -> Result<Text, DecodeError>
-    ensures { Gives (λ kept. kept) result (if is_utf8 text.now then Some text.now else None) }
+/// The text that bytes in UTF-8 are.
+fn utf8(bytes: &[u8]) -> Result<&str, DecodeError>
+    ensures { Gives (λ text. text.now) result (if is_utf8 bytes.now then Some bytes.now else None) }
 {
-    match std::str::from_utf8(text) {
-        Ok(text) => Ok(Text::from_string(String::from_str(alloc, text)?)),
+    match std::str::from_utf8(bytes) {
+        Ok(text) => Ok(text),
         Err(_) => Err(DecodeError::NotNormal),
     }
 }
 
-fn string_of(alloc: Global, bytes: &[u8]) -> Result<Text, DecodeError>
-    ensures { Gives text_content result (text_at string bytes.now) }
+fn string_in(bytes: &[u8]) -> Result<&str, DecodeError>
+    ensures { Gives (λ text. text_content text.now) result (text_at string bytes.now) }
 {
     let text = before_zero(bytes)?;
     if has_zero(text) {
         return Err(DecodeError::NotNormal);
     }
-    kept(alloc, text)
+    utf8(text)
 }
 
-fn object_path_of(alloc: Global, bytes: &[u8]) -> Result<Text, DecodeError>
-    ensures { Gives text_content result (text_at object_path bytes.now) }
+fn object_path_in(bytes: &[u8]) -> Result<&str, DecodeError>
+    ensures { Gives (λ text. text_content text.now) result (text_at object_path bytes.now) }
 {
     let text = before_zero(bytes)?;
     if !is_object_path(text) {
         return Err(DecodeError::NotNormal);
     }
-    kept(alloc, text)
+    utf8(text)
 }
 
-fn signature_of(alloc: Global, bytes: &[u8]) -> Result<Text, DecodeError>
-    ensures { Gives text_content result (text_at signature bytes.now) }
+fn signature_in(bytes: &[u8]) -> Result<&str, DecodeError>
+    ensures { Gives (λ text. text_content text.now) result (text_at signature bytes.now) }
 {
     let text = before_zero(bytes)?;
     if !is_signature(text) {
         return Err(DecodeError::NotNormal);
     }
-    kept(alloc, text)
+    utf8(text)
 }
 
 fn truth_of(bytes: &[u8]) -> Result<bool, DecodeError>
@@ -114,8 +117,50 @@ pub fn read_basic(alloc: Global, of: Basic, bytes: &[u8]) -> Result<GvValue, Dec
         Basic::Uint64 => Ok(GvValue::Uint64(number_of(bytes, 8)?)),
         Basic::Handle => Ok(GvValue::Handle((number_of(bytes, 4)? as u32).cast_signed())),
         Basic::Double => Ok(GvValue::Double(double_of(bytes)?)),
-        Basic::Str => Ok(GvValue::Str(string_of(alloc, bytes)?)),
-        Basic::ObjectPath => Ok(GvValue::ObjectPath(object_path_of(alloc, bytes)?)),
-        Basic::Signature => Ok(GvValue::Signature(signature_of(alloc, bytes)?)),
+        Basic::Str => Ok(GvValue::Str(Text::from_str(alloc, string_in(bytes)?)?)),
+        Basic::ObjectPath => {
+            let path = object_path_in(bytes)?;
+            Ok(GvValue::ObjectPath(Text::from_str(alloc, path)?))
+        }
+        Basic::Signature => {
+            let signature = signature_in(bytes)?;
+            Ok(GvValue::Signature(Text::from_str(alloc, signature)?))
+        }
     }
+}
+
+/// Whether bytes are a value of a basic type.
+pub fn check_basic(of: Basic, bytes: &[u8]) -> Result<(), DecodeError>
+    ensures { Passes result (content_at (form_of of) bytes.now) }
+{
+    match of {
+        Basic::Bool => {
+            truth_of(bytes)?;
+        }
+        Basic::Byte => {
+            number_of(bytes, 1)?;
+        }
+        Basic::Int16 | Basic::Uint16 => {
+            number_of(bytes, 2)?;
+        }
+        Basic::Int32 | Basic::Uint32 | Basic::Handle => {
+            number_of(bytes, 4)?;
+        }
+        Basic::Int64 | Basic::Uint64 => {
+            number_of(bytes, 8)?;
+        }
+        Basic::Double => {
+            double_of(bytes)?;
+        }
+        Basic::Str => {
+            string_in(bytes)?;
+        }
+        Basic::ObjectPath => {
+            object_path_in(bytes)?;
+        }
+        Basic::Signature => {
+            signature_in(bytes)?;
+        }
+    }
+    Ok(())
 }

@@ -1,3 +1,4 @@
+//! Why bytes are not read.
 ghost use Rattle.std.specs.Prelude.{◌≡◌};
 ghost use Rattle.gv_decode.specs.declared.error.DecodeError.TheVariants.{NoMemory};
 

@@ -1,3 +1,4 @@
+//! Where the children of a container stand, and its offsets.
 ghost use Rattle.std.specs.Prelude.{◌≡◌, ◌≤◌, ◌<◌, ◌+◌, ◌-◌, ◌*◌, ◌/◌, ◌^◌, ◌==◌, ◌&&◌, if◌then◌else◌, IsTrue, length, drop, take, Some, None, IfOk};
 ghost use Rattle.gv_value.specs.Bytes.{le_value, all_zero as all_are_zero};
 ghost use Rattle.gv_value.specs.Framing.{child_at as child_from, offsets_behind, width_in, offset_count as offset_count_of, member_end as member_end_of};
@@ -9,7 +10,7 @@ use crate::error::DecodeError;
 use crate::numbers::{all_zero, number};
 use gv_value::{Extent, Plan, padding, width};
 
-/// The bytes of a child that stands behind a position and ends at another, where what is padding before it is zero.
+/// The bytes of a child that stands after a position and ends at another, where what is padding before it is zero.
 pub fn child_at(body: &[u8], at: usize, align: u64, end: usize) -> Result<&[u8], DecodeError>
     requires pos { 0 < align }
     requires small { align ≤ 8 }
@@ -27,7 +28,7 @@ pub fn child_at(body: &[u8], at: usize, align: u64, end: usize) -> Result<&[u8],
 }
 
 /// A container's children, and its offsets.
-#[derive(Clone, Copy, Debug)]
+#[derive(Clone, Copy)]
 pub struct Frame<'a> {
     pub body: &'a [u8],
     /// The offsets, one after the other.
@@ -48,7 +49,7 @@ pub fn offset_width(bytes: &[u8]) -> usize
     width(bytes.len(), 0)
 }
 
-/// A container's children and so many offsets, which begin behind so many bytes.
+/// A container's children and so many offsets, which begin after so many bytes.
 pub fn take_apart(bytes: &[u8], before: usize, count: usize) -> Result<Frame<'_>, DecodeError>
     requires short { length bytes.now ≤ 2 ^ 24 }
     requires few { count ≤ length bytes.now }
@@ -100,7 +101,7 @@ pub fn offset_at(frame: Frame<'_>, index: usize) -> usize
     number(&frame.table[start..start + frame.width]) as usize
 }
 
-/// The body of a tuple of fixed size, without the zero bytes behind its last member.
+/// The body of a tuple of fixed size, without the zero bytes after its last member.
 pub fn filled_frame(whole: usize, size: usize, bytes: &[u8]) -> Result<Frame<'_>, DecodeError>
     requires { whole ≤ size }
     ensures body { Gives (λ f. f.body.now) result
@@ -139,7 +140,7 @@ pub fn open_frame<'a>(plans: &[Plan], bytes: &'a [u8]) -> Result<Frame<'a>, Deco
     take_apart(bytes, before, count)
 }
 
-/// Where a member ends that stands behind a position: by its size, by its offset, or, for the last one, with the body.
+/// Where a member ends that stands after a position: by its size, by its offset, or, for the last one, with the body.
 /// And how many offsets are left.
 pub fn member_end(
     extent: Extent,

@@ -1,19 +1,17 @@
-ghost use Rattle.std.specs.Prelude.{◌≡◌, ◌≤◌, ◌<◌, ◌+◌, ◌*◌, ◌^◌, length};
+//! Numbers from their bytes.
+ghost use Rattle.std.specs.Prelude.{◌≡◌, ◌≤◌, ◌<◌, ◌^◌, length};
 ghost use Rattle.gv_value.specs.Bytes.{le_value, all_zero as all_are_zero};
 
-/// The number of at most eight bytes, the lowest first.
+use byteorder::{ByteOrder, LittleEndian};
+
+/// The number of one to eight bytes, the lowest first.
 pub fn number(bytes: &[u8]) -> u64
-    requires { length bytes.now ≤ 8 }
+    requires some { 0 < length bytes.now }
+    requires few { length bytes.now ≤ 8 }
     ensures value { result ≡ le_value bytes.now }
     ensures below { result < 256 ^ length bytes.now }
 {
-    let mut value: u64 = 0;
-    let mut at = bytes.len();
-    while at > 0 {
-        at -= 1;
-        value = value * 256 + u64::from(bytes[at]);
-    }
-    value
+    LittleEndian::read_uint(bytes, bytes.len())
 }
 
 /// Whether all bytes are zero.

@@ -1,3 +1,4 @@
+//! What stands in a variant.
 ghost use Rattle.std.specs.Prelude.{◌≡◌, ◌≤◌, ◌<◌, ◌^◌, length};
 ghost use Rattle.gv_value.specs.Reading.{parted};
 ghost use Rattle.gv_value.specs.TypeText.{type_of};
@@ -8,8 +9,9 @@ use crate::error::DecodeError;
 use gv_value::{GvType, TypeError};
 use std::alloc::Global;
 
-/// The bytes before the last zero byte, and those behind it.
-pub fn part(bytes: &[u8]) -> Result<(&[u8], &[u8]), DecodeError>
+/// The bytes of the value in a variant, and the type string of its type: what stands before the last zero byte, and after
+/// it. Neither is looked at.
+pub fn variant_parts(bytes: &[u8]) -> Result<(&[u8], &[u8]), DecodeError>
     ensures { Gives (λ p. (p.0.now, p.1.now)) result (parted bytes.now) }
 {
     let mut at = bytes.len();

@@ -1,6 +1,7 @@
 -- The lowest bytes of a number.
-use Rattle.std.proofs.Common.{◌≡◌, ℕ, zero, suc, ◌/◌, ◌%◌, ◌^◌, ◌≤◌, List, ◌∷◌, take, refl, sym, ap, ap₂, ◌∙◌, arith, pow-suc, w64}
-use Rattle.std.specs.Int.{byte_at, bytes_low_first, to_le_bytes}
+use Rattle.std.proofs.Common.{◌≡◌, ℕ, zero, suc, ◌/◌, ◌%◌, ◌^◌, ◌≤◌, List, ◌∷◌, take, refl, sym, ap, ap₂, ◌∙◌, arith, pow-suc, [], append-nil}
+use Rattle.std.specs.Int.{byte_at, bytes_low_first}
+use Rattle.byteorder.specs.Endian.{little_bytes}
 use Rattle.std.proofs.Math.Nat.{div-div-eq-div-mul, div-one}
 use Rattle.gv_value.specs.Bytes.{le_bytes}
 
@@ -15,5 +16,5 @@ take-low (suc s) (suc k) i n h =
     let next : n / 256 ^ suc i ≡ n / 256 ^ i / 256 = ap (λ (x : ℕ). n / x) (pow-suc 256 i) ∙ sym (div-div-eq-div-mul n (256 ^ i) 256) in
     ap₂ (λ (x : ℕ) (xs : List ℕ). x ∷ xs) (byte-is i n) (take-low s k (suc i) n (omega arith) ∙ ap (le_bytes s) next)
 
-pub take-number : (s n : ℕ) → s ≤ 8 → take s (to_le_bytes w64 n) ≡ le_bytes s n
-take-number s n h = take-low s 8 0 n h ∙ ap (le_bytes s) (div-one n)
+pub take-number : (s n : ℕ) (bytes : List ℕ) → s ≤ 8 → bytes ≡ little_bytes 8 n → take s bytes ≡ le_bytes s n
+take-number s n bytes h is = ap (take s) is ∙ take-low s 8 0 n h ∙ ap (le_bytes s) (div-one n)

@@ -18,16 +18,16 @@ Fails errors.NotOfType before bytes = ⊥
 Fails errors.TooLong before bytes = max_bytes < length before + length bytes
 Fails errors.NoMemory before bytes = ⊤
 
--- bytes were added behind those that were there, or all of them would be more than 16 MiB
+-- bytes were added after those that were there, or all of them would be more than 16 MiB
 abbrev pub Adds : {X : Type 0} → Result X EncodeError → List ℕ → List ℕ → List ℕ → Type 0
 Adds (Ok x) before after bytes = IsAdded before after bytes
 Adds (Err e) before after bytes = Fails e before bytes
 
--- the bytes of offsets, behind so many bytes
+-- the bytes of offsets, after so many bytes
 abbrev pub offset_bytes : ℕ → List ℕ → List ℕ
 offset_bytes used offsets = flat_map (le_bytes (width used (length offsets))) offsets
 
--- what stands behind the members of a tuple, which take so many bytes: zero bytes up to its fixed size, or offsets
+-- what stands after the members of a tuple, which take so many bytes: zero bytes up to its fixed size, or offsets
 abbrev pub closing : Option ℕ → ℕ → List ℕ → List ℕ
 closing (Some size) used offsets = zeros (size - used)
 closing None used offsets = offset_bytes used offsets

@@ -1,8 +1,10 @@
+//! Bytes and numbers that are added.
 ghost use Rattle.std.specs.Prelude.{◌≡◌, ◌≤◌, ◌^◌, ◌+◌, vec_len};
 ghost use Rattle.gv_value.specs.Bytes.{le_bytes, zeros};
 ghost use Rattle.gv_encode.specs.Encoded.{Adds};
 
 use crate::error::EncodeError;
+use byteorder::{ByteOrder, LittleEndian};
 use gv_value::MAX_BYTES;
 
 /// How many bytes may still be added.
@@ -44,6 +46,7 @@ pub fn append_number(out: &mut Vec<u8>, number: u64, size: usize) -> Result<(), 
     requires small { size ≤ 8 }
     ensures { Adds result out.old.items out.new.items (le_bytes size number) }
 {
-    let bytes = number.to_le_bytes();
+    let mut bytes = [0; 8];
+    LittleEndian::write_u64(&mut bytes, number);
     append(out, &bytes[..size])
 }

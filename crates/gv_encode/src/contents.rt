@@ -1,3 +1,4 @@
+//! Bytes of basic values.
 ghost use Rattle.std.specs.Prelude.{◌≡◌, ◌≤◌, ◌^◌, ◌++◌, ◌∷◌, [], ℕ, vec_len, IsTrue};
 ghost use Rattle.gv_value.specs.Basics.{form_of};
 ghost use Rattle.gv_value.specs.Parts.{content_of, part_tree, IsHeld, IsHeldContent};

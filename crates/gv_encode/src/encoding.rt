@@ -1,3 +1,4 @@
+//! The bytes of a value.
 ghost use Rattle.std.specs.Prelude.{◌≡◌, ◌<◌, ◌↔◌, ◌⊎◌, IsTrue, IfOk, Err, false, length};
 ghost use Rattle.gv_value.specs.Spelled.{Spelled, max_bytes};
 ghost use Rattle.gv_value.specs.Spelling.{fits as is_of_type, spelling};
@@ -5,7 +6,8 @@ ghost use Rattle.gv_value.specs.Views.{shape_of, plain};
 
 use crate::error::EncodeError;
 use crate::writing::write;
-use gv_value::{Blob, GvType, GvValue, MAX_DEPTH, fits, plan_of};
+use fp_base::Blob;
+use gv_value::{GvType, GvValue, MAX_DEPTH, fits, plan_of};
 use std::alloc::Global;
 
 /// The bytes of a value of a type, in the normal form of the GVariant specification. A value has at most 16 MiB.

@@ -1,3 +1,4 @@
+//! Why a value is not written.
 ghost use Rattle.std.specs.Prelude.{◌≡◌};
 ghost use Rattle.gv_encode.specs.declared.error.EncodeError.TheVariants.{NoMemory};
 

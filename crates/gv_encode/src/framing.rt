@@ -1,3 +1,4 @@
+//! Offsets and fill.
 ghost use Rattle.std.specs.Prelude.{◌≡◌, ◌≤◌, ◌<◌, ◌^◌, ◌+◌, ◌-◌, ◌++◌, [], ℕ, Option, length, vec_len, IsTrue, OnOk, reverse};
 ghost use Rattle.gv_value.specs.Capped.{capped_size};
 ghost use Rattle.gv_value.specs.Framing.{put_offset};
@@ -10,7 +11,7 @@ use crate::error::EncodeError;
 use gv_value::{Plan, width};
 use std::alloc::AllocError;
 
-/// Adds offsets behind a body that begins at `start`, each in as many bytes as they all need.
+/// Adds offsets after a body that begins at `start`, each in as many bytes as they all need.
 pub fn append_offsets(out: &mut Vec<u8>, start: usize, offsets: &[usize]) -> Result<(), EncodeError>
     requires room { vec_len out.old ≤ 2 ^ 24 }
     requires inside { start ≤ vec_len out.old }
@@ -42,7 +43,7 @@ pub fn note_end(
     Ok(())
 }
 
-/// Adds what stands behind the members of a tuple: zero bytes up to its fixed size, or offsets, the last one first.
+/// Adds what stands after the members of a tuple: zero bytes up to its fixed size, or offsets, the last one first.
 pub fn close(
     out: &mut Vec<u8>,
     start: usize,

@@ -1,3 +1,4 @@
+//! Bytes of values.
 ghost use Rattle.std.specs.Prelude.{◌≡◌, ◌≤◌, ◌^◌, ◌-◌, ◌++◌, [], ℕ, suc, None, vec_len, IsTrue, IfOk};
 ghost use Rattle.std.specs.List.{concat};
 ghost use Rattle.gv_value.specs.Bytes.{zeros};
@@ -101,7 +102,7 @@ fn write_array(
     }
 }
 
-/// Adds elements, one behind the other.
+/// Adds elements, one after the other.
 #[cycle(write)]
 fn write_row(
     alloc: Global,
@@ -218,7 +219,7 @@ fn write_tuple(
     close(out, start, run.filled().size, ends)
 }
 
-/// Adds the members of a tuple, and says which offsets belong behind them, the last first.
+/// Adds the members of a tuple, and says which offsets belong after them, the last first.
 #[cycle(write)]
 fn write_members(
     alloc: Global,

@@ -19,7 +19,7 @@ pub record IsExtent (e : Extent) (t : Shape) : Type 0 where
   pub align : e.align ≡ align_of t
   pub size : e.size ≡ capped_size (size_of t)
 
--- where one more member ends, behind members that end at a place
+-- where one more member ends, after members that end at a place
 abbrev pub run_end : Option ℕ → ℕ → Option ℕ → Option ℕ
 run_end at align size = option_and_then (λ a. option_map (λ n. capped (end_behind a align n)) size) at
 

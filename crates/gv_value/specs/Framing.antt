@@ -12,11 +12,11 @@ use Rattle.gv_value.specs.Layout.{padding, align_of, end_behind, size_of, end_of
 abbrev pub Part : Type 0
 Part = ℕ × List ℕ
 
--- a child behind what stands before it
+-- a child after what stands before it
 abbrev pub placed : List ℕ → Part → List ℕ
 placed body part = body ++ (zeros (padding (length body) part.0) ++ part.1)
 
--- children behind what stands before them
+-- children after what stands before them
 abbrev pub laid : List ℕ → List Part → List ℕ
 laid body [] = body
 laid body (part ∷ parts) = laid (placed body part) parts
@@ -31,7 +31,7 @@ abbrev pub width : ℕ → ℕ → ℕ
 width before count = if nat_le (before + count) 0xFF then 1
     else (if nat_le (before + 2 * count) 0xFFFF then 2 else (if nat_le (before + 4 * count) 0xFFFFFFFF then 4 else 8))
 
--- offsets behind a body
+-- offsets after a body
 abbrev pub framed : List ℕ → List ℕ → List ℕ
 framed body offsets = body ++ flat_map (le_bytes (width (length body) (length offsets))) offsets
 
@@ -101,7 +101,7 @@ numbers w (suc count) table = le_value (take w table) ∷ numbers w count (drop 
 abbrev pub offsets_at : ℕ → ℕ → List ℕ → Option (List ℕ)
 offsets_at w count table = let found = numbers w count table in if bytes_eq (flat_map (le_bytes w) found) table then Some found else None
 
--- the offsets behind the first bytes of a container, where their width is the least that fits
+-- the offsets after the first bytes of a container, where their width is the least that fits
 abbrev pub offsets_behind : ℕ → ℕ → List ℕ → Option (List ℕ)
 offsets_behind before count bytes =
     if nat_le before (length bytes) && width before count == width_in (length bytes) then offsets_at (width before count) count (drop before bytes) else None
@@ -111,7 +111,7 @@ abbrev pub steps : ℕ → ℕ → ℕ → List Mark
 steps size at zero = []
 steps size at (suc count) = (1, at + size) ∷ steps size (at + size) count
 
--- the elements before the offsets, which begin behind so many bytes
+-- the elements before the offsets, which begin after so many bytes
 abbrev pub elements_before : ℕ → ℕ → List ℕ → Option (List (List ℕ))
 elements_before align before bytes = option_and_then (λ es. cut (take before bytes) 0 (map (λ e. (align, e)) es))
     (offsets_behind before ((length bytes - before) / width_in (length bytes)) bytes)
@@ -133,7 +133,7 @@ member_end None true whole at align offsets = (whole, offsets)
 member_end None false whole at align [] = (whole, [])
 member_end None false whole at align (end ∷ offsets) = (end, offsets)
 
--- the alignment and the end of each member behind a position, by the offsets in their order
+-- the alignment and the end of each member after a position, by the offsets in their order
 abbrev pub marks : ℕ → ℕ → Shapes → List ℕ → List Mark
 marks whole at no_shapes offsets = []
 marks whole at (shape t ts) offsets =
@@ -144,12 +144,12 @@ abbrev pub offset_count : Shapes → ℕ
 offset_count no_shapes = 0
 offset_count (shape t ts) = length (put_offset (size_of t) (is_none_left ts) 0 []) + offset_count ts
 
--- the members of a tuple of variable size, whose offsets begin behind so many bytes
+-- the members of a tuple of variable size, whose offsets begin after so many bytes
 abbrev pub open_children : Shapes → ℕ → List ℕ → Option (List (List ℕ))
 open_children ts before bytes =
     option_and_then (λ os. cut (take before bytes) 0 (marks before 0 ts (reverse os))) (offsets_behind before (offset_count ts) bytes)
 
--- the members of a tuple of this size, filled with zero bytes behind the last one
+-- the members of a tuple of this size, filled with zero bytes after the last one
 abbrev pub filled_children : Shapes → ℕ → ℕ → List ℕ → Option (List (List ℕ))
 filled_children ts size whole bytes =
     if length bytes == size && all_zero (drop whole bytes) then cut (take whole bytes) 0 (marks whole 0 ts []) else None

@@ -47,7 +47,7 @@ abbrev mutual
   size_of (entry k v) = option_map (filled (max (align_of k) (max (align_of v) 1)))
       (option_and_then (λ m. option_and_then (λ n. Some (end_behind (end_behind 0 (align_of k) m) (align_of v) n)) (size_of v)) (size_of k))
 
-  -- where the last of members of fixed size ends, which begin behind a position
+  -- where the last of members of fixed size ends, which begin after a position
   pub end_of : ℕ → Shapes → Option ℕ
   end_of at no_shapes = Some at
   end_of at (shape t ts) = option_and_then (λ n. end_of (end_behind at (align_of t) n) ts) (size_of t)

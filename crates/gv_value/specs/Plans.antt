@@ -17,7 +17,7 @@ same_size _ _ = false
 abbrev pub extent_is : Extent → Shape → Bool
 extent_is e t = e.align == align_of t && same_size e.size (capped_size (size_of t))
 
--- it is the extent of these members, one behind the other
+-- it is the extent of these members, one after the other
 abbrev pub run_is : Extent → Shapes → Bool
 run_is e ts = e.align == greatest_align ts && same_size e.size (capped_size (end_of 0 ts))
 

@@ -28,7 +28,7 @@ number_at w bytes = let n = le_value bytes in if bytes_eq (le_bytes w n) bytes t
 abbrev pub eight_at : List ℕ → Option Content
 eight_at bytes = if length bytes == 8 && are_bytes bytes then Some (Content.eight bytes) else None
 
--- the first bytes, where one zero byte is all that stands behind them
+-- the first bytes, where one zero byte is all that stands after them
 abbrev pub before_zero : ℕ → List ℕ → Option (List ℕ)
 before_zero n bytes = if bytes_eq (drop n bytes) (0 ∷ []) then Some (take n bytes) else None
 
@@ -73,7 +73,7 @@ abbrev pub parted_behind : ℕ → List ℕ → Option (List ℕ × List ℕ) �
 parted_behind b bytes (Some p) = Some (b ∷ p.0, p.1)
 parted_behind b bytes None = if b == 0 then Some ([], bytes) else None
 
--- the bytes before the last zero byte, and those behind it
+-- the bytes before the last zero byte, and those after it
 abbrev pub parted : List ℕ → Option (List ℕ × List ℕ)
 parted [] = None
 parted (b ∷ bytes) = parted_behind b bytes (parted bytes)

@@ -47,7 +47,7 @@ all_signs =
 abbrev pub sign_of : ℕ → Option Sign
 sign_of letter = sign_among letter all_signs
 
--- the sign at the front, and the letters behind it
+-- the sign at the front, and the letters after it
 abbrev pub sign_at : List ℕ → Option (Sign × List ℕ)
 sign_at [] = None
 sign_at (letter ∷ rest) = option_map (λ s. (s, rest)) (sign_of letter)

@@ -18,7 +18,7 @@ abbrev mutual
   type_texts no_shapes = []
   type_texts (shape t ts) = type_text t ++ type_texts ts
 
--- A reader of one type: the type at the front, and the letters behind it.
+-- A reader of one type: the type at the front, and the letters after it.
 abbrev pub TypeReader : Type 0
 TypeReader = List ℕ → Option (Shape × List ℕ)
 
@@ -26,7 +26,7 @@ TypeReader = List ℕ → Option (Shape × List ℕ)
 abbrev pub type_map : {A B : Type 0} → (A → B) → Option (A × List ℕ) → Option (B × List ℕ)
 type_map f read = option_map (λ p. (f p.0, p.1)) read
 
--- a member and those behind it, where no closing bracket stands at the front
+-- a member and those after it, where no closing bracket stands at the front
 abbrev pub members_from : TypeReader → (List ℕ → Option (Shapes × List ℕ)) → List ℕ → Sign → List ℕ → Option (Shapes × List ℕ)
 members_from one more text signs.TupleClose rest = Some (no_shapes, rest)
 members_from one more text _ rest = option_and_then (λ p. type_map (shape p.0) (more p.1)) (one text)

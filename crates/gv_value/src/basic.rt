@@ -1,7 +1,8 @@
+//! The basic types.
 ghost use Rattle.std.specs.Prelude.{◌≡◌};
 
 /// A basic type: one that no other type stands in.
-#[derive(Clone, Copy, Debug, PartialEq, Eq)]
+#[derive(Clone, Copy, PartialEq, Eq)]
 pub enum Basic {
     Bool,
     Byte,

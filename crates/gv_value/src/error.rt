@@ -1,3 +1,4 @@
+//! Why a type string is not read.
 ghost use Rattle.std.specs.Prelude.{◌≡◌};
 ghost use Rattle.gv_value.specs.declared.error.TypeError.TheVariants.{NoMemory};
 

@@ -1,3 +1,4 @@
+//! Alignments and sizes of types.
 ghost use Rattle.std.specs.Prelude.{◌≡◌, ◌+◌, ◌<◌, ◌≤◌, max};
 ghost use Rattle.std.specs.Option.{ForSome};
 
@@ -11,7 +12,7 @@ pub const MAX_BYTES: u64 = 0x100_0000;
 pub const TOO_LARGE: u64 = 0x100_0001;
 
 /// The alignment of a type, and its size where that is fixed.
-#[derive(Clone, Copy, Debug)]
+#[derive(Clone, Copy)]
 pub struct Extent {
     /// What the position of a value is a multiple of, in bytes: 1, 2, 4 or 8.
     pub align: u64,

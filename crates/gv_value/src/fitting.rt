@@ -1,3 +1,4 @@
+//! Whether a value is of a type.
 ghost use Rattle.std.specs.Prelude.{◌≡◌, ◌↔◌, ℕ, suc, IsTrue};
 ghost use Rattle.gv_value.specs.Basics.{form_of};
 ghost use Rattle.gv_value.specs.Parts.{part_tree, content_of, IsHeld, IsHeldContent};

@@ -1,3 +1,4 @@
+//! Types by their form.
 ghost use Rattle.std.specs.Prelude.{◌≡◌};
 ghost use Rattle.gv_value.specs.Kinds.{kind_shape};
 ghost use Rattle.gv_value.specs.Views.{shape_of};
@@ -6,7 +7,7 @@ use crate::basic::Basic;
 use crate::types::GvType;
 
 /// A type by its form, with the types in it.
-#[derive(Clone, Copy, Debug)]
+#[derive(Clone, Copy)]
 pub enum Kind<'a> {
     Basic(Basic),
     Variant,

@@ -1,3 +1,4 @@
+//! The law of spellings.
 ghost use Rattle.gv_value.specs.Exact.{ReadsTypes, ReadsValues, SpellsValues, HasOneSpelling, HasOneValue, BoundsDepth};
 
 /// What holds of all types, values and bytes. It does nothing: its contract is the law.

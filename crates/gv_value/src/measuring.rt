@@ -1,3 +1,4 @@
+//! Alignments and sizes of types, worked out from the type.
 ghost use Rattle.std.specs.Prelude.{◌≡◌};
 ghost use Rattle.gv_value.specs.Capped.{IsExtent, IsRun, small_size};
 ghost use Rattle.gv_value.specs.Layout.{align_of as align_of_shape, greatest_align, end_of};
@@ -42,7 +43,7 @@ pub fn extent_of(of: &GvType) -> Extent
     }
 }
 
-/// The extent of members, one behind the other.
+/// The extent of members, one after the other.
 #[cycle(measure)]
 fn extent_of_members(members: &[GvType]) -> Extent
     ensures { IsRun result (greatest_align (shapes_of members.now)) (end_of 0 (shapes_of members.now)) }

@@ -1,3 +1,4 @@
+//! Which values of `GvType` are types.
 ghost use Rattle.std.specs.Prelude.{◌≡◌};
 ghost use Rattle.gv_value.specs.Shape.{is_type as is_type_shape, nests_within as shape_nests_within, all_shapes, is_basic as is_basic_shape};
 ghost use Rattle.gv_value.specs.Views.{shape_of, shapes_of};

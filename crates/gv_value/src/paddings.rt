@@ -1,3 +1,4 @@
+//! Padding.
 ghost use Rattle.std.specs.Prelude.{◌≡◌, ◌<◌};
 ghost use Rattle.gv_value.specs.Layout.{padding as padding_of};
 

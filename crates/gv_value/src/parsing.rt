@@ -1,3 +1,4 @@
+//! Types from type strings.
 ghost use Rattle.std.specs.Prelude.{◌≡◌, length, Some, None, MatchResult};
 ghost use Rattle.gv_value.specs.Signs.{sign_at};
 ghost use Rattle.gv_value.specs.TypeText.{flat_type, type_from, entry_at, members_at, type_at, type_of};
@@ -23,7 +24,7 @@ impl GvType {
     }
 }
 
-/// The sign at the front, and the text behind it.
+/// The sign at the front, and the text after it.
 fn read_sign(text: &[u8]) -> Result<(Sign, &[u8]), TypeError>
     ensures { Reads (λ x. (x.0, x.1.now)) result (sign_at text.now) }
 {
@@ -33,7 +34,7 @@ fn read_sign(text: &[u8]) -> Result<(Sign, &[u8]), TypeError>
     }
 }
 
-/// The type at the front, nested at most `room` deep, and the text behind it.
+/// The type at the front, nested at most `room` deep, and the text after it.
 #[cycle(parse)]
 fn read_type(alloc: Global, text: &[u8], room: u32) -> Result<(GvType, &[u8]), TypeError>
     ensures { Reads (λ x. (shape_of x.0, x.1.now)) result (type_at room text.now) }

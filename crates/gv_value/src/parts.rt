@@ -1,3 +1,4 @@
+//! Values by their form.
 ghost use Rattle.std.specs.Prelude.{◌≡◌, length};
 ghost use Rattle.gv_value.specs.Basics.{form_of};
 ghost use Rattle.gv_value.specs.Tree.{array, leaf, byte_trees, number as number_content, integer as integer_content, eight as eight_content};
@@ -9,7 +10,7 @@ use crate::types::GvType;
 use crate::value::GvValue;
 
 /// What a value of a basic type holds.
-#[derive(Clone, Copy, Debug)]
+#[derive(Clone, Copy)]
 pub enum Content<'a> {
     Truth(bool),
     Number(u64),
@@ -19,7 +20,7 @@ pub enum Content<'a> {
 }
 
 /// A value by its form, with the values in it.
-#[derive(Clone, Copy, Debug)]
+#[derive(Clone, Copy)]
 pub enum Parts<'a> {
     Basic(Basic, Content<'a>),
     Variant(&'a GvType, &'a GvValue),

@@ -1,15 +1,16 @@
+//! Types with the extent of each type in them.
 use crate::basic::Basic;
 use crate::extent::Extent;
 
 /// A type with the extent of each type in it, worked out once.
 /// So what reads or writes a value asks for an extent as often as it likes, at no cost.
-#[derive(Debug, Drop)]
+#[derive(Drop)]
 pub enum Plan {
     Basic(Basic),
     Variant,
     Array(Extent, Box<Plan>),
     Maybe(Extent, Box<Plan>),
-    /// With the extent of the members, one behind the other.
+    /// With the extent of the members, one after the other.
     Tuple(Extent, Vec<Plan>),
     /// Of a dictionary entry: the key and the value, as two members.
     Entry(Extent, Vec<Plan>),

@@ -1,3 +1,4 @@
+//! Plans of types.
 ghost use Rattle.std.specs.Prelude.{◌≡◌, IsTrue, IfOk};
 ghost use Rattle.gv_value.specs.Capped.{IsExtent, IsRun};
 ghost use Rattle.gv_value.specs.Layout.{greatest_align, end_of};
@@ -27,7 +28,7 @@ impl Plan {
     }
 }
 
-/// The extent of members, one behind the other.
+/// The extent of members, one after the other.
 fn extent_of_plans(plans: &[Plan]) -> Extent
     requires { IsTrue (are_plans plans.now) }
     ensures { IsRun result (greatest_align (plan_shapes plans.now)) (end_of 0 (plan_shapes plans.now)) }
@@ -75,7 +76,7 @@ pub fn plan_of(alloc: Global, of: &GvType) -> Result<Plan, AllocError>
 fn plans_of(alloc: Global, members: &[GvType]) -> Result<Vec<Plan>, AllocError>
     ensures { IfOk result (λ ps. ArePlansOf ps.items (shapes_of members.now)) }
 {
-    let mut plans = Vec::new(alloc);
+    let mut plans = Vec::with_capacity(alloc, members.len())?;
     for member in members {
         plans.push(plan_of(alloc, member)?)?;
     }

@@ -1,10 +1,11 @@
+//! The characters of type strings.
 ghost use Rattle.std.specs.Prelude.{◌≡◌, option_map};
 ghost use Rattle.gv_value.specs.Signs.{sign_of, sign_at};
 
 use crate::basic::Basic;
 
 /// What a character of a type string says.
-#[derive(Clone, Copy, Debug, PartialEq, Eq)]
+#[derive(Clone, Copy)]
 pub enum Sign {
     Basic(Basic),
     Variant,
@@ -47,7 +48,7 @@ impl Sign {
         Some(Sign::Basic(basic))
     }
 
-    /// The sign at the front of a type string, and what stands behind it.
+    /// The sign at the front of a type string, and what stands after it.
     pub fn at_front(text: &[u8]) -> Option<(Sign, &[u8])>
         ensures { option_map (λ p. (p.0, p.1.now)) result ≡ sign_at text.now }
     {

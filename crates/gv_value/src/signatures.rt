@@ -1,3 +1,4 @@
+//! D-Bus signatures.
 ghost use Rattle.std.specs.Prelude.{◌≡◌, ◌+◌, length, option_and_then};
 ghost use Rattle.std.specs.Option.{option_copied};
 ghost use Rattle.gv_value.specs.Signs.{sign_at};

@@ -1,3 +1,4 @@
+//! Texts and D-Bus object paths.
 ghost use Rattle.std.specs.Prelude.{◌≡◌, false};
 ghost use Rattle.gv_value.specs.Texts.{has_zero as has_zero_byte, is_path_char as is_char_of_path, are_elements as are_path_elements, is_object_path as is_path};
 

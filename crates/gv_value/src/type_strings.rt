@@ -1,10 +1,11 @@
+//! Type strings of types.
 ghost use Rattle.std.specs.Prelude.{◌≡◌, ◌++◌, IfOk, OnOk};
 ghost use Rattle.gv_value.specs.TypeText.{type_text, type_texts};
 ghost use Rattle.gv_value.specs.Views.{shape_of, shapes_of};
 
-use fp_base::Blob;
 use crate::kind::Kind;
 use crate::types::GvType;
+use fp_base::Blob;
 use std::alloc::{AllocError, Global};
 
 impl GvType {

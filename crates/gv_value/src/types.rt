@@ -1,3 +1,4 @@
+//! Types.
 ghost use Rattle.std.specs.Prelude.{◌≡◌};
 ghost use Rattle.gv_value.specs.Shape.{basic};
 ghost use Rattle.gv_value.specs.Views.{shape_of};

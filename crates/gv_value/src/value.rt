@@ -1,9 +1,9 @@
-use fp_base::Blob;
-use fp_base::Text;
+//! Values.
 use crate::types::GvType;
+use fp_base::{Blob, Text};
 
 /// A value of a GVariant type.
-#[derive(Debug, Drop)]
+#[derive(Drop)]
 pub enum GvValue {
     Bool(bool),
     Byte(u8),

@@ -1,3 +1,4 @@
+//! How many bytes offsets take.
 ghost use Rattle.std.specs.Prelude.{◌≡◌, ◌+◌, ◌*◌, ◌<◌, ◌^◌};
 ghost use Rattle.gv_value.specs.Framing.{width as width_of};
 

@@ -1,26 +1,21 @@
-use Rattle.std.proofs.Common.{◌≡◌, ℕ, ◌+◌, ◌-◌, ◌*◌, ◌/◌, List, [], ◌∷◌, ◌++◌, length, take, drop, map, Option, Some, option_and_then, sym, ap, ◌∙◌, subst, arith, rules, IsTrue}
-use Rattle.std.proofs.lemmas.Bool.{and_parts}
-use Rattle.std.proofs.lemmas.List.{drop-drop, nil_from_length}
+use Rattle.std.proofs.Common.{◌≡◌, ℕ, ◌+◌, ◌-◌, ◌<◌, ◌≤◌, List, [], ◌∷◌, ◌++◌, length, drop, Some, sym, ap, ◌∙◌, subst, arith, rules, IsTrue}
 use Rattle.gv_value.proofs.Known.{AllBelow-fits}
 use Rattle.gv_value.proofs.Seen.{plain-Just}
-use Rattle.gv_value.specs.Framing.{array_children, is_none_left, marks, steps, numbers}
 use Rattle.gv_value.specs.Layout.{align_of, size_of}
-use Rattle.gv_value.specs.Plans.{is_plan, plan_shape, are_plans, plan_shapes}
-use Rattle.gv_value.specs.Reading.{value_at, read_all}
-use Rattle.gv_value.specs.Shape.{Shape, Shapes}
+use Rattle.gv_value.specs.Plans.{is_plan, plan_shape, plan_shapes}
+use Rattle.gv_value.specs.Reading.{value_at, read_all, read_each}
+use Rattle.gv_value.specs.Shape.{Shape, Shapes, tuple}
 use Rattle.gv_value.specs.Tree.{Tree}
 use Rattle.gv_value.specs.Views.{plain, plains}
 use Rattle.gv_value.specs.declared.basic.Basic.TheVariants as basics
 use Rattle.gv_value.specs.declared.plan.Plan.{Plan}
 use Rattle.gv_value.specs.declared.value.GvValue.{GvValue}
 use Rattle.gv_value.specs.declared.value.GvValue.TheVariants as values
-use Rattle.gv_decode.specs.Decoded.{Fails, offsets_of, offsets_left}
-use Rattle.gv_decode.proofs.Items.{item-no_child, item-fails, item-more, items-end}
-use Rattle.gv_decode.proofs.Marks.{member-no_child, member-fails, member-more, item-inside, item-short, left-none}
+use Rattle.gv_decode.specs.Decoded.{Fails, slices}
+use Rattle.gv_decode.proofs.OneByOne.{ReadSoFar, read-more, read-ends, all-read, each-read, short-at, good-at, all-next, each-next, each-count, all-ended, each-ended}
 use Rattle.gv_decode.proofs.Partings.{parted-short}
-use Rattle.gv_decode.proofs.Rooms.{two-read, maybe-read, capped-some, gives-err, gives-same, in-room, shape-Variant, shape-Array, shape-Maybe, shape-Tuple, tuple-read, tuple-fails, entry-is, entry-read, entry-fails, members_at, bytes-read}
-use Rattle.gv_decode.proofs.Rows.{rest_of, row-capped, row-fails, row-more, row-ends, row-short}
-use Rattle.gv_decode.proofs.Runs.{SoFar, so_far-ends, all_from, each_from, each-ends}
+use Rattle.gv_decode.proofs.Rooms.{two-read, maybe-read, gives-err, gives-same, in-room, shape-Variant, shape-Array, shape-Maybe, shape-Tuple, tuple-read, tuple-fails, entry-is, entry-read, entry-fails, members_at, bytes-read}
+use Rattle.gv_decode.proofs.Short.{array-short, tuple-short}
 use Rattle.gv_decode.proofs.reading.+read.Goals as goal
 
 pub read-returns-in-Variant : goal.read-returns-in-Variant
@@ -92,71 +87,6 @@ read_array-returns-then-is_byte t c =
     let same : c.args.bytes.now ≡ c.from_vec.result = search rules in
     bytes-read c.args.room c.args.element.now c.args.bytes.now (AllBelow-fits c.args.bytes.now c.type_inv.bytes) is ∙ ap (λ (bytes : List ℕ). Some (plain (values.Bytes bytes))) same
 
-pub read_items-returns-in-Some : goal.read_items-returns-in-Some
-read_items-returns-in-Some t c =
-    let s = plan_shape c.args.element.now in
-    let one = value_at c.args.room s in
-    let bytes = c.args.bytes.now in
-    let k = capped-some (size_of s) c.in-Some.size (sym c.extent.ensures.size ∙ c.in-Some.is) in
-    gives-same (λ values. plains values.items) c.read_row.result _ (option_and_then (read_all one) (array_children (align_of s) (size_of s) bytes))
-    (ap (λ (n : ℕ). all_from one bytes 0 (steps n 0 (length bytes / n))) k.2 ∙ row-capped one bytes k.0 c.requires.short
-    ∙ ap (λ (o : Option ℕ). option_and_then (read_all one) (array_children (align_of s) o bytes)) (sym k.1)) c.read_row.ensures
-
-pub read_elements-returns-in_err-child : goal.read_elements-returns-in_err-child
-read_elements-returns-in_err-child t c =
-    let l = c.loop-i in
-    let f = c.args.frame in
-    let s = plan_shape c.args.element.now in
-    let one = value_at c.args.room s in
-    let body = f.body.now in
-    let align = c.extent-align.result.align in
-    let end = c.offset_at-end.result in
-    let whole = all_from one body 0 (map (λ e. (align_of s, e)) (offsets_of f)) in
-    let e = c.in_err-child.field-0.0 in
-    gives-err (λ values. plains values.items) c.from_residual.result e whole c.from_residual.ensures.1
-    (item-no_child one body l.at (align_of s) f.width f.count l.i f.table.now l.values.items whole c.loop-i-test.true end align c.offset_at-end.ensures c.extent-align.ensures.align l.invariant.so_far e c.in_err-child.ensures)
-
-pub read_elements-returns-in_err-read : goal.read_elements-returns-in_err-read
-read_elements-returns-in_err-read t c =
-    let l = c.loop-i in
-    let f = c.args.frame in
-    let s = plan_shape c.args.element.now in
-    let one = value_at c.args.room s in
-    let body = f.body.now in
-    let align = c.extent-align.result.align in
-    let end = c.offset_at-end.result in
-    let whole = all_from one body 0 (map (λ e. (align_of s, e)) (offsets_of f)) in
-    let e = c.in_err-read.field-0.0 in
-    gives-err (λ values. plains values.items) c.from_residual-in_err-read.result e whole c.from_residual-in_err-read.ensures.1
-    (item-fails one body l.at (align_of s) f.width f.count l.i f.table.now l.values.items whole c.loop-i-test.true end align c.offset_at-end.ensures c.extent-align.ensures.align l.invariant.so_far
-    c.in_ok-child.child.now c.in_ok-child.ensures e c.in_err-read.ensures)
-
-pub read_elements-loop-i-preserved : goal.read_elements-loop-i-preserved
-read_elements-loop-i-preserved t c =
-    let l = c.loop-i in
-    let f = c.args.frame in
-    let s = plan_shape c.args.element.now in
-    let one = value_at c.args.room s in
-    let body = f.body.now in
-    let align = c.extent-align.result.align in
-    let end = c.offset_at-end.result in
-    let whole = all_from one body 0 (map (λ e. (align_of s, e)) (offsets_of f)) in
-    let x = c.in_ok-read.field-0 in
-    let pushed : c.push.new.self.items ≡ l.values.items ++ x ∷ [] = search rules in
-    record {
-      within = item-inside body l.at align end c.in_ok-child.child.now c.in_ok-child.ensures;
-      so_far = subst (λ (vs : List GvValue). SoFar vs (all_from one body end (map (λ e. (align_of s, e)) (numbers f.width (f.count - (l.i + 1)) (drop ((l.i + 1) * f.width) f.table.now)))) whole) (sym pushed)
-          (item-more one body l.at (align_of s) f.width f.count l.i f.table.now l.values.items whole c.loop-i-test.true end align c.offset_at-end.ensures c.extent-align.ensures.align l.invariant.so_far
-          c.in_ok-child.child.now c.in_ok-child.ensures x c.in_ok-read.ensures);
-    }
-
-pub read_elements-returns-then-at-frame : goal.read_elements-returns-then-at-frame
-read_elements-returns-then-at-frame t c =
-    let l = c.loop-i in
-    let f = c.args.frame in
-    let s = plan_shape c.args.element.now in
-    items-end (value_at c.args.room s) f.body.now l.at (align_of s) f.width f.count l.i f.table.now l.values.items _ c.loop-i-test.false c.if-at-frame.true l.invariant.so_far
-
 pub read_maybe-returns : goal.read_maybe-returns
 read_maybe-returns t c =
     let s = plan_shape c.args.child.now in
@@ -164,166 +94,6 @@ read_maybe-returns t c =
     let same : c.in_ok-value.value ≡ c.in_ok-new.field-0.value = search rules in
     maybe-read (value_at c.args.room s) (size_of s) c.args.bytes.now c.in_ok-inside.inside.now (plain c.in_ok-value.value) some c.in_ok-inside.ensures c.in_ok-value.ensures
     ∙ ap (λ (x : GvValue). Some (Tree.just (plain x))) same ∙ ap (λ (v : Tree). Some v) (sym (plain-Just c.in_ok-new.field-0))
-
-pub read_row-returns-in_err-read : goal.read_row-returns-in_err-read
-read_row-returns-in_err-read t c =
-    let l = c.loop-left in
-    let one = value_at c.args.room (plan_shape c.args.element.now) in
-    let bytes = c.args.bytes.now in
-    let size = c.args.size in
-    let left = length l.left.now in
-    let at = length bytes - left in
-    let whole = all_from one bytes 0 (steps size 0 (length bytes / size)) in
-    let e = c.in_err-read.field-0.0 in
-    let child : c.split_at.result.0.now ≡ take size (drop at bytes) = c.split_at.ensures.front ∙ ap (take size) l.invariant.left_is in
-    gives-err (λ values. plains values.items) c.from_residual.result e whole c.from_residual.ensures.1
-    (row-fails one bytes size left l.values.items whole c.requires.some c.loop-left-test.true l.invariant.within l.invariant.so_far e (subst (λ (xs : List ℕ). Fails e (one xs)) child c.in_err-read.ensures))
-
-pub read_row-loop-left-preserved : goal.read_row-loop-left-preserved
-read_row-loop-left-preserved t c =
-    let l = c.loop-left in
-    let one = value_at c.args.room (plan_shape c.args.element.now) in
-    let bytes = c.args.bytes.now in
-    let size = c.args.size in
-    let left = length l.left.now in
-    let at = length bytes - left in
-    let whole = all_from one bytes 0 (steps size 0 (length bytes / size)) in
-    let others = c.split_at.result.1.now in
-    let x = c.in_ok-read.field-0 in
-    let child : c.split_at.result.0.now ≡ take size (drop at bytes) = c.split_at.ensures.front ∙ ap (take size) l.invariant.left_is in
-    let pushed : c.push.new.self.items ≡ l.values.items ++ x ∷ [] = search rules in
-    let fewer : length others + size ≡ left = c.split_at.ensures.back_len in
-    let there : drop (length bytes - length others) bytes ≡ others =
-    ap (λ (n : ℕ). drop n bytes) (omega (arith, fewer, l.invariant.within, c.loop-left-test.true)) ∙ sym (drop-drop size at bytes) ∙ ap (drop size) (sym l.invariant.left_is) ∙ sym c.split_at.ensures.back in
-    record {
-      within = omega (arith, fewer, l.invariant.within);
-      left_is = sym there;
-      so_far = subst (λ (vs : List GvValue). SoFar vs (rest_of one bytes size (length bytes - length others) (length others)) whole) (sym pushed)
-          (row-more one bytes size left l.values.items whole c.requires.some c.loop-left-test.true l.invariant.within l.invariant.so_far x (length others) fewer (sym (ap one child) ∙ c.in_ok-read.ensures));
-    }
-
-pub read_row-returns-then-is_empty : goal.read_row-returns-then-is_empty
-read_row-returns-then-is_empty t c =
-    let l = c.loop-left in
-    let one = value_at c.args.room (plan_shape c.args.element.now) in
-    let bytes = c.args.bytes.now in
-    let size = c.args.size in
-    let left = length l.left.now in
-    let at = length bytes - left in
-    let whole = all_from one bytes 0 (steps size 0 (length bytes / size)) in
-    let none : left ≡ 0 = search rules in
-    row-ends one bytes size left l.values.items whole c.loop-left-test.false l.invariant.within l.invariant.so_far none
-
-pub read_row-returns-else-is_empty : goal.read_row-returns-else-is_empty
-read_row-returns-else-is_empty t c =
-    let l = c.loop-left in
-    let one = value_at c.args.room (plan_shape c.args.element.now) in
-    let bytes = c.args.bytes.now in
-    let size = c.args.size in
-    let left = length l.left.now in
-    let at = length bytes - left in
-    let whole = all_from one bytes 0 (steps size 0 (length bytes / size)) in
-    let some : left ≡ 0 → ⊥ = search rules in
-    row-short one bytes size left l.values.items whole c.loop-left-test.false l.invariant.within l.invariant.so_far some
-
-pub read_run-returns-in_err-child : goal.read_run-returns-in_err-child
-read_run-returns-in_err-child t c =
-    let l = c.loop-plan in
-    let f = c.args.frame in
-    let one = value_at c.args.room in
-    let body = f.body.now in
-    let p = c.in-Some.plan.now in
-    let ps = c.in-Some.others.now in
-    let here : l.left.now ≡ p ∷ ps = search rules in
-    let last = c.is_empty.result in
-    let final : last ≡ is_none_left (plan_shapes ps) = c.is_empty.ensures ∙ left-none ps in
-    let end = c.member_end-end.result.0 in
-    let fewer = offsets_left f c.member_end-end.result.1 in
-    let os = offsets_left f l.unused in
-    let whole = each_from one body 0 (plan_shapes c.args.plans.now) (marks (length body) 0 (plan_shapes c.args.plans.now) (offsets_left f f.count)) in
-    let so = subst (λ (xs : List Plan). SoFar l.values.items (each_from one body l.at (plan_shapes xs) (marks (length body) l.at (plan_shapes xs) os)) whole) here l.invariant.so_far in
-    let e = c.in_err-child.field-0.0 in
-    gives-err (λ values. plains values.items) c.from_residual.result e whole c.from_residual.ensures.1
-    (member-no_child one body l.at (plan_shape p) (plan_shapes ps) os l.values.items whole c.requires.short c.extent-extent.result c.extent-extent.ensures last final end fewer c.member_end-end.ensures.found so
-    e c.in_err-child.ensures)
-
-pub read_run-read-requires : goal.read_run-read-requires
-read_run-read-requires t c =
-    let l = c.loop-plan in
-    let f = c.args.frame in
-    let one = value_at c.args.room in
-    let body = f.body.now in
-    let p = c.in-Some.plan.now in
-    let ps = c.in-Some.others.now in
-    let here : l.left.now ≡ p ∷ ps = search rules in
-    let last = c.is_empty.result in
-    let final : last ≡ is_none_left (plan_shapes ps) = c.is_empty.ensures ∙ left-none ps in
-    let end = c.member_end-end.result.0 in
-    let fewer = offsets_left f c.member_end-end.result.1 in
-    let os = offsets_left f l.unused in
-    let whole = each_from one body 0 (plan_shapes c.args.plans.now) (marks (length body) 0 (plan_shapes c.args.plans.now) (offsets_left f f.count)) in
-    let so = subst (λ (xs : List Plan). SoFar l.values.items (each_from one body l.at (plan_shapes xs) (marks (length body) l.at (plan_shapes xs) os)) whole) here l.invariant.so_far in
-    let good = (and_parts (is_plan p) (are_plans ps) (subst (λ (xs : List Plan). IsTrue (are_plans xs)) here l.invariant.good)).0 in
-    (search rules, (good, item-short body l.at c.extent-extent.result.align end c.in_ok-child.child.now c.in_ok-child.ensures c.requires.short))
-
-pub read_run-returns-in_err-read : goal.read_run-returns-in_err-read
-read_run-returns-in_err-read t c =
-    let l = c.loop-plan in
-    let f = c.args.frame in
-    let one = value_at c.args.room in
-    let body = f.body.now in
-    let p = c.in-Some.plan.now in
-    let ps = c.in-Some.others.now in
-    let here : l.left.now ≡ p ∷ ps = search rules in
-    let last = c.is_empty.result in
-    let final : last ≡ is_none_left (plan_shapes ps) = c.is_empty.ensures ∙ left-none ps in
-    let end = c.member_end-end.result.0 in
-    let fewer = offsets_left f c.member_end-end.result.1 in
-    let os = offsets_left f l.unused in
-    let whole = each_from one body 0 (plan_shapes c.args.plans.now) (marks (length body) 0 (plan_shapes c.args.plans.now) (offsets_left f f.count)) in
-    let so = subst (λ (xs : List Plan). SoFar l.values.items (each_from one body l.at (plan_shapes xs) (marks (length body) l.at (plan_shapes xs) os)) whole) here l.invariant.so_far in
-    let e = c.in_err-read.field-0.0 in
-    gives-err (λ values. plains values.items) c.from_residual-in_err-read.result e whole c.from_residual-in_err-read.ensures.1
-    (member-fails one body l.at (plan_shape p) (plan_shapes ps) os l.values.items whole c.requires.short c.extent-extent.result c.extent-extent.ensures last final end fewer c.member_end-end.ensures.found so
-    c.in_ok-child.child.now c.in_ok-child.ensures e c.in_err-read.ensures)
-
-pub read_run-loop-plan-preserved : goal.read_run-loop-plan-preserved
-read_run-loop-plan-preserved t c =
-    let l = c.loop-plan in
-    let f = c.args.frame in
-    let one = value_at c.args.room in
-    let body = f.body.now in
-    let p = c.in-Some.plan.now in
-    let ps = c.in-Some.others.now in
-    let here : l.left.now ≡ p ∷ ps = search rules in
-    let last = c.is_empty.result in
-    let final : last ≡ is_none_left (plan_shapes ps) = c.is_empty.ensures ∙ left-none ps in
-    let end = c.member_end-end.result.0 in
-    let fewer = offsets_left f c.member_end-end.result.1 in
-    let os = offsets_left f l.unused in
-    let whole = each_from one body 0 (plan_shapes c.args.plans.now) (marks (length body) 0 (plan_shapes c.args.plans.now) (offsets_left f f.count)) in
-    let so = subst (λ (xs : List Plan). SoFar l.values.items (each_from one body l.at (plan_shapes xs) (marks (length body) l.at (plan_shapes xs) os)) whole) here l.invariant.so_far in
-    let x = c.in_ok-read.field-0 in
-    let pushed : c.push.new.self.items ≡ l.values.items ++ x ∷ [] = search rules in
-    record {
-      good = (and_parts (is_plan p) (are_plans ps) (subst (λ (xs : List Plan). IsTrue (are_plans xs)) here l.invariant.good)).1;
-      within = item-inside body l.at c.extent-extent.result.align end c.in_ok-child.child.now c.in_ok-child.ensures;
-      few = omega (arith, c.member_end-end.ensures.fewer, l.invariant.few);
-      so_far = subst (λ (vs : List GvValue). SoFar vs (each_from one body end (plan_shapes ps) (marks (length body) end (plan_shapes ps) fewer)) whole) (sym pushed)
-          (member-more one body l.at (plan_shape p) (plan_shapes ps) os l.values.items whole c.requires.short c.extent-extent.result c.extent-extent.ensures last final end fewer c.member_end-end.ensures.found so
-          c.in_ok-child.child.now c.in_ok-child.ensures x c.in_ok-read.ensures);
-    }
-
-pub read_run-returns-then-at-frame : goal.read_run-returns-then-at-frame
-read_run-returns-then-at-frame t c =
-    let l = c.loop-plan in
-    let f = c.args.frame in
-    let one = value_at c.args.room in
-    let body = f.body.now in
-    let none : l.left.now ≡ [] = nil_from_length l.left.now (search rules) in
-    let whole = each_from one body 0 (plan_shapes c.args.plans.now) (marks (length body) 0 (plan_shapes c.args.plans.now) (offsets_left f f.count)) in
-    let so = subst (λ (xs : List Plan). SoFar l.values.items (each_from one body l.at (plan_shapes xs) (marks (length body) l.at (plan_shapes xs) (offsets_left f l.unused))) whole) none l.invariant.so_far in
-    so_far-ends l.values.items _ whole so (each-ends one body l.at c.if-at-frame.true)
 
 pub read_variant-read-requires : goal.read_variant-read-requires
 read_variant-read-requires t c =
@@ -340,3 +110,64 @@ read-as_entry-requires t c =
     let members = c.in_ok-members-in-Entry.members in
     let two = two-read n E.key E.value bytes members.items (sym (ap (λ (ts : Shapes). members_at n ts bytes) shapes) ∙ c.in_ok-members-in-Entry.ensures) in
     omega (arith, two)
+
+pub read_array-read_items-requires : goal.read_array-read_items-requires
+read_array-read_items-requires t c =
+    let s = plan_shape c.args.element.now in
+    let found = c.in_ok-children.ensures ∙ ap (λ xs. Some (slices xs)) (sym c.deref.ensures.value) in
+    (search rules, (c.requires.planned, array-short (align_of s) (size_of s) c.args.bytes.now (slices c.deref.result.now) c.requires.short found))
+
+pub read_members-read_each_member-requires : goal.read_members-read_each_member-requires
+read_members-read_each_member-requires t c =
+    let ts = plan_shapes c.args.plans.now in
+    let found = c.in_ok-children.ensures ∙ ap (λ xs. Some (slices xs)) (sym c.deref.ensures.value) in
+    (search rules, (c.requires.planned, tuple-short (size_of (tuple ts)) ts c.args.bytes.now (slices c.deref.result.now) c.requires.short found))
+
+pub read_items-read-requires : goal.read_items-read-requires
+read_items-read-requires t c = (search rules, (c.requires.planned, short-at c.args.children.now c.loop-child.child-index _ c.loop-child-test.true c.requires.short))
+
+pub read_each_member-returns-then-plans-children : goal.read_each_member-returns-then-plans-children
+read_each_member-returns-then-plans-children t c = each-count (value_at c.args.room) c.args.plans.now c.args.children.now c.if-plans-children.true
+
+pub read_each_member-read-requires : goal.read_each_member-read-requires
+read_each_member-read-requires t c =
+    let i = c.loop-i.i in
+    let there : i < length c.args.children.now = search rules in
+    (search rules, (good-at c.args.plans.now i c.index-plans-i.result c.loop-i-test.true c.index-plans-i.is c.requires.planned, short-at c.args.children.now i _ there c.requires.short))
+
+pub read_each_member-loop-i-preserved : goal.read_each_member-loop-i-preserved
+read_each_member-loop-i-preserved t c =
+    let i = c.loop-i.i in
+    let one = value_at c.args.room in
+    let ps = c.args.plans.now in
+    let cs = c.args.children.now in
+    let p = c.index-plans-i.result in
+    let x = c.in_ok-read.field-0 in
+    let whole = read_each one (plan_shapes ps) (slices cs) in
+    let there : i < length cs = search rules in
+    let pushed : c.push.new.self.items ≡ c.loop-i.values.items ++ x ∷ [] = search rules in
+    subst (λ (vs : List GvValue). ReadSoFar vs (read_each one (plan_shapes (drop (i + 1) ps)) (slices (drop (i + 1) cs))) whole) (sym pushed)
+    (read-more c.loop-i.values.items x _ (read_each one (plan_shapes (drop (i + 1) ps)) (slices (drop (i + 1) cs))) whole c.loop-i.invariant
+    (each-next one ps cs i p _ c.loop-i-test.true there c.index-plans-i.is ∙ each-read one (plan_shape p) (plan_shapes (drop (i + 1) ps)) _ (slices (drop (i + 1) cs)) (plain x) c.in_ok-read.ensures))
+
+pub read_items-loop-child-preserved : goal.read_items-loop-child-preserved
+read_items-loop-child-preserved t c =
+    let i = c.loop-child.child-index in
+    let one = value_at c.args.room (plan_shape c.args.element.now) in
+    let cs = c.args.children.now in
+    let x = c.in_ok-read.field-0 in
+    let whole = read_all one (slices cs) in
+    let pushed : c.push.new.self.items ≡ c.loop-child.values.items ++ x ∷ [] = search rules in
+    subst (λ (vs : List GvValue). ReadSoFar vs (read_all one (slices (drop (i + 1) cs))) whole) (sym pushed)
+    (read-more c.loop-child.values.items x _ (read_all one (slices (drop (i + 1) cs))) whole c.loop-child.invariant
+    (all-next one cs i _ c.loop-child-test.true ∙ all-read one _ (slices (drop (i + 1) cs)) (plain x) c.in_ok-read.ensures))
+
+pub read_items-returns : goal.read_items-returns
+read_items-returns t c =
+    let one = value_at c.args.room (plan_shape c.args.element.now) in
+    read-ends c.loop-child.values.items _ _ c.loop-child.invariant (all-ended one c.args.children.now c.loop-child.child-index c.loop-child-test.false)
+
+pub read_each_member-returns : goal.read_each_member-returns
+read_each_member-returns t c =
+    let there : length c.args.children.now ≤ c.loop-i.i = search rules in
+    read-ends c.loop-i.values.items _ _ c.loop-i.invariant (each-ended (value_at c.args.room) c.args.plans.now c.args.children.now c.loop-i.i c.loop-i-test.false there)

@@ -1,6 +1,6 @@
 use Rattle.std.proofs.Common.{◌≡◌, ◌≤◌, None, length, drop}
 use Rattle.gv_value.specs.Reading.{parted}
-use Rattle.gv_decode.proofs.variants.part.Given as goal
+use Rattle.gv_decode.proofs.variants.variant_parts.Given as goal
 
 abbrev pub invariant-loop-at : goal.invariant-loop-at
 invariant-loop-at l = record {

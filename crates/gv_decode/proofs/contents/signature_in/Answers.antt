@@ -2,9 +2,9 @@ use Rattle.std.proofs.Common.{◌≡◌, true, rules}
 use Rattle.gv_value.specs.Texts.{is_text}
 use Rattle.gv_value.specs.Basics.{signature}
 use Rattle.gv_decode.proofs.Basics.{text-from, signature-utf8}
-use Rattle.gv_decode.proofs.contents.signature_of.Goals as goal
+use Rattle.gv_decode.proofs.contents.signature_in.Goals as goal
 
 pub returns : goal.returns
 returns c =
     let is : is_text signature c.in_ok-text.text.now ≡ true = search rules in
-    text-from signature c.args.bytes.now c.in_ok-text.text.now c.kept.result (search rules) is (signature-utf8 c.in_ok-text.text.now is) c.kept.ensures
+    text-from (λ text. text.now) signature c.args.bytes.now c.in_ok-text.text.now c.utf8-2.result (search rules) is (signature-utf8 c.in_ok-text.text.now is) c.utf8-2.ensures

@@ -1,7 +1,7 @@
 use Rattle.std.proofs.Common.{◌≡◌, ℕ, ◌+◌, ◌-◌, ◌<◌, length, get_or, drop, ap, ◌∙◌, arith, rules}
 use Rattle.gv_value.specs.Reading.{parted}
 use Rattle.gv_decode.proofs.Partings.{parts-at}
-use Rattle.gv_decode.proofs.variants.part.Goals as goal
+use Rattle.gv_decode.proofs.variants.variant_parts.Goals as goal
 
 pub returns-then-bytes-at-eq0 : goal.returns-then-bytes-at-eq0
 returns-then-bytes-at-eq0 c =

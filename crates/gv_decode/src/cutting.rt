@@ -1,0 +1,173 @@
+//! The bytes of a container's children, cut from the container's.
+ghost use Rattle.std.specs.Prelude.{◌≡◌, ◌↔◌, ◌≤◌, ◌<◌, ◌^◌, ◌/◌, length, map, IsTrue};
+ghost use Rattle.gv_value.specs.Capped.{IsRun};
+ghost use Rattle.gv_value.specs.Framing.{array_children, framed_children, tuple_children, cut, steps, marks};
+ghost use Rattle.gv_value.specs.Layout.{align_of, size_of, greatest_align, end_of};
+ghost use Rattle.gv_value.specs.Plans.{is_plan, plan_shape, are_plans, plan_shapes};
+ghost use Rattle.gv_value.specs.Shape.{basic, tuple};
+ghost use Rattle.gv_decode.specs.Decoded.{Gives, slices, IsWhole, offsets_of, offsets_left, child_bytes};
+
+use crate::contents::before_zero;
+use crate::error::DecodeError;
+use crate::framing::{
+    Frame, child_at, filled_frame, member_end, offset_at, offset_width, open_frame, take_apart,
+};
+use crate::numbers::number;
+use gv_value::{Basic, Extent, Plan};
+use std::alloc::Global;
+
+/// The elements of an array.
+pub fn elements<'a>(
+    alloc: Global,
+    element: &Plan,
+    bytes: &'a [u8],
+) -> Result<Vec<&'a [u8]>, DecodeError>
+    requires planned { IsTrue (is_plan element.now) }
+    requires short { length bytes.now ≤ 2 ^ 24 }
+    ensures { Gives (λ children. slices children.items) result
+        (array_children (align_of (plan_shape element.now)) (size_of (plan_shape element.now)) bytes.now) }
+{
+    let extent = element.extent();
+    match extent.size {
+        Some(size) => row(alloc, size as usize, bytes),
+        None => framed(alloc, extent.align, bytes),
+    }
+}
+
+/// Elements of one size, one after the other.
+fn row<'a>(alloc: Global, size: usize, bytes: &'a [u8]) -> Result<Vec<&'a [u8]>, DecodeError>
+    requires { 0 < size }
+    ensures { Gives (λ children. slices children.items) result
+        (cut bytes.now 0 (steps size 0 (length bytes.now / size))) }
+{
+    let mut children = Vec::with_capacity(alloc, bytes.len() / size)?;
+    let mut left = bytes;
+    while left.len() >= size {
+        let (child, others) = left.split_at(size);
+        children.push(child)?;
+        left = others;
+    }
+    if left.is_empty() {
+        Ok(children)
+    } else {
+        Err(DecodeError::NotNormal)
+    }
+}
+
+/// Elements of variable size. The last offset, where the last element ends, says where the offsets begin.
+fn framed<'a>(alloc: Global, align: u64, bytes: &'a [u8]) -> Result<Vec<&'a [u8]>, DecodeError>
+    requires pos { 0 < align }
+    requires small { align ≤ 8 }
+    requires short { length bytes.now ≤ 2 ^ 24 }
+    ensures { Gives (λ children. slices children.items) result (framed_children align bytes.now) }
+{
+    if bytes.is_empty() {
+        return Ok(Vec::new(alloc));
+    }
+    let width = offset_width(bytes);
+    let before = number(&bytes[bytes.len() - width..]) as usize;
+    let count = bytes.len().saturating_sub(before) / width;
+    let frame = take_apart(bytes, before, count)?;
+    framed_elements(alloc, align, frame)
+}
+
+/// The elements before their offsets.
+fn framed_elements(alloc: Global, align: u64, frame: Frame<'_>) -> Result<Vec<&[u8]>, DecodeError>
+    requires pos { 0 < align }
+    requires small { align ≤ 8 }
+    requires whole { IsWhole frame }
+    ensures { Gives (λ children. slices children.items) result
+        (cut frame.entry.body.now 0 (map (λ e. (align, e)) (offsets_of frame.entry))) }
+{
+    let mut children = Vec::with_capacity(alloc, frame.count)?;
+    let mut at = 0;
+    for i in 0..frame.count {
+        let end = offset_at(frame, i);
+        let child = child_at(frame.body, at, align, end)?;
+        children.push(child)?;
+        at = end;
+    }
+    if at == frame.body.len() {
+        Ok(children)
+    } else {
+        Err(DecodeError::NotNormal)
+    }
+}
+
+/// The members of a tuple.
+pub fn members<'a>(
+    alloc: Global,
+    run: Extent,
+    plans: &[Plan],
+    bytes: &'a [u8],
+) -> Result<Vec<&'a [u8]>, DecodeError>
+    requires planned { IsTrue (are_plans plans.now) }
+    requires extent { IsRun run (greatest_align (plan_shapes plans.now)) (end_of 0 (plan_shapes plans.now)) }
+    requires short { length bytes.now ≤ 2 ^ 24 }
+    ensures { Gives (λ children. slices children.items) result
+        (tuple_children (size_of (tuple (plan_shapes plans.now))) (plan_shapes plans.now) bytes.now) }
+{
+    match (run.size, run.filled().size) {
+        (Some(whole), Some(size)) => {
+            let frame = filled_frame(whole as usize, size as usize, bytes)?;
+            framed_members(alloc, plans, frame)
+        }
+        _ => {
+            let frame = open_frame(plans, bytes)?;
+            framed_members(alloc, plans, frame)
+        }
+    }
+}
+
+/// The members of a tuple before their offsets, the last of which belongs to the first.
+fn framed_members<'a>(
+    alloc: Global,
+    plans: &[Plan],
+    frame: Frame<'a>,
+) -> Result<Vec<&'a [u8]>, DecodeError>
+    requires planned { IsTrue (are_plans plans.now) }
+    requires whole { IsWhole frame }
+    requires short { length frame.body.now ≤ 2 ^ 24 }
+    ensures { Gives (λ children. slices children.items) result
+        (cut frame.entry.body.now 0 (marks (length frame.entry.body.now) 0 (plan_shapes plans.now) (offsets_left frame.entry frame.entry.count))) }
+{
+    let mut children = Vec::with_capacity(alloc, plans.len())?;
+    let mut at = 0;
+    let mut unused = frame.count;
+    let mut left = plans;
+    while let Some((plan, others)) = left.split_first() {
+        let extent = plan.extent();
+        let (end, fewer) = member_end(extent, others.is_empty(), frame, at, unused);
+        let child = child_at(frame.body, at, extent.align, end)?;
+        children.push(child)?;
+        at = end;
+        unused = fewer;
+        left = others;
+    }
+    if at == frame.body.len() {
+        Ok(children)
+    } else {
+        Err(DecodeError::NotNormal)
+    }
+}
+
+/// The bytes of a child that is there.
+pub fn inside<'a>(child: &Plan, bytes: &'a [u8]) -> Result<&'a [u8], DecodeError>
+    requires { IsTrue (is_plan child.now) }
+    ensures { Gives (λ kept. kept.now) result (child_bytes (size_of (plan_shape child.now)) bytes.now) }
+{
+    match child.extent().size {
+        Some(_) => Ok(bytes),
+        None => before_zero(bytes),
+    }
+}
+
+/// Whether a plan is that of bytes.
+pub fn is_byte(plan: &Plan) -> bool
+    ensures { IsTrue result ↔ (plan_shape plan.now ≡ basic Basic.Byte) }
+{
+    match plan {
+        Plan::Basic(of) => *of == Basic::Byte,
+        _ => false,
+    }
+}
