@@ -11,7 +11,6 @@ mod pattern;
 mod permission;
 
 pub use fault::MetaError;
-pub use fp_base::MetaRule;
 pub use mentions::{Source, mentions_of};
 pub use meta::{Meta, MetaKind, extension_name};
 pub use pattern::is_pattern;

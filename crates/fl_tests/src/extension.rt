@@ -1,7 +1,7 @@
 //! Metadata files with the points that they have, worked out from the rules by hand.
 
-use fp_base::Items;
 use fl_extension::{Point, found, points};
+use fp_base::Items;
 use fp_keyfile::KeyFile;
 use fp_name::{Digest, RefName, RemoteName};
 use fp_small::{Layout, RefRow, State};

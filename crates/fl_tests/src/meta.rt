@@ -1,10 +1,10 @@
 //! Metadata files with the permissions that they mention, worked out from the rules by hand.
 
-use fp_base::Text;
 use fl_meta::{
-    Layer, Mention, Meta, MetaError, MetaKind, MetaRule, PermList, Permission, Source, Value,
-    is_pattern, mentions_of,
+    Layer, Mention, Meta, MetaError, MetaKind, PermList, Permission, Source, Value, is_pattern,
+    mentions_of,
 };
+use fp_base::{MetaRule, Text};
 use fp_keyfile::{KeyError, KeyFile};
 use std::alloc::{AllocError, Global};
 use std::test::Fail;

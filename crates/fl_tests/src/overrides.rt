@@ -1,8 +1,8 @@
 //! Overrides, read, changed and written, worked out by hand.
 
 use crate::context::many_variables;
-use fp_base::Text;
 use fl_override::OverrideSet;
+use fp_base::Text;
 use fp_keyfile::{KeyError, KeyFile};
 use std::alloc::{AllocError, Global};
 use std::test::Fail;

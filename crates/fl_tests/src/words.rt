@@ -1,9 +1,9 @@
 //! Words of command lines, and the lines that commands print.
 
-use fp_base::Text;
 use fl_words::{
     Command, WordsError, escape, op_line, pins_text, read_words, refusal_line, remotes_text,
 };
+use fp_base::Text;
 use fp_host::Path;
 use fp_name::{Digest, PinPattern, RemoteName, RemoteUrl};
 use fp_small::{Op, Refusal, RemoteRow, What};

@@ -11,14 +11,13 @@ ghost use Rattle.fl_top.specs.Objects.{head, root_lines, commit_lines, tree_line
 ghost use Rattle.fl_top.specs.declared.end.RunEnd.TheVariants.{Refused};
 
 use crate::end::RunEnd;
-use fp_base::Text;
+use fp_base::{Rule, Text};
 use fl_words::{ValueType, digits_of, escape};
 use fp_name::Digest;
 use fp_small::Refusal;
 use gv_decode::{DecodeError, decode};
 use gv_value::GvType;
 use ost_content::meta_digest;
-use ost_model::Rule;
 use ost_object::{
     Commit, DirEntry, DirMeta, DirTree, FileEntry, ObjectError, read_commit, read_dirmeta,
     read_dirtree,

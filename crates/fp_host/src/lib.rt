@@ -7,7 +7,6 @@ mod remotes;
 mod source;
 mod text;
 
-pub use fp_base::{Blob, Items, Text};
 pub use host::{Entry, Host, HostEnd, HostError, Stat};
 pub use path::{Path, PathFault, is_element};
 pub use remotes::{NoRemotes, Node, RemoteError, Remotes};

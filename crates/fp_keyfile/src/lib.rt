@@ -16,7 +16,6 @@ mod table;
 mod writing;
 
 pub use fault::{KeyError, KeyFault};
-pub use fp_base::{Items, KeyRule, Text};
 pub use grammar::{is_group_name, is_pair_key, is_pair_value};
 pub use group::{Group, Pair};
 pub use key_file::KeyFile;

@@ -2,7 +2,7 @@
 ghost use Rattle.std.specs.Prelude.{◌≡◌, ◌↔◌, ◌≤◌, None};
 ghost use Rattle.fp_realhost.specs.Counts.{one_more};
 
-use fp_host::Text;
+use fp_base::Text;
 use std::alloc::Global;
 use std::marker::Model;
 use std::{fmt, io};

@@ -6,7 +6,8 @@ ghost use Rattle.std.specs.Cmp.Lexicographic.{slice_cmp};
 ghost use Rattle.fp_host.specs.Paths.{is_element};
 ghost use Rattle.fp_host.specs.Reads.{AreNames, is_ascending};
 
-use fp_host::{Items, Text, is_element};
+use fp_base::{Items, Text};
+use fp_host::is_element;
 use std::alloc::Global;
 use std::fs::DirEntry;
 use std::rt::Files;

@@ -1,9 +1,8 @@
 //! Key files with what they read as, worked out from the rules by hand.
 
-use fp_base::{Items, Text};
+use fp_base::{Items, KeyRule, Text};
 use fp_keyfile::{
-    Group, KeyError, KeyFault, KeyFile, KeyRule, Pair, is_group_name, is_pair_key, is_pair_value,
-    trim_front,
+    Group, KeyError, KeyFault, KeyFile, Pair, is_group_name, is_pair_key, is_pair_value, trim_front,
 };
 use std::alloc::{AllocError, Global};
 use std::test::Fail;

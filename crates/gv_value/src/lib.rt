@@ -26,7 +26,6 @@ pub use basic::Basic;
 pub use error::TypeError;
 pub use extent::{Extent, MAX_BYTES, TOO_LARGE};
 pub use fitting::fits;
-pub use fp_base::{Blob, Text};
 pub use kind::Kind;
 pub use law::one_spelling;
 pub use measuring::{align_of, extent_of, size_of};
