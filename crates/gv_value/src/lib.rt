@@ -2,7 +2,6 @@
 #![tactic(auto)]
 
 mod basic;
-mod blob;
 mod error;
 mod extent;
 mod fitting;
@@ -19,7 +18,6 @@ mod sign;
 mod signatures;
 #[cfg(test)]
 mod tests;
-mod text;
 mod texts;
 mod type_strings;
 mod types;
@@ -27,10 +25,10 @@ mod value;
 mod widths;
 
 pub use basic::Basic;
-pub use blob::Blob;
 pub use error::TypeError;
 pub use extent::{Extent, MAX_BYTES, TOO_LARGE};
 pub use fitting::fits;
+pub use fp_base::{Blob, Text};
 pub use kind::Kind;
 pub use law::one_spelling;
 pub use measuring::{align_of, extent_of, size_of};
@@ -41,7 +39,6 @@ pub use plan::Plan;
 pub use planning::plan_of;
 pub use sign::Sign;
 pub use signatures::is_signature;
-pub use text::Text;
 pub use texts::{has_zero, is_object_path};
 pub use type_strings::push_type;
 pub use types::{GvType, MAX_DEPTH};

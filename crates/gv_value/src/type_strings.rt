@@ -2,7 +2,7 @@ ghost use Rattle.std.specs.Prelude.{◌≡◌, ◌++◌, IfOk, OnOk};
 ghost use Rattle.gv_value.specs.TypeText.{type_text, type_texts};
 ghost use Rattle.gv_value.specs.Views.{shape_of, shapes_of};
 
-use crate::blob::Blob;
+use fp_base::Blob;
 use crate::kind::Kind;
 use crate::types::GvType;
 use std::alloc::{AllocError, Global};

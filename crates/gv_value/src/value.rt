@@ -1,5 +1,5 @@
-use crate::blob::Blob;
-use crate::text::Text;
+use fp_base::Blob;
+use fp_base::Text;
 use crate::types::GvType;
 
 /// A value of a GVariant type.
