@@ -1,3 +1,4 @@
 pub mod Said
 pub mod Synced
 pub mod Tidied
+pub mod Unread

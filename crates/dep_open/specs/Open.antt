@@ -23,6 +23,10 @@ NoName q e = ⊥
 abbrev pub IsDamagedAt : View → Elements → Type 0
 IsDamagedAt v p = seen (shows v) ≡ Err p
 
+-- where the one view shows no state, nothing changes
+abbrev pub StaysUnread : View → View → Type 0
+StaysUnread u w = NotShown (shows u) → w ≡ u
+
 -- what is read of the present view
 abbrev pub Reads : View → Result State OpenEnd → Type 0
 Reads v (Ok s) = Shows (shows v) s × IsSettings (settings_of s)

@@ -2,9 +2,10 @@
 ghost use Rattle.std.specs.Prelude.{◌≡◌, IfOk, IsErrOf};
 ghost use Rattle.fp_host.specs.Causes.{IsCaused};
 ghost use Rattle.fp_host.specs.Frame.{Ends, Frame, NoPath};
+ghost use Rattle.fp_host.specs.Moments.{Goes};
 ghost use Rattle.fp_host.specs.Outcome.{Nothing};
 ghost use Rattle.dep_states.specs.After.{IsGood};
-ghost use Rattle.dep_open.specs.Open.{Opened as HasOpened, NoName};
+ghost use Rattle.dep_open.specs.Open.{Opened as HasOpened, NoName, StaysUnread};
 
 use crate::open_end::OpenEnd;
 use crate::reading::read_state;
@@ -18,6 +19,7 @@ pub fn open<H: Host>(alloc: Global, host: &mut H) -> Result<Opened, OpenEnd>
     ensures frame { Frame Nothing NoName NoPath (H.moments host.old) (H.moments host.new) }
     ensures good { IfOk result IsGood }
     ensures tells { Ends (HasOpened result) (H.moments host.old) (H.moments host.new) }
+    ensures unread { Goes (H.moments host.old) (H.moments host.new) StaysUnread StaysUnread }
     ensures cause { IsCaused (IsErrOf result OpenEnd.Fault) (H.moments host.old) (λ v. Unit {0}) (H.faults host.old) (H.faults host.new) }
 {
     let state = read_state(alloc, host)?;

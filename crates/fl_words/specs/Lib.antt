@@ -1,3 +1,4 @@
+pub mod PrintedWords
 pub mod Verbs
 pub mod Types
 pub mod Words

@@ -1,15 +1,18 @@
 -- The lines that are printed. Each ends with a newline, which is the byte 10; numbers are decimal.
 use Rattle.std.specs.Prelude.{ℕ, ◌/◌, ◌%◌, ◌==◌, ◌||◌, List, [], ◌∷◌, ◌++◌, Bool, false, nat_lt, codes, decimal, flat_map, if◌then◌else◌}
 use Rattle.std.specs.Fmt.{digit_glyph}
+use Rattle.std.specs.List.{join_with_byte}
+use Rattle.fp_base.specs.declared.object.ObjKind.{ObjKind}
+use Rattle.fp_base.specs.declared.object.ObjKind.TheVariants.{Commit, DirTree, DirMeta, File}
 use Rattle.fp_host.specs.Paths.{path_text}
 use Rattle.fp_name.specs.Hex.{hex}
+use Rattle.fp_name.specs.Refs.{ref_text}
 use Rattle.fp_small.specs.declared.refusal.Refusal.{Refusal}
-use Rattle.fp_small.specs.declared.refusal.Refusal.TheVariants.{BadWords, NoSuchRemote, RemoteExists, MalformedObject, PinExists, NoSuchPin, Limit, BadRecord, Damaged}
-use Rattle.fp_base.specs.declared.what.What.{What}
-use Rattle.fp_base.specs.declared.what.What.TheVariants.{Pins, Remotes, Input}
+use Rattle.fp_small.specs.declared.refusal.Refusal.TheVariants as refusals
 use Rattle.fp_small.specs.declared.op.Op.{Op}
 use Rattle.fp_small.specs.declared.state.RemoteRow.{RemoteRow}
 use Rattle.fp_small.specs.declared.op.Op.TheVariants.{AddPin, DropPin, AddRemote, ModifyRemote, DropRemote, Migrate}
+use Rattle.fl_words.specs.PrintedWords.{kind_word, rule_word, what_word, side_word, metadata_rule_word, frame_rule_word}
 
 -- ---- a text that we didn't make
 
@@ -33,36 +36,66 @@ escaped text = flat_map escape_of text
 abbrev pub line : List ℕ → List ℕ
 line text = text ++ 10 ∷ []
 
--- the word for what has a limit
-abbrev pub what_word : What → List ℕ
-what_word Pins = codes "pins"
-what_word Remotes = codes "remotes"
-what_word Input = codes "input"
+-- words that single spaces part
+abbrev pub line_of : List (List ℕ) → List ℕ
+line_of words = line (join_with_byte 32 words)
 
--- the line of the refusal of an object whose digest has these digits
-abbrev pub malformed_text : List ℕ → List ℕ → List ℕ → List ℕ
-malformed_text digits kind rule = codes "error: malformed object " ++ (digits ++ (codes "." ++ (kind ++ (codes " " ++ (rule ++ codes "\n")))))
+-- an object by its name: DIGEST.KIND
+abbrev pub object_text : List ℕ → ObjKind → List ℕ
+object_text digest kind = hex digest ++ (codes "." ++ kind_word kind)
+
+-- the four lowest octal digits of a mode, which are its permission bits
+abbrev pub bits_text : ℕ → List ℕ
+bits_text mode = decimal (mode / 512 % 8) ++ (decimal (mode / 64 % 8) ++ (decimal (mode / 8 % 8) ++ decimal (mode % 8)))
+
+-- the six lowest octal digits, the highest of them first
+abbrev pub octal : ℕ → List ℕ
+octal mode = decimal (mode / 32768 % 8) ++ (decimal (mode / 4096 % 8) ++ bits_text mode)
+
+-- the mode of an object: of a file its permission bits alone
+abbrev pub mode_text : ObjKind → ℕ → List ℕ
+mode_text Commit mode = octal mode
+mode_text DirTree mode = octal mode
+mode_text DirMeta mode = octal mode
+mode_text File mode = bits_text mode
 
 -- the line of a refusal
 abbrev pub refusal_text : Refusal → List ℕ
-refusal_text (BadWords index) = line (codes "error: words " ++ decimal index)
-refusal_text (NoSuchRemote remote) = line (codes "error: no remote " ++ remote)
-refusal_text (RemoteExists remote) = line (codes "error: remote exists " ++ remote)
-refusal_text (MalformedObject digest kind rule) = malformed_text (hex digest) kind rule
-refusal_text (PinExists pin) = line (codes "error: pin exists " ++ pin)
-refusal_text (NoSuchPin pin) = line (codes "error: no pin " ++ pin)
-refusal_text (Limit what number) = line (codes "error: limit " ++ what_word what ++ codes " " ++ decimal number)
-refusal_text (BadRecord number) = line (codes "error: record " ++ decimal number)
-refusal_text (Damaged path) = line (codes "error: damaged " ++ escaped (path_text path))
+refusal_text (refusals.BadWords index) = line_of (codes "error: words" ∷ decimal index ∷ [])
+refusal_text (refusals.NoSuchRemote remote) = line_of (codes "error: no remote" ∷ remote ∷ [])
+refusal_text (refusals.RemoteExists remote) = line_of (codes "error: remote exists" ∷ remote ∷ [])
+refusal_text (refusals.RemoteInUse remote name) = line_of (codes "error: remote in use" ∷ remote ∷ ref_text name ∷ [])
+refusal_text (refusals.WrongMode remote mode) = line_of (codes "error: remote mode" ∷ remote ∷ escaped mode ∷ [])
+refusal_text (refusals.NoSuchRef remote name) = line_of (codes "error: no ref" ∷ remote ∷ ref_text name ∷ [])
+refusal_text (refusals.AlreadyInstalled name) = line_of (codes "error: installed" ∷ ref_text name ∷ [])
+refusal_text (refusals.NotInstalled name) = line_of (codes "error: not installed" ∷ ref_text name ∷ [])
+refusal_text (refusals.RuntimeMissing name) = line_of (codes "error: runtime missing" ∷ ref_text name ∷ [])
+refusal_text (refusals.RuntimeInUse runtime app) = line_of (codes "error: runtime in use" ∷ ref_text runtime ∷ ref_text app ∷ [])
+refusal_text (refusals.MissingObject digest kind) = line_of (codes "error: missing object" ∷ object_text digest kind ∷ [])
+refusal_text (refusals.CorruptObject digest kind got) = line_of (codes "error: corrupt object" ∷ object_text digest kind ∷ hex got ∷ [])
+refusal_text (refusals.MalformedObject digest kind rule) = line_of (codes "error: malformed object" ∷ object_text digest kind ∷ rule_word rule ∷ [])
+refusal_text (refusals.MalformedValue digest) = line_of (codes "error: malformed object" ∷ (hex digest ++ codes ".value") ∷ codes "value" ∷ [])
+refusal_text (refusals.ModeRefused digest kind mode) = line_of (codes "error: mode refused" ∷ object_text digest kind ∷ mode_text kind mode ∷ [])
+refusal_text (refusals.ReservedName commit) = line_of (codes "error: reserved name" ∷ hex commit ∷ [])
+refusal_text (refusals.BadMetadata name number rule) = line_of (codes "error: metadata" ∷ ref_text name ∷ decimal number ∷ metadata_rule_word rule ∷ [])
+refusal_text (refusals.RefBinding name) = line_of (codes "error: ref binding" ∷ ref_text name ∷ [])
+refusal_text (refusals.Older name have offered) = line_of (codes "error: older" ∷ ref_text name ∷ decimal have ∷ decimal offered ∷ [])
+refusal_text (refusals.PinExists pin) = line_of (codes "error: pin exists" ∷ pin ∷ [])
+refusal_text (refusals.NoSuchPin pin) = line_of (codes "error: no pin" ∷ pin ∷ [])
+refusal_text (refusals.Limit what number) = line_of (codes "error: limit" ∷ what_word what ∷ decimal number ∷ [])
+refusal_text (refusals.BadRecord number) = line_of (codes "error: record" ∷ decimal number ∷ [])
+refusal_text (refusals.BadMessage side index rule) = line_of (codes "error: message" ∷ side_word side ∷ decimal index ∷ frame_rule_word rule ∷ [])
+refusal_text (refusals.Damaged path) = line_of (codes "error: damaged" ∷ escaped (path_text path) ∷ [])
+refusal_text (refusals.NoPrevious name) = line_of (codes "error: no previous" ∷ ref_text name ∷ [])
 
 -- the line that acknowledges an operation
 abbrev pub op_text : Op → List ℕ
-op_text (AddPin pin) = line (codes "pinned " ++ pin)
-op_text (DropPin pin) = line (codes "unpinned " ++ pin)
-op_text (AddRemote row) = line (codes "remote added " ++ row.name)
-op_text (ModifyRemote row) = line (codes "remote modified " ++ row.name)
-op_text (DropRemote name) = line (codes "remote deleted " ++ name)
-op_text Migrate = line (codes "migrated layout 2")
+op_text (AddPin pin) = line_of (codes "pinned" ∷ pin ∷ [])
+op_text (DropPin pin) = line_of (codes "unpinned" ∷ pin ∷ [])
+op_text (AddRemote row) = line_of (codes "remote added" ∷ row.name ∷ [])
+op_text (ModifyRemote row) = line_of (codes "remote modified" ∷ row.name ∷ [])
+op_text (DropRemote name) = line_of (codes "remote deleted" ∷ name ∷ [])
+op_text Migrate = line_of (codes "migrated layout 2" ∷ [])
 
 -- a line for each pattern
 abbrev pub pins_text : List (List ℕ) → List ℕ

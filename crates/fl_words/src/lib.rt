@@ -6,7 +6,9 @@ mod command;
 mod escaping;
 mod laws;
 mod lines;
+mod printed_words;
 mod reading;
+mod refusals;
 mod value_type;
 mod verb;
 
@@ -16,6 +18,11 @@ pub use escaping::escape;
 pub use laws::{
     bad_index_is_least, batches_hold_changes, beginnings_go_on, escapes_tell_texts, words_read_back,
 };
-pub use lines::{digits_of, op_line, pins_text, refusal_line, remotes_text};
+pub use lines::{digits_of, object_of, op_line, pins_text, remotes_text};
+pub use printed_words::{
+    frame_rule_word, key_rule_word, kind_word, meta_rule_word, metadata_rule_word, rule_word,
+    side_word, what_word,
+};
 pub use reading::read_words;
+pub use refusals::{octal_of, refusal_line};
 pub use value_type::ValueType;

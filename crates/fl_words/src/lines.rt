@@ -1,58 +1,88 @@
-// The lines that commands print.
-ghost use Rattle.std.specs.Prelude.{◌≡◌, true, IfOk, string_bytes};
+//! The lines that commands print.
+ghost use Rattle.std.specs.Prelude.{◌≡◌, ◌∷◌, ◌++◌, [], true, IfOk, OnOk, codes, decimal, string_bytes};
 ghost use Rattle.fp_name.specs.Hex.{hex, is_digest};
-ghost use Rattle.fl_words.specs.Lines.{what_word, malformed_text, refusal_text, op_text, pins_text, remotes_text};
+ghost use Rattle.fp_name.specs.Refs.{ref_text};
+ghost use Rattle.fl_words.specs.Lines.{line_of, object_text, op_text, pins_text, remotes_text};
 
-use crate::escaping::escape;
-use fp_base::Text;
-use fp_name::{Digest, PinPattern};
-use fp_small::{Op, Refusal, RemoteRow, What};
+use crate::printed_words::kind_word;
+use fp_base::{ObjKind, Text};
+use fp_name::{Digest, PinPattern, RefName};
+use fp_small::{Op, RemoteRow};
 use std::alloc::{AllocError, Global};
 
-/// The line of a refusal.
-pub fn refusal_line(alloc: Global, refusal: &Refusal) -> Result<Text, AllocError>
-    ensures { IfOk result (λ t. t ≡ refusal_text refusal.now) }
+/// The line of two words, which a space parts.
+pub(crate) fn line_of_two(alloc: Global, first: &str, second: &str) -> Result<Text, AllocError>
+    ensures { IfOk result (λ t. t ≡ line_of (first.now ∷ second.now ∷ [])) }
 {
-    let line = match refusal {
-        Refusal::BadWords { index } => format!(in alloc; "error: words {index}\n")?,
-        Refusal::NoSuchRemote { remote } => {
-            let remote = remote.as_str();
-            format!(in alloc; "error: no remote {remote}\n")?
-        }
-        Refusal::RemoteExists { remote } => {
-            let remote = remote.as_str();
-            format!(in alloc; "error: remote exists {remote}\n")?
-        }
-        Refusal::MalformedObject { digest, kind, rule } => {
-            let digits = digits_of(alloc, digest)?;
-            malformed_line(alloc, &digits, kind.as_str(), rule.as_str())?
-        }
-        Refusal::PinExists { pin } => {
-            let pin = pin.as_str();
-            format!(in alloc; "error: pin exists {pin}\n")?
-        }
-        Refusal::NoSuchPin { pin } => {
-            let pin = pin.as_str();
-            format!(in alloc; "error: no pin {pin}\n")?
-        }
-        Refusal::Limit { what, number } => {
-            let word = word_of(*what);
-            format!(in alloc; "error: limit {word} {number}\n")?
-        }
-        Refusal::BadRecord { line } => format!(in alloc; "error: record {line}\n")?,
-        Refusal::Damaged { path } => {
-            let path = escape(alloc, path.text())?;
-            format!(in alloc; "error: damaged {path}\n")?
-        }
-    };
-    Ok(Text::from_string(line))
+    let mut text = String::from_str(alloc, first)?;
+    add_word(&mut text, second)?;
+    text.push('\n')?;
+    Ok(Text::from_string(text))
 }
 
-// The line of the refusal of an object with these digits that isn't of its kind.
-fn malformed_line(alloc: Global, digits: &str, kind: &str, rule: &str) -> Result<String, AllocError>
-    ensures { IfOk result (λ t. string_bytes t ≡ malformed_text digits.now kind.now rule.now) }
+/// The line of three words.
+pub(crate) fn line_of_three(
+    alloc: Global,
+    first: &str,
+    second: &str,
+    third: &str,
+) -> Result<Text, AllocError>
+    ensures { IfOk result (λ t. t ≡ line_of (first.now ∷ second.now ∷ third.now ∷ [])) }
 {
-    format!(in alloc; "error: malformed object {digits}.{kind} {rule}\n")
+    let mut text = String::from_str(alloc, first)?;
+    add_word(&mut text, second)?;
+    add_word(&mut text, third)?;
+    text.push('\n')?;
+    Ok(Text::from_string(text))
+}
+
+/// The line of three words and a number after the second.
+pub(crate) fn line_at(
+    alloc: Global,
+    first: &str,
+    second: &str,
+    number: u64,
+    last: &str,
+) -> Result<Text, AllocError>
+    ensures { IfOk result (λ t. t ≡ line_of (first.now ∷ second.now ∷ decimal number ∷ last.now ∷ [])) }
+{
+    let number = decimal_of(alloc, number)?;
+    let mut text = String::from_str(alloc, first)?;
+    add_word(&mut text, second)?;
+    add_word(&mut text, number.as_str())?;
+    add_word(&mut text, last)?;
+    text.push('\n')?;
+    Ok(Text::from_string(text))
+}
+
+/// Puts a space and a word after a text.
+fn add_word(text: &mut String, word: &str) -> Result<(), AllocError>
+    ensures { OnOk result (string_bytes text.new ≡ string_bytes text.old ++ 32 ∷ word.now) }
+{
+    text.push(' ')?;
+    text.push_str(word)
+}
+
+/// A number in decimal.
+pub(crate) fn decimal_of(alloc: Global, number: u64) -> Result<String, AllocError>
+    ensures { IfOk result (λ t. string_bytes t ≡ decimal number) }
+{
+    format!(in alloc; "{number}")
+}
+
+/// The line of some words and a number.
+pub(crate) fn number_line(alloc: Global, words: &str, number: u64) -> Result<Text, AllocError>
+    ensures { IfOk result (λ t. t ≡ line_of (words.now ∷ decimal number ∷ [])) }
+{
+    let number = decimal_of(alloc, number)?;
+    line_of_two(alloc, words, number.as_str())
+}
+
+/// The line of some words and a ref.
+pub(crate) fn ref_line(alloc: Global, words: &str, name: &RefName) -> Result<Text, AllocError>
+    ensures { IfOk result (λ t. t ≡ line_of (words.now ∷ ref_text name.now ∷ [])) }
+{
+    line_of_two(alloc, words, name.as_str())
 }
 
 /// The hexadecimal digits of a digest.
@@ -64,45 +94,28 @@ pub fn digits_of(alloc: Global, digest: &Digest) -> Result<String, AllocError>
     digits.as_str().to_string(alloc)
 }
 
-// The word for what has a limit.
-fn word_of(what: What) -> &'static str
-    ensures { result.now ≡ what_word what }
+/// An object by its name: DIGEST.KIND.
+pub fn object_of(alloc: Global, digest: &Digest, kind: ObjKind) -> Result<String, AllocError>
+    ensures { IfOk result (λ t. string_bytes t ≡ object_text digest.now kind) }
 {
-    match what {
-        What::Pins => "pins",
-        What::Remotes => "remotes",
-        What::Input => "input",
-    }
+    let mut text = digits_of(alloc, digest)?;
+    text.push('.')?;
+    text.push_str(kind_word(kind))?;
+    Ok(text)
 }
 
 /// The line that acknowledges an operation.
 pub fn op_line(alloc: Global, op: &Op) -> Result<Text, AllocError>
     ensures { IfOk result (λ t. t ≡ op_text op.now) }
 {
-    let line = match op {
-        Op::AddPin(pin) => {
-            let pin = pin.as_str();
-            format!(in alloc; "pinned {pin}\n")?
-        }
-        Op::DropPin(pin) => {
-            let pin = pin.as_str();
-            format!(in alloc; "unpinned {pin}\n")?
-        }
-        Op::AddRemote(row) => {
-            let name = row.name.as_str();
-            format!(in alloc; "remote added {name}\n")?
-        }
-        Op::ModifyRemote(row) => {
-            let name = row.name.as_str();
-            format!(in alloc; "remote modified {name}\n")?
-        }
-        Op::DropRemote(name) => {
-            let name = name.as_str();
-            format!(in alloc; "remote deleted {name}\n")?
-        }
-        Op::Migrate => "migrated layout 2\n".to_string(alloc)?,
-    };
-    Ok(Text::from_string(line))
+    match op {
+        Op::AddPin(pin) => line_of_two(alloc, "pinned", pin.as_str()),
+        Op::DropPin(pin) => line_of_two(alloc, "unpinned", pin.as_str()),
+        Op::AddRemote(row) => line_of_two(alloc, "remote added", row.name.as_str()),
+        Op::ModifyRemote(row) => line_of_two(alloc, "remote modified", row.name.as_str()),
+        Op::DropRemote(name) => line_of_two(alloc, "remote deleted", name.as_str()),
+        Op::Migrate => Text::from_str(alloc, "migrated layout 2\n"),
+    }
 }
 
 /// A line for each pattern, in the order given.

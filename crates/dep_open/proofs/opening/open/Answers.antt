@@ -4,7 +4,9 @@ use Rattle.fp_host.specs.Outcome.{Nothing}
 use Rattle.dep_open.specs.Open.{NoName}
 use Rattle.fp_host.proofs.Framed.{frame_start, frame_looks, frame_sync}
 use Rattle.fp_host.proofs.Ending.{ends_call, ends_looks, ends_both, ends_on, ends_to, ends_frame}
+use Rattle.fp_host.proofs.Goes.{makes_goes}
 use Rattle.dep_open.proofs.Synced.{opened_ok, ended}
+use Rattle.dep_open.proofs.Unread.{not_read, read_on}
 use Rattle.dep_open.proofs.opening.open.Goals as goal
 
 pub returns-in_err-state-clause-frame : goal.returns-in_err-state-clause-frame
@@ -27,3 +29,16 @@ returns-clause-tells g c =
     let t = g.met.H.Host.is_tree in
     ends_on (ends_call (t c.read_state.new.host) c.in_ok-sync.ensures.step) (ends_both (ends_looks (t c.args.host.now) c.in_ok-state.ensures.still) c.in_ok-state.ensures.tells) (t c.read_state.new.host)
     (λ u v w tree q step. opened_ok c.in_ok-state.state c.of.result u v w c.of.ensures tree q.0.0 q.1 step)
+
+pub returns-in_err-state-clause-unread : goal.returns-in_err-state-clause-unread
+returns-in_err-state-clause-unread g c = not_read (g.met.H.Host.is_tree c.args.host.now) c.read_state.ensures.still
+
+pub returns-in_err-sync-clause-unread : goal.returns-in_err-sync-clause-unread
+returns-in_err-sync-clause-unread g c =
+    let t = g.met.H.Host.is_tree in
+    read_on c.in_ok-state.state (t c.args.host.now) (t c.read_state.new.host) c.in_ok-state.ensures.still c.in_ok-state.ensures.tells (makes_goes c.sync.ensures.step)
+
+pub returns-clause-unread : goal.returns-clause-unread
+returns-clause-unread g c =
+    let t = g.met.H.Host.is_tree in
+    read_on c.in_ok-state.state (t c.args.host.now) (t c.read_state.new.host) c.in_ok-state.ensures.still c.in_ok-state.ensures.tells (makes_goes c.sync.ensures.step)
