@@ -16,8 +16,8 @@ use Rattle.gv_value.specs.Spelled.{max_bytes}
 use Rattle.gv_decode.specs.Decoded.{Gives}
 use Rattle.gv_decode.specs.declared.error.DecodeError.{DecodeError}
 use Rattle.gv_decode.specs.declared.error.DecodeError.TheVariants.{TooLong}
-use Rattle.ost_model.specs.declared.rule.Rule.{Rule}
-use Rattle.ost_model.specs.declared.rule.Rule.TheVariants as rules
+use Rattle.fp_base.specs.declared.rule.Rule.{Rule}
+use Rattle.fp_base.specs.declared.rule.Rule.TheVariants as rules
 use Rattle.ost_model.specs.Contents.{meta_digest}
 use Rattle.ost_model.specs.Fields.{CommitView, TreeView, MetaView}
 use Rattle.ost_model.specs.Readers.{commit_read, tree_read, meta_read}

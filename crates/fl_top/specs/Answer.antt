@@ -27,7 +27,7 @@ use Rattle.gv_value.specs.Shape.{Shape}
 use Rattle.gv_value.specs.Tree.{Tree}
 use Rattle.gv_value.specs.TypeText.{type_of}
 use Rattle.gv_value.specs.Reading.{value_of}
-use Rattle.ost_model.specs.declared.rule.Rule.{Rule}
+use Rattle.fp_base.specs.declared.rule.Rule.{Rule}
 use Rattle.ost_model.specs.Contents.{meta_digest}
 use Rattle.ost_model.specs.Readers.{commit_read, tree_read, meta_read}
 use Rattle.fl_top.specs.declared.showing.Shown.{Shown}

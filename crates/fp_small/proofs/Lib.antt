@@ -1,4 +1,5 @@
 pub mod Making
+pub mod Unsynced
 pub mod Keeping
 pub mod Emptying
 pub mod NamingLemmas

@@ -7,6 +7,7 @@ pub mod Stage
 pub mod Move
 pub mod Replace
 pub mod Clear
+pub mod Unsynced
 pub mod Order
 pub mod Config
 pub mod ConfigFaults

@@ -2,6 +2,7 @@
 ghost use Rattle.std.specs.Prelude.{◌≡◌, OnOk, IsErrOf};
 ghost use Rattle.fp_host.specs.Causes.{IsCaused};
 ghost use Rattle.fp_host.specs.Frame.{Frame, Ends, NoPath};
+ghost use Rattle.fp_small.specs.Unsynced.{MakesNoFile};
 ghost use Rattle.fp_small.specs.Folders.{ancestors, FoldersAt, DirsAt, AreFree, AreDirs};
 
 use crate::replacing::{ancestors, make_folders};
@@ -13,6 +14,8 @@ use std::alloc::Global;
 pub fn make_above<H: Host>(alloc: Global, host: &mut H, path: &Path) -> Result<(), HostEnd>
     ensures frame { Frame (FoldersAt (ancestors path.now)) (DirsAt (ancestors path.now)) NoPath (H.moments host.old) (H.moments host.new) }
     ensures done { OnOk result (Ends (λ u w. AreFree (ancestors path.now) u → AreDirs (ancestors path.now) w) (H.moments host.old) (H.moments host.new)) }
+    // Nothing is synced.
+    ensures unsynced { Ends MakesNoFile (H.moments host.old) (H.moments host.new) }
     ensures cause { IsCaused (IsErrOf result HostEnd.Fault) (H.moments host.old) (AreFree (ancestors path.now)) (H.faults host.old) (H.faults host.new) }
     ensures memory { IsErrOf result HostEnd.NoMemory → Ends (λ u w. w ≡ u) (H.moments host.old) (H.moments host.new) }
 {

@@ -7,6 +7,7 @@ ghost use Rattle.fp_host.specs.Moments.{Goes};
 ghost use Rattle.fp_host.specs.Causes.{IsCaused};
 ghost use Rattle.fp_host.specs.Frame.{Frame, Ends, Still, AnyAt, AnyHeld, Only, NoPath};
 ghost use Rattle.fp_small.specs.Places.{tmp, new_name};
+ghost use Rattle.fp_small.specs.Unsynced.{MakesNoFile};
 ghost use Rattle.fp_small.specs.Folders.{ancestors, FolderAt, DirAt, FoldersAt, DirsAt, IsFree, AreFree, AreDirs, IsLadder};
 ghost use Rattle.fp_small.specs.Stage.{WasStaged, CanStage};
 ghost use Rattle.fp_small.specs.Move.{Moves, WasMoved, CanMove};
@@ -21,6 +22,7 @@ use std::alloc::{AllocError, Global};
 fn make_folder<H: Host>(host: &mut H, path: &Path) -> Result<(), HostEnd>
     ensures frame { Frame (FolderAt path.now) (DirAt path.now) NoPath (H.moments host.old) (H.moments host.new) }
     ensures done { OnOk result (Ends (λ u w. IsFree u path.now → w.names path.now ≡ dir) (H.moments host.old) (H.moments host.new)) }
+    ensures unsynced { Ends MakesNoFile (H.moments host.old) (H.moments host.new) }
     ensures cause { IsCaused (IsErrOf result HostEnd.Fault) (H.moments host.old) (λ v. v.names path.now ≡ absent → HasFolder v path.now) (H.faults host.old) (H.faults host.new) }
     ensures memory { IsErrOf result HostEnd.NoMemory → ⊥ }
 {
@@ -37,6 +39,7 @@ fn make_folder<H: Host>(host: &mut H, path: &Path) -> Result<(), HostEnd>
 pub(crate) fn make_folders<H: Host>(host: &mut H, paths: &[Path]) -> Result<(), HostEnd>
     ensures frame { Frame (FoldersAt paths.now) (DirsAt paths.now) NoPath (H.moments host.old) (H.moments host.new) }
     ensures done { OnOk result (Ends (λ u w. AreFree paths.now u → AreDirs paths.now w) (H.moments host.old) (H.moments host.new)) }
+    ensures unsynced { Ends MakesNoFile (H.moments host.old) (H.moments host.new) }
     ensures cause { IsCaused (IsErrOf result HostEnd.Fault) (H.moments host.old) (λ v. IsLadder paths.now × AreFree paths.now v) (H.faults host.old) (H.faults host.new) }
     ensures memory { IsErrOf result HostEnd.NoMemory → ⊥ }
 {

@@ -1,19 +1,29 @@
 -- Worked rows, closed by computing.
-use Rattle.std.proofs.Common.{◌≡◌, ℕ, List, [], ◌∷◌, true, false, Some, None, Ok, Err, refl}
+use Rattle.std.proofs.Common.{◌≡◌, ℕ, List, [], ◌∷◌, length, Bool, true, false, leb, Option, Some, None, Ok, Err, refl, ap}
 use Rattle.std.specs.Prelude.{codes, replicate, map}
 use Rattle.gv_value.specs.declared.basic.Basic.TheVariants as basics
 use Rattle.gv_value.specs.Shape.{Shape}
 use Rattle.gv_value.specs.Tree.{Content, Tree, no_trees, tree}
 use Rattle.gv_value.specs.TypeText.{type_text}
-use Rattle.ost_model.specs.declared.rule.Rule.TheVariants as rules
+use Rattle.fp_base.specs.declared.rule.Rule.TheVariants as rules
 use Rattle.ost_model.specs.Types.{commit_shape, tree_shape, meta_shape}
 use Rattle.ost_model.specs.Fields.{TreeView, CommitView}
 use Rattle.ost_model.specs.Readers.{commit_breaks, tree_breaks, tree_read, meta_read}
 use Rattle.ost_model.specs.Binding.{binding_in}
 use Rattle.fp_host.specs.Outcome.{gone, folder, holds, points}
-use Rattle.ost_model.specs.declared.object.ObjKind.TheVariants as kinds
-use Rattle.ost_model.specs.Contents.{is_permission}
-use Rattle.ost_model.specs.Objects.{missing, refused_mode, object_at, name_fault, has_good_bits}
+use Rattle.fp_base.specs.declared.object.ObjKind.TheVariants as kinds
+use Rattle.fp_base.specs.declared.object.ObjKind.{ObjKind}
+use Rattle.fp_name.specs.Hex.{hex}
+use Rattle.fp_host.specs.Reads.{is_ascending}
+use Rattle.fp_host.specs.Remote.{contents, target}
+use Rattle.sha2.specs.Sha256.{sha256, digest_bytes, hash_after, compress, rounds, schedule, first_words}
+use Rattle.ost_model.specs.declared.object.Object.{Object}
+use Rattle.ost_model.specs.declared.object.Object.TheVariants as objects
+use Rattle.ost_model.specs.Contents.{is_permission, meta_digest}
+use Rattle.ost_model.specs.Objects.{Fault, too_many, too_deep, too_long, missing, corrupt, malformed, refused_mode, unless, or_else, object_at, length_fault, mode_fault, digest_fault, name_fault, dir_mode_fault, supply, has_good_bits}
+use Rattle.ost_model.specs.Order.{Place, limited}
+use Rattle.ost_model.specs.Remotes.{remote_at, remote}
+use Rattle.ost_model.specs.Used.{object_text}
 use Rattle.ost_model.specs.Stores.{is_prefix}
 
 commit_type : type_text commit_shape ≡ codes "(a{sv}aya(say)sstayay)"
@@ -155,3 +165,117 @@ module _ (d bytes text : List ℕ) (id : ℕ) where
 
   bits_of_a_commit : has_good_bits (holds id 0x1FF bytes) ≡ false
   bits_of_a_commit = refl
+
+  -- the bytes of a file under the name of a metadata object, or the other way round
+  file_for_a_tree : name_fault d kinds.DirTree (Some (objects.File 0x1A4 bytes)) ≡ Some missing
+  file_for_a_tree = refl
+
+  metadata_for_a_file : name_fault d kinds.File (Some (objects.Meta bytes)) ≡ Some missing
+  metadata_for_a_file = refl
+
+-- ---- limits
+
+-- 16 MiB and one byte more, for metadata; 1 GiB and one byte more, for a file
+module _ (bytes : List ℕ) (mode : ℕ) where
+  metadata_at_the_bound : length bytes ≡ 16777216 → length_fault (objects.Meta bytes) ≡ None
+  metadata_at_the_bound is = ap (λ n. unless (leb n 16777216) (too_long n)) is
+
+  metadata_past_the_bound : length bytes ≡ 16777217 → length_fault (objects.Meta bytes) ≡ Some (too_long 16777217)
+  metadata_past_the_bound is = ap (λ n. unless (leb n 16777216) (too_long n)) is
+
+  file_at_the_bound : length bytes ≡ 1073741824 → length_fault (objects.File mode bytes) ≡ None
+  file_at_the_bound is = ap (λ n. unless (leb n 1073741824) (too_long n)) is
+
+  file_past_the_bound : length bytes ≡ 1073741825 → length_fault (objects.File mode bytes) ≡ Some (too_long 1073741825)
+  file_past_the_bound is = ap (λ n. unless (leb n 1073741824) (too_long n)) is
+
+-- the 200,000th object and the 200,001st, 64 and 65 levels below the root
+module _ (d : List ℕ) (kind : ObjKind) (fault : Option Fault) where
+  abbrev at_depth : ℕ → Place
+  at_depth n = record { digest = d; kind = kind; depth = n }
+
+  last_object : limited 199999 (at_depth 0) fault ≡ fault
+  last_object = refl
+
+  one_object_more : limited 200000 (at_depth 0) fault ≡ Some too_many
+  one_object_more = refl
+
+  last_level : limited 0 (at_depth 64) fault ≡ fault
+  last_level = refl
+
+  one_level_more : limited 0 (at_depth 65) fault ≡ Some too_deep
+  one_level_more = refl
+
+  -- the number comes before the depth
+  both_limits : limited 200000 (at_depth 65) fault ≡ Some too_many
+  both_limits = refl
+
+-- ---- one fault of several
+
+-- a file that is too long comes before its bits, and its bits before its digest
+module _ (d bytes : List ℕ) where
+  too_long_first : length bytes ≡ 1073741825 → name_fault d kinds.File (Some (objects.File 0x1FF bytes)) ≡ Some (too_long 1073741825)
+  too_long_first is = ap (λ n. or_else (unless (leb n 1073741824) (too_long n)) (or_else (mode_fault (objects.File 0x1FF bytes)) (or_else (digest_fault d (objects.File 0x1FF bytes)) None))) is
+
+  bits_second : length bytes ≡ 3 → name_fault d kinds.File (Some (objects.File 0x1FF bytes)) ≡ Some (refused_mode 0x1FF)
+  bits_second is = ap (λ n. or_else (unless (leb n 1073741824) (too_long n)) (or_else (mode_fault (objects.File 0x1FF bytes)) (or_else (digest_fault d (objects.File 0x1FF bytes)) None))) is
+
+-- the digest of no bytes, which comes before the rule that they break
+abbrev no_bytes : List ℕ
+no_bytes = 227 ∷ 176 ∷ 196 ∷ 66 ∷ 152 ∷ 252 ∷ 28 ∷ 20 ∷ 154 ∷ 251 ∷ 244 ∷ 200 ∷ 153 ∷ 111 ∷ 185 ∷ 36 ∷ 39 ∷ 174 ∷ 65 ∷ 228 ∷ 100 ∷ 155 ∷ 147 ∷ 76 ∷ 164 ∷ 149 ∷ 153 ∷ 27 ∷ 120 ∷ 82 ∷ 184 ∷ 85 ∷ []
+
+digest_third : name_fault [] kinds.DirTree (Some (objects.Meta [])) ≡ Some (corrupt no_bytes)
+unfolding meta_digest sha256 digest_bytes hash_after compress rounds schedule first_words
+digest_third = refl
+
+rule_last : name_fault no_bytes kinds.DirTree (Some (objects.Meta [])) ≡ Some (malformed rules.Value)
+unfolding meta_digest sha256 digest_bytes hash_after compress rounds schedule first_words
+rule_last = refl
+
+-- directories of the modes 040775 and 040777 (octal)
+abbrev dir_of : ℕ → ℕ → Object
+dir_of high low = objects.Meta (0 ∷ 0 ∷ 0 ∷ 0 ∷ 0 ∷ 0 ∷ 0 ∷ 0 ∷ 0 ∷ 0 ∷ high ∷ low ∷ [])
+
+group_may_write : dir_mode_fault kinds.DirMeta (Some (dir_of 0x41 0xfd)) ≡ None
+group_may_write = refl
+
+all_may_write : dir_mode_fault kinds.DirMeta (Some (dir_of 0x41 0xff)) ≡ Some (refused_mode 0x41ff)
+all_may_write = refl
+
+-- ---- where objects come from
+
+-- the store's own before the remote's
+module _ (d : List ℕ) (kind : ObjKind) (a b : Object) where
+  own_first : supply (λ d k. Some a) (λ d k. Some b) d kind ≡ Some a
+  own_first = refl
+
+  else_the_remote : supply (λ d k. None) (λ d k. Some b) d kind ≡ Some b
+  else_the_remote = refl
+
+-- a remote's link under the name of a commit isn't there, and its file is
+module _ (url d bytes text : List ℕ) where
+  link_at_a_remote : remote_at (λ u p. target text) url d kinds.Commit ≡ None
+  link_at_a_remote = refl
+
+  file_at_a_remote : remote_at (λ u p. contents 0 bytes) url d kinds.Commit ≡ Some (objects.Meta bytes)
+  file_at_a_remote = refl
+
+  no_url : remote (λ u p. contents 0 bytes) None d kinds.Commit ≡ None
+  no_url = refl
+
+-- ---- the order of a list of objects
+
+abbrev are_ascending : List (List ℕ × ObjKind) → Bool
+are_ascending objects = is_ascending (map object_text objects)
+
+by_digest_first : are_ascending ((1 ∷ [], kinds.File) ∷ (2 ∷ [], kinds.Commit) ∷ []) ≡ true
+unfolding hex
+by_digest_first = refl
+
+then_by_kind : are_ascending ((1 ∷ [], kinds.Commit) ∷ (1 ∷ [], kinds.DirMeta) ∷ (1 ∷ [], kinds.DirTree) ∷ (1 ∷ [], kinds.File) ∷ []) ≡ true
+unfolding hex
+then_by_kind = refl
+
+no_object_twice : are_ascending ((1 ∷ [], kinds.File) ∷ (1 ∷ [], kinds.File) ∷ []) ≡ false
+unfolding hex
+no_object_twice = refl

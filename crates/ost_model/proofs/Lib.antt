@@ -3,5 +3,7 @@ pub mod Looked
 pub mod Stores
 pub mod Local
 pub mod Pending
+pub mod Good
 mod Rows
 mod Examples
+mod Sample

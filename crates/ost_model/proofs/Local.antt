@@ -2,7 +2,7 @@
 use Rattle.std.proofs.Common.{◌≡◌, ℕ, List, refl, sym, ◌∙◌, ap, subst, Bool}
 use Rattle.fp_host.specs.Paths.{Elements}
 use Rattle.fp_host.specs.Outcome.{Disk}
-use Rattle.ost_model.specs.declared.object.ObjKind.TheVariants as kinds
+use Rattle.fp_base.specs.declared.object.ObjKind.TheVariants as kinds
 use Rattle.ost_model.specs.Objects.{object_at, object_path, store}
 use Rattle.ost_model.specs.Order.{order, Agree}
 use Rattle.ost_model.specs.Look.{Found, nothing, directory, file_at, look}

@@ -4,7 +4,7 @@ use Rattle.std.specs.Prelude.{if◌then◌else◌}
 use Rattle.std.specs.Str.{bytes_eq}
 use Rattle.std.proofs.lemmas.Bool.{false≢true}
 use Rattle.fp_host.specs.Paths.{Elements}
-use Rattle.ost_model.specs.declared.object.ObjKind.TheVariants as kinds
+use Rattle.fp_base.specs.declared.object.ObjKind.TheVariants as kinds
 use Rattle.ost_model.specs.Fields.{DirRow, FileRow, CommitView, TreeView}
 use Rattle.ost_model.specs.Readers.{tree_of, commit_of}
 use Rattle.ost_model.specs.Objects.{Have}

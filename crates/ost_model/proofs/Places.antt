@@ -60,7 +60,7 @@ if_none : {A : Type 0} (b : Bool) (x : A) (r : Option A) → if b then Some x el
 if_none true x r e = absurd (cc e)
 if_none false x r e = (refl, e)
 
-found_none : (p : Place) (f : Option Fault) → found_at p f ≡ None → f ≡ None
+pub found_none : (p : Place) (f : Option Fault) → found_at p f ≡ None → f ≡ None
 found_none p None e = refl
 found_none p (Some f) e = absurd (cc e)
 

@@ -10,8 +10,8 @@ use Rattle.fp_name.specs.Hex.{is_byte, is_digest, hex, unhex}
 use Rattle.fp_name.proofs.HexTexts.{length-hex, unhex-hex}
 use Rattle.fp_host.specs.Paths.{Elements}
 use Rattle.fp_host.specs.Outcome.{Spot, gone}
-use Rattle.ost_model.specs.declared.object.ObjKind.{ObjKind}
-use Rattle.ost_model.specs.declared.object.ObjKind.TheVariants as kinds
+use Rattle.fp_base.specs.declared.object.ObjKind.{ObjKind}
+use Rattle.fp_base.specs.declared.object.ObjKind.TheVariants as kinds
 use Rattle.ost_model.specs.Objects.{kind_text, object_path, Named}
 use Rattle.ost_model.specs.Laws.{StoreIsLocal, StoreGoesOn, NothingIsAStore, ObjectsAreNamed, ObjectsAreNoFolders}
 use Rattle.ost_model.specs.Stores.{objects_folder, IsObject, MayBePrefix, MayBeObject}
@@ -53,29 +53,29 @@ kind_is_back kinds.DirTree = refl
 kind_is_back kinds.DirMeta = refl
 kind_is_back kinds.File = refl
 
--- the digits behind the first two
-rest_long : (d : List ℕ) → is_digest d ≡ true → length (drop 2 (hex d)) ≡ 62
+-- the digits after the first two
+pub rest_long : (d : List ℕ) → is_digest d ≡ true → length (drop 2 (hex d)) ≡ 62
 rest_long d good =
     let long : length d ≡ 32 = eqb-true (length d) 32 (and_parts (eqb (length d) 32) (list_all is_byte d) good).0 in
     length-drop 2 (hex d) ∙ omega (arith, length-hex d, long)
 
-take_at : (p q : List ℕ) (n : ℕ) → length p ≡ n → take n (p ++ q) ≡ p
+pub take_at : (p q : List ℕ) (n : ℕ) → length p ≡ n → take n (p ++ q) ≡ p
 take_at p q n long = subst (λ m. take m (p ++ q) ≡ p) long (take-append_seam p q)
 
 -- an object's name says its digest and its kind
-one_name : (root : Elements) (d e : List ℕ) (k m : ObjKind) → is_digest d ≡ true → is_digest e ≡ true
+pub one_name : (root : Elements) (d e : List ℕ) (k m : ObjKind) → is_digest d ≡ true → is_digest e ≡ true
     → object_path root d k ≡ object_path root e m → (d ≡ e) × (k ≡ m)
 one_name root d e k m of_d of_e same =
     let names : drop 2 (hex d) ++ (codes "." ++ kind_text k) ≡ drop 2 (hex e) ++ (codes "." ++ kind_text m) = ap (λ p. get_or p 0 []) same in
     let first : take 2 (hex d) ≡ take 2 (hex e) = ap (λ p. get_or p 1 []) same in
-    let behind : drop 2 (hex d) ≡ drop 2 (hex e) =
+    let after : drop 2 (hex d) ≡ drop 2 (hex e) =
     sym (take_at (drop 2 (hex d)) (codes "." ++ kind_text k) 62 (rest_long d of_d)) ∙ ap (take 62) names
     ∙ take_at (drop 2 (hex e)) (codes "." ++ kind_text m) 62 (rest_long e of_e) in
     let ends : codes "." ++ kind_text k ≡ codes "." ++ kind_text m =
     sym (drop_at (drop 2 (hex d)) (codes "." ++ kind_text k) 62 (rest_long d of_d)) ∙ ap (drop 62) names
     ∙ drop_at (drop 2 (hex e)) (codes "." ++ kind_text m) 62 (rest_long e of_e) in
     let texts : hex d ≡ hex e =
-    sym (take-append-drop 2 (hex d)) ∙ ap (λ t. t ++ drop 2 (hex d)) first ∙ ap (λ t. take 2 (hex e) ++ t) behind ∙ take-append-drop 2 (hex e) in
+    sym (take-append-drop 2 (hex d)) ∙ ap (λ t. t ++ drop 2 (hex d)) first ∙ ap (λ t. take 2 (hex e) ++ t) after ∙ take-append-drop 2 (hex e) in
     (same_Some d e (sym (unhex-hex d of_d) ∙ ap unhex texts ∙ unhex-hex e of_e), sym (kind_is_back k) ∙ ap kind_back ends ∙ kind_is_back m)
 
 named_same : (root : Elements) (d : List ℕ) (kind : ObjKind) (spot : Spot) → is_digest d ≡ true → IsObject root (object_path root d kind) spot

@@ -1,16 +1,17 @@
 -- What holds of all stores, commits and disks.
-use Rattle.std.specs.Prelude.{◌≡◌, ◌⊎◌, true, ℕ, suc, List, [], ◌∷◌, ◌++◌, length, Bool, Option, Some, None}
+use Rattle.std.specs.Prelude.{◌≡◌, ◌⊎◌, true, ℕ, suc, List, [], ◌∷◌, ◌++◌, ◌+◌, ◌≤◌, length, Bool, Option, Some, None}
 use Rattle.fp_host.specs.Paths.{Elements}
 use Rattle.fp_name.specs.Hex.{is_digest}
 use Rattle.fp_host.specs.Outcome.{Disk, gone}
-use Rattle.ost_model.specs.declared.object.ObjKind.{ObjKind}
-use Rattle.ost_model.specs.Fields.{DirRow, TreeView}
-use Rattle.ost_model.specs.Objects.{Have, Fault, Named, object_path}
-use Rattle.ost_model.specs.Order.{Place, Agree, order, first_fault, first_of, tree_at}
+use Rattle.fp_base.specs.declared.object.ObjKind.{ObjKind}
+use Rattle.fp_base.specs.declared.object.ObjKind.TheVariants as kinds
+use Rattle.ost_model.specs.Fields.{DirRow, TreeView, CommitView}
+use Rattle.ost_model.specs.Objects.{Have, Fault, Named, object_path, object_fault, or_else}
+use Rattle.ost_model.specs.Order.{Place, Agree, order, first_fault, first_walk_fault, first_of, tree_at, commit_at}
 use Rattle.ost_model.specs.Look.{look, directory, file_at, Reached, FileReached}
 use Rattle.ost_model.specs.Standing.{Stands, SameBelow, SameObjects}
 use Rattle.ost_model.specs.Stores.{objects_folder, IsStore, SameStore, KeepsStore}
-use Rattle.ost_model.specs.Walk.{Open, pending, opened, own_places, Walked}
+use Rattle.ost_model.specs.Walk.{Open, open_places, pending, opened, heads, own_places, Walked}
 
 -- the order of a commit depends on the objects of the order alone
 abbrev pub OrderIsLocal : Type 0
@@ -63,13 +64,43 @@ abbrev pub ObjectsAreNoFolders : Type 0
 ObjectsAreNoFolders = (root : Elements) (disk : Disk) → IsStore root disk → (x : List ℕ) (rest : Elements) (name xx : List ℕ)
     → disk (x ∷ (rest ++ (name ∷ (xx ∷ objects_folder root)))) ≡ gone
 
+-- an object's name says its digest and its kind
+abbrev pub NamesAreApart : Type 0
+NamesAreApart = (root : Elements) (d e : List ℕ) (k m : ObjKind) → is_digest d ≡ true → is_digest e ≡ true
+    → object_path root d k ≡ object_path root e m → (d ≡ e) × (k ≡ m)
+
+-- a metadata object without a fault reads
+abbrev pub GoodTreesAreRead : Type 0
+GoodTreesAreRead = (have : Have) (d : List ℕ) → object_fault d kinds.DirTree (have d kinds.DirTree) ≡ None
+    → (v : TreeView) × (tree_at have d ≡ Some v)
+
+abbrev pub GoodCommitsAreRead : Type 0
+GoodCommitsAreRead = (have : Have) (d : List ℕ) → object_fault d kinds.Commit (have d kinds.Commit) ≡ None
+    → (v : CommitView) × (commit_at have d ≡ Some v)
+
+-- the first fault of two lists, one after the other
+abbrev pub FirstOfTwo : Type 0
+FirstOfTwo = (test : ℕ → Place → Option Fault) (n : ℕ) (xs ys : List Place)
+    → first_of test n (xs ++ ys) ≡ or_else (first_of test n xs) (first_of test (n + length xs) ys)
+
+-- all metadata objects of an order that has no fault are without one
+abbrev pub WalkFaultsAreFaults : Type 0
+WalkFaultsAreFaults = (have : Have) (commit : List ℕ) → first_fault have commit ≡ None → first_walk_fault have commit ≡ None
+
+-- a directory begins with its dirtree and its dirmeta
+abbrev pub OpensWithHeads : Type 0
+OpensWithHeads = (have : Have) (o : Open) → (rest : List Place) × (open_places have o ≡ heads o ++ rest)
+
+-- and goes on with its files and its directories
+abbrev pub OpensAsRead : Type 0
+OpensAsRead = (have : Have) (o : Open) (v : TreeView) (left : List Open) → o.depth ≤ 64 → tree_at have o.tree ≡ Some v
+    → pending have (o ∷ left) ≡ own_places o v ++ pending have (opened (suc o.depth) v.dirs ++ left)
+
 -- a walk goes on by one directory
 abbrev pub WalkGoesOn : Type 0
-WalkGoesOn = (have : Have) (test : ℕ → Place → Option Fault) (commit : List ℕ) (done : List Place) (left : List Open)
-    (fuel depth : ℕ) (e : DirRow) (v : TreeView)
-    → Walked have test commit done (record { fuel = suc fuel; depth = depth; row = e } ∷ left)
-    → tree_at have e.tree ≡ Some v → first_of test (length done) (own_places depth e v) ≡ None
-    → Walked have test commit (done ++ own_places depth e v) (opened fuel (suc depth) v.dirs ++ left)
+WalkGoesOn = (have : Have) (test : ℕ → Place → Option Fault) (commit : List ℕ) (done : List Place) (o : Open) (left : List Open) (v : TreeView)
+    → Walked have test commit done (o ∷ left) → o.depth ≤ 64 → tree_at have o.tree ≡ Some v → first_of test (length done) (own_places o v) ≡ None
+    → Walked have test commit (done ++ own_places o v) (opened (suc o.depth) v.dirs ++ left)
 
 -- at its end it has done the order, which has no fault
 abbrev pub WalkEnds : Type 0

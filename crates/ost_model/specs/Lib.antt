@@ -4,7 +4,9 @@ pub mod Fields
 pub mod Readers
 pub mod Binding
 pub mod Objects
+pub mod Remotes
 pub mod Order
+pub mod Used
 pub mod Look
 pub mod Standing
 pub mod Stores

@@ -1,11 +1,11 @@
 -- One path of a commit, followed name by name.
-use Rattle.std.specs.Prelude.{◌≡◌, ℕ, ◌+◌, List, [], ◌∷◌, if◌then◌else◌, Option, Some, None}
+use Rattle.std.specs.Prelude.{◌≡◌, ℕ, ◌+◌, List, [], ◌∷◌, ◌++◌, length, if◌then◌else◌, Option, Some, None}
 use Rattle.std.specs.Str.{bytes_eq}
 use Rattle.fp_host.specs.Paths.{Elements}
-use Rattle.ost_model.specs.declared.object.ObjKind.TheVariants as kinds
+use Rattle.fp_base.specs.declared.object.ObjKind.TheVariants as kinds
 use Rattle.ost_model.specs.Fields.{DirRow, FileRow, CommitView, TreeView}
-use Rattle.ost_model.specs.Objects.{Have}
-use Rattle.ost_model.specs.Order.{Place, In, tree_at, commit_at, root_row, dir_places, order}
+use Rattle.ost_model.specs.Objects.{Have, Fault}
+use Rattle.ost_model.specs.Order.{Place, In, tree_at, commit_at, root_row, tree_place, commit_place, dir_places, order, place_fault, first_of}
 
 pub data Found : Type 0 where
   nothing : Found
@@ -43,6 +43,21 @@ at_root (Some c) = directory (root_row c)
 abbrev pub look : Have → List ℕ → Elements → Found
 look have commit [] = at_root (commit_at have commit)
 look have commit (x ∷ up) = next have x (look have commit up)
+
+-- the dirtree of a directory that was found, so far below the root
+abbrev pub found_places : ℕ → Found → List Place
+found_places depth nothing = []
+found_places depth (file_at d) = []
+found_places depth (directory e) = tree_place depth e ∷ []
+
+-- what is read on a path: the commit, and the dirtree of each directory, the last one too
+abbrev pub look_places : Have → List ℕ → Elements → List Place
+look_places have commit [] = commit_place commit ∷ found_places 0 (look have commit [])
+look_places have commit (x ∷ up) = look_places have commit up ++ found_places (length (x ∷ up)) (look have commit (x ∷ up))
+
+-- The first fault among what is read. A path has no number in the order, so the depth is the only limit.
+abbrev pub look_fault : Have → List ℕ → Elements → Option (Place × Fault)
+look_fault have commit path = first_of (λ n. place_fault have 0) 0 (look_places have commit path)
 
 -- a directory that stands in the order, with all that is in it
 pub record Reached (have : Have) (commit : List ℕ) (e : DirRow) : Type 0 where

@@ -1,14 +1,14 @@
 -- Objects of a store, and what is wrong with one.
-use Rattle.std.specs.Prelude.{◌≡◌, ℕ, List, ◌∷◌, ◌++◌, ◌*◌, ◌%◌, length, take, drop, Bool, true, false, leb, if◌then◌else◌, Option, Some, None, codes}
+use Rattle.std.specs.Prelude.{◌≡◌, ℕ, List, ◌∷◌, ◌++◌, ◌*◌, ◌%◌, length, take, drop, Bool, true, false, not, leb, if◌then◌else◌, Option, Some, None, codes}
 use Rattle.std.specs.Str.{bytes_eq}
 use Rattle.fp_name.specs.Hex.{hex}
 use Rattle.fp_host.specs.Paths.{Elements, is_link_text}
 use Rattle.fp_host.specs.Outcome.{Spot, gone, folder, holds, points, Disk}
-use Rattle.ost_model.specs.declared.object.ObjKind.{ObjKind}
-use Rattle.ost_model.specs.declared.object.ObjKind.TheVariants as kinds
+use Rattle.fp_base.specs.declared.object.ObjKind.{ObjKind}
+use Rattle.fp_base.specs.declared.object.ObjKind.TheVariants as kinds
 use Rattle.ost_model.specs.declared.object.Object.{Object}
 use Rattle.ost_model.specs.declared.object.Object.TheVariants as objects
-use Rattle.ost_model.specs.declared.rule.Rule.{Rule}
+use Rattle.fp_base.specs.declared.rule.Rule.{Rule}
 use Rattle.ost_model.specs.Contents.{is_permission, file_digest, link_digest, meta_digest}
 use Rattle.ost_model.specs.Fields.{MetaView}
 use Rattle.ost_model.specs.Readers.{meta_of, broken_rule}
@@ -26,6 +26,19 @@ kind_text kinds.File = codes "file"
 -- `objects/XX/REST.KIND` below a store's folder, XX the first two digits of the digest
 abbrev pub object_path : Elements → List ℕ → ObjKind → Elements
 object_path root d kind = (drop 2 (hex d) ++ (codes "." ++ kind_text kind)) ∷ (take 2 (hex d) ∷ (codes "objects" ∷ root))
+
+-- a link may keep an object of this kind
+abbrev pub may_be_link : ObjKind → Bool
+may_be_link kinds.File = true
+may_be_link kinds.Commit = false
+may_be_link kinds.DirTree = false
+may_be_link kinds.DirMeta = false
+
+-- whether the object is one of the kind: a file or a link, or the bytes of a metadata object
+abbrev pub is_of_kind : ObjKind → Object → Bool
+is_of_kind kind (objects.Meta bytes) = not (may_be_link kind)
+is_of_kind kind (objects.File mode bytes) = may_be_link kind
+is_of_kind kind (objects.Link text) = may_be_link kind
 
 -- what stands there, read as an object of the kind
 abbrev pub object_at : ObjKind → Spot → Option Object
@@ -94,10 +107,18 @@ rule_fault kind (objects.Meta bytes) = as_malformed (broken_rule kind bytes)
 rule_fault kind (objects.File mode bytes) = None
 rule_fault kind (objects.Link text) = None
 
+-- an object of another kind isn't there
+abbrev pub kind_fault : ObjKind → Object → Option Fault
+kind_fault kind object = unless (is_of_kind kind object) missing
+
+-- what keeps an object of the kind from being the one that its digest names
+abbrev pub content_fault : List ℕ → ObjKind → Object → Option Fault
+content_fault d kind object = or_else (length_fault object) (or_else (mode_fault object) (or_else (digest_fault d object) (rule_fault kind object)))
+
 -- what keeps an object from being the one that its digest names, in the order in which it is looked for
 abbrev pub name_fault : List ℕ → ObjKind → Option Object → Option Fault
 name_fault d kind None = Some missing
-name_fault d kind (Some object) = or_else (length_fault object) (or_else (mode_fault object) (or_else (digest_fault d object) (rule_fault kind object)))
+name_fault d kind (Some object) = or_else (kind_fault kind object) (content_fault d kind object)
 
 abbrev pub dir_bits : Option MetaView → Option Fault
 dir_bits None = None

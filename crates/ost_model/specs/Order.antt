@@ -1,7 +1,7 @@
 -- The objects of a commit in order, with repeats, and the first of them that has a fault.
 use Rattle.std.specs.Prelude.{◌≡◌, ◌⊎◌, ℕ, zero, suc, List, [], ◌∷◌, ◌++◌, leb, if◌then◌else◌, Option, Some, None}
-use Rattle.ost_model.specs.declared.object.ObjKind.{ObjKind}
-use Rattle.ost_model.specs.declared.object.ObjKind.TheVariants as kinds
+use Rattle.fp_base.specs.declared.object.ObjKind.{ObjKind}
+use Rattle.fp_base.specs.declared.object.ObjKind.TheVariants as kinds
 use Rattle.ost_model.specs.declared.object.Object.{Object}
 use Rattle.ost_model.specs.declared.object.Object.TheVariants as objects
 use Rattle.ost_model.specs.Fields.{DirRow, FileRow, CommitView, TreeView}

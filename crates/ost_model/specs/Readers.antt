@@ -5,10 +5,10 @@ use Rattle.std.specs.Str.{bytes_eq}
 use Rattle.fp_host.specs.Paths.{is_element}
 use Rattle.fp_host.specs.Reads.{is_ascending}
 use Rattle.gv_value.specs.Reading.{value_of}
-use Rattle.ost_model.specs.declared.object.ObjKind.{ObjKind}
-use Rattle.ost_model.specs.declared.object.ObjKind.TheVariants as kinds
-use Rattle.ost_model.specs.declared.rule.Rule.{Rule}
-use Rattle.ost_model.specs.declared.rule.Rule.TheVariants as rules
+use Rattle.fp_base.specs.declared.object.ObjKind.{ObjKind}
+use Rattle.fp_base.specs.declared.object.ObjKind.TheVariants as kinds
+use Rattle.fp_base.specs.declared.rule.Rule.{Rule}
+use Rattle.fp_base.specs.declared.rule.Rule.TheVariants as rules
 use Rattle.ost_model.specs.Types.{commit_shape, tree_shape, meta_shape}
 use Rattle.ost_model.specs.Fields.{CommitView, FileRow, DirRow, TreeView, MetaView, commit_in, tree_in, meta_in}
 

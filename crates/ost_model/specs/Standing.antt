@@ -2,7 +2,7 @@
 use Rattle.std.specs.Prelude.{◌≡◌, ◌≢◌, ℕ, List, [], ◌∷◌, ◌++◌, ◌*◌, Bool, true, false, ◌&&◌, leb, length, None, codes}
 use Rattle.fp_host.specs.Paths.{Elements}
 use Rattle.fp_host.specs.Outcome.{Spot, gone, folder, holds, points, Disk}
-use Rattle.ost_model.specs.declared.object.ObjKind.TheVariants as kinds
+use Rattle.fp_base.specs.declared.object.ObjKind.TheVariants as kinds
 use Rattle.ost_model.specs.Objects.{object_path, store}
 use Rattle.ost_model.specs.Order.{Place, In, order, first_fault}
 use Rattle.ost_model.specs.Look.{Found, nothing, directory, file_at, look}

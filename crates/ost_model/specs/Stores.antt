@@ -4,7 +4,7 @@ use Rattle.std.specs.List.{list_all}
 use Rattle.fp_name.specs.Hex.{is_digest, digit_value}
 use Rattle.fp_host.specs.Paths.{Elements}
 use Rattle.fp_host.specs.Outcome.{Spot, gone, folder, Disk}
-use Rattle.ost_model.specs.declared.object.ObjKind.{ObjKind}
+use Rattle.fp_base.specs.declared.object.ObjKind.{ObjKind}
 use Rattle.ost_model.specs.Objects.{object_path, Named}
 
 -- the folder `objects` of the store at root

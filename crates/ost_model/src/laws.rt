@@ -1,5 +1,5 @@
 //! Laws of stores and commits. Each is the contract of a function that does nothing.
-ghost use Rattle.ost_model.specs.Laws.{OrderIsLocal, FaultIsLocal, LookIsLocal, DirsAreReached, FilesAreReached, StandingIsLocal, StoreIsLocal, StoreGoesOn, NothingIsAStore, ObjectsAreNamed, ObjectsAreNoFolders, WalkGoesOn, WalkEnds, WalkFindsTheFirst};
+ghost use Rattle.ost_model.specs.Laws.{OrderIsLocal, FaultIsLocal, LookIsLocal, DirsAreReached, FilesAreReached, StandingIsLocal, StoreIsLocal, StoreGoesOn, NothingIsAStore, ObjectsAreNamed, ObjectsAreNoFolders, NamesAreApart, GoodTreesAreRead, GoodCommitsAreRead, WalkFaultsAreFaults, FirstOfTwo, OpensWithHeads, OpensAsRead, WalkGoesOn, WalkEnds, WalkFindsTheFirst};
 
 /// The order of a commit and its first fault depend on the objects of that order alone, and so does what is found in the
 /// commit, where it has no fault.
@@ -32,6 +32,29 @@ pub fn stores_depend_on_their_names()
 pub fn stores_hold_what_their_names_say()
     ensures named { ObjectsAreNamed }
     ensures no_folders { ObjectsAreNoFolders }
+{}
+
+/// An object's name says its digest and its kind.
+pub fn names_are_apart()
+    ensures { NamesAreApart }
+{}
+
+/// A dirtree and a commit without a fault read, and where an order has no fault, a walk of its metadata objects finds none.
+pub fn good_objects_are_read()
+    ensures trees { GoodTreesAreRead }
+    ensures commits { GoodCommitsAreRead }
+    ensures walks { WalkFaultsAreFaults }
+{}
+
+/// The first fault of two lists, one after the other, is that of the first, else that of the second.
+pub fn the_first_fault_of_two()
+    ensures { FirstOfTwo }
+{}
+
+/// The places of a directory are its dirtree, its dirmeta, its files, and those of its directories.
+pub fn directories_are_listed_as_read()
+    ensures heads { OpensWithHeads }
+    ensures all { OpensAsRead }
 {}
 
 /// A walk with a work list that keeps to `Walked` meets the order and the first fault.

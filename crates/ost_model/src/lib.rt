@@ -4,7 +4,6 @@
 
 pub mod laws;
 mod object;
-mod rule;
 
-pub use object::{ObjKind, Object};
-pub use rule::Rule;
+pub use fp_base::{ObjKind, Rule};
+pub use object::Object;

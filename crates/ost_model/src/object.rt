@@ -1,18 +1,6 @@
-// Objects of a repository.
-use fp_host::{Blob, Text};
+//! Objects of a repository.
 
-/// The kinds of objects (OSTree, "Anatomy of an OSTree repository").
-#[derive(Clone, Copy, Debug, PartialEq, Eq)]
-pub enum ObjKind {
-    /// A commit: its root directory, its parent, its subject, its time.
-    Commit,
-    /// The names in a directory, with their digests.
-    DirTree,
-    /// The owner and the mode of a directory.
-    DirMeta,
-    /// A file or a symbolic link.
-    File,
-}
+use fp_base::{Blob, Text};
 
 /// An object.
 #[derive(Debug, Drop)]

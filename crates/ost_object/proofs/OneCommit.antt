@@ -14,7 +14,7 @@ use Rattle.gv_value.proofs.Depths.{bounds_depth}
 use Rattle.ost_model.specs.Contents.{bytes_shape}
 use Rattle.ost_model.specs.Types.{text_shape, dictionary_shape, related_shape, commit_shape}
 use Rattle.ost_model.specs.Fields.{CommitView, text_in, time_in, bytes_in, commit_from, commit_in}
-use Rattle.ost_model.specs.declared.rule.Rule.TheVariants as rules
+use Rattle.fp_base.specs.declared.rule.Rule.TheVariants as rules
 use Rattle.ost_model.specs.Readers.{commit_breaks}
 use Rattle.ost_object.specs.declared.error.ObjectError.{ObjectError}
 use Rattle.ost_object.specs.declared.error.ObjectError.TheVariants as errors

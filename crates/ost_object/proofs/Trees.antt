@@ -2,8 +2,8 @@
 use Rattle.std.proofs.Common.{◌≡◌, List, [], ◌∷◌, Bool, true, false, ◌&&◌, Option, Some, None, Err, refl, sym, ap, ◌∙◌}
 use Rattle.std.specs.Prelude.{if◌then◌else◌, option_map, option_and_then, Result}
 use Rattle.std.specs.List.{list_all}
-use Rattle.ost_model.specs.declared.rule.Rule.{Rule}
-use Rattle.ost_model.specs.declared.rule.Rule.TheVariants as rules
+use Rattle.fp_base.specs.declared.rule.Rule.{Rule}
+use Rattle.fp_base.specs.declared.rule.Rule.TheVariants as rules
 use Rattle.ost_model.specs.Fields.{TreeView}
 use Rattle.ost_model.specs.Readers.{has_long, has_both_long, first_broken, name_tests, tree_breaks, kept}
 use Rattle.ost_object.specs.Answers.{passing, only, Misses, Breaks}

@@ -10,8 +10,8 @@ use Rattle.gv_value.specs.Spelled.{Spelled, max_bytes}
 use Rattle.gv_value.specs.Spelling.{fits, spelling}
 use Rattle.gv_value.proofs.Exact.{reads_values, spells_values}
 use Rattle.gv_value.proofs.Lists.{then_some}
-use Rattle.ost_model.specs.declared.rule.Rule.{Rule}
-use Rattle.ost_model.specs.declared.rule.Rule.TheVariants as rules
+use Rattle.fp_base.specs.declared.rule.Rule.{Rule}
+use Rattle.fp_base.specs.declared.rule.Rule.TheVariants as rules
 use Rattle.ost_model.specs.Readers.{judged, kept}
 use Rattle.ost_object.specs.declared.error.ObjectError.{ObjectError}
 use Rattle.ost_object.specs.declared.error.ObjectError.TheVariants as errors

@@ -1,7 +1,7 @@
 -- What reading and writing answer, by what the definitions read. Nothing is said of want of memory.
 use Rattle.std.specs.Prelude.{◌≡◌, ⊤, List, [], ◌∷◌, Bool, if◌then◌else◌, Option, Some, None, option_map, option_and_then, Result, Ok, Err}
-use Rattle.ost_model.specs.declared.rule.Rule.{Rule}
-use Rattle.ost_model.specs.declared.rule.Rule.TheVariants as rules
+use Rattle.fp_base.specs.declared.rule.Rule.{Rule}
+use Rattle.fp_base.specs.declared.rule.Rule.TheVariants as rules
 use Rattle.ost_object.specs.declared.error.ObjectError.{ObjectError}
 use Rattle.ost_object.specs.declared.error.ObjectError.TheVariants as errors
 

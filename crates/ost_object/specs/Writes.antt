@@ -3,8 +3,8 @@ use Rattle.std.specs.Prelude.{◌≡◌, ◌≢◌, ℕ, ⊤, List, Option, unwr
 use Rattle.gv_value.specs.Shape.{Shape}
 use Rattle.gv_value.specs.Spelled.{Spelled}
 use Rattle.gv_value.specs.Tree.{Tree}
-use Rattle.ost_model.specs.declared.rule.Rule.{Rule}
-use Rattle.ost_model.specs.declared.rule.Rule.TheVariants as rules
+use Rattle.fp_base.specs.declared.rule.Rule.{Rule}
+use Rattle.fp_base.specs.declared.rule.Rule.TheVariants as rules
 use Rattle.ost_object.specs.declared.error.ObjectError.{ObjectError}
 use Rattle.ost_object.specs.declared.error.ObjectError.TheVariants as errors
 

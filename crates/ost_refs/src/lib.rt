@@ -11,5 +11,5 @@ mod walking;
 
 pub use changing::{drop_ref, write_ref};
 pub use listing::list_refs;
-pub use place::{RefFile, RefPlace};
-pub use reading::read_ref;
+pub use place::{RefFile, RefPlace, path_of};
+pub use reading::{read_ref, ref_file};

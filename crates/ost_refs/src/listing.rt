@@ -10,7 +10,8 @@ ghost use Rattle.ost_refs.specs.Found.{place_named, ArePaths, Puts, Adds, Finds}
 use crate::naming::place_named;
 use crate::place::RefPlace;
 use crate::walking::paths_below;
-use fp_host::{Host, HostEnd, Items, Path, Stat};
+use fp_base::Items;
+use fp_host::{Host, HostEnd, Path, Stat};
 use std::alloc::{AllocError, Global};
 use std::collections::BTreeMap;
 

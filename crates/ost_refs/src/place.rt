@@ -1,4 +1,4 @@
-// Where a ref has its file, and what the file says.
+//! Where a ref has its file, and what the file says.
 ghost use Rattle.std.specs.Prelude.{◌≡◌, IfOk};
 ghost use Rattle.ost_refs.specs.Places.{place_path, ref_below};
 
@@ -26,9 +26,9 @@ pub enum RefFile {
     Bad,
 }
 
-/// The path of the place's file in the store in this folder.
+/// The path of the place's file in the store in this folder: `refs/heads/REF`, or `refs/remotes/ORIGIN/REF`.
 #[tactic(auto, using(crate::proofs::Elements::element_remote))]
-pub(crate) fn path_of(root: &Path, place: &RefPlace) -> Result<Path, AllocError>
+pub fn path_of(root: &Path, place: &RefPlace) -> Result<Path, AllocError>
     ensures { IfOk result (λ path. path ≡ place_path root.now place.now) }
 {
     let refs = root.child("refs")?;

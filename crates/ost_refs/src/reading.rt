@@ -37,9 +37,9 @@ pub fn read_ref<H: Host>(
     }
 }
 
-/// What a file of these bytes says.
+/// What a ref's file of these bytes says: `Bad` where they are no 64 digits and a newline.
 #[tactic(auto, using(crate::proofs::Files::too_short))]
-fn ref_file(bytes: &[u8]) -> RefFile
+pub fn ref_file(bytes: &[u8]) -> RefFile
     ensures { result ≡ ref_file bytes.now }
 {
     if bytes.len() < DIGITS {

@@ -7,7 +7,8 @@ ghost use Rattle.fp_host.specs.Frame.{Ends, Still};
 ghost use Rattle.fp_small.specs.Naming.{ListsIn};
 ghost use Rattle.ost_refs.specs.Walks.{AreBelow, AreLevel};
 
-use fp_host::{Host, HostEnd, Items, Path, Stat, Text};
+use fp_base::{Items, Text};
+use fp_host::{Host, HostEnd, Path, Stat};
 use std::alloc::{AllocError, Global};
 
 /// The names in the folder; none where it is no folder.

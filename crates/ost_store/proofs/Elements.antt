@@ -12,8 +12,8 @@ use Rattle.fp_host.specs.Paths.{is_element, is_name_byte}
 use Rattle.fp_name.specs.Hex.{is_byte, is_digest, digit, digit_value, hex}
 use Rattle.fp_name.proofs.Bytes.{list_all-wider}
 use Rattle.fp_name.proofs.HexTexts.{length-hex, hex_is_encoded}
-use Rattle.ost_model.specs.declared.object.ObjKind.{ObjKind}
-use Rattle.ost_model.specs.declared.object.ObjKind.TheVariants as kinds
+use Rattle.fp_base.specs.declared.object.ObjKind.{ObjKind}
+use Rattle.fp_base.specs.declared.object.ObjKind.TheVariants as kinds
 use Rattle.ost_model.specs.Objects.{kind_text}
 use Rattle.ost_model.specs.Stores.{is_prefix}
 

@@ -14,11 +14,12 @@ use Rattle.fp_host.specs.declared.host.HostError.TheVariants.{Clash}
 use Rattle.fp_host.proofs.Cause.{clash_reads}
 use Rattle.fp_host.proofs.Settled.{at_tree}
 use Rattle.fp_small.proofs.Making.{stat_absent, stat_dir}
-use Rattle.ost_model.specs.declared.object.ObjKind.{ObjKind}
-use Rattle.ost_model.specs.declared.object.ObjKind.TheVariants as kinds
+use Rattle.fp_base.specs.declared.object.ObjKind.{ObjKind}
+use Rattle.fp_base.specs.declared.object.ObjKind.TheVariants as kinds
 use Rattle.ost_model.specs.declared.object.Object.TheVariants as objects
 use Rattle.ost_model.specs.Objects.{object_path, object_at}
-use Rattle.ost_store.specs.Reads.{IsThere, may_be_link, got_of, GetsAt, ReadsPiece}
+use Rattle.ost_model.specs.Objects.{may_be_link}
+use Rattle.ost_store.specs.Reads.{IsThere, got_of, GetsAt, ReadsPiece}
 use Rattle.ost_store.specs.Place.{HasObject}
 use Rattle.ost_store.specs.declared.reading.Got.{Got}
 use Rattle.ost_store.specs.declared.reading.Got.TheVariants as got

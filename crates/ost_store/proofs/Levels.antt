@@ -229,6 +229,31 @@ all_found {v = v} n folder level found tree at none = record {
       | inr deep ↦ let r = level_above one.0 n folder v q deep one.1 in absurd (empty r.0 r.1)
     ]
 
+slot_cases : (e : Slot) → (e ≡ absent) ⊎ (e ≢ absent)
+slot_cases absent = inl refl
+slot_cases dir = inr (λ none. cc none)
+slot_cases (file id) = inr (λ none. cc none)
+slot_cases (link text) = inr (λ none. cc none)
+
+-- where nothing is left, nothing is deeper
+pub all_reached : {v : View} (n : ℕ) (folder : Elements) (level found : List Elements) → IsTree v → IsAtLevel (n + 1) folder v level found → level ≡ [] → Reaches folder n v
+all_reached {v = v} n folder level found tree at none = record {
+  far = λ q above. elim (slot_cases (v.names q)) [ inl gone ↦ inl gone | inr some ↦ inr (near q (level_of tree folder q above some)) ];
+}
+  where
+    empty : (r : Elements) → IsLevel (n + 1) folder v r → ⊥
+    empty r is = in_none r (subst (λ (l : List Elements). Contains l r) none ((at.here r).1 is))
+
+    near : (q : Elements) → (k : ℕ) × IsLevel k folder v q → length q ≤ length folder + n
+    near q one = elim (cases_lt one.0 (n + 1)) [
+      | inl below ↦ omega (arith, below, length_level one.0 folder v q one.1)
+      | inr deep ↦ let r = level_above one.0 (n + 1) folder v q deep one.1 in absurd (empty r.0 r.1)
+    ]
+
+-- below what is no folder there is nothing
+pub none_reached : {v : View} (n : ℕ) (folder : Elements) → IsTree v → (v.names folder ≡ dir → ⊥) → Reaches folder n v
+none_reached n folder tree off = record { far = λ q above. inl ((emptied_no_dir {p = folder} tree off).gone q above) }
+
 -- within reach nothing is left
 pub none_left : {v : View} (n : ℕ) (folder : Elements) (level found : List Elements) → Reaches folder n v → IsAtLevel (n + 1) folder v level found → level ≡ []
 none_left n folder [] found reaches at = refl

@@ -1,9 +1,11 @@
 pub mod Elements
 mod Gets
 mod Levels
-mod Lists
+pub mod Lists
 mod Placed
 mod Ready
 mod Sorted
 mod Staged
 mod Stored
+pub mod Said
+pub mod Staying

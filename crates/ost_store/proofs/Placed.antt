@@ -16,7 +16,7 @@ use Rattle.fp_host.proofs.Goes.{begins, goes_on, makes_goes}
 use Rattle.fp_small.specs.Folders.{ancestors, FoldersAt, DirsAt, AreFree, AreDirs}
 use Rattle.fp_small.proofs.Emptying.{above_longer}
 use Rattle.fp_small.proofs.Replacement.{ancestors_above, parent_in}
-use Rattle.ost_model.specs.declared.object.ObjKind.{ObjKind}
+use Rattle.fp_base.specs.declared.object.ObjKind.{ObjKind}
 use Rattle.fp_name.specs.Hex.{hex}
 use Rattle.ost_model.specs.Objects.{kind_text, object_path}
 use Rattle.ost_store.specs.Place.{Places, WasPlaced, CanPlace}

@@ -9,7 +9,7 @@ use Rattle.fp_host.specs.Frame.{Keeps, NoPath, Only}
 use Rattle.fp_host.proofs.Separate.{at_cases}
 use Rattle.fp_small.proofs.Emptying.{above_longer}
 use Rattle.fp_small.proofs.Replacement.{ancestors_above}
-use Rattle.ost_model.specs.declared.object.ObjKind.{ObjKind}
+use Rattle.fp_base.specs.declared.object.ObjKind.{ObjKind}
 use Rattle.ost_model.specs.declared.object.Object.{Object}
 use Rattle.ost_model.specs.Objects.{object_path, name_fault, kind_text, Named}
 use Rattle.ost_model.specs.Stores.{objects_folder, is_prefix, MayBePrefix, MayBeObject}

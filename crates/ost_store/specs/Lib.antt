@@ -1,5 +1,6 @@
 pub mod Reads
 pub mod Stage
 pub mod Place
+pub mod Stays
 pub mod Names
 pub mod Walks

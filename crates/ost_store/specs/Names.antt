@@ -1,8 +1,13 @@
 -- The names of a store in a list.
-use Rattle.std.specs.Prelude.{◌≡◌, ◌⊎◌, ◌≤◌, List, length, map, true}
+use Rattle.std.specs.Prelude.{◌≡◌, ◌≢◌, ◌⊎◌, ◌≤◌, ℕ, List, length, take, drop, ◌++◌, map, codes, true, Option, Some, None, if◌then◌else◌}
+use Rattle.std.specs.Str.{bytes_eq}
 use Rattle.fp_host.specs.Paths.{Elements, absent, path_text, IsAbove}
 use Rattle.fp_host.specs.View.{View}
 use Rattle.fp_host.specs.Reads.{is_ascending}
+use Rattle.fp_name.specs.Hex.{is_digest, unhex}
+use Rattle.fp_base.specs.declared.object.ObjKind.{ObjKind}
+use Rattle.fp_base.specs.declared.object.ObjKind.TheVariants as kinds
+use Rattle.ost_model.specs.Objects.{object_path}
 use Rattle.ost_model.specs.Stores.{objects_folder}
 use Rattle.ost_store.specs.Walks.{AreLeavesBelow}
 
@@ -14,3 +19,25 @@ pub record ListsNames (root : Elements) (v : View) (paths : List Elements) : Typ
 -- no path below `objects` has more than 128 elements
 pub record CanList (root : Elements) (v : View) : Type 0 where
   pub short : (q : Elements) → IsAbove (objects_folder root) q → (v.names q ≡ absent) ⊎ (length q ≤ 128)
+
+-- the kind whose objects' names end so
+abbrev pub kind_said : List ℕ → Option ObjKind
+kind_said end =
+    if bytes_eq end (codes ".commit") then Some kinds.Commit
+    else (if bytes_eq end (codes ".dirtree") then Some kinds.DirTree
+    else (if bytes_eq end (codes ".dirmeta") then Some kinds.DirMeta
+    else (if bytes_eq end (codes ".file") then Some kinds.File else None)))
+
+abbrev pub both_said : Option (List ℕ) → Option ObjKind → Option (List ℕ × ObjKind)
+both_said (Some d) (Some kind) = Some (d, kind)
+both_said (Some d) None = None
+both_said None kind = None
+
+-- the object that the names of its folder and of its file say
+abbrev pub object_said : List ℕ → List ℕ → Option (List ℕ × ObjKind)
+object_said folder name = both_said (unhex (folder ++ take 62 name)) (kind_said (drop 62 name))
+
+-- the path is that of this object in the store at root; or it is that of none
+abbrev pub IsNamed : Elements → Elements → Option (List ℕ × ObjKind) → Type 0
+IsNamed root path (Some object) = (is_digest object.0 ≡ true) × (path ≡ object_path root object.0 object.1)
+IsNamed root path None = (d : List ℕ) (kind : ObjKind) → is_digest d ≡ true → path ≢ object_path root d kind

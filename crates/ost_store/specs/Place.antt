@@ -7,7 +7,7 @@ use Rattle.fp_host.specs.Outcome.{Spot, Disk, Leaves, Gives, gone, shows}
 use Rattle.fp_host.specs.Frame.{Keeps, NoPath}
 use Rattle.fp_small.specs.Clear.{GoneAt, AbsentAt}
 use Rattle.fp_small.specs.Folders.{ancestors, FoldersAt, DirsAt, AreFree}
-use Rattle.ost_model.specs.declared.object.ObjKind.{ObjKind}
+use Rattle.fp_base.specs.declared.object.ObjKind.{ObjKind}
 use Rattle.ost_model.specs.Objects.{object_path, Named}
 use Rattle.ost_model.specs.Stores.{IsStore}
 use Rattle.ost_store.specs.Reads.{object_of}

@@ -4,11 +4,11 @@ use Rattle.fp_host.specs.Paths.{Elements}
 use Rattle.fp_host.specs.View.{View}
 use Rattle.fp_host.specs.Outcome.{shows}
 use Rattle.fp_host.specs.Remote.{CameFrom}
-use Rattle.ost_model.specs.declared.object.ObjKind.{ObjKind}
-use Rattle.ost_model.specs.declared.object.ObjKind.TheVariants as kinds
+use Rattle.fp_base.specs.declared.object.ObjKind.{ObjKind}
+use Rattle.fp_base.specs.declared.object.ObjKind.TheVariants as kinds
 use Rattle.ost_model.specs.declared.object.Object.{Object}
 use Rattle.ost_model.specs.declared.object.Object.TheVariants as objects
-use Rattle.ost_model.specs.Objects.{object_path, object_at}
+use Rattle.ost_model.specs.Objects.{may_be_link, object_path, object_at}
 use Rattle.ost_store.specs.declared.reading.Got.{Got}
 use Rattle.ost_store.specs.declared.reading.Got.TheVariants as got
 
@@ -20,19 +20,20 @@ object_of kind p v = object_at kind (shows v p)
 pub record IsThere (root : Elements) (d : List ℕ) (kind : ObjKind) (v : View) (there : Bool) : Type 0 where
   pub is : there ≡ is_some (object_of kind (object_path root d kind) v)
 
--- a link may keep an object of this kind
-abbrev pub may_be_link : ObjKind → Bool
-may_be_link kinds.File = true
-may_be_link kinds.Commit = false
-may_be_link kinds.DirTree = false
-may_be_link kinds.DirMeta = false
-
 -- what is told of an object of at most so many bytes
 abbrev pub got_of : ℕ → Option Object → Got
 got_of most None = got.Absent
 got_of most (Some (objects.Meta bytes)) = if leb (length bytes) most then got.Meta bytes else got.TooLong (length bytes)
 got_of most (Some (objects.File mode bytes)) = if leb (length bytes) most then got.File mode (length bytes) else got.TooLong (length bytes)
 got_of most (Some (objects.Link text)) = got.Link text
+
+-- what may be told of an object of this kind, on any host
+abbrev pub IsGotOf : ObjKind → Got → Type 0
+IsGotOf kind (got.Meta bytes) = may_be_link kind ≡ false
+IsGotOf kind (got.File mode size) = may_be_link kind ≡ true
+IsGotOf kind (got.Link text) = may_be_link kind ≡ true
+IsGotOf kind got.Absent = Unit {0}
+IsGotOf kind (got.TooLong size) = Unit {0}
 
 -- the object at the path was told
 pub record GetsAt (kind : ObjKind) (p : Elements) (most : ℕ) (v : View) (told : Got) : Type 0 where

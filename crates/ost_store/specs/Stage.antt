@@ -1,5 +1,5 @@
 -- Objects on their way to their names.
-use Rattle.std.specs.Prelude.{◌≡◌, ◌⊎◌, ℕ, List, ◌++◌, Some, Bool, true, false}
+use Rattle.std.specs.Prelude.{◌≡◌, ◌⊎◌, ℕ, List, ◌++◌, Some, true}
 use Rattle.fp_host.specs.Paths.{Elements, Slot, absent, file, link, is_link_text}
 use Rattle.fp_host.specs.View.{View}
 use Rattle.fp_host.specs.Calls.{IsDirty, IsFile}
@@ -7,11 +7,9 @@ use Rattle.fp_host.specs.Outcome.{Spot, holds, points}
 use Rattle.fp_host.specs.Frame.{Keeps, Only}
 use Rattle.fp_small.specs.Files.{KeepsFiles}
 use Rattle.fp_small.specs.Folders.{ancestors, FoldersAt, DirsAt, AreFree}
-use Rattle.ost_model.specs.declared.object.ObjKind.{ObjKind}
 use Rattle.ost_model.specs.declared.object.Object.{Object}
 use Rattle.ost_model.specs.declared.object.Object.TheVariants as objects
 use Rattle.ost_model.specs.Contents.{is_permission}
-use Rattle.ost_store.specs.Reads.{may_be_link}
 
 -- the permission bits of the file that keeps a metadata object: 0644
 abbrev pub meta_mode : ℕ
@@ -63,6 +61,18 @@ IsStaged t (objects.Meta bytes) v = IsOpen t meta_mode bytes v
 IsStaged t (objects.File mode bytes) v = IsOpen t mode bytes v
 IsStaged t (objects.Link text) v = v.names t ≡ link text
 
+-- the path is a file with these permission bits and these bytes, whether or not it was synced
+pub record IsFileOf (t : Elements) (mode : ℕ) (bytes : List ℕ) (v : View) : Type 0 where
+  pub id : ℕ
+  pub name : v.names t ≡ file id
+  pub row : v.files id ≡ Some (record { mode = mode; bytes = bytes })
+
+-- the path holds the object, whether or not it was synced
+abbrev pub IsHeld : Elements → Object → View → Type 0
+IsHeld t (objects.Meta bytes) v = IsFileOf t meta_mode bytes v
+IsHeld t (objects.File mode bytes) v = IsFileOf t mode bytes v
+IsHeld t (objects.Link text) v = v.names t ≡ link text
+
 -- where nothing stood before
 pub record WasStaged (t : Elements) (object : Object) (u w : View) : Type 0 where
   pub free : u.names t ≡ absent
@@ -78,16 +88,6 @@ abbrev pub IsKeepable : Object → Type 0
 IsKeepable (objects.Meta bytes) = Unit {0}
 IsKeepable (objects.File mode bytes) = is_permission mode ≡ true
 IsKeepable (objects.Link text) = is_link_text text ≡ true
-
--- a file or a link
-abbrev pub is_content : Object → Bool
-is_content (objects.Meta bytes) = false
-is_content (objects.File mode bytes) = true
-is_content (objects.Link text) = true
-
--- the object is one of the kind
-abbrev pub IsOfKind : ObjKind → Object → Type 0
-IsOfKind kind object = may_be_link kind ≡ is_content object
 
 -- where the object may be staged: nothing stands at the path, and what is above it is absent or a folder
 pub record CanStage (t : Elements) (object : Object) (v : View) : Type 0 where

@@ -1,25 +1,56 @@
 //! Laws of the words that the contracts use, for crates that build on them. Each is the contract of a function that
 //! does nothing.
 
-ghost use Rattle.std.specs.Prelude.{◌≡◌, ℕ, List, true, Some, None};
+ghost use Rattle.std.specs.Prelude.{◌≡◌, ◌≢◌, ℕ, List, true, Some, None};
 ghost use Rattle.fp_host.specs.Paths.{Elements, IsAbove};
 ghost use Rattle.fp_host.specs.View.{View, IsTree};
 ghost use Rattle.fp_host.specs.Calls.{syncs, done};
-ghost use Rattle.fp_host.specs.Outcome.{Nothing};
+ghost use Rattle.fp_host.specs.Outcome.{Nothing, shows};
 ghost use Rattle.fp_host.specs.Frame.{Keeps, NoPath, Only};
 ghost use Rattle.fp_name.specs.Hex.{is_digest};
-ghost use Rattle.ost_model.specs.declared.object.ObjKind.{ObjKind};
+ghost use Rattle.fp_base.specs.declared.object.ObjKind.{ObjKind};
 ghost use Rattle.ost_model.specs.declared.object.Object.{Object};
-ghost use Rattle.ost_model.specs.Objects.{object_path, name_fault};
+ghost use Rattle.ost_model.specs.Objects.{object_path, name_fault, store, Named};
 ghost use Rattle.ost_model.specs.Stores.{objects_folder};
-ghost use Rattle.fp_small.specs.Clear.{GoneAt, AbsentAt};
-ghost use Rattle.ost_store.specs.Stage.{IsStaged, IsOfKind, Stages, NoName};
-ghost use Rattle.ost_store.specs.Place.{Places, IsReadyAs, LeavesObject, LeavesStore};
+ghost use Rattle.fp_small.specs.Clear.{GoneAt, AbsentAt, IsWithin};
+ghost use Rattle.fp_small.specs.Unsynced.{Unsynced};
+ghost use Rattle.ost_store.specs.Stage.{IsStaged, IsHeld, Stages, NoName};
+ghost use Rattle.ost_store.specs.Stays.{Stays};
+ghost use Rattle.ost_store.specs.Place.{Places, WasPlaced, IsReadyAs, LeavesObject, LeavesStore};
 
-/// Behind a sync, a staged object that the digest names is ready to be placed.
+/// After a sync, an object that the digest names is ready to be placed, and what is staged is held.
 pub fn staged_objects_are_ready()
-    ensures { (t : Elements) (object : Object) (d : List ℕ) (kind : ObjKind) (v w : View) → IsStaged t object v → w ≡ done syncs v → IsTree w
-        → IsOfKind kind object → name_fault d kind (Some object) ≡ None → IsReadyAs d kind t w }
+    ensures ready { (t : Elements) (object : Object) (d : List ℕ) (kind : ObjKind) (v w : View) → IsHeld t object v → w ≡ done syncs v → IsTree w
+        → name_fault d kind (Some object) ≡ None → IsReadyAs d kind t w }
+    ensures held { (t : Elements) (object : Object) (v : View) → IsStaged t object v → IsHeld t object v }
+{}
+
+/// A name stays as it is where an object is staged neither there nor below, where another file grows, where an object is
+/// placed neither there nor below and from elsewhere, and where another name is taken away.
+pub fn names_elsewhere_stay()
+    ensures staged { (q t : Elements) (object : Object) (u w : View) → Stages t object u w → (IsWithin q t → ⊥) → Stays q u w }
+    ensures grown { (q t : Elements) (u w : View) → Keeps Nothing NoName (Only t) u w → u.names q ≢ u.names t → Stays q u w }
+    ensures placed { (q t p : Elements) (u w : View) → Places t p u w → (IsWithin q p → ⊥) → q ≢ t → Stays q u w }
+    ensures removed { (q p : Elements) (u w : View) → Keeps (GoneAt p) (AbsentAt p) NoPath u w → q ≢ p → Stays q u w }
+{}
+
+/// What a name that stays holds and shows stays too; and where nothing is synced, what is staged there, and what is ready.
+pub fn what_stays_is_kept()
+    ensures held { (q : Elements) (object : Object) (u w : View) → Stays q u w → IsHeld q object u → IsHeld q object w }
+    ensures staged { (q : Elements) (object : Object) (u w : View) → Stays q u w → Unsynced u w → IsStaged q object u → IsStaged q object w }
+    ensures ready { (q : Elements) (d : List ℕ) (kind : ObjKind) (u w : View) → Stays q u w → IsTree u → IsTree w → Unsynced u w
+        → IsReadyAs d kind q u → IsReadyAs d kind q w }
+    ensures shown { (q : Elements) (u w : View) → Stays q u w → IsTree u → IsTree w → shows w q ≡ shows u q }
+{}
+
+/// An object that was placed is there, and the other objects of the store are as before; so they are where one is taken away.
+pub fn placed_objects_are_there()
+    ensures there { (root t : Elements) (d : List ℕ) (kind : ObjKind) (u w : View) → Places t (object_path root d kind) u w
+        → WasPlaced t (object_path root d kind) u w → IsTree u → IsTree w → IsReadyAs d kind t u → Named d kind (shows w (object_path root d kind)) }
+    ensures others { (root t : Elements) (d e : List ℕ) (k m : ObjKind) (u w : View) → Places t (object_path root d k) u w → is_digest d ≡ true → is_digest e ≡ true
+        → ((e ≡ d) × (m ≡ k) → ⊥) → object_path root e m ≢ t → IsTree u → IsTree w → store root (shows w) e m ≡ store root (shows u) e m }
+    ensures removed { (root : Elements) (d e : List ℕ) (k m : ObjKind) (u w : View) → Keeps (GoneAt (object_path root d k)) (AbsentAt (object_path root d k)) NoPath u w
+        → is_digest d ≡ true → is_digest e ≡ true → ((e ≡ d) × (m ≡ k) → ⊥) → IsTree u → IsTree w → store root (shows w) e m ≡ store root (shows u) e m }
 {}
 
 /// Where an object is staged at a path that isn't below `objects`, an object's name goes on to be true or absent at every stop,

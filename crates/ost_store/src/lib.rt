@@ -10,6 +10,7 @@ mod staging;
 mod walking;
 
 pub use listing::names;
+pub use naming::{object_named, path_of};
 pub use placing::{place, remove};
 pub use reading::{Got, get, has, read_piece};
 pub use staging::{stage, stage_file, stage_piece};

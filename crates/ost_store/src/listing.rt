@@ -4,11 +4,14 @@ ghost use Rattle.std.specs.String.{string_cmp};
 ghost use Rattle.std.specs.BTreeMap.{IsOrdered, values};
 ghost use Rattle.fp_host.specs.Causes.{IsCaused};
 ghost use Rattle.fp_host.specs.Frame.{Ends, Still};
+ghost use Rattle.fp_small.specs.Clear.{Reaches};
+ghost use Rattle.ost_model.specs.Stores.{objects_folder};
 ghost use Rattle.ost_store.specs.Names.{ListsNames, CanList};
 ghost use Rattle.ost_store.specs.Walks.{AreKeyed};
 
 use crate::walking::leaves_below;
-use fp_host::{Host, HostEnd, Items, Path};
+use fp_base::Items;
+use fp_host::{Host, HostEnd, Path};
 use std::alloc::{AllocError, Global};
 use std::collections::BTreeMap;
 
@@ -17,6 +20,8 @@ use std::collections::BTreeMap;
 pub fn names<H: Host>(alloc: Global, host: &mut H, root: &Path) -> Result<Items<Path>, HostEnd>
     ensures still { Still (H.moments host.old) (H.moments host.new) }
     ensures tells { IfOk result (λ paths. Ends (λ u w. ListsNames root.now u paths) (H.moments host.old) (H.moments host.new)) }
+    // No path below `objects` is longer.
+    ensures reach { IfOk result (λ _. Ends (λ u w. Reaches (objects_folder root.now) 127 u) (H.moments host.old) (H.moments host.new)) }
     ensures cause { IsCaused (IsErrOf result HostEnd.Fault) (H.moments host.old) (CanList root.now) (H.faults host.old) (H.faults host.new) }
 {
     let objects = root.child("objects")?;

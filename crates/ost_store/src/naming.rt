@@ -1,8 +1,9 @@
 // The name that an object has in a store.
 ghost use Rattle.std.specs.Prelude.{◌≡◌, ◌++◌, codes, take, drop, true, IfOk, string_bytes};
-ghost use Rattle.fp_host.specs.Paths.{is_element};
-ghost use Rattle.fp_name.specs.Hex.{hex};
+ghost use Rattle.fp_host.specs.Paths.{is_element, path_eq};
+ghost use Rattle.fp_name.specs.Hex.{hex, unhex, is_digest};
 ghost use Rattle.ost_model.specs.Objects.{kind_text, object_path};
+ghost use Rattle.ost_store.specs.Names.{kind_said, object_said, IsNamed};
 
 use fp_host::Path;
 use fp_name::Digest;
@@ -42,8 +43,8 @@ fn file_name(alloc: Global, digest: &Digest, kind: ObjKind) -> Result<String, Al
     format!(in alloc; "{digits}.{word}")
 }
 
-/// The path of the object in the store in this folder.
-pub(crate) fn path_of(
+/// The path of the object in the store in this folder: `objects/XX/REST.KIND`, XX the first two digits of the digest.
+pub fn path_of(
     alloc: Global,
     root: &Path,
     digest: &Digest,
@@ -54,4 +55,97 @@ pub(crate) fn path_of(
     let folder = folder_name(alloc, digest)?;
     let name = file_name(alloc, digest, kind)?;
     root.child("objects")?.child(&folder)?.child(&name)
+}
+
+/// How many digits an object's name has in its folder.
+const REST_DIGITS: usize = 62;
+
+/// The kind whose objects' names end so.
+fn kind_said(end: &[u8]) -> Option<ObjKind>
+    ensures { result ≡ kind_said end.now }
+{
+    if end == b".commit".as_slice() {
+        return Some(ObjKind::Commit);
+    }
+    if end == b".dirtree".as_slice() {
+        return Some(ObjKind::DirTree);
+    }
+    if end == b".dirmeta".as_slice() {
+        return Some(ObjKind::DirMeta);
+    }
+    if end == b".file".as_slice() {
+        return Some(ObjKind::File);
+    }
+    None
+}
+
+/// The digest of these digits, in two parts.
+fn digest_said(alloc: Global, first: &[u8], rest: &[u8]) -> Result<Option<Digest>, AllocError>
+    ensures { IfOk result (λ digest. digest ≡ unhex (first.now ++ rest.now)) }
+{
+    let mut digits = Vec::from_slice(alloc, first)?;
+    digits.extend_from_slice(rest)?;
+    Ok(Digest::parse(&digits).ok())
+}
+
+/// The object that the names of its folder and of its file say.
+#[tactic(auto, using(crate::proofs::Said::too_short, crate::proofs::Said::no_kind, crate::proofs::Said::both_known))]
+fn object_said(
+    alloc: Global,
+    folder: &[u8],
+    name: &[u8],
+) -> Result<Option<(Digest, ObjKind)>, AllocError>
+    ensures { IfOk result (λ object. object ≡ object_said folder.now name.now) }
+{
+    if name.len() < REST_DIGITS {
+        return Ok(None);
+    }
+    let (rest, end) = name.split_at(REST_DIGITS);
+    let Some(kind) = kind_said(end) else {
+        return Ok(None);
+    };
+    match digest_said(alloc, folder, rest)? {
+        Some(digest) => Ok(Some((digest, kind))),
+        None => Ok(None),
+    }
+}
+
+/// Whether this is the path of the object in the store in this folder.
+fn is_path_of(
+    alloc: Global,
+    root: &Path,
+    digest: &Digest,
+    kind: ObjKind,
+    path: &Path,
+) -> Result<bool, AllocError>
+    ensures is { IfOk result (λ is. is ≡ path_eq (object_path root.now digest.now kind) path.now) }
+    ensures good { is_digest digest.now ≡ true }
+{
+    let _bytes = digest.as_bytes();
+    Ok(path_of(alloc, root, digest, kind)?.is(path))
+}
+
+/// The object whose path this is in the store in this folder; None where it is the path of none.
+pub fn object_named(
+    alloc: Global,
+    root: &Path,
+    path: &Path,
+) -> Result<Option<(Digest, ObjKind)>, AllocError>
+    ensures { IfOk result (IsNamed root.now path.now) }
+{
+    let Some(name) = path.name() else {
+        return Ok(None);
+    };
+    let above = path.folder(1)?;
+    let Some(folder) = above.name() else {
+        return Ok(None);
+    };
+    let Some(object) = object_said(alloc, folder.as_bytes(), name.as_bytes())? else {
+        return Ok(None);
+    };
+    if is_path_of(alloc, root, &object.0, object.1, path)? {
+        Ok(Some(object))
+    } else {
+        Ok(None)
+    }
 }

@@ -5,6 +5,7 @@ ghost use Rattle.fp_host.specs.Frame.{Frame, Ends, NoPath};
 ghost use Rattle.fp_host.specs.Moments.{Goes};
 ghost use Rattle.ost_model.specs.Objects.{object_path};
 ghost use Rattle.fp_small.specs.Clear.{GoneAt, AbsentAt};
+ghost use Rattle.fp_small.specs.Unsynced.{MakesNoFile};
 ghost use Rattle.ost_store.specs.Place.{Places, WasPlaced, WasRemoved, CanPlace, HasObject};
 
 use crate::naming::path_of;
@@ -30,6 +31,8 @@ pub fn place<H: Host>(
     // it was, but that the path may be gone and folders above the name made.
     ensures moments { Goes (H.moments host.old) (H.moments host.new) (Places tmp.now (object_path root.now digest.now kind)) (Places tmp.now (object_path root.now digest.now kind)) }
     ensures done { OnOk result (Ends (WasPlaced tmp.now (object_path root.now digest.now kind)) (H.moments host.old) (H.moments host.new)) }
+    // What was unsettled stays so.
+    ensures unsynced { Ends MakesNoFile (H.moments host.old) (H.moments host.new) }
     ensures cause { IsCaused (IsErrOf result HostEnd.Fault) (H.moments host.old) (CanPlace root.now tmp.now digest.now kind) (H.faults host.old) (H.faults host.new) }
     ensures memory { IsErrOf result HostEnd.NoMemory → Ends (λ u w. w ≡ u) (H.moments host.old) (H.moments host.new) }
 {
@@ -49,6 +52,8 @@ pub fn remove<H: Host>(
     // A stop at any moment leaves at the name what some stop before would have left, or nothing, and all else as it was.
     ensures frame { Frame (GoneAt (object_path root.now digest.now kind)) (AbsentAt (object_path root.now digest.now kind)) NoPath (H.moments host.old) (H.moments host.new) }
     ensures done { OnOk result (Ends (WasRemoved (object_path root.now digest.now kind)) (H.moments host.old) (H.moments host.new)) }
+    // What was unsettled stays so.
+    ensures unsynced { Ends MakesNoFile (H.moments host.old) (H.moments host.new) }
     ensures cause { IsCaused (IsErrOf result HostEnd.Fault) (H.moments host.old) (HasObject root.now digest.now kind) (H.faults host.old) (H.faults host.new) }
     ensures memory { IsErrOf result HostEnd.NoMemory → Ends (λ u w. w ≡ u) (H.moments host.old) (H.moments host.new) }
 {

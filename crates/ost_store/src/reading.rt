@@ -2,11 +2,13 @@
 ghost use Rattle.std.specs.Prelude.{◌≡◌, ◌≤◌, length, IfOk, IsErrOf};
 ghost use Rattle.fp_host.specs.Causes.{IsCaused};
 ghost use Rattle.fp_host.specs.Frame.{Ends, Still};
-ghost use Rattle.ost_model.specs.declared.object.ObjKind.TheVariants as kinds;
-ghost use Rattle.ost_store.specs.Reads.{may_be_link, IsThere, Gets, GetsAt, ReadsPiece, HasFile};
+ghost use Rattle.fp_base.specs.declared.object.ObjKind.TheVariants as kinds;
+ghost use Rattle.ost_model.specs.Objects.{may_be_link};
+ghost use Rattle.ost_store.specs.Reads.{IsThere, IsGotOf, Gets, GetsAt, ReadsPiece, HasFile};
 
 use crate::naming::path_of;
-use fp_host::{Blob, Host, HostEnd, Path, Stat, Text};
+use fp_base::{Blob, Text};
+use fp_host::{Host, HostEnd, Path, Stat};
 use fp_name::Digest;
 use fp_small::{Loaded, load};
 use ost_model::ObjKind;
@@ -71,6 +73,7 @@ pub fn get<H: Host>(
 ) -> Result<Got, HostEnd>
     ensures still { Still (H.moments host.old) (H.moments host.new) }
     ensures tells { IfOk result (λ got. Ends (λ u w. Gets root.now digest.now kind max u got) (H.moments host.old) (H.moments host.new)) }
+    ensures kinds { IfOk result (IsGotOf kind) }
     ensures cause { IsCaused (IsErrOf result HostEnd.Fault) (H.moments host.old) (λ v. Unit {0}) (H.faults host.old) (H.faults host.new) }
 {
     let path = path_of(alloc, root, digest, kind)?;
@@ -84,6 +87,7 @@ pub fn get<H: Host>(
 fn get_content<H: Host>(alloc: Global, host: &mut H, path: &Path, max: u64) -> Result<Got, HostEnd>
     ensures still { Still (H.moments host.old) (H.moments host.new) }
     ensures tells { IfOk result (λ got. Ends (λ u w. GetsAt kinds.File path.now max u got) (H.moments host.old) (H.moments host.new)) }
+    ensures kinds { IfOk result (IsGotOf kinds.File) }
     ensures cause { IsCaused (IsErrOf result HostEnd.Fault) (H.moments host.old) (λ v. Unit {0}) (H.faults host.old) (H.faults host.new) }
 {
     match host.stat(path)? {
@@ -98,6 +102,7 @@ fn get_content<H: Host>(alloc: Global, host: &mut H, path: &Path, max: u64) -> R
 fn get_meta<H: Host>(alloc: Global, host: &mut H, path: &Path, max: u64) -> Result<Got, HostEnd>
     ensures still { Still (H.moments host.old) (H.moments host.new) }
     ensures tells { IfOk result (λ got. Ends (λ u w. GetsAt kinds.Commit path.now max u got) (H.moments host.old) (H.moments host.new)) }
+    ensures kinds { IfOk result (IsGotOf kinds.Commit) }
     ensures cause { IsCaused (IsErrOf result HostEnd.Fault) (H.moments host.old) (λ v. Unit {0}) (H.faults host.old) (H.faults host.new) }
 {
     match load(alloc, host, path, max)? {

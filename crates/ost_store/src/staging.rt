@@ -5,6 +5,7 @@ ghost use Rattle.fp_host.specs.Causes.{IsCaused};
 ghost use Rattle.fp_host.specs.Outcome.{Nothing};
 ghost use Rattle.fp_host.specs.Frame.{Frame, Ends, Only};
 ghost use Rattle.ost_model.specs.declared.object.Object.TheVariants as objects;
+ghost use Rattle.fp_small.specs.Unsynced.{MakesNoFile, MakesOneFile};
 ghost use Rattle.ost_store.specs.Stage.{Stages, NoName, WasStaged, Grows, CanStage, CanGrow};
 
 use fp_host::{Host, HostEnd, Path};
@@ -29,6 +30,8 @@ pub fn stage<H: Host>(
     // as it was, but for folders above. Each file that was there keeps its bytes.
     ensures moments { Goes (H.moments host.old) (H.moments host.new) (Stages tmp.now object.now) (Stages tmp.now object.now) }
     ensures done { OnOk result (Ends (WasStaged tmp.now object.now) (H.moments host.old) (H.moments host.new)) }
+    // What was unsettled stays so.
+    ensures unsynced { Ends MakesOneFile (H.moments host.old) (H.moments host.new) }
     ensures cause { IsCaused (IsErrOf result HostEnd.Fault) (H.moments host.old) (CanStage tmp.now object.now) (H.faults host.old) (H.faults host.new) }
     ensures memory { IsErrOf result HostEnd.NoMemory → Ends (λ u w. w ≡ u) (H.moments host.old) (H.moments host.new) }
 {
@@ -49,6 +52,7 @@ fn stage_bytes<H: Host>(
 ) -> Result<(), HostEnd>
     ensures moments { Goes (H.moments host.old) (H.moments host.new) (Stages tmp.now (objects.File mode bytes.now)) (Stages tmp.now (objects.File mode bytes.now)) }
     ensures done { OnOk result (Ends (WasStaged tmp.now (objects.File mode bytes.now)) (H.moments host.old) (H.moments host.new)) }
+    ensures unsynced { Ends MakesOneFile (H.moments host.old) (H.moments host.new) }
     ensures cause { IsCaused (IsErrOf result HostEnd.Fault) (H.moments host.old) (CanStage tmp.now (objects.File mode bytes.now)) (H.faults host.old) (H.faults host.new) }
     ensures memory { IsErrOf result HostEnd.NoMemory → Ends (λ u w. w ≡ u) (H.moments host.old) (H.moments host.new) }
 {
@@ -60,6 +64,7 @@ fn stage_bytes<H: Host>(
 fn stage_link<H: Host>(alloc: Global, host: &mut H, tmp: &Path, text: &str) -> Result<(), HostEnd>
     ensures moments { Goes (H.moments host.old) (H.moments host.new) (Stages tmp.now (objects.Link text.now)) (Stages tmp.now (objects.Link text.now)) }
     ensures done { OnOk result (Ends (WasStaged tmp.now (objects.Link text.now)) (H.moments host.old) (H.moments host.new)) }
+    ensures unsynced { Ends MakesNoFile (H.moments host.old) (H.moments host.new) }
     ensures cause { IsCaused (IsErrOf result HostEnd.Fault) (H.moments host.old) (CanStage tmp.now (objects.Link text.now)) (H.faults host.old) (H.faults host.new) }
     ensures memory { IsErrOf result HostEnd.NoMemory → Ends (λ u w. w ≡ u) (H.moments host.old) (H.moments host.new) }
 {
@@ -78,6 +83,8 @@ pub fn stage_file<H: Host>(
 ) -> Result<(), HostEnd>
     ensures moments { Goes (H.moments host.old) (H.moments host.new) (Stages tmp.now (objects.File mode [])) (Stages tmp.now (objects.File mode [])) }
     ensures done { OnOk result (Ends (WasStaged tmp.now (objects.File mode [])) (H.moments host.old) (H.moments host.new)) }
+    // What was unsettled stays so.
+    ensures unsynced { Ends MakesOneFile (H.moments host.old) (H.moments host.new) }
     ensures cause { IsCaused (IsErrOf result HostEnd.Fault) (H.moments host.old) (CanStage tmp.now (objects.File mode [])) (H.faults host.old) (H.faults host.new) }
     ensures memory { IsErrOf result HostEnd.NoMemory → Ends (λ u w. w ≡ u) (H.moments host.old) (H.moments host.new) }
 {
@@ -90,6 +97,7 @@ pub fn stage_piece<H: Host>(host: &mut H, tmp: &Path, piece: &[u8]) -> Result<()
     // No name changes, and no file but this.
     ensures frame { Frame Nothing NoName (Only tmp.now) (H.moments host.old) (H.moments host.new) }
     ensures done { OnOk result (Ends (Grows tmp.now piece.now) (H.moments host.old) (H.moments host.new)) }
+    ensures unsynced { Ends MakesNoFile (H.moments host.old) (H.moments host.new) }
     ensures cause { IsCaused (IsErrOf result HostEnd.Fault) (H.moments host.old) (CanGrow tmp.now) (H.faults host.old) (H.faults host.new) }
     ensures memory { IsErrOf result HostEnd.NoMemory → ⊥ }
 {

@@ -7,7 +7,8 @@ ghost use Rattle.fp_host.specs.Frame.{Ends, Still};
 ghost use Rattle.fp_small.specs.Clear.{Reaches};
 ghost use Rattle.ost_store.specs.Walks.{Visits, VisitsAll, AreLeavesWithin, AreLeavesBelow};
 
-use fp_host::{Host, HostEnd, Path, Stat, Text};
+use fp_base::Text;
+use fp_host::{Host, HostEnd, Path, Stat};
 use std::alloc::{AllocError, Global};
 
 /// How many levels of paths are looked at: no path below has more elements.
@@ -86,6 +87,7 @@ fn alone(alloc: Global, path: Path) -> Result<Vec<Path>, AllocError>
 fn leaves_within<H: Host>(alloc: Global, host: &mut H, folder: Path) -> Result<Vec<Path>, HostEnd>
     ensures still { Still (H.moments host.old) (H.moments host.new) }
     ensures tells { IfOk result (λ found. Ends (λ u w. AreLeavesWithin folder u found.items) (H.moments host.old) (H.moments host.new)) }
+    ensures reach { IfOk result (λ _. Ends (λ u w. Reaches folder 127 u) (H.moments host.old) (H.moments host.new)) }
     ensures cause { IsCaused (IsErrOf result HostEnd.Fault) (H.moments host.old) (Reaches folder 127) (H.faults host.old) (H.faults host.new) }
 {
     let mut found = Vec::new(alloc);
@@ -108,6 +110,7 @@ pub(crate) fn leaves_below<H: Host>(
 ) -> Result<Vec<Path>, HostEnd>
     ensures still { Still (H.moments host.old) (H.moments host.new) }
     ensures tells { IfOk result (λ found. Ends (λ u w. AreLeavesBelow folder u found.items) (H.moments host.old) (H.moments host.new)) }
+    ensures reach { IfOk result (λ _. Ends (λ u w. Reaches folder 127 u) (H.moments host.old) (H.moments host.new)) }
     ensures cause { IsCaused (IsErrOf result HostEnd.Fault) (H.moments host.old) (Reaches folder 127) (H.faults host.old) (H.faults host.new) }
 {
     match host.stat(&folder)? {

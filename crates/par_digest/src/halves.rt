@@ -6,7 +6,7 @@ ghost use Rattle.par_digest.specs.Digests.{item_digests};
 
 use crate::gate::{Gate, NoGate};
 use crate::item::Item;
-use fp_host::Items;
+use fp_base::Items;
 use fp_name::Digest;
 use std::alloc::{AllocError, Global};
 use std::thread::{Threads, join_mut};
@@ -26,7 +26,7 @@ pub fn digests(
 }
 
 /// The digest of each item, in order, as one thread would give it, whatever the gate does. Where there are more than 16 items
-/// the gate is told of each half as its work begins.
+/// the gate is told by each half as its work begins, and when it is done.
 pub fn digests_gated<G: Gate + Sync>(
     rt: &(impl Threads + Sync),
     alloc: Global,
@@ -61,18 +61,29 @@ fn hash_gated<R: Threads + Sync, G: Gate + Sync>(
         &mut ||
             requires { IsSync R.row × IsSync G.row × (length front_digests.now ≡ length front.now) }
             ensures { front_digests.exit.now ≡ item_digests front.entry.now }
-        {
-            gate.reach(0);
-            hash(rt, front, front_digests)
-        },
+        { hash_half(rt, 0, front, gate, front_digests) },
         &mut ||
             requires { IsSync R.row × IsSync G.row × (length back_digests.now ≡ length back.now) }
             ensures { back_digests.exit.now ≡ item_digests back.entry.now }
-        {
-            gate.reach(1);
-            hash(rt, back, back_digests)
-        },
+        { hash_half(rt, 1, back, gate, back_digests) },
     );
+}
+
+/// Puts the digest of each item of this half at its place. The gate is told as the work begins, and when it is done.
+fn hash_half<R: Threads + Sync, G: Gate + Sync>(
+    rt: &R,
+    half: u32,
+    items: &[Item],
+    gate: &G,
+    all: &mut [Digest],
+)
+    requires { length all.old ≡ length items.now }
+    ensures { all.new ≡ item_digests items.now }
+{
+    gate.reach(half);
+    gate.watch(half, all);
+    hash(rt, items, all);
+    gate.watch(half, all);
 }
 
 /// Puts the digest of each item at its place, by halves of halves.

@@ -3,7 +3,7 @@
 ghost use Rattle.std.specs.Prelude.{◌≡◌};
 ghost use Rattle.par_digest.specs.Digests.{item_digest};
 
-use fp_host::Blob;
+use fp_base::Blob;
 use fp_name::Digest;
 use sha2::{Digest as Hash, Sha256};
 

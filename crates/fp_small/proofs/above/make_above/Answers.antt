@@ -1,6 +1,8 @@
 use Rattle.std.proofs.Common.{◌∙◌, List, ℕ, sym, subst}
+use Rattle.fp_host.proofs.Ending.{ends_start, ends_to}
 use Rattle.fp_small.specs.Folders.{AreFree, IsLadder}
 use Rattle.fp_small.proofs.Replacement.{ladder_above}
+use Rattle.fp_small.proofs.Unsynced.{none_same}
 use Rattle.fp_small.proofs.above.make_above.Goals as goal
 
 pub returns-clause-cause : goal.returns-clause-cause
@@ -10,3 +12,6 @@ returns-clause-cause g c =
       later = c.make_folders.ensures.cause.later;
       fault = λ is m told can. c.make_folders.ensures.cause.fault is m told (subst (λ (l : List (List (List ℕ))). IsLadder l × AreFree l m.now) (sym folders) (ladder_above c.args.path.now, can));
     }
+
+pub returns-in_err-folders-clause-unsynced : goal.returns-in_err-folders-clause-unsynced
+returns-in_err-folders-clause-unsynced g c = ends_to (ends_start (g.met.H.Host.is_tree c.args.host.now)) (λ u w same. none_same same)

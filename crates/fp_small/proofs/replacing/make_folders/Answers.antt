@@ -6,6 +6,7 @@ use Rattle.fp_host.proofs.Framed.{frame_within}
 use Rattle.fp_host.proofs.Ending.{ends_on, ends_both, ends_frame, ends_in_tree, fault_caused}
 use Rattle.fp_host.proofs.Cause.{same_fault}
 use Rattle.fp_small.specs.Folders.{AreFree, AreDirs, IsLadder}
+use Rattle.fp_small.proofs.Unsynced.{none_on}
 use Rattle.fp_small.proofs.Making.{item_in, one_more, can_make}
 use Rattle.fp_small.proofs.replacing.make_folders.Goals as goal
 
@@ -22,6 +23,9 @@ returns-in_err-make_folder-clause-cause g c =
     fault_caused (λ v. IsLadder paths × AreFree paths v) (λ v. v.names c.path-item.result ≡ absent → HasFolder v c.path-item.result) _ _ _ _ _ (t c.args.host.now) c.loop-path.invariant.later (ends_in_tree {Q' = λ u w. IsTree w × (AreFree paths u → AreFree paths w × AreDirs (take c.loop-path.path-index paths) w)} (t c.loop-path.host) c.loop-path.invariant.done (λ u w tree q. (tree, q))) c.make_folder.ensures.cause (same_fault _ _ _ c.in_err-make_folder.was c.from_residual.ensures.1)
     (λ u v tree q can none. can_make paths c.loop-path.path-index c.path-item.result c.loop-path-test.true c.path-item.is q.0 can.0 (q.1 can.1).1 none)
 
+pub returns-in_err-make_folder-clause-unsynced : goal.returns-in_err-make_folder-clause-unsynced
+returns-in_err-make_folder-clause-unsynced g c = ends_on c.make_folder.ensures.unsynced c.loop-path.invariant.unsynced (g.met.H.Host.is_tree c.loop-path.host) (λ u v w tree q s. none_on q s)
+
 pub loop-path-preserved : goal.loop-path-preserved
 loop-path-preserved g c =
     let t = g.met.H.Host.is_tree in
@@ -31,5 +35,6 @@ loop-path-preserved g c =
     record {
       frame = frame_within c.make_folder.ensures.frame c.loop-path.invariant.frame (t c.loop-path.host) (λ q spot h. (subst (Contains paths) (sym h.0) has, h.1)) (λ q e h. (subst (Contains paths) (sym h.0) has, h.1)) (λ q h. h) (λ q id h p. h);
       done = ends_on made c.loop-path.invariant.done (t c.loop-path.host) (λ u v w tree q s free. one_more paths c.loop-path.path-index c.path-item.result c.loop-path-test.true c.path-item.is q s.0.names s.1 free);
+      unsynced = ends_on c.make_folder.ensures.unsynced c.loop-path.invariant.unsynced (t c.loop-path.host) (λ u v w tree q s. none_on q s);
       later = omega (arith, c.loop-path.invariant.later, c.make_folder.ensures.cause.later);
     }

@@ -2,7 +2,7 @@ use Rattle.ost_model.proofs.Pending.{walked_dir, walked_end, walked_fault}
 use Rattle.ost_model.proofs.laws.walks_meet_the_order.Goals as goal
 
 pub returns-clause-goes_on : goal.returns-clause-goes_on
-returns-clause-goes_on c = λ have test commit done left fuel depth e v w reads clean. walked_dir fuel depth e v w reads clean
+returns-clause-goes_on c = λ have test commit done o left v w low reads clean. walked_dir o v w low reads clean
 
 pub returns-clause-ends : goal.returns-clause-ends
 returns-clause-ends c = λ have test commit done w. walked_end w

@@ -1,7 +1,7 @@
 use Rattle.std.proofs.Common.{◌≡◌, List, true, sym, subst, map, Vec, Global}
 use Rattle.std.specs.Prelude.{Result}
 use Rattle.std.specs.List.{list_all}
-use Rattle.ost_model.specs.declared.rule.Rule.TheVariants as rules
+use Rattle.fp_base.specs.declared.rule.Rule.TheVariants as rules
 use Rattle.ost_model.specs.Fields.{FileRow, TreeView}
 use Rattle.ost_model.specs.Readers.{has_long, tree_breaks, kept}
 use Rattle.ost_object.specs.declared.dirtree.FileEntry.{FileEntry}

@@ -1,6 +1,6 @@
 use Rattle.std.proofs.Common.{List, sym, subst, map, Vec, Global}
 use Rattle.std.specs.Prelude.{Result}
-use Rattle.ost_model.specs.declared.rule.Rule.TheVariants as rules
+use Rattle.fp_base.specs.declared.rule.Rule.TheVariants as rules
 use Rattle.ost_model.specs.Fields.{DirRow, TreeView}
 use Rattle.ost_model.specs.Readers.{has_both_long, kept, first_broken, name_tests}
 use Rattle.ost_object.specs.declared.dirtree.DirEntry.{DirEntry}

@@ -1,5 +1,5 @@
 use Rattle.std.proofs.Common.{refl}
-use Rattle.ost_model.specs.declared.rule.Rule.TheVariants as rules
+use Rattle.fp_base.specs.declared.rule.Rule.TheVariants as rules
 use Rattle.ost_model.specs.Fields.{meta_in}
 use Rattle.ost_model.specs.Readers.{meta_breaks}
 use Rattle.ost_model.specs.Types.{meta_shape}

@@ -2,6 +2,7 @@ use Rattle.std.proofs.Common.{◌∙◌, subst}
 use Rattle.fp_host.specs.Paths.{Elements}
 use Rattle.fp_host.proofs.Cause.{same_fault}
 use Rattle.fp_host.proofs.Ending.{ends_to}
+use Rattle.fp_small.specs.Clear.{Reaches}
 use Rattle.ost_store.specs.Walks.{AreLeavesBelow}
 use Rattle.ost_store.proofs.Levels.{within_reach}
 use Rattle.ost_store.proofs.Sorted.{lists_names}
@@ -22,3 +23,6 @@ returns-in_err-found-clause-cause g c =
       later = told.later;
       fault = λ is m at can. told.fault (same_fault _ _ _ c.in_err-found.was c.from_residual-in_err-found.ensures.1 is) m at (within_reach c.args.root.now c.in_ok-objects.objects c.in_ok-objects.ensures can);
     }
+
+pub returns-clause-reach : goal.returns-clause-reach
+returns-clause-reach g c = ends_to c.in_ok-found.ensures.reach (λ u w r. subst (λ (p : Elements). Reaches p 127 u) c.in_ok-objects.ensures r)

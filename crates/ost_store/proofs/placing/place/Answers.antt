@@ -5,6 +5,8 @@ use Rattle.fp_host.proofs.Cause.{clash_step}
 use Rattle.fp_host.proofs.Ending.{ends_call, ends_on, ends_both, ends_goes, goes_last, call_caused}
 use Rattle.ost_store.specs.Place.{WasPlaced, CanPlace}
 use Rattle.ost_store.proofs.Placed.{making, moving, at_name, was_placed, can_place}
+use Rattle.fp_small.proofs.Unsynced.{none_on, none_same, step_none}
+use Rattle.fp_host.proofs.Ending.{ends_start, ends_to}
 use Rattle.ost_store.proofs.placing.place.Goals as goal
 
 pub returns-in_err-make_above-clause-moments : goal.returns-in_err-make_above-clause-moments
@@ -33,3 +35,18 @@ returns-clause-done g c =
     let t = g.met.H.Host.is_tree in
     let made = ends_goes (t c.args.host.now) (making {t = c.args.tmp.now} (t c.args.host.now) c.make_above.ensures.frame) in
     ends_on (ends_call (t c.make_above.new.host) c.in_ok-rename.ensures.step) made (t c.make_above.new.host) (λ u v w tree housed step. subst (λ (q : Elements). WasPlaced c.args.tmp.now q u w) c.in_ok-path.ensures (was_placed housed step))
+
+pub returns-in_err-path-clause-unsynced : goal.returns-in_err-path-clause-unsynced
+returns-in_err-path-clause-unsynced g c =
+    let t = g.met.H.Host.is_tree in
+    ends_to (ends_start (t c.args.host.now)) (λ u w same. none_same same)
+
+pub returns-in_err-rename-clause-unsynced : goal.returns-in_err-rename-clause-unsynced
+returns-in_err-rename-clause-unsynced g c =
+    let t = g.met.H.Host.is_tree in
+    ends_on (ends_call (t c.make_above.new.host) c.rename.ensures.step) c.make_above.ensures.unsynced (t c.make_above.new.host) (λ u v w tree q step. none_on q (step_none tt step))
+
+pub returns-clause-unsynced : goal.returns-clause-unsynced
+returns-clause-unsynced g c =
+    let t = g.met.H.Host.is_tree in
+    ends_on (ends_call (t c.make_above.new.host) c.rename.ensures.step) c.make_above.ensures.unsynced (t c.make_above.new.host) (λ u v w tree q step. none_on q (step_none tt step))

@@ -7,6 +7,7 @@ use Rattle.fp_host.proofs.Ending.{ends_start, ends_call, ends_to, call_caused}
 use Rattle.fp_small.proofs.Emptying.{unlinked}
 use Rattle.ost_store.specs.Place.{WasRemoved, HasObject}
 use Rattle.ost_store.proofs.Gets.{can_remove}
+use Rattle.fp_small.proofs.Unsynced.{none_same, step_none}
 use Rattle.ost_store.proofs.placing.remove.Goals as goal
 
 pub returns-in_err-unlink-clause-frame : goal.returns-in_err-unlink-clause-frame
@@ -30,3 +31,18 @@ pub returns-clause-done : goal.returns-clause-done
 returns-clause-done g c =
     let t = g.met.H.Host.is_tree in
     ends_to (ends_call (t c.args.host.now) c.in_ok-unlink.ensures.step) (λ u w s. subst (λ (q : Elements). WasRemoved q u w) c.in_ok-name.ensures (record { leaf = s.how.0; left = unlinked s }))
+
+pub returns-in_err-name-clause-unsynced : goal.returns-in_err-name-clause-unsynced
+returns-in_err-name-clause-unsynced g c =
+    let t = g.met.H.Host.is_tree in
+    ends_to (ends_start (t c.args.host.now)) (λ u w same. none_same same)
+
+pub returns-in_err-unlink-clause-unsynced : goal.returns-in_err-unlink-clause-unsynced
+returns-in_err-unlink-clause-unsynced g c =
+    let t = g.met.H.Host.is_tree in
+    ends_to (ends_call (t c.args.host.now) c.unlink.ensures.step) (λ u w step. step_none tt step)
+
+pub returns-clause-unsynced : goal.returns-clause-unsynced
+returns-clause-unsynced g c =
+    let t = g.met.H.Host.is_tree in
+    ends_to (ends_call (t c.args.host.now) c.unlink.ensures.step) (λ u w step. step_none tt step)

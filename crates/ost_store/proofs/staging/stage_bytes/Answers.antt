@@ -5,6 +5,7 @@ use Rattle.fp_host.proofs.Ending.{ends_start, ends_on, fault_caused}
 use Rattle.ost_model.specs.declared.object.Object.TheVariants as objects
 use Rattle.ost_store.specs.Stage.{CanStage, CanGrow}
 use Rattle.ost_store.proofs.Staged.{can_grow, started, written, with_bytes, writing}
+use Rattle.fp_small.proofs.Unsynced.{one_on}
 use Rattle.ost_store.proofs.staging.stage_bytes.Goals as goal
 
 pub returns-in_err-stage_file-clause-moments : goal.returns-in_err-stage_file-clause-moments
@@ -28,3 +29,8 @@ pub returns-clause-cause : goal.returns-clause-cause
 returns-clause-cause g c =
     let t = g.met.H.Host.is_tree in
     fault_caused (CanStage c.args.tmp.now (objects.File c.args.mode c.args.bytes.now)) (CanGrow c.args.tmp.now) _ _ _ _ _ (t c.args.host.now) c.stage_file.ensures.cause.later c.in_ok-stage_file.ensures.done c.stage_piece.ensures.cause (λ e. e) (λ u v tree was can. can_grow was.there)
+
+pub returns-clause-unsynced : goal.returns-clause-unsynced
+returns-clause-unsynced g c =
+    let t = g.met.H.Host.is_tree in
+    ends_on c.stage_piece.ensures.unsynced c.stage_file.ensures.unsynced (t c.stage_file.new.host) (λ u v w tree one none. one_on one none)

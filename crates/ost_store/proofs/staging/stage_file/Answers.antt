@@ -5,6 +5,8 @@ use Rattle.fp_host.proofs.Ending.{ends_call, ends_on, ends_both, ends_frame, goe
 use Rattle.ost_model.specs.declared.object.Object.TheVariants as objects
 use Rattle.ost_store.specs.Stage.{CanStage}
 use Rattle.ost_store.proofs.Staged.{making, creating, created, can_create}
+use Rattle.fp_small.proofs.Unsynced.{on_one, none_one, create_one}
+use Rattle.fp_host.proofs.Ending.{ends_to}
 use Rattle.ost_store.proofs.staging.stage_file.Goals as goal
 
 pub returns-in_err-make_above-clause-moments : goal.returns-in_err-make_above-clause-moments
@@ -28,3 +30,18 @@ pub returns-clause-done : goal.returns-clause-done
 returns-clause-done g c =
     let t = g.met.H.Host.is_tree in
     ends_on (ends_call (t c.make_above.new.host) c.in_ok-create.ensures.step) (ends_frame (t c.args.host.now) c.make_above.ensures.frame) (t c.make_above.new.host) (λ u v w tree made step. created made step)
+
+pub returns-in_err-make_above-clause-unsynced : goal.returns-in_err-make_above-clause-unsynced
+returns-in_err-make_above-clause-unsynced g c =
+    let t = g.met.H.Host.is_tree in
+    ends_to c.make_above.ensures.unsynced (λ u w q. none_one q)
+
+pub returns-in_err-create-clause-unsynced : goal.returns-in_err-create-clause-unsynced
+returns-in_err-create-clause-unsynced g c =
+    let t = g.met.H.Host.is_tree in
+    ends_on (ends_call (t c.make_above.new.host) c.create.ensures.step) c.make_above.ensures.unsynced (t c.make_above.new.host) (λ u v w tree q step. on_one q (create_one step))
+
+pub returns-clause-unsynced : goal.returns-clause-unsynced
+returns-clause-unsynced g c =
+    let t = g.met.H.Host.is_tree in
+    ends_on (ends_call (t c.make_above.new.host) c.create.ensures.step) c.make_above.ensures.unsynced (t c.make_above.new.host) (λ u v w tree q step. on_one q (create_one step))

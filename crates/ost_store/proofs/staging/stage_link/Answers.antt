@@ -4,6 +4,7 @@ use Rattle.fp_host.proofs.Ending.{ends_call, ends_on, ends_both, ends_frame, goe
 use Rattle.ost_model.specs.declared.object.Object.TheVariants as objects
 use Rattle.ost_store.specs.Stage.{CanStage}
 use Rattle.ost_store.proofs.Staged.{making, linking, linked, can_link}
+use Rattle.fp_small.proofs.Unsynced.{none_on, step_none}
 use Rattle.ost_store.proofs.staging.stage_link.Goals as goal
 
 pub returns-in_err-make_above-clause-moments : goal.returns-in_err-make_above-clause-moments
@@ -27,3 +28,13 @@ pub returns-clause-done : goal.returns-clause-done
 returns-clause-done g c =
     let t = g.met.H.Host.is_tree in
     ends_on (ends_call (t c.make_above.new.host) c.in_ok-symlink.ensures.step) (ends_frame (t c.args.host.now) c.make_above.ensures.frame) (t c.make_above.new.host) (λ u v w tree made step. linked made step)
+
+pub returns-in_err-symlink-clause-unsynced : goal.returns-in_err-symlink-clause-unsynced
+returns-in_err-symlink-clause-unsynced g c =
+    let t = g.met.H.Host.is_tree in
+    ends_on (ends_call (t c.make_above.new.host) c.symlink.ensures.step) c.make_above.ensures.unsynced (t c.make_above.new.host) (λ u v w tree q step. none_on q (step_none tt step))
+
+pub returns-clause-unsynced : goal.returns-clause-unsynced
+returns-clause-unsynced g c =
+    let t = g.met.H.Host.is_tree in
+    ends_on (ends_call (t c.make_above.new.host) c.symlink.ensures.step) c.make_above.ensures.unsynced (t c.make_above.new.host) (λ u v w tree q step. none_on q (step_none tt step))

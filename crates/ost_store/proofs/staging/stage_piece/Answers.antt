@@ -5,6 +5,7 @@ use Rattle.fp_host.proofs.Framed.{frame_start, frame_append}
 use Rattle.fp_host.proofs.Ending.{ends_start, ends_call, ends_to, call_caused}
 use Rattle.ost_store.specs.Stage.{CanGrow}
 use Rattle.ost_store.proofs.Staged.{grew}
+use Rattle.fp_small.proofs.Unsynced.{step_none}
 use Rattle.ost_store.proofs.staging.stage_piece.Goals as goal
 
 pub returns-in_err-append-clause-frame : goal.returns-in_err-append-clause-frame
@@ -22,3 +23,13 @@ returns-clause-frame g c = let t = g.met.H.Host.is_tree in frame_append c.append
 
 pub returns-clause-done : goal.returns-clause-done
 returns-clause-done g c = let t = g.met.H.Host.is_tree in ends_to (ends_call (t c.args.host.now) c.in_ok-append.ensures.step) (λ u w s. grew s)
+
+pub returns-in_err-append-clause-unsynced : goal.returns-in_err-append-clause-unsynced
+returns-in_err-append-clause-unsynced g c =
+    let t = g.met.H.Host.is_tree in
+    ends_to (ends_call (t c.args.host.now) c.append.ensures.step) (λ u w step. step_none tt step)
+
+pub returns-clause-unsynced : goal.returns-clause-unsynced
+returns-clause-unsynced g c =
+    let t = g.met.H.Host.is_tree in
+    ends_to (ends_call (t c.args.host.now) c.append.ensures.step) (λ u w step. step_none tt step)

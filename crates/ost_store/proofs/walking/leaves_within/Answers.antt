@@ -6,7 +6,7 @@ use Rattle.fp_host.proofs.Looking.{looks_start, looks_within}
 use Rattle.fp_host.proofs.Ending.{ends_start, ends_to, ends_on, ends_looks, ends_both, ends_in_tree}
 use Rattle.ost_store.specs.Walks.{VisitsAll}
 use Rattle.ost_store.proofs.Lists.{empty_items}
-use Rattle.ost_store.proofs.Levels.{IsAtLevel, first_level, next_level, all_found, none_left}
+use Rattle.ost_store.proofs.Levels.{IsAtLevel, first_level, next_level, all_found, all_reached, none_left}
 use Rattle.ost_store.proofs.walking.leaves_within.Goals as goal
 
 pub returns-in_err-level-2-clause-still : goal.returns-in_err-level-2-clause-still
@@ -38,6 +38,15 @@ returns-then-is_empty-clause-tells g c =
     let t = g.met.H.Host.is_tree in
     let none : c.loop-depth.level.items ≡ [] = empty_items c.loop-depth.level.items (omega (arith, c.loop-depth.level.ok.0, eqb-true (vec_len c.loop-depth.level) 0 (sym c.if-is_empty.ensures))) in
     ends_in_tree (t c.loop-depth.host) (ends_both (ends_looks (t c.args.host.now) c.loop-depth.invariant.still) c.loop-depth.invariant.tells) (λ u w tree q. all_found c.loop-depth._depth c.args.folder c.loop-depth.level.items c.loop-depth.found.items (subst IsTree q.0.0 tree) q.1 none)
+
+pub returns-then-is_empty-clause-reach : goal.returns-then-is_empty-clause-reach
+returns-then-is_empty-clause-reach g c =
+    let t = g.met.H.Host.is_tree in
+    let full : c.loop-depth._depth ≡ 127 + 1 = omega arith in
+    let none : c.loop-depth.level.items ≡ [] = empty_items c.loop-depth.level.items (omega (arith, c.loop-depth.level.ok.0, eqb-true (vec_len c.loop-depth.level) 0 (sym c.if-is_empty.ensures))) in
+    ends_in_tree (t c.loop-depth.host) (ends_both (ends_looks (t c.args.host.now) c.loop-depth.invariant.still) c.loop-depth.invariant.tells) (λ u w tree q.
+        all_reached 127 c.args.folder c.loop-depth.level.items c.loop-depth.found.items (subst IsTree q.0.0 tree)
+        (subst (λ (k : ℕ). IsAtLevel k c.args.folder u c.loop-depth.level.items c.loop-depth.found.items) full q.1) none)
 
 pub returns-else-is_empty-clause-cause : goal.returns-else-is_empty-clause-cause
 returns-else-is_empty-clause-cause g c = record {

@@ -1,0 +1,29 @@
+-- The objects that commits use.
+use Rattle.std.specs.Prelude.{◌≡◌, ◌↔◌, ℕ, List, [], ◌∷◌, map, true, Option, None, Contains}
+use Rattle.fp_host.specs.Paths.{path_text}
+use Rattle.fp_host.specs.Reads.{is_ascending}
+use Rattle.fp_base.specs.declared.object.ObjKind.{ObjKind}
+use Rattle.ost_model.specs.Objects.{Have, Fault, or_else, object_path}
+use Rattle.ost_model.specs.Order.{Place, In, order, first_walk_fault}
+
+-- Used: the object stands in the order of one of the commits
+pub record IsUsed (have : Have) (commits : List (List ℕ)) (object : List ℕ × ObjKind) : Type 0 where
+  pub commit : List ℕ
+  pub place : Place
+  pub kept : Contains commits commit
+  pub within : In (order have commit) place
+  pub is : object ≡ (place.digest, place.kind)
+
+-- the text of the path that the object has in every store
+abbrev pub object_text : List ℕ × ObjKind → List ℕ
+object_text object = path_text (object_path [] object.0 object.1)
+
+-- what the commits use, each object once, ascending by these texts
+pub record ListsUsed (have : Have) (commits : List (List ℕ)) (objects : List (List ℕ × ObjKind)) : Type 0 where
+  pub each : (object : List ℕ × ObjKind) → Contains objects object ↔ IsUsed have commits object
+  pub ascending : is_ascending (map object_text objects) ≡ true
+
+-- the first fault of the first commit that has one, among the metadata objects and the limits
+abbrev pub used_fault : Have → List (List ℕ) → Option (Place × Fault)
+used_fault have [] = None
+used_fault have (commit ∷ commits) = or_else (first_walk_fault have commit) (used_fault have commits)
