@@ -8,7 +8,8 @@ ghost use Rattle.fp_host.specs.Paths.{is_link_text};
 ghost use Rattle.ost_model.specs.Contents.{header as file_header, link_header as header_of_link, is_permission};
 
 use byteorder::{BigEndian, ByteOrder, LittleEndian};
-use gv_value::{Blob, width};
+use fp_base::Blob;
+use gv_value::width;
 use std::alloc::{AllocError, Global};
 
 /// The kind of a mode that says regular file.

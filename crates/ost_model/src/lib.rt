@@ -5,5 +5,4 @@
 pub mod laws;
 mod object;
 
-pub use fp_base::{ObjKind, Rule};
 pub use object::Object;

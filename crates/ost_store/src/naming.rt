@@ -5,9 +5,9 @@ ghost use Rattle.fp_name.specs.Hex.{hex, unhex, is_digest};
 ghost use Rattle.ost_model.specs.Objects.{kind_text, object_path};
 ghost use Rattle.ost_store.specs.Names.{kind_said, object_said, IsNamed};
 
+use fp_base::ObjKind;
 use fp_host::Path;
 use fp_name::Digest;
-use ost_model::ObjKind;
 use std::alloc::{AllocError, Global};
 
 /// The word of the kind, with which the names of its objects end.

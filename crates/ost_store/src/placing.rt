@@ -9,10 +9,10 @@ ghost use Rattle.fp_small.specs.Unsynced.{MakesNoFile};
 ghost use Rattle.ost_store.specs.Place.{Places, WasPlaced, WasRemoved, CanPlace, HasObject};
 
 use crate::naming::path_of;
+use fp_base::ObjKind;
 use fp_host::{Host, HostEnd, Path};
 use fp_name::Digest;
 use fp_small::make_above;
-use ost_model::ObjKind;
 use std::alloc::Global;
 
 /// Gives what stands at the path the object's name in the store in this folder. The folders above the name are made where

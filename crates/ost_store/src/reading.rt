@@ -7,11 +7,10 @@ ghost use Rattle.ost_model.specs.Objects.{may_be_link};
 ghost use Rattle.ost_store.specs.Reads.{IsThere, IsGotOf, Gets, GetsAt, ReadsPiece, HasFile};
 
 use crate::naming::path_of;
-use fp_base::{Blob, Text};
+use fp_base::{Blob, ObjKind, Text};
 use fp_host::{Host, HostEnd, Path, Stat};
 use fp_name::Digest;
 use fp_small::{Loaded, load};
-use ost_model::ObjKind;
 use std::alloc::Global;
 
 /// What a store has of an object.

@@ -2,12 +2,11 @@
 
 use crate::made_objects::OBJECTS;
 use crate::shown_objects::SHOWN;
-use fp_base::{Blob, Items, Text};
+use fp_base::{Blob, Items, ObjKind, Rule, Text};
 use fp_name::Digest;
 use gv_encode::encode;
 use gv_value::{GvType, GvValue};
 use ost_content::meta_digest;
-use ost_model::{ObjKind, Rule};
 use ost_object::{
     Commit, DirEntry, DirMeta, DirTree, FileEntry, ObjectError, binding, read_commit, read_dirmeta,
     read_dirtree, write_commit, write_dirmeta, write_dirtree,

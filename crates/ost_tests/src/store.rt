@@ -1,11 +1,11 @@
 //! Objects of a store in the host in memory. Their names are those that the `ostree` command gave them
 //! (`scripts/ostree_objects.sh`).
 
-use fp_base::{Blob, Text};
+use fp_base::{Blob, ObjKind, Text};
 use fp_host::{Host, HostEnd, Path, Stat};
 use fp_memhost::MemHost;
 use fp_name::{Digest, NameFault};
-use ost_model::{ObjKind, Object};
+use ost_model::Object;
 use ost_store::{Got, get, has, names, place, read_piece, remove, stage, stage_file, stage_piece};
 use std::alloc::{AllocError, Global};
 use std::test::Fail;

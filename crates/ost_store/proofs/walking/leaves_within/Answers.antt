@@ -45,8 +45,8 @@ returns-then-is_empty-clause-reach g c =
     let full : c.loop-depth._depth ≡ 127 + 1 = omega arith in
     let none : c.loop-depth.level.items ≡ [] = empty_items c.loop-depth.level.items (omega (arith, c.loop-depth.level.ok.0, eqb-true (vec_len c.loop-depth.level) 0 (sym c.if-is_empty.ensures))) in
     ends_in_tree (t c.loop-depth.host) (ends_both (ends_looks (t c.args.host.now) c.loop-depth.invariant.still) c.loop-depth.invariant.tells) (λ u w tree q.
-        all_reached 127 c.args.folder c.loop-depth.level.items c.loop-depth.found.items (subst IsTree q.0.0 tree)
-        (subst (λ (k : ℕ). IsAtLevel k c.args.folder u c.loop-depth.level.items c.loop-depth.found.items) full q.1) none)
+    all_reached 127 c.args.folder c.loop-depth.level.items c.loop-depth.found.items (subst IsTree q.0.0 tree)
+    (subst (λ (k : ℕ). IsAtLevel k c.args.folder u c.loop-depth.level.items c.loop-depth.found.items) full q.1) none)
 
 pub returns-else-is_empty-clause-cause : goal.returns-else-is_empty-clause-cause
 returns-else-is_empty-clause-cause g c = record {
