@@ -20,8 +20,11 @@ pub err_then : {A E P Q : Type 0} (r : Result A E) → (P → Q) → OnErr r P �
 err_then (Ok x) f p = tt
 err_then (Err e) f p = f p
 
+pub same_known : {S H : Type 0} (rules : List PolicyRule) (a b : Option (Peer S H)) → a ≡ b → known_of rules a ≡ known_of rules b
+same_known rules a b e = ap (known_of rules) e
+
 -- a peer put anew, and the others
-pub told : (rules : List PolicyRule) (name q : List ℕ) (before : List ℕ → Option Peer) (peer : Peer) (f : Known → Known) → known_of rules (Some peer) ≡ f (known_of rules (before name))
+pub told : {S H : Type 0} (rules : List PolicyRule) (name q : List ℕ) (before : List ℕ → Option (Peer S H)) (peer : Peer S H) (f : Known → Known) → known_of rules (Some peer) ≡ f (known_of rules (before name))
     → known_of rules (cond (bytes_eq name q) (Some peer) (before q)) ≡ (if bytes_eq name q then f (known_of rules (before q)) else known_of rules (before q))
 told rules name q before peer f e =
     elim (cases_Bool (bytes_eq name q)) [
@@ -35,7 +38,7 @@ told rules name q before peer f e =
     ]
 
 -- the same peer again
-pub kept : (rules : List PolicyRule) (name q : List ℕ) (before : List ℕ → Option Peer) (peer : Peer) → known_of rules (Some peer) ≡ known_of rules (before name)
+pub kept : {S H : Type 0} (rules : List PolicyRule) (name q : List ℕ) (before : List ℕ → Option (Peer S H)) (peer : Peer S H) → known_of rules (Some peer) ≡ known_of rules (before name)
     → known_of rules (cond (bytes_eq name q) (Some peer) (before q)) ≡ known_of rules (before q)
 kept rules name q before peer e =
     elim (cases_Bool (bytes_eq name q)) [

@@ -1,19 +1,20 @@
 //! What a watch keeps of a peer.
 
-ghost use Rattle.std.specs.Prelude.{◌≡◌, ◌||◌, ◌==◌, ◌++◌, [], ℕ, Bool, false, List, true, map, if◌then◌else◌, slice_set, IfOk, OnOk, OnErr, Some, None};
+ghost use Rattle.std.specs.Prelude.{◌≡◌, ◌||◌, ◌==◌, ◌++◌, [], ℕ, Bool, false, List, true, map, if◌then◌else◌, slice_set, IfOk, OnOk, OnErr, Some};
 ghost use Rattle.bus_policy.specs.declared.policy.PolicyRule.{PolicyRule as TheRule};
 ghost use Rattle.bus_policy.specs.Levels.{pattern_matches};
-ghost use Rattle.bus_policy.specs.Watching.{known_of, name_level, or_each, with_name, with_message_if, with_call_if, without_call, with_news};
+ghost use Rattle.bus_policy.specs.Watching.{known_of, unknown, name_level, or_each, with_name, with_message_if, with_call_if, without_call, with_news};
 
 use crate::level::Level;
 use crate::pattern::matches_name;
 use crate::policy::{PolicyRule, level_by_rules};
+use indexmap::IndexSet;
 use std::alloc::{AllocError, Global};
-use std::collections::BTreeSet;
+use std::hash::BuildHasher;
 
 /// What is known of a peer.
 #[derive(Drop)]
-pub struct Peer {
+pub struct Peer<S: BuildHasher> {
     /// The greatest level of the names that it had.
     pub had: Level,
     /// Whether it wrote to the client.
@@ -21,7 +22,7 @@ pub struct Peer {
     /// For each rule of the policy, whether its pattern matches a name that the peer had.
     pub meant: Vec<bool>,
     /// The serials of its calls that wait for a reply.
-    pub waiting: BTreeSet<u32>,
+    pub waiting: IndexSet<u32, S>,
 }
 
 /// What an event tells of a peer.
@@ -71,16 +72,16 @@ fn add_meant(meant: &mut Vec<bool>, rules: &[PolicyRule], name: &[u8])
     }
 }
 
-impl Peer {
+impl<S: BuildHasher + Copy> Peer<S> {
     /// A peer of which nothing is known.
-    pub fn fresh(alloc: Global, rules: &[PolicyRule]) -> Result<Self, AllocError>
-        ensures { IfOk result (λ peer. known_of rules.now (Some peer) ≡ known_of rules.now None) }
+    pub fn fresh(alloc: Global, hash_builder: S, rules: &[PolicyRule]) -> Result<Self, AllocError>
+        ensures { IfOk result (λ peer. known_of rules.now (Some peer) ≡ unknown rules.now) }
     {
         Ok(Peer {
             had: Level::None,
             wrote: false,
             meant: unmeant(alloc, rules)?,
-            waiting: BTreeSet::new(alloc),
+            waiting: IndexSet::with_hasher(alloc, hash_builder),
         })
     }
 
@@ -129,6 +130,6 @@ impl Peer {
     pub fn remove_call(&mut self, serial: u32)
         ensures { (rules : List TheRule) → known_of rules (Some self.new) ≡ without_call serial (known_of rules (Some self.old)) }
     {
-        self.waiting.remove(&serial);
+        self.waiting.swap_remove(&serial);
     }
 }
