@@ -93,7 +93,8 @@ pub fn note_bus_reply<S: BuildHasher + Copy>(
     verdict: Verdict,
 )
     ensures { (s : ℕ) → get nat_eq waiting.new s
-        ≡ call_with_event (judged_event Side.Bus header.now message.now verdict) s (get nat_eq waiting.old s) }
+        ≡ call_with_event (judged_event Side.Bus header.now message.now verdict) s
+        (get nat_eq waiting.old s) }
 {
     if !is_a_reply(header) || !verdict.is_forwarding() {
         return;

@@ -10,7 +10,8 @@ use bus_rules::is_at_or_under;
 
 /// NAME of `NAME.*`.
 fn stem_of(pattern: &[u8]) -> Option<&[u8]>
-    ensures { Gives (λ s. s.now) result (if is_open pattern.now then Some (stem pattern.now) else None) }
+    ensures { Gives (λ s. s.now) result
+        (if is_open pattern.now then Some (stem pattern.now) else None) }
 {
     if !pattern.ends_with(b".*") {
         return None;

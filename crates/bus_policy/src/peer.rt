@@ -55,7 +55,8 @@ fn unmeant(alloc: Global, rules: &[PolicyRule]) -> Result<Vec<bool>, AllocError>
 }
 
 fn raise(flags: &mut Vec<bool>, at: usize, raised: bool)
-    ensures { flags.new.items ≡ (if raised then slice_set flags.old.items at true else flags.old.items) }
+    ensures { flags.new.items
+        ≡ (if raised then slice_set flags.old.items at true else flags.old.items) }
 {
     if raised && at < flags.len() {
         flags[at] = true;
@@ -64,7 +65,8 @@ fn raise(flags: &mut Vec<bool>, at: usize, raised: bool)
 
 /// Notes which rules' patterns match a name.
 fn add_meant(meant: &mut Vec<bool>, rules: &[PolicyRule], name: &[u8])
-    ensures { meant.new.items ≡ or_each (λ rule. pattern_matches rule.pattern name.now) rules.now meant.old.items }
+    ensures { meant.new.items
+        ≡ or_each (λ rule. pattern_matches rule.pattern name.now) rules.now meant.old.items }
 {
     for (i, rule) in rules.iter().enumerate() {
         let is_meant = matches_name(rule.pattern.as_str().as_bytes(), name);
@@ -85,16 +87,33 @@ impl<S: BuildHasher + Copy> Peer<S> {
         })
     }
 
+    /// A peer of which an event tells first.
+    pub fn with_news(
+        alloc: Global,
+        hash_builder: S,
+        rules: &[PolicyRule],
+        news: RawNews<'_>,
+    ) -> Result<Self, AllocError>
+        ensures { IfOk result (λ peer. known_of rules.now (Some peer)
+            ≡ with_news rules.now news.entry (unknown rules.now)) }
+    {
+        let mut peer = Peer::fresh(alloc, hash_builder, rules)?;
+        peer.learn(rules, news)?;
+        Ok(peer)
+    }
+
     /// A name more that the peer has.
     pub fn add_name(&mut self, rules: &[PolicyRule], name: &[u8])
-        ensures { known_of rules.now (Some self.new) ≡ with_name rules.now name.now (known_of rules.now (Some self.old)) }
+        ensures { known_of rules.now (Some self.new)
+            ≡ with_name rules.now name.now (known_of rules.now (Some self.old)) }
     {
         self.had = level_had(rules, name).or(self.had);
         add_meant(&mut self.meant, rules, name);
     }
 
     fn add_message_if(&mut self, wrote: bool)
-        ensures { (rules : List TheRule) → known_of rules (Some self.new) ≡ with_message_if wrote (known_of rules (Some self.old)) }
+        ensures { (rules : List TheRule) → known_of rules (Some self.new)
+            ≡ with_message_if wrote (known_of rules (Some self.old)) }
     {
         if wrote {
             self.wrote = true;
@@ -102,8 +121,12 @@ impl<S: BuildHasher + Copy> Peer<S> {
     }
 
     fn add_call_if(&mut self, call: Option<u32>) -> Result<(), AllocError>
-        ensures ok { OnOk result ((rules : List TheRule) → known_of rules (Some self.new) ≡ with_call_if call (known_of rules (Some self.old))) }
-        ensures err { OnErr result ((rules : List TheRule) → known_of rules (Some self.new) ≡ known_of rules (Some self.old)) }
+        ensures ok { OnOk result
+            ((rules : List TheRule) → known_of rules (Some self.new)
+            ≡ with_call_if call (known_of rules (Some self.old))) }
+        ensures err { OnErr result
+            ((rules : List TheRule) → known_of rules (Some self.new)
+            ≡ known_of rules (Some self.old)) }
     {
         if let Some(serial) = call {
             self.waiting.insert(serial)?;
@@ -113,8 +136,11 @@ impl<S: BuildHasher + Copy> Peer<S> {
 
     /// What an event tells. Without memory nothing changes.
     pub fn learn(&mut self, rules: &[PolicyRule], news: RawNews<'_>) -> Result<(), AllocError>
-        ensures ok { OnOk result (known_of rules.now (Some self.new) ≡ with_news rules.now news.entry (known_of rules.now (Some self.old))) }
-        ensures err { OnErr result (known_of rules.now (Some self.new) ≡ known_of rules.now (Some self.old)) }
+        ensures ok { OnOk result
+            (known_of rules.now (Some self.new)
+            ≡ with_news rules.now news.entry (known_of rules.now (Some self.old))) }
+        ensures err { OnErr result
+            (known_of rules.now (Some self.new) ≡ known_of rules.now (Some self.old)) }
     {
         match news {
             RawNews::Name(name) => self.add_name(rules, name.as_bytes()),
@@ -128,7 +154,8 @@ impl<S: BuildHasher + Copy> Peer<S> {
 
     /// A call of the peer that waits no more.
     pub fn remove_call(&mut self, serial: u32)
-        ensures { (rules : List TheRule) → known_of rules (Some self.new) ≡ without_call serial (known_of rules (Some self.old)) }
+        ensures { (rules : List TheRule) → known_of rules (Some self.new)
+            ≡ without_call serial (known_of rules (Some self.old)) }
     {
         self.waiting.swap_remove(&serial);
     }

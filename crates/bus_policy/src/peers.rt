@@ -33,9 +33,8 @@ fn add_peer<S: BuildHasher + Copy>(
         ≡ known_of rules.now (get_by_text peers.old q)) }
 {
     let alloc = *peers.allocator();
-    let mut peer = Peer::fresh(alloc, *peers.hasher(), rules)?;
-    peer.learn(rules, news)?;
     let name = String::from_str(alloc, name)?;
+    let peer = Peer::with_news(alloc, *peers.hasher(), rules, news)?;
     peers.insert(name, peer)?;
     Ok(())
 }
@@ -67,7 +66,8 @@ pub fn add_owned<S: BuildHasher + Copy>(
     name: &str,
 ) -> Result<(), AllocError>
     ensures ok { OnOk result ((q : List ℕ) → known_of rules.now (get_by_text peers.new q)
-        ≡ changed_if (is_unique_like owner.now && bytes_eq owner.now q) (with_name rules.now name.now)
+        ≡ changed_if (is_unique_like owner.now && bytes_eq owner.now q)
+        (with_name rules.now name.now)
         (known_of rules.now (get_by_text peers.old q))) }
     ensures err { OnErr result ((q : List ℕ) → known_of rules.now (get_by_text peers.new q)
         ≡ known_of rules.now (get_by_text peers.old q)) }

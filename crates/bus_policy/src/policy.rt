@@ -112,7 +112,9 @@ impl Policy {
 
     /// Adds a rule that gives a level, at the end.
     pub fn add(&mut self, alloc: Global, pattern: &str, level: Level) -> Result<(), PolicyError>
-        ensures ok { OnOk result (self.new ≡ self.old ++ record { pattern = pattern.now; grant = Grant.Level level } ∷ []) }
+        ensures ok { OnOk result
+            (self.new ≡ self.old
+            ++ record { pattern = pattern.now; grant = Grant.Level level } ∷ []) }
         ensures bad { IsErrOf result PolicyError.Bad ↔ (is_pattern pattern.now ≡ false) }
         ensures err { OnErr result (self.new ≡ self.old) }
     {
@@ -123,7 +125,8 @@ impl Policy {
     }
 
     fn push(&mut self, alloc: Global, pattern: &str, grant: Grant) -> Result<(), PolicyError>
-        ensures ok { OnOk result (self.new ≡ self.old ++ record { pattern = pattern.now; grant = grant } ∷ []) }
+        ensures ok { OnOk result
+            (self.new ≡ self.old ++ record { pattern = pattern.now; grant = grant } ∷ []) }
         ensures err { OnErr result (self.new ≡ self.old) }
         ensures memory { IsOkUnless result PolicyError.NoMemory }
     {
@@ -141,10 +144,12 @@ impl Policy {
         rule: &str,
     ) -> Result<(), PolicyError>
         ensures ok { OnOk result ((read : TheRule) × IsRule read rule.now
-            × (self.new ≡ self.old ++ record { pattern = pattern.now; grant = Grant.Rule kind read } ∷ [])) }
+            × (self.new ≡ self.old
+            ++ record { pattern = pattern.now; grant = Grant.Rule kind read } ∷ [])) }
         ensures bad_pattern { is_pattern pattern.now ≡ false → IsErrOf result PolicyError.Bad }
         ensures bad_rule { IsNoRule rule.now → IsErrOf result PolicyError.Bad }
-        ensures bad { IsErrOf result PolicyError.Bad → is_pattern pattern.now ≡ true → IsNoRule rule.now }
+        ensures bad { IsErrOf result PolicyError.Bad → is_pattern pattern.now ≡ true
+            → IsNoRule rule.now }
         ensures err { OnErr result (self.new ≡ self.old) }
     {
         if !is_name_pattern(pattern.as_bytes()) {

@@ -197,7 +197,8 @@ impl<S: BuildHasher + Copy> Watch<S> {
 /// What is known.
 impl<S: BuildHasher> Watch<S> {
     fn level_of_unique(&self, name: &str) -> Level
-        ensures { result ≡ greater (known_of (rules_of self.now) (get_by_text self.now.peers name.now)).had
+        ensures { result
+            ≡ greater (known_of (rules_of self.now) (get_by_text self.now.peers name.now)).had
             (greater (level_when (known_of (rules_of self.now) (get_by_text self.now.peers name.now)).wrote Level.See)
             (level_when (says self.now.client name.now) Level.Talk)) }
     {
@@ -274,7 +275,8 @@ impl<S: BuildHasher> Watch<S> {
     }
 
     fn match_call(&self, header: &Header, rule: Option<&str>) -> Verdict
-        ensures { result ≡ match_call (sight_of self.now) header.now (option_map (λ t. t.now) rule.entry) }
+        ensures { result
+            ≡ match_call (sight_of self.now) header.now (option_map (λ t. t.now) rule.entry) }
     {
         match rule {
             Some(rule) if !holds(b"eavesdrop", rule.as_bytes()) => Verdict::Pass,
@@ -283,7 +285,8 @@ impl<S: BuildHasher> Watch<S> {
     }
 
     fn name_call(&self, header: &Header, wanted: Level, name: Option<&str>) -> Verdict
-        ensures { result ≡ name_call (sight_of self.now) header.now wanted (option_map (λ t. t.now) name.entry) }
+        ensures { result
+            ≡ name_call (sight_of self.now) header.now wanted (option_map (λ t. t.now) name.entry) }
     {
         let Some(name) = name else {
             return self.refused_call(header, DRIVER);
@@ -296,7 +299,9 @@ impl<S: BuildHasher> Watch<S> {
     }
 
     fn driver_call(&self, header: &Header, argument: Option<&str>) -> Verdict
-        ensures { result ≡ driver_call (sight_of self.now) header.now (handler_of header.now) (option_map (λ t. t.now) argument.entry) }
+        ensures { result
+            ≡ driver_call (sight_of self.now) header.now (handler_of header.now)
+            (option_map (λ t. t.now) argument.entry) }
     {
         match handler_of_call(header) {
             Handler::Pass | Handler::FilterNameListReply => Verdict::Pass,
@@ -317,7 +322,9 @@ impl<S: BuildHasher> Watch<S> {
     }
 
     fn client_call(&self, header: &Header, message: &[u8]) -> Verdict
-        ensures { result ≡ client_call (sight_of self.now) (event Side.Client header.now message.now) header.now.destination }
+        ensures { result
+            ≡ client_call (sight_of self.now)
+            (event Side.Client header.now message.now) header.now.destination }
     {
         let Some(name) = &header.destination else {
             return self.driver_call(header, first_string(header, message));
@@ -348,7 +355,9 @@ impl<S: BuildHasher> Watch<S> {
     }
 
     fn of_client(&self, header: &Header, message: &[u8]) -> Verdict
-        ensures { result ≡ of_client (sight_of self.now) (event Side.Client header.now message.now) header.now.kind }
+        ensures { result
+            ≡ of_client (sight_of self.now)
+            (event Side.Client header.now message.now) header.now.kind }
     {
         match header.kind {
             MessageType::MethodCall => self.client_call(header, message),
@@ -361,7 +370,9 @@ impl<S: BuildHasher> Watch<S> {
     }
 
     fn bus_reply(&self, header: &Header, message: &[u8]) -> Verdict
-        ensures { result ≡ bus_reply (sight_of self.now) (event Side.Bus header.now message.now) header.now.reply_serial }
+        ensures { result
+            ≡ bus_reply (sight_of self.now)
+            (event Side.Bus header.now message.now) header.now.reply_serial }
     {
         let Some(serial) = header.reply_serial else {
             return Verdict::Drop;
@@ -404,7 +415,8 @@ impl<S: BuildHasher> Watch<S> {
     }
 
     fn of_bus(&self, header: &Header, message: &[u8]) -> Verdict
-        ensures { result ≡ of_bus (sight_of self.now) (event Side.Bus header.now message.now) header.now.kind }
+        ensures { result
+            ≡ of_bus (sight_of self.now) (event Side.Bus header.now message.now) header.now.kind }
     {
         match header.kind {
             MessageType::MethodCall => Verdict::Pass,

@@ -12,9 +12,9 @@ returns-clause-ok g c = λ q.
     let policy = c.args.rules.now in
     let name = c.args.name.now in
     let before = get_by_text c.args.peers.now in
-    let peer = c.learn.new.self in
+    let peer = c.in_ok-peer.peer in
     let learned : known_of policy (Some peer) ≡ with_news policy c.args.news (known_of policy (before name)) =
-    c.in_ok-learn.ensures.ok ∙ ap (with_news policy c.args.news) (c.in_ok-peer.ensures ∙ same_known policy _ _ (sym c.requires)) in
+    c.in_ok-peer.ensures ∙ ap (with_news policy c.args.news) (same_known policy _ _ (sym c.requires)) in
     let put = hash_map_updates_text (string_bytes c.in_ok-name.name) c.args.peers.now c.insert.new.self (Some peer) c.in_ok-insert.ensures.updates q in
     let same : string_bytes c.in_ok-name.name ≡ name = c.in_ok-name.ensures.ok in
     ap (known_of policy) (put ∙ ap (λ (n : List ℕ). cond (bytes_eq n q) (Some peer) (before q)) same) ∙ told policy name q before peer (with_news policy c.args.news) learned
