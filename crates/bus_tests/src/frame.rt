@@ -1,7 +1,11 @@
 //! Worked messages: the header that is read, the rule that is broken, and what is written.
 
-use fp_base::{Blob, Items, Text};
-use bus_frame::{FrameError, FrameRule, Header, ReadFrame, error_frame, first_string, is_bus_name, is_interface_name, is_member_name, is_names, is_object_path, is_unique_name, is_well_known_name, names_body, read_frame, three_strings, with_names};
+use bus_frame::{
+    FrameError, Header, ReadFrame, error_frame, first_string, is_bus_name, is_interface_name,
+    is_member_name, is_names, is_object_path, is_unique_name, is_well_known_name, names_body,
+    read_frame, three_strings, with_names,
+};
+use fp_base::{Blob, FrameRule, Items, Text};
 use std::alloc::{AllocError, Global};
 use std::test::Fail;
 
@@ -107,8 +111,8 @@ fn lengths(rt: HostRuntime) -> Result<(), Fail> {
 
 /// Whether these are the numbers of a header: its type, flags and serial, and the serial that it replies to.
 fn has_numbers(header: &Header, kind: u8, flags: u8, serial: u32, reply: Option<u32>) -> bool {
-    header.kind == kind
-        && header.flags == flags
+    header.kind.code() == kind
+        && header.flags.bits == flags
         && header.serial == serial
         && header.reply_serial == reply
 }
@@ -311,7 +315,7 @@ fn renamed(alloc: Global, message: &[u8], name: Option<&str>) -> Result<Blob, Fa
         if header.body_len - 12 < name.len() as u64 {
             return Err(Fail::from("a long name"));
         }
-        names.push(Text::copy_of(alloc, name)?)?;
+        names.push(Text::from_str(alloc, name)?)?;
     }
     Ok(with_names(alloc, &header, message, &Items::from_vec(names))?)
 }

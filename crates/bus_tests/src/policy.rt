@@ -1,8 +1,8 @@
 //! Worked policies: levels of names, and what becomes of messages one after another.
 
-use fp_base::{Items, Text};
-use bus_frame::{Header, Side};
+use bus_frame::{Flags, Header, MessageType};
 use bus_policy::{Level, Policy, PolicyError, RuleKind, Verdict, Watch};
+use fp_base::{Items, Side, Text};
 use std::alloc::{AllocError, Global};
 use std::test::Fail;
 
@@ -10,7 +10,7 @@ fn some_text(alloc: Global, text: &str) -> Result<Option<Text>, AllocError> {
     if text.is_empty() {
         return Ok(None);
     }
-    Ok(Some(Text::copy_of(alloc, text)?))
+    Ok(Some(Text::from_str(alloc, text)?))
 }
 
 /// A message, and what becomes of it. Empty texts and a reply serial of 0 aren't there.
@@ -43,14 +43,14 @@ const STEP: Step = Step {
     member: "M",
     signature: "",
     body: "",
-    wanted: Verdict::Forward,
+    wanted: Verdict::Pass,
 };
 
 fn header(alloc: Global, step: &Step) -> Result<Header, AllocError> {
     Ok(Header {
         little: true,
-        kind: step.kind,
-        flags: step.flags,
+        kind: MessageType::from_code(step.kind),
+        flags: Flags { bits: step.flags },
         serial: step.serial,
         path: some_text(alloc, "/x/y")?,
         interface: some_text(alloc, step.interface)?,
@@ -106,8 +106,8 @@ fn policy(alloc: Global) -> Result<Policy, Fail> {
 fn watch(alloc: Global) -> Result<Watch, Fail> {
     let mut owners = Vec::new(alloc);
     owners.push((
-        Text::copy_of(alloc, "org.foo")?,
-        Text::copy_of(alloc, ":1.7")?,
+        Text::from_str(alloc, "org.foo")?,
+        Text::from_str(alloc, ":1.7")?,
     ))?;
     Ok(Watch::new(
         alloc,
@@ -190,12 +190,12 @@ const CALLS: [Step; 13] = [
     },
     Step {
         destination: "org.bar",
-        wanted: Verdict::AnswerDenied,
+        wanted: Verdict::Deny,
         ..STEP
     },
     Step {
         destination: "org.none",
-        wanted: Verdict::AnswerUnknown,
+        wanted: Verdict::Hide,
         ..STEP
     },
     Step {
@@ -214,7 +214,7 @@ const CALLS: [Step; 13] = [
         destination: "org.ruled.a",
         interface: "a.b",
         member: "D",
-        wanted: Verdict::AnswerDenied,
+        wanted: Verdict::Deny,
         ..STEP
     },
     Step {
@@ -223,7 +223,7 @@ const CALLS: [Step; 13] = [
     },
     Step {
         destination: ":1.8",
-        wanted: Verdict::AnswerUnknown,
+        wanted: Verdict::Hide,
         ..STEP
     },
     Step {
@@ -278,7 +278,7 @@ const DRIVER_CALLS: [Step; 16] = [
         member: "AddMatch",
         signature: "s",
         body: "\x16\0\0\0a='b',eavesdrop='true'\0",
-        wanted: Verdict::AnswerDenied,
+        wanted: Verdict::Deny,
         ..STEP
     },
     Step {
@@ -287,7 +287,7 @@ const DRIVER_CALLS: [Step; 16] = [
         member: "AddMatch",
         signature: "u",
         body: "\x05\0\0\0",
-        wanted: Verdict::AnswerDenied,
+        wanted: Verdict::Deny,
         ..STEP
     },
     Step {
@@ -304,7 +304,7 @@ const DRIVER_CALLS: [Step; 16] = [
         member: "GetNameOwner",
         signature: "s",
         body: "\x08\0\0\0org.none\0",
-        wanted: Verdict::AnswerUnknown,
+        wanted: Verdict::Hide,
         ..STEP
     },
     Step {
@@ -321,7 +321,7 @@ const DRIVER_CALLS: [Step; 16] = [
         member: "StartServiceByName",
         signature: "su",
         body: "\x07\0\0\0org.bar\0\0\0\0\0",
-        wanted: Verdict::AnswerDenied,
+        wanted: Verdict::Deny,
         ..STEP
     },
     Step {
@@ -338,14 +338,14 @@ const DRIVER_CALLS: [Step; 16] = [
         member: "RequestName",
         signature: "su",
         body: "\x07\0\0\0org.foo\0\0\0\0\0",
-        wanted: Verdict::AnswerDenied,
+        wanted: Verdict::Deny,
         ..STEP
     },
     Step {
         destination: "org.freedesktop.DBus",
         interface: "org.freedesktop.DBus",
         member: "BecomeMonitor",
-        wanted: Verdict::AnswerDenied,
+        wanted: Verdict::Deny,
         ..STEP
     },
     Step {
@@ -358,7 +358,7 @@ const DRIVER_CALLS: [Step; 16] = [
         destination: "org.freedesktop.DBus",
         interface: "org.freedesktop.DBus.Peer",
         member: "Hello",
-        wanted: Verdict::AnswerDenied,
+        wanted: Verdict::Deny,
         ..STEP
     },
     Step {
@@ -370,7 +370,7 @@ const DRIVER_CALLS: [Step; 16] = [
     Step {
         destination: "org.freedesktop.DBus",
         member: "Introspect",
-        wanted: Verdict::AnswerDenied,
+        wanted: Verdict::Deny,
         ..STEP
     },
 ];
@@ -455,7 +455,7 @@ const REPLIES: [Step; 12] = [
         destination: ":1.1",
         signature: "as",
         body: "\x0c\0\0\0\x07\0\0\0org.bar\0",
-        wanted: Verdict::Reduce,
+        wanted: Verdict::FilterNameList,
         ..STEP
     },
     Step {
@@ -682,7 +682,7 @@ const SIGNALS: [Step; 17] = [
     },
     Step {
         destination: ":1.5",
-        wanted: Verdict::AnswerDenied,
+        wanted: Verdict::Deny,
         ..STEP
     },
     Step {
@@ -745,7 +745,7 @@ fn notes_many(alloc: Global, watch: &mut Watch, count: u32) -> Result<bool, Fail
         let header = header(alloc, &step)?;
         let verdict = watch.verdict(Side::Client, &header, b"");
         watch.note(Side::Client, &header, b"", verdict)?;
-        if verdict != Verdict::Forward {
+        if verdict != Verdict::Pass {
             return Ok(false);
         }
     }

@@ -1,8 +1,8 @@
 //! Worked rules, and the messages that they match.
 
-use fp_base::Text;
-use bus_frame::Header;
+use bus_frame::{Flags, Header, MessageType};
 use bus_rules::{Rule, RuleError};
+use fp_base::Text;
 use std::alloc::{AllocError, Global};
 use std::test::Fail;
 
@@ -104,15 +104,15 @@ fn some_text(alloc: Global, text: &str) -> Result<Option<Text>, AllocError> {
     if text.is_empty() {
         return Ok(None);
     }
-    Ok(Some(Text::copy_of(alloc, text)?))
+    Ok(Some(Text::from_str(alloc, text)?))
 }
 
 /// The header of a call with these parts.
 fn header(alloc: Global, path: &str, interface: &str, member: &str) -> Result<Header, AllocError> {
     Ok(Header {
         little: true,
-        kind: 1,
-        flags: 0,
+        kind: MessageType::MethodCall,
+        flags: Flags::NONE,
         serial: 1,
         path: some_text(alloc, path)?,
         interface: some_text(alloc, interface)?,

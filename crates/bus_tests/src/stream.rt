@@ -2,9 +2,9 @@
 
 use crate::captured::{CAPTURED, CASES, CHANGED, DIFFERENT, PING};
 use crate::frame::message;
-use fp_base::Text;
-use bus_frame::{FrameError, FrameRule, Header, ReadFrame, Side, read_frame};
+use bus_frame::{FrameError, Header, ReadFrame, read_frame};
 use bus_stream::{Cut, Cutter, RecordError, Recording, read_recording};
+use fp_base::{FrameRule, Side, Text};
 use std::alloc::{AllocError, Global};
 use std::test::Fail;
 
@@ -21,7 +21,12 @@ fn described(alloc: Global, header: &Header) -> Result<String, AllocError> {
         Some(serial) => format!(in alloc; "{serial}")?,
         None => String::from_str(alloc, "-")?,
     };
-    let mut line = format!(in alloc; "{} {} {}", header.kind, header.flags, header.serial)?;
+    let mut line = format!(in alloc;
+        "{} {} {}",
+        header.kind.code(),
+        header.flags.bits,
+        header.serial
+    )?;
     for part in [
         word(&header.path),
         word(&header.interface),
