@@ -3,6 +3,7 @@
 #![tactic(auto)]
 
 use case::Case;
+use fault::Fault;
 use folder::{is_for_folder, play_in_folder};
 use memory::play_in_memory;
 use parser::Parser;
@@ -34,20 +35,31 @@ mod wrong;
 /// The arguments are names of files of cases.
 fn main(rt: HostRuntime) -> io::Result<ExitCode> {
     let names = names_of(&rt, rt.alloc())?;
-    let mut wrong = others(&rt, &names)?;
-    for name in &names {
-        wrong = wrong.saturating_add(try_file(&rt, rt.alloc(), name.as_str())?);
+    let status = try_files(&rt, rt.alloc(), &names)?;
+    Ok(ExitCode::from(status))
+}
+
+/// Tries the files of these names, and answers the status: 0 where all is as the cases say.
+fn try_files<R: System>(rt: &R, alloc: Global, names: &[String]) -> io::Result<u8> {
+    let mut wrong = others(rt, names)?;
+    for name in names {
+        wrong = wrong.saturating_add(try_file(rt, alloc, name.as_str())?);
     }
     if names.is_empty() {
         println!(rt; "the arguments name files of cases")?;
-        return Ok(ExitCode::from(2));
+        return Ok(2);
     }
+    end(rt, wrong)
+}
+
+/// Says whether something was wrong, and answers the status.
+fn end<R: System>(rt: &R, wrong: u64) -> io::Result<u8> {
     if wrong > 0 {
         println!(rt; "{wrong} wrong")?;
-        return Ok(ExitCode::from(1));
+        return Ok(1);
     }
     println!(rt; "all cases passed")?;
-    Ok(ExitCode::from(0))
+    Ok(0)
 }
 
 /// The arguments.
@@ -66,52 +78,45 @@ fn others<R: System>(rt: &R, names: &[String]) -> io::Result<u64> {
     let mut count = 0u64;
     for entry in fs::read_dir(rt, ".")? {
         let entry = entry?;
-        let name = entry.file_name();
-        if name.ends_with(".case") && !names.iter().any(|named| named.as_str() == name) {
-            println!(rt; "{name}: the arguments don't name it")?;
-            count = count.saturating_add(1);
-        }
+        count = count.saturating_add(judge_name(rt, names, entry.file_name())?);
     }
     Ok(count)
 }
 
+/// Says where a file of cases isn't named, and answers 1 there.
+fn judge_name<R: System>(rt: &R, names: &[String], name: &str) -> io::Result<u64> {
+    if !name.ends_with(".case") || names.iter().any(|named| named.as_str() == name) {
+        return Ok(0);
+    }
+    println!(rt; "{name}: the arguments don't name it")?;
+    Ok(1)
+}
+
 /// Tries the cases of a file, prints what isn't as they say, and answers how much that is.
 fn try_file<R: System>(rt: &R, alloc: Global, name: &str) -> io::Result<u64> {
-    let text = match fs::read_to_string(rt, name) {
-        Ok(text) => text,
+    match fs::read_to_string(rt, name) {
+        Ok(text) => try_text(rt, alloc, name, text.as_str()),
         Err(error) => {
             println!(rt; "{name}: {error}")?;
-            return Ok(1);
+            Ok(1)
         }
-    };
-    match read_cases(rt, alloc, name, text.as_str())? {
-        Some(cases) => try_cases(rt, alloc, name, &cases),
-        None => Ok(1),
     }
 }
 
-/// Reads the cases of a file. Where a line can't be read, or there is no case, that is printed.
-fn read_cases<R: System>(
-    rt: &R,
-    alloc: Global,
-    name: &str,
-    text: &str,
-) -> io::Result<Option<Vec<Case>>> {
+/// Tries the cases of a text.
+fn try_text<R: System>(rt: &R, alloc: Global, name: &str, text: &str) -> io::Result<u64> {
     let mut parser = Parser::new(alloc);
-    for line in text.lines() {
-        if let Err(fault) = parser.take(line) {
-            let number = parser.line();
-            let text = fault.text();
-            println!(rt; "{name}:{number}: {text}")?;
-            return Ok(None);
-        }
+    match parser.take_all(text) {
+        Ok(()) => try_cases(rt, alloc, name, &parser.into_cases()),
+        Err(fault) => say_fault(rt, name, parser.line(), fault),
     }
-    let cases = parser.into_cases();
-    if cases.is_empty() {
-        println!(rt; "{name}: it has no case")?;
-        return Ok(None);
-    }
-    Ok(Some(cases))
+}
+
+/// Says which line can't be read.
+fn say_fault<R: System>(rt: &R, name: &str, line: u64, fault: Fault) -> io::Result<u64> {
+    let text = fault.text();
+    println!(rt; "{name}:{line}: {text}")?;
+    Ok(1)
 }
 
 fn try_cases<R: System>(rt: &R, alloc: Global, name: &str, cases: &[Case]) -> io::Result<u64> {

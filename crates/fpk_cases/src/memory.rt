@@ -4,7 +4,7 @@ use crate::playing::play;
 use crate::stage::{Found, Ran, Stage, done, find, give};
 use crate::wrong::Wrong;
 use fl_top::run;
-use fp_host::Blob;
+use fp_base::Blob;
 use fp_memhost::{MemHost, MemRemotes, MemSource};
 use std::alloc::{AllocError, Global};
 use std::thread::Threads;
@@ -15,12 +15,9 @@ pub fn play_in_memory<R: Threads + Sync>(
     alloc: Global,
     case: &Case,
 ) -> Result<Option<Wrong>, AllocError> {
-    let mut stage = MemStage {
-        rt,
-        alloc,
-        host: MemHost::new(alloc)?,
-    };
-    play(alloc, &mut stage, case)
+    let host = MemHost::new(alloc)?;
+    let mut stage = MemStage { alloc, host };
+    play(rt, alloc, &mut stage, case)
 }
 
 /// The input of a command. What is short comes in small pieces, so that something is cut.
@@ -48,31 +45,14 @@ pub fn run_in_memory<R: Threads + Sync>(
 ) -> Result<u8, AllocError> {
     let mut input = input_of(alloc, command, input_fails_at)?;
     let mut remotes = MemRemotes::new(alloc)?;
-    Ok(run(
-        rt,
-        alloc,
-        &command.words,
-        &mut input,
-        host,
-        &mut remotes,
-    ))
+    Ok(run(rt, alloc, &command.words, &mut input, host, &mut remotes))
 }
 
 /// The host in memory that a case is played on.
-struct MemStage<'a, R> {
-    rt: &'a R,
+#[derive(Drop)]
+struct MemStage {
     alloc: Global,
     host: MemHost,
-}
-
-impl<R> Drop for MemStage<'_, R> {
-    fn drop(self) {
-        let MemStage {
-            rt: _,
-            alloc: _,
-            host: _,
-        } = self;
-    }
 }
 
 /// Lets a call fail, counted from the present one, or none.
@@ -86,28 +66,44 @@ fn let_fail(host: &mut MemHost, failure: Option<Failure>) -> Result<(), AllocErr
     }
 }
 
-impl<R: Threads + Sync> Stage for MemStage<'_, R> {
+impl Stage for MemStage {
     fn give(&mut self, given: &Given, bytes: &[u8]) -> Result<bool, AllocError> {
         let answer = give(self.alloc, &mut self.host, given, bytes);
         Ok(done(answer)?.is_some())
     }
 
-    fn run(&mut self, command: &Command, input_fails_at: Option<u64>) -> Result<Ran, AllocError> {
+    fn run<T: Threads + Sync>(
+        &mut self,
+        rt: &T,
+        command: &Command,
+        input_fails_at: Option<u64>,
+    ) -> Result<Ran, AllocError> {
         let start = self.host.printed().len();
         let calls = self.host.calls();
         let_fail(&mut self.host, command.failure)?;
-        let status = run_in_memory(self.rt, self.alloc, &mut self.host, command, input_fails_at)?;
+        let status = run_in_memory(rt, self.alloc, &mut self.host, command, input_fails_at)?;
         self.host.fail_calls(&[])?;
-        let printed = self.host.printed().get(start..).unwrap_or(&[]);
-        Ok(Ran {
-            status,
-            printed: printed.to_vec(self.alloc)?,
-            calls: Some(self.host.calls().saturating_sub(calls)),
-        })
+        ran_since(self.alloc, &self.host, status, start, calls)
     }
 
     fn find(&mut self, path: &str) -> Result<Found, AllocError> {
         let answer = find(self.alloc, &mut self.host, path);
         Ok(done(answer)?.unwrap_or(Found::Other))
     }
+}
+
+/// How a command ended, by what was printed and how many calls were made since it began.
+fn ran_since(
+    alloc: Global,
+    host: &MemHost,
+    status: u8,
+    start: usize,
+    calls: u64,
+) -> Result<Ran, AllocError> {
+    let printed = host.printed().get(start..).unwrap_or(&[]);
+    Ok(Ran {
+        status,
+        printed: printed.to_vec(alloc)?,
+        calls: Some(host.calls().saturating_sub(calls)),
+    })
 }

@@ -1,6 +1,7 @@
 //! What a stop may leave of a host in memory.
-use fp_host::{Blob, Items, Path};
-use fp_memhost::{Choice, Image, MemHost};
+use fp_base::{Blob, Items};
+use fp_host::Path;
+use fp_memhost::{Choice, FileRow, Image, MemHost};
 use std::alloc::{AllocError, Global};
 
 /// What a stop after so many calls leaves: these names at these entries, these files with these bytes, all else as it is.
@@ -101,26 +102,46 @@ fn add_files(
         return Ok(());
     };
     for row in image.files.as_slice() {
-        let turned = vec![in alloc; 0xff; row.bytes.len()]?;
-        keep(images, with_file(alloc, host, calls, row.id, Vec::new(alloc))?)?;
-        keep(images, with_file(alloc, host, calls, row.id, turned)?)?;
+        add_file(alloc, host, calls, row, images)?;
     }
     Ok(())
 }
 
-/// The last moment at which a stop may bring back something, and the names there, each on a line with how many entries.
-pub fn last_open(alloc: Global, host: &MemHost) -> Result<(u64, String), AllocError> {
+fn add_file(
+    alloc: Global,
+    host: &MemHost,
+    calls: u64,
+    row: &FileRow,
+    images: &mut Vec<Image>,
+) -> Result<(), AllocError> {
+    keep(
+        images,
+        with_file(alloc, host, calls, row.id, Vec::new(alloc))?,
+    )?;
+    let turned = vec![in alloc; 0xff; row.bytes.len()]?;
+    keep(images, with_file(alloc, host, calls, row.id, turned)?)
+}
+
+/// The last moment at which a stop may bring back something.
+pub fn last_open(host: &MemHost) -> Result<u64, AllocError> {
     let mut last = 0;
     for calls in 0..=host.calls() {
         if host.choices(calls)?.len() > 0 {
             last = calls;
         }
     }
+    Ok(last)
+}
+
+/// The names at which a stop after so many calls may bring back something, each on a line with how many entries.
+pub fn open_names(alloc: Global, host: &MemHost, calls: u64) -> Result<String, AllocError> {
     let mut text = String::new(alloc);
-    for (path, entries) in host.choices(last)?.as_slice() {
-        let path = path.text();
-        let line = format!(in alloc; "{path} {entries}\n")?;
-        text.push_str(&line)?;
+    for (path, entries) in host.choices(calls)?.as_slice() {
+        push_name(&mut text, path.text(), *entries)?;
     }
-    Ok((last, text))
+    Ok(text)
+}
+
+fn push_name(text: &mut String, path: &str, entries: u64) -> Result<(), AllocError> {
+    writeln!(text, "{path} {entries}")
 }

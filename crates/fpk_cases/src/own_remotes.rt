@@ -1,5 +1,5 @@
 //! Remotes below the folder of a run.
-ghost use Rattle.std.specs.Prelude.{◌≡◌, ◌≤◌, None, IfOk, IsErrOf, length};
+ghost use Rattle.std.specs.Prelude.{◌≤◌, IfOk, IsErrOf, length};
 ghost use Rattle.fp_host.specs.Remote.{HasNodeBits};
 ghost use Rattle.fp_realhost.specs.Counts.{RemoteCounts};
 
@@ -56,8 +56,7 @@ impl<R: Files + AllocGlobal> Remotes for OwnRemotes<'_, R> {
     ghost faults = { λ r. r.remotes };
 
     fn node(&mut self, alloc: Global, url: &str, path: &Path) -> Result<Node, RemoteError>
-        ensures later { self.old.remotes ≤ self.new.remotes }
-        ensures failed { IsErrOf result RemoteError.Failed → RemoteCounts self.old.remotes self.new.remotes result }
+        ensures counts { RemoteCounts self.old.remotes self.new.remotes result }
         ensures bits { IfOk result HasNodeBits }
     {
         match self.own(url) {

@@ -1,10 +1,10 @@
 //! Lines to cases.
-use crate::case::{
-    Action, Case, Command, Failure, Given, GivenKind, Pieces, Shown, Step, Stops,
-};
+use crate::case::{Action, Case, Command, Failure, Given, GivenKind, Pieces, Shown, Step, Stops};
 use crate::fault::Fault;
 use crate::sign::{Form, Line, Sign, line_of};
-use crate::words::{cut_words, number, path_and_mode, push_hex, push_line, push_text, status, two};
+use crate::words::{
+    cut_words, number, path_and_mode, push_hex, push_line, push_text, size, status, two,
+};
 use std::alloc::Global;
 
 /// The cases so far.
@@ -39,8 +39,19 @@ impl Parser {
         cases
     }
 
+    /// Takes the lines of a text, which has a case.
+    pub fn take_all(&mut self, text: &str) -> Result<(), Fault> {
+        for line in text.lines() {
+            self.take(line)?;
+        }
+        if self.cases.is_empty() {
+            return Err(Fault::NoCase);
+        }
+        Ok(())
+    }
+
     /// Takes the next line.
-    pub fn take(&mut self, line: &str) -> Result<(), Fault> {
+    fn take(&mut self, line: &str) -> Result<(), Fault> {
         self.line = self.line.saturating_add(1);
         let line = line_of(line);
         match line.sign {
@@ -227,10 +238,23 @@ fn command(alloc: Global, text: &str) -> Result<Action, Fault> {
 /// Tells of a command what a line says.
 fn tell(alloc: Global, command: &mut Command, line: Line<'_>) -> Result<(), Fault> {
     match line.sign {
-        Sign::Input(Form::Lines) => push_line(&mut command.input, line.text)?,
-        Sign::Input(Form::Open) => push_text(&mut command.input, line.text)?,
-        Sign::Input(Form::Hex) => push_hex(alloc, &mut command.input, line.text)?,
-        Sign::Zeros => push_zeros(&mut command.input, line.text)?,
+        Sign::Input(form) => push_input(alloc, &mut command.input, form, line.text),
+        Sign::Zeros => push_zeros(alloc, &mut command.input, line.text),
+        _ => tell_more(command, line),
+    }
+}
+
+fn push_input(alloc: Global, input: &mut Vec<u8>, form: Form, text: &str) -> Result<(), Fault> {
+    match form {
+        Form::Lines => push_line(input, text),
+        Form::Open => push_text(input, text),
+        Form::Hex => push_hex(alloc, input, text),
+    }
+}
+
+/// Tells of a command what a line says of other things than its input.
+fn tell_more(command: &mut Command, line: Line<'_>) -> Result<(), Fault> {
+    match line.sign {
         Sign::Pieces => command.pieces = Some(pieces_of(line.text)?),
         Sign::Status => command.status = status(line.text)?,
         Sign::Undone => command.failure = Some(failure_of(line.text, false)?),
@@ -241,22 +265,17 @@ fn tell(alloc: Global, command: &mut Command, line: Line<'_>) -> Result<(), Faul
     Ok(())
 }
 
-fn push_zeros(bytes: &mut Vec<u8>, text: &str) -> Result<(), Fault> {
-    for _ in 0..number(text)? {
-        bytes.push(0)?;
-    }
+fn push_zeros(alloc: Global, bytes: &mut Vec<u8>, text: &str) -> Result<(), Fault> {
+    let zeros = vec![in alloc; 0u8; size(text)?]?;
+    bytes.extend_from_slice(&zeros)?;
     Ok(())
 }
 
 fn pieces_of(text: &str) -> Result<Pieces, Fault> {
-    let (size, calls) = two(text)?;
-    match size.parse::<usize>() {
-        Ok(size) => Ok(Pieces {
-            size,
-            calls: number(calls)?,
-        }),
-        Err(_) => Err(Fault::NoNumber),
-    }
+    let (first, second) = two(text)?;
+    let size = size(first)?;
+    let calls = number(second)?;
+    Ok(Pieces { size, calls })
 }
 
 fn failure_of(text: &str, is_done: bool) -> Result<Failure, Fault> {

@@ -1,17 +1,19 @@
 //! The steps of a case, one after another.
-use crate::case::{Action, Case, Command, Step};
+use crate::case::{Action, Case, Command, Given, Step};
 use crate::stage::{Found, Ran, Stage};
-use crate::wrong::{Wrong, differs};
+use crate::wrong::{Wrong, differs, said};
 use std::alloc::{AllocError, Global};
+use std::thread::Threads;
 
 /// Plays the steps of a case, and answers the first that isn't as it says.
-pub fn play<S: Stage>(
+pub fn play<T: Threads + Sync, S: Stage>(
+    rt: &T,
     alloc: Global,
     stage: &mut S,
     case: &Case,
 ) -> Result<Option<Wrong>, AllocError> {
     for step in &case.steps {
-        if let Some(text) = play_step(alloc, stage, step)? {
+        if let Some(text) = play_step(rt, alloc, stage, step)? {
             let line = step.line;
             return Ok(Some(Wrong { line, text }));
         }
@@ -20,30 +22,44 @@ pub fn play<S: Stage>(
 }
 
 /// Plays a step, and answers what isn't as it says.
-fn play_step<S: Stage>(
+fn play_step<T: Threads + Sync, S: Stage>(
+    rt: &T,
     alloc: Global,
     stage: &mut S,
     step: &Step,
 ) -> Result<Option<String>, AllocError> {
     match &step.action {
-        Action::Give(given) => match stage.give(given, step.bytes())? {
-            true => Ok(None),
-            false => said(alloc, "it can't be put there"),
-        },
-        Action::Run(command) => play_command(alloc, stage, command, step.bytes()),
+        Action::Give(given) => play_give(alloc, stage, given, step.bytes()),
+        Action::Run(command) => play_command(rt, alloc, stage, command, step.bytes()),
         Action::ExpectFile { path, mode } => {
             let found = stage.find(path.as_str())?;
             judge_file(alloc, &found, path.as_str(), *mode, step.bytes())
         }
-        Action::ExpectNothing { path } => match stage.find(path.as_str())? {
-            Found::Nothing => Ok(None),
-            _ => said(alloc, "something stands there"),
-        },
+        Action::ExpectNothing { path } => expect_nothing(alloc, stage, path.as_str()),
     }
 }
 
-fn said(alloc: Global, text: &str) -> Result<Option<String>, AllocError> {
-    Ok(Some(String::from_str(alloc, text)?))
+fn play_give<S: Stage>(
+    alloc: Global,
+    stage: &mut S,
+    given: &Given,
+    bytes: &[u8],
+) -> Result<Option<String>, AllocError> {
+    match stage.give(given, bytes)? {
+        true => Ok(None),
+        false => said(alloc, "it can't be put there"),
+    }
+}
+
+fn expect_nothing<S: Stage>(
+    alloc: Global,
+    stage: &mut S,
+    path: &str,
+) -> Result<Option<String>, AllocError> {
+    match stage.find(path)? {
+        Found::Nothing => Ok(None),
+        _ => said(alloc, "something stands there"),
+    }
 }
 
 fn judge_file(
@@ -54,47 +70,45 @@ fn judge_file(
     expected: &[u8],
 ) -> Result<Option<String>, AllocError> {
     match found {
-        Found::File { mode: came, bytes } => {
-            if *came != mode {
-                let text = format!(in alloc; "{path}: expected mode {mode:o}, but {came:o} came")?;
-                return Ok(Some(text));
-            }
-            if bytes.as_slice() != expected {
-                return Ok(Some(differs(alloc, path, expected, bytes)?));
-            }
-            Ok(None)
+        Found::File { mode: came, .. } if *came != mode => Ok(Some(format!(in alloc;
+            "{path}: expected mode {mode:o}, but {came:o} came"
+        )?)),
+        Found::File { bytes, .. } if bytes.as_slice() != expected => {
+            Ok(Some(differs(alloc, path, expected, bytes)?))
         }
+        Found::File { .. } => Ok(None),
         Found::Nothing => said(alloc, "nothing stands there"),
         Found::Other => said(alloc, "what stands there is no file"),
     }
 }
 
 /// Runs a command, first with each call of its input failing where that is asked for.
-fn play_command<S: Stage>(
+fn play_command<T: Threads + Sync, S: Stage>(
+    rt: &T,
     alloc: Global,
     stage: &mut S,
     command: &Command,
     expected: &[u8],
 ) -> Result<Option<String>, AllocError> {
-    let calls = match command.pieces {
-        Some(pieces) => pieces.calls,
-        None => 0,
-    };
-    for call in 0..calls {
-        let ran = stage.run(command, Some(call))?;
+    let unreached = command.pieces.map(|pieces| pieces.calls);
+    for call in 0..unreached.unwrap_or(0) {
+        let ran = stage.run(rt, command, Some(call))?;
         if ran.status != 5 || !ran.printed.is_empty() {
-            let status = ran.status;
-            let text = format!(in alloc; "the input failed at call {call}: expected status 5 and nothing printed, but status {status} came")?;
-            return Ok(Some(text));
+            return Ok(Some(failed_text(alloc, call, ran.status)?));
         }
     }
-    let unreached = command.pieces.map(|pieces| pieces.calls);
-    let ran = stage.run(command, unreached)?;
+    let ran = stage.run(rt, command, unreached)?;
     judge(alloc, command, &ran, expected)
 }
 
+fn failed_text(alloc: Global, call: u64, status: u8) -> Result<String, AllocError> {
+    format!(in alloc;
+        "its input failed at call {call}: expected status 5 and nothing printed, but {status} came"
+    )
+}
+
 /// Says what isn't as expected of a command.
-pub fn judge(
+fn judge(
     alloc: Global,
     command: &Command,
     ran: &Ran,
@@ -105,9 +119,7 @@ pub fn judge(
     }
     let (want, came) = (command.status, ran.status);
     if want != came {
-        return Ok(Some(
-            format!(in alloc; "expected status {want}, but {came} came")?,
-        ));
+        return Ok(Some(format!(in alloc; "expected status {want}, but {came} came")?));
     }
     judge_calls(alloc, command.calls, ran.calls)
 }
@@ -119,9 +131,9 @@ fn judge_calls(
     came: Option<u64>,
 ) -> Result<Option<String>, AllocError> {
     match (expected, came) {
-        (Some(want), Some(made)) if want != made => Ok(Some(
-            format!(in alloc; "expected {want} calls of the host, but {made} were made")?,
-        )),
+        (Some(want), Some(made)) if want != made => Ok(Some(format!(in alloc;
+            "expected {want} calls of the host, but {made} were made"
+        )?)),
         _ => Ok(None),
     }
 }

@@ -19,7 +19,11 @@ pub struct Replay {
 impl Replay {
     /// How many lines were printed.
     pub fn lines(&self) -> usize {
-        self.host.printed().iter().filter(|byte| **byte == b'\n').count()
+        self.host
+            .printed()
+            .iter()
+            .filter(|byte| **byte == b'\n')
+            .count()
     }
 }
 

@@ -13,7 +13,7 @@ const LISTS: [[&str; 2]; 2] = [["list", "--pins"], ["list", "--remotes"]];
 const NEXT: [&str; 2] = ["pin", "app/org.x.Next/*/*"];
 
 /// What an installation shows.
-#[derive(PartialEq, Eq, Drop)]
+#[derive(PartialEq, Drop)]
 pub struct State {
     pub text: Vec<u8>,
     /// Whether there is a file `config`, which the old layout hasn't.

@@ -1,7 +1,7 @@
 //! What a line of a case is, by how it begins.
 
 /// How the bytes of a line are written.
-#[derive(Clone, Copy, Debug, PartialEq, Eq)]
+#[derive(Clone, Copy)]
 pub enum Form {
     /// The line, and a newline after it.
     Lines,
@@ -12,7 +12,7 @@ pub enum Form {
 }
 
 /// What a line is.
-#[derive(Clone, Copy, Debug, PartialEq, Eq)]
+#[derive(Clone, Copy)]
 pub enum Sign {
     /// `case NAME`: the lines up to the next case are over a new host.
     Case,

@@ -2,6 +2,7 @@
 use crate::case::{Command, Given, GivenKind};
 use fp_host::{Host, HostEnd, Path, Stat};
 use std::alloc::{AllocError, Global};
+use std::thread::Threads;
 
 /// How a command ended.
 #[derive(Drop)]
@@ -27,7 +28,12 @@ pub trait Stage {
     fn give(&mut self, given: &Given, bytes: &[u8]) -> Result<bool, AllocError>;
 
     /// Runs a command. Its input fails at the call with this number, counted from 0.
-    fn run(&mut self, command: &Command, input_fails_at: Option<u64>) -> Result<Ran, AllocError>;
+    fn run<T: Threads + Sync>(
+        &mut self,
+        rt: &T,
+        command: &Command,
+        input_fails_at: Option<u64>,
+    ) -> Result<Ran, AllocError>;
 
     /// Looks at what stands at a path.
     fn find(&mut self, path: &str) -> Result<Found, AllocError>;
@@ -49,23 +55,27 @@ pub fn give<H: Host>(
     given: &Given,
     bytes: &[u8],
 ) -> Result<(), HostEnd> {
-    let path = Path::parse(alloc, &given.path)?;
     make_folders(alloc, host, &given.path)?;
-    match &given.kind {
-        GivenKind::File { mode } => give_file(host, &path, *mode, bytes)?,
-        GivenKind::Folder => host.make_dir(&path)?,
-        GivenKind::Link { text } => host.symlink(text.as_str(), &path)?,
+    let path = Path::parse(alloc, &given.path)?;
+    give_at(host, &path, &given.kind, bytes)
+}
+
+fn give_at<H: Host>(
+    host: &mut H,
+    path: &Path,
+    kind: &GivenKind,
+    bytes: &[u8],
+) -> Result<(), HostEnd> {
+    match kind {
+        GivenKind::File { mode } => give_file(host, path, *mode, bytes)?,
+        GivenKind::Folder => host.make_dir(path)?,
+        GivenKind::Link { text } => host.symlink(text.as_str(), path)?,
     }
     host.sync()?;
     Ok(())
 }
 
-fn give_file<H: Host>(
-    host: &mut H,
-    path: &Path,
-    mode: u32,
-    bytes: &[u8],
-) -> Result<(), HostEnd> {
+fn give_file<H: Host>(host: &mut H, path: &Path, mode: u32, bytes: &[u8]) -> Result<(), HostEnd> {
     host.create(path, mode)?;
     host.append(path, bytes)?;
     Ok(())

@@ -1,9 +1,9 @@
 //! A case with a stop, and with a failure, at each call of the host.
 use crate::case::{Case, Failure, Shown, Stops};
-use crate::outcomes::{last_open, oldest, outcomes, present};
+use crate::outcomes::{last_open, oldest, open_names, outcomes, present};
 use crate::replay::{Replay, replay_case};
 use crate::showing::{State, reopen};
-use crate::wrong::{Wrong, differs, shown_bytes};
+use crate::wrong::{Wrong, differs, said, shown_bytes};
 use fp_memhost::{Image, MemHost};
 use std::alloc::{AllocError, Global};
 use std::thread::Threads;
@@ -27,20 +27,36 @@ pub fn play_stops<R: Threads + Sync>(
 ) -> Result<Option<Wrong>, AllocError> {
     let plain = replay_case(rt, alloc, case, None)?;
     let course = course_of(rt, alloc, case, &plain)?;
-    if let Some(wrong) = judge_shown(alloc, &stops.shown, &course.states)? {
-        return Ok(Some(wrong));
+    match judge_shown(alloc, &stops.shown, &course.states)? {
+        Some(wrong) => Ok(Some(wrong)),
+        None => judge_course(rt, alloc, case, stops, &plain, &course),
     }
-    let line = stops.line;
+}
+
+/// Judges how a case goes where something stops it.
+fn judge_course<R: Threads + Sync>(
+    rt: &R,
+    alloc: Global,
+    case: &Case,
+    stops: &Stops,
+    plain: &Replay,
+    course: &Course,
+) -> Result<Option<Wrong>, AllocError> {
     if let Some(text) = judge_open(rt, alloc, &plain.host, &stops.open, &course.states)? {
-        return Ok(Some(Wrong { line, text }));
+        return Ok(Some(at(stops, text)));
     }
-    if let Some(text) = stop_everywhere(rt, alloc, &plain, &course)? {
-        return Ok(Some(Wrong { line, text }));
+    if let Some(text) = stop_everywhere(rt, alloc, plain, course)? {
+        return Ok(Some(at(stops, text)));
     }
-    match fail_everywhere(rt, alloc, case, &plain, &course.states)? {
-        Some(text) => Ok(Some(Wrong { line, text })),
+    match fail_everywhere(rt, alloc, case, plain, &course.states)? {
+        Some(text) => Ok(Some(at(stops, text))),
         None => Ok(None),
     }
+}
+
+fn at(stops: &Stops, text: String) -> Wrong {
+    let line = stops.line;
+    Wrong { line, text }
 }
 
 /// Looks at the case before each call.
@@ -138,20 +154,37 @@ fn judge_open<R: Threads + Sync>(
     if expected.is_empty() {
         return Ok(None);
     }
-    let (calls, names) = last_open(alloc, host)?;
+    let calls = last_open(host)?;
+    let names = open_names(alloc, host, calls)?;
     if names.as_bytes() != expected {
         let text = differs(alloc, "may come back", expected, names.as_bytes())?;
         return Ok(Some(text));
     }
+    judge_last(rt, alloc, host, calls, states)
+}
+
+/// Says where all names at their oldest entries don't show the state before the last line, or the present ones that after
+/// it.
+fn judge_last<R: Threads + Sync>(
+    rt: &R,
+    alloc: Global,
+    host: &MemHost,
+    calls: u64,
+    states: &[State],
+) -> Result<Option<String>, AllocError> {
     let lines = states.len().saturating_sub(1);
     let before = states.get(lines.saturating_sub(1));
     if !shows(rt, alloc, oldest(alloc, host, calls)?, before)? {
-        let text = "the oldest entries don't show the state before the last line";
-        return Ok(Some(String::from_str(alloc, text)?));
+        return said(
+            alloc,
+            "the oldest entries don't show the state before the last line",
+        );
     }
     if !shows(rt, alloc, present(alloc, host, calls)?, states.last())? {
-        let text = "the present entries don't show the state after the last line";
-        return Ok(Some(String::from_str(alloc, text)?));
+        return said(
+            alloc,
+            "the present entries don't show the state after the last line",
+        );
     }
     Ok(None)
 }
@@ -202,13 +235,21 @@ fn fail_everywhere<R: Threads + Sync>(
             let failed = replay_case(rt, alloc, case, Some(Failure { call, is_done }))?;
             if let Some(text) = judge_failure(rt, alloc, &failed, states)? {
                 let number = call.saturating_sub(plain.first);
-                let sign = if is_done { "!+" } else { "!" };
-                let text = format!(in alloc; "{sign} {number}: {text}")?;
-                return Ok(Some(text));
+                return Ok(Some(failure_text(alloc, number, is_done, &text)?));
             }
         }
     }
     Ok(None)
+}
+
+fn failure_text(
+    alloc: Global,
+    number: u64,
+    is_done: bool,
+    text: &str,
+) -> Result<String, AllocError> {
+    let sign = if is_done { "!+" } else { "!" };
+    format!(in alloc; "{sign} {number}: {text}")
 }
 
 /// Says what isn't as it is to be where a call failed.
@@ -221,11 +262,9 @@ fn judge_failure<R: Threads + Sync>(
     match failed.other_status {
         Some(3) => {}
         Some(status) => {
-            return Ok(Some(
-                format!(in alloc; "expected status 3, but {status} came")?,
-            ));
+            return Ok(Some(format!(in alloc; "expected status 3, but {status} came")?));
         }
-        None => return Ok(Some(String::from_str(alloc, "expected status 3")?)),
+        None => return said(alloc, "expected status 3"),
     }
     let host = &failed.host;
     judge_stop(rt, alloc, host, host.calls(), states, failed.lines())
@@ -253,11 +292,7 @@ fn is_expected(states: &[State], lines: usize, state: Option<&State>) -> bool {
     state.is_some() && (state == states.get(lines) || state == states.get(lines.saturating_add(1)))
 }
 
-fn other_text(
-    alloc: Global,
-    lines: usize,
-    state: Option<&State>,
-) -> Result<String, AllocError> {
+fn other_text(alloc: Global, lines: usize, state: Option<&State>) -> Result<String, AllocError> {
     match state {
         Some(state) => {
             let shown = shown_bytes(alloc, &state.text)?;

@@ -30,6 +30,11 @@ pub fn number(text: &str) -> Result<u64, Fault> {
     text.parse::<u64>().map_err(|_| Fault::NoNumber)
 }
 
+/// A number of bytes.
+pub fn size(text: &str) -> Result<usize, Fault> {
+    text.parse::<usize>().map_err(|_| Fault::NoNumber)
+}
+
 /// A status.
 pub fn status(text: &str) -> Result<u8, Fault> {
     text.parse::<u8>().map_err(|_| Fault::NoNumber)

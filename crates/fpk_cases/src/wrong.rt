@@ -19,8 +19,7 @@ pub fn shown_bytes(alloc: Global, bytes: &[u8]) -> Result<String, AllocError> {
 fn hex_text(alloc: Global, bytes: &[u8]) -> Result<String, AllocError> {
     let mut text = String::from_str(alloc, "the bytes ")?;
     for byte in bytes {
-        let digits = format!(in alloc; "{byte:02x}")?;
-        text.push_str(&digits)?;
+        write!(text, "{byte:02x}")?;
     }
     Ok(text)
 }
@@ -35,4 +34,9 @@ pub fn differs(
     let expected = shown_bytes(alloc, expected)?;
     let came = shown_bytes(alloc, came)?;
     format!(in alloc; "{what}: expected {expected}, but {came} came")
+}
+
+/// Says this.
+pub fn said(alloc: Global, text: &str) -> Result<Option<String>, AllocError> {
+    Ok(Some(String::from_str(alloc, text)?))
 }
