@@ -139,6 +139,3 @@ fn complain(rt: &impl Eprint, text: &str, status: u8) -> u8
 fn wanting(rt: &impl Eprint) -> u8 {
     complain(rt, "fpk: memory was wanting", 6)
 }
-
-#[cfg(test)]
-mod tests;

@@ -1,0 +1,141 @@
+//! A system whose output is kept.
+use std::alloc::{Allocator, Global};
+use std::cell::RefCell;
+use std::fmt::Display;
+use std::fs::{Metadata, OpenOptions, Permissions};
+use std::io;
+use std::path::PathBuf;
+use std::rt::Files;
+
+/// The files of a system, and what is printed in place of its output.
+pub struct Capture<'a, R> {
+    rt: &'a R,
+    alloc: Global,
+    printed: RefCell<Vec<u8>>,
+}
+
+impl<R> Drop for Capture<'_, R> {
+    fn drop(self) {
+        let Capture {
+            rt: _,
+            alloc: _,
+            printed: _,
+        } = self;
+    }
+}
+
+impl<'a, R> Capture<'a, R> {
+    pub fn new(rt: &'a R, alloc: Global) -> Self {
+        Capture {
+            rt,
+            alloc,
+            printed: RefCell::new(Vec::new(alloc)),
+        }
+    }
+
+    /// What was printed since it was taken last.
+    pub fn take(&self) -> Vec<u8> {
+        match self.printed.try_replace(Vec::new(self.alloc)) {
+            Ok(printed) => printed,
+            Err(_) => Vec::new(self.alloc),
+        }
+    }
+
+    /// Keeps what is printed.
+    fn keep(&self, bytes: &[u8]) -> io::Result<()> {
+        match self.printed.try_borrow_mut() {
+            Ok(mut printed) => Ok(printed.extend_from_slice(bytes)?),
+            Err(_) => Err(io::Error::other("what was printed is in use")),
+        }
+    }
+}
+
+impl<R> Alloc for Capture<'_, R> {
+    type A = Global;
+
+    fn alloc(&self) -> Global {
+        self.alloc
+    }
+}
+
+impl<R> Print for Capture<'_, R> {
+    fn print<D: Display + Drop>(&self, value: D) -> io::Result<()> {
+        let text = value.to_string(self.alloc)?;
+        self.keep(text.as_bytes())
+    }
+
+    fn println<D: Display + Drop>(&self, value: D) -> io::Result<()> {
+        self.print(value)?;
+        self.keep(b"\n")
+    }
+
+    fn write_all(&self, bytes: &[u8]) -> io::Result<()> {
+        self.keep(bytes)
+    }
+}
+
+impl<R: Files> Files for Capture<'_, R> {
+    type File = R::File;
+
+    type Dir = R::Dir;
+
+    fn open_file(&self, how: &OpenOptions, path: &str) -> io::Result<R::File> {
+        self.rt.open_file(how, path)
+    }
+
+    fn open_dir(&self, path: &str) -> io::Result<R::Dir> {
+        self.rt.open_dir(path)
+    }
+
+    fn metadata(&self, path: &str) -> io::Result<Metadata> {
+        self.rt.metadata(path)
+    }
+
+    fn symlink_metadata(&self, path: &str) -> io::Result<Metadata> {
+        self.rt.symlink_metadata(path)
+    }
+
+    fn copy(&self, from: &str, to: &str) -> io::Result<u64> {
+        self.rt.copy(from, to)
+    }
+
+    fn rename(&self, from: &str, to: &str) -> io::Result<()> {
+        self.rt.rename(from, to)
+    }
+
+    fn remove_file(&self, path: &str) -> io::Result<()> {
+        self.rt.remove_file(path)
+    }
+
+    fn create_dir(&self, path: &str) -> io::Result<()> {
+        self.rt.create_dir(path)
+    }
+
+    fn remove_dir(&self, path: &str) -> io::Result<()> {
+        self.rt.remove_dir(path)
+    }
+
+    fn remove_dir_all<B: Allocator>(&self, alloc: B, path: &str) -> io::Result<()> {
+        self.rt.remove_dir_all(alloc, path)
+    }
+
+    fn read_link<B: Allocator>(&self, alloc: B, path: &str) -> io::Result<PathBuf<B>> {
+        self.rt.read_link(alloc, path)
+    }
+
+    fn hard_link(&self, original: &str, link: &str) -> io::Result<()> {
+        self.rt.hard_link(original, link)
+    }
+
+    fn set_permissions(&self, path: &str, mode: Permissions) -> io::Result<()> {
+        self.rt.set_permissions(path, mode)
+    }
+
+    fn symlink(&self, original: &str, link: &str) -> io::Result<()> {
+        self.rt.symlink(original, link)
+    }
+
+    fn create_dir_with_mode(&self, path: &str, mode: u32) -> io::Result<()> {
+        self.rt.create_dir_with_mode(path, mode)
+    }
+}

@@ -1,0 +1,134 @@
+//! A case over a real folder.
+use crate::capture::Capture;
+use crate::case::{Action, Case, Command, Given};
+use crate::memory::input_of;
+use crate::own_remotes::OwnRemotes;
+use crate::playing::play;
+use crate::stage::{Found, Ran, Stage, done, find, give};
+use crate::system::System;
+use crate::wrong::Wrong;
+use fl_top::run;
+use fp_realhost::HostDir;
+use std::alloc::{AllocError, Global};
+use std::rt::Files;
+use std::thread::Threads;
+use std::{env, fs, io};
+
+/// The folder that each run is below, which is there for one case.
+const FOLDER: &str = "cases.tmp";
+
+/// The installation there.
+const INSTALLATION: &str = "cases.tmp/installation";
+
+/// The input that is too long to come a second time.
+const LONG_INPUT: usize = 1_048_576;
+
+/// Whether a case is played over a folder: nothing stops it, no call of the host is made to fail, and no input is long.
+pub fn is_for_folder(case: &Case) -> bool {
+    case.stops.is_none()
+        && case
+            .steps
+            .iter()
+            .all(|step| is_step_for_folder(&step.action))
+}
+
+fn is_step_for_folder(action: &Action) -> bool {
+    match action {
+        Action::Run(command) => command.failure.is_none() && command.input.len() < LONG_INPUT,
+        _ => true,
+    }
+}
+
+/// Plays a case over a new folder, which is taken away again.
+pub fn play_in_folder<R: System>(rt: &R, alloc: Global, case: &Case) -> io::Result<Option<Wrong>> {
+    clear(rt, alloc)?;
+    let capture = Capture::new(rt, alloc);
+    let wrong = play_over(rt, alloc, &capture, case)?;
+    clear(rt, alloc)?;
+    Ok(wrong)
+}
+
+/// Takes the folder away where it is there.
+fn clear<R: System>(rt: &R, alloc: Global) -> io::Result<()> {
+    match fs::exists(rt, FOLDER)? {
+        true => rt.remove_dir_all(alloc, FOLDER),
+        false => Ok(()),
+    }
+}
+
+fn play_over<R: System>(
+    rt: &R,
+    alloc: Global,
+    capture: &Capture<'_, R>,
+    case: &Case,
+) -> io::Result<Option<Wrong>> {
+    let folder = own_folder(rt, alloc)?;
+    let remotes = OwnRemotes::new(rt, alloc, folder);
+    let host = HostDir::new(capture, alloc, INSTALLATION)?;
+    let mut stage = FolderStage {
+        alloc,
+        capture,
+        host,
+        remotes,
+    };
+    Ok(play(rt, alloc, &mut stage, case)?)
+}
+
+/// The absolute path of the folder.
+fn own_folder<R: System>(rt: &R, alloc: Global) -> io::Result<String> {
+    let here = env::current_dir(rt)?.into_string();
+    Ok(format!(in alloc; "{here}/{FOLDER}")?)
+}
+
+/// The folder that a case is played on.
+struct FolderStage<'a, 'b, R> {
+    alloc: Global,
+    capture: &'b Capture<'a, R>,
+    host: HostDir<'b, Capture<'a, R>>,
+    remotes: OwnRemotes<'a, R>,
+}
+
+impl<R> Drop for FolderStage<'_, '_, R> {
+    fn drop(self) {
+        let FolderStage {
+            alloc: _,
+            capture: _,
+            host: _,
+            remotes: _,
+        } = self;
+    }
+}
+
+impl<R: Files + AllocGlobal> Stage for FolderStage<'_, '_, R> {
+    fn give(&mut self, given: &Given, bytes: &[u8]) -> Result<bool, AllocError> {
+        let answer = give(self.alloc, &mut self.host, given, bytes);
+        Ok(done(answer)?.is_some())
+    }
+
+    fn run<T: Threads + Sync>(
+        &mut self,
+        rt: &T,
+        command: &Command,
+        input_fails_at: Option<u64>,
+    ) -> Result<Ran, AllocError> {
+        let mut input = input_of(self.alloc, command, input_fails_at)?;
+        let status = run(
+            rt,
+            self.alloc,
+            &command.words,
+            &mut input,
+            &mut self.host,
+            &mut self.remotes,
+        );
+        Ok(Ran {
+            status,
+            printed: self.capture.take(),
+            calls: None,
+        })
+    }
+
+    fn find(&mut self, path: &str) -> Result<Found, AllocError> {
+        let answer = find(self.alloc, &mut self.host, path);
+        Ok(done(answer)?.unwrap_or(Found::Other))
+    }
+}

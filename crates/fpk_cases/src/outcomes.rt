@@ -1,0 +1,147 @@
+//! What a stop may leave of a host in memory.
+use fp_base::{Blob, Items};
+use fp_host::Path;
+use fp_memhost::{Choice, FileRow, Image, MemHost};
+use std::alloc::{AllocError, Global};
+
+/// What a stop after so many calls leaves: these names at these entries, these files with these bytes, all else as it is.
+fn left(
+    host: &MemHost,
+    calls: u64,
+    names: Vec<(Path, u64)>,
+    files: Vec<(u64, Blob)>,
+) -> Result<Option<Image>, AllocError> {
+    let choice = Choice {
+        names: Items::from_vec(names),
+        files: Items::from_vec(files),
+    };
+    host.image_after(calls, &choice)
+}
+
+/// What a stop leaves where all is as it is.
+pub fn present(alloc: Global, host: &MemHost, calls: u64) -> Result<Option<Image>, AllocError> {
+    left(host, calls, Vec::new(alloc), Vec::new(alloc))
+}
+
+/// Every name at its oldest entry.
+pub fn oldest(alloc: Global, host: &MemHost, calls: u64) -> Result<Option<Image>, AllocError> {
+    let mut names = Vec::new(alloc);
+    for (path, entries) in host.choices(calls)?.as_slice() {
+        if *entries > 0 {
+            names.push((path.copy()?, 1))?;
+        }
+    }
+    left(host, calls, names, Vec::new(alloc))
+}
+
+/// One name at another entry.
+fn with_name(
+    alloc: Global,
+    host: &MemHost,
+    calls: u64,
+    name: &Path,
+    entry: u64,
+) -> Result<Option<Image>, AllocError> {
+    let mut names = Vec::new(alloc);
+    names.push((name.copy()?, entry))?;
+    left(host, calls, names, Vec::new(alloc))
+}
+
+/// One file with other bytes. There is none where the file was synced.
+fn with_file(
+    alloc: Global,
+    host: &MemHost,
+    calls: u64,
+    id: u64,
+    bytes: Vec<u8>,
+) -> Result<Option<Image>, AllocError> {
+    let mut files = Vec::new(alloc);
+    files.push((id, Blob::from_vec(bytes)))?;
+    left(host, calls, Vec::new(alloc), files)
+}
+
+/// What a stop after so many calls may leave: all as it is, every name at its oldest entry, each name alone at each other
+/// entry, and each new file without bytes and with all its bytes turned to ff.
+pub fn outcomes(alloc: Global, host: &MemHost, calls: u64) -> Result<Vec<Image>, AllocError> {
+    let mut images = Vec::new(alloc);
+    keep(&mut images, present(alloc, host, calls)?)?;
+    keep(&mut images, oldest(alloc, host, calls)?)?;
+    add_names(alloc, host, calls, &mut images)?;
+    add_files(alloc, host, calls, &mut images)?;
+    Ok(images)
+}
+
+fn keep(images: &mut Vec<Image>, image: Option<Image>) -> Result<(), AllocError> {
+    if let Some(image) = image {
+        images.push(image)?;
+    }
+    Ok(())
+}
+
+fn add_names(
+    alloc: Global,
+    host: &MemHost,
+    calls: u64,
+    images: &mut Vec<Image>,
+) -> Result<(), AllocError> {
+    for (path, entries) in host.choices(calls)?.as_slice() {
+        for entry in 1..=*entries {
+            keep(images, with_name(alloc, host, calls, path, entry)?)?;
+        }
+    }
+    Ok(())
+}
+
+fn add_files(
+    alloc: Global,
+    host: &MemHost,
+    calls: u64,
+    images: &mut Vec<Image>,
+) -> Result<(), AllocError> {
+    let Some(image) = present(alloc, host, calls)? else {
+        return Ok(());
+    };
+    for row in image.files.as_slice() {
+        add_file(alloc, host, calls, row, images)?;
+    }
+    Ok(())
+}
+
+fn add_file(
+    alloc: Global,
+    host: &MemHost,
+    calls: u64,
+    row: &FileRow,
+    images: &mut Vec<Image>,
+) -> Result<(), AllocError> {
+    keep(
+        images,
+        with_file(alloc, host, calls, row.id, Vec::new(alloc))?,
+    )?;
+    let turned = vec![in alloc; 0xff; row.bytes.len()]?;
+    keep(images, with_file(alloc, host, calls, row.id, turned)?)
+}
+
+/// The last moment at which a stop may bring back something.
+pub fn last_open(host: &MemHost) -> Result<u64, AllocError> {
+    let mut last = 0;
+    for calls in 0..=host.calls() {
+        if host.choices(calls)?.len() > 0 {
+            last = calls;
+        }
+    }
+    Ok(last)
+}
+
+/// The names at which a stop after so many calls may bring back something, each on a line with how many entries.
+pub fn open_names(alloc: Global, host: &MemHost, calls: u64) -> Result<String, AllocError> {
+    let mut text = String::new(alloc);
+    for (path, entries) in host.choices(calls)?.as_slice() {
+        push_name(&mut text, path.text(), *entries)?;
+    }
+    Ok(text)
+}
+
+fn push_name(text: &mut String, path: &str, entries: u64) -> Result<(), AllocError> {
+    writeln!(text, "{path} {entries}")
+}

@@ -1,0 +1,83 @@
+//! Remotes below the folder of a run.
+ghost use Rattle.std.specs.Prelude.{◌≤◌, IfOk, IsErrOf, length};
+ghost use Rattle.fp_host.specs.Remote.{HasNodeBits};
+ghost use Rattle.fp_realhost.specs.Counts.{RemoteCounts};
+
+use fp_host::{Node, Path, RemoteError, Remotes};
+use fp_realhost::DirRemotes;
+use std::alloc::{AllocError, Global};
+use std::rt::Files;
+
+/// Remotes whose urls are `file://` and a path, which stand below a folder: so a case needs no path of the machine.
+pub struct OwnRemotes<'a, R> {
+    remotes: DirRemotes<'a, R>,
+    alloc: Global,
+    /// The absolute path of the folder.
+    folder: String,
+}
+
+impl<R> Drop for OwnRemotes<'_, R> {
+    fn drop(self) {
+        let OwnRemotes {
+            remotes: _,
+            alloc: _,
+            folder: _,
+        } = self;
+    }
+}
+
+impl<'a, R: Files + AllocGlobal> OwnRemotes<'a, R> {
+    /// The remotes below the folder with this absolute path.
+    pub fn new(rt: &'a R, alloc: Global, folder: String) -> Self {
+        OwnRemotes {
+            remotes: DirRemotes::new(rt, alloc),
+            alloc,
+            folder,
+        }
+    }
+}
+
+impl<R> OwnRemotes<'_, R> {
+    /// The url below the folder. One of another form stays as it is, and so is refused.
+    fn own(&self, url: &str) -> Result<String, AllocError> {
+        let folder = self.folder.as_str();
+        match url.strip_prefix("file://") {
+            Some(path) => format!(in self.alloc; "file://{folder}{path}"),
+            None => String::from_str(self.alloc, url),
+        }
+    }
+}
+
+impl<R: Files + AllocGlobal> Remotes for OwnRemotes<'_, R> {
+    ghost use Rattle.std.specs.Prelude.{None};
+
+    ghost holds = { λ r. None };
+
+    ghost faults = { λ r. r.remotes };
+
+    fn node(&mut self, alloc: Global, url: &str, path: &Path) -> Result<Node, RemoteError>
+        ensures counts { RemoteCounts self.old.remotes self.new.remotes result }
+        ensures bits { IfOk result HasNodeBits }
+    {
+        match self.own(url) {
+            Ok(own) => self.remotes.node(alloc, &own, path),
+            Err(_) => Err(RemoteError::NoMemory),
+        }
+    }
+
+    fn read_at(
+        &mut self,
+        url: &str,
+        path: &Path,
+        at: u64,
+        into: &mut [u8],
+    ) -> Result<usize, RemoteError>
+        ensures counts { RemoteCounts self.old.remotes self.new.remotes result }
+        ensures bound { IfOk result (λ n. n ≤ length into.old) }
+        ensures memory { IsErrOf result RemoteError.NoMemory → ⊥ }
+    {
+        // Where there is no memory for it, the empty url is refused, and counted.
+        let own = self.own(url).unwrap_or(String::new(self.alloc));
+        self.remotes.read_at(&own, path, at, into)
+    }
+}

@@ -1,0 +1,284 @@
+//! Lines to cases.
+use crate::case::{Action, Case, Command, Failure, Given, GivenKind, Pieces, Shown, Step, Stops};
+use crate::fault::Fault;
+use crate::sign::{Form, Line, Sign, line_of};
+use crate::words::{
+    cut_words, number, path_and_mode, push_hex, push_line, push_text, size, status, two,
+};
+use std::alloc::Global;
+
+/// The cases so far.
+#[derive(Drop)]
+pub struct Parser {
+    alloc: Global,
+    cases: Vec<Case>,
+    /// The number of the present line, from 1.
+    line: u64,
+}
+
+impl Parser {
+    pub fn new(alloc: Global) -> Self {
+        Parser {
+            alloc,
+            cases: Vec::new(alloc),
+            line: 0,
+        }
+    }
+
+    /// The number of the line that was taken last.
+    pub fn line(&self) -> u64 {
+        self.line
+    }
+
+    pub fn into_cases(self) -> Vec<Case> {
+        let Parser {
+            alloc: _,
+            cases,
+            line: _,
+        } = self;
+        cases
+    }
+
+    /// Takes the lines of a text, which has a case.
+    pub fn take_all(&mut self, text: &str) -> Result<(), Fault> {
+        for line in text.lines() {
+            self.take(line)?;
+        }
+        if self.cases.is_empty() {
+            return Err(Fault::NoCase);
+        }
+        Ok(())
+    }
+
+    /// Takes the next line.
+    fn take(&mut self, line: &str) -> Result<(), Fault> {
+        self.line = self.line.saturating_add(1);
+        let line = line_of(line);
+        match line.sign {
+            Sign::Blank => Ok(()),
+            Sign::Unknown => Err(Fault::NoKind),
+            Sign::Case => self.begin_case(line.text),
+            Sign::Content => self.take_content(line.text),
+            Sign::Stops => self.begin_stops(),
+            Sign::Shown => self.begin_shown(),
+            Sign::Given(_)
+            | Sign::Folder
+            | Sign::Link
+            | Sign::Command
+            | Sign::File(_)
+            | Sign::Absent => self.begin_step(line),
+            Sign::Input(_)
+            | Sign::Zeros
+            | Sign::Pieces
+            | Sign::Status
+            | Sign::Undone
+            | Sign::Done
+            | Sign::Calls => self.take_of_command(line),
+        }
+    }
+
+    fn begin_case(&mut self, name: &str) -> Result<(), Fault> {
+        let name = String::from_str(self.alloc, name)?;
+        let case = Case {
+            line: self.line,
+            name,
+            steps: Vec::new(self.alloc),
+            stops: None,
+        };
+        self.cases.push(case)?;
+        Ok(())
+    }
+
+    fn begin_step(&mut self, line: Line<'_>) -> Result<(), Fault> {
+        let step = Step {
+            line: self.line,
+            action: action_of(self.alloc, line)?,
+            content: Vec::new(self.alloc),
+            form: form_of(line.sign),
+        };
+        let Some(case) = self.cases.last_mut() else {
+            return Err(Fault::NoCase);
+        };
+        case.steps.push(step)?;
+        Ok(())
+    }
+
+    fn begin_stops(&mut self) -> Result<(), Fault> {
+        let stops = Stops {
+            line: self.line,
+            open: Vec::new(self.alloc),
+            shown: Vec::new(self.alloc),
+        };
+        let Some(case) = self.cases.last_mut() else {
+            return Err(Fault::NoCase);
+        };
+        case.stops = Some(stops);
+        Ok(())
+    }
+
+    fn begin_shown(&mut self) -> Result<(), Fault> {
+        let shown = Shown {
+            line: self.line,
+            text: Vec::new(self.alloc),
+        };
+        let Some(case) = self.cases.last_mut() else {
+            return Err(Fault::NoCase);
+        };
+        let Some(stops) = &mut case.stops else {
+            return Err(Fault::NoStops);
+        };
+        stops.shown.push(shown)?;
+        Ok(())
+    }
+
+    /// A line of what the line above has.
+    fn take_content(&mut self, text: &str) -> Result<(), Fault> {
+        let alloc = self.alloc;
+        let Some(case) = self.cases.last_mut() else {
+            return Err(Fault::NoCase);
+        };
+        match &mut case.stops {
+            Some(stops) => take_of_stops(stops, text),
+            None => take_of_steps(alloc, &mut case.steps, text),
+        }
+    }
+
+    /// A line about the command above.
+    fn take_of_command(&mut self, line: Line<'_>) -> Result<(), Fault> {
+        let alloc = self.alloc;
+        let Some(case) = self.cases.last_mut() else {
+            return Err(Fault::NoCase);
+        };
+        let Some(step) = case.steps.last_mut() else {
+            return Err(Fault::NoCommand);
+        };
+        let Action::Run(command) = &mut step.action else {
+            return Err(Fault::NoCommand);
+        };
+        tell(alloc, command, line)
+    }
+}
+
+/// How the content of a step is written.
+fn form_of(sign: Sign) -> Form {
+    match sign {
+        Sign::Given(form) | Sign::File(form) => form,
+        _ => Form::Lines,
+    }
+}
+
+fn take_of_stops(stops: &mut Stops, text: &str) -> Result<(), Fault> {
+    match stops.shown.last_mut() {
+        Some(shown) => push_line(&mut shown.text, text),
+        None => push_line(&mut stops.open, text),
+    }
+}
+
+fn take_of_steps(alloc: Global, steps: &mut Vec<Step>, text: &str) -> Result<(), Fault> {
+    let Some(step) = steps.last_mut() else {
+        return Err(Fault::NoStep);
+    };
+    match step.form {
+        Form::Lines | Form::Open => push_line(&mut step.content, text),
+        Form::Hex => push_hex(alloc, &mut step.content, text),
+    }
+}
+
+/// What a step does or expects.
+fn action_of(alloc: Global, line: Line<'_>) -> Result<Action, Fault> {
+    match line.sign {
+        Sign::Given(_) => given_file(alloc, line.text),
+        Sign::Folder => given(alloc, line.text, GivenKind::Folder),
+        Sign::Link => given_link(alloc, line.text),
+        Sign::Command => command(alloc, line.text),
+        Sign::File(_) => expected_file(alloc, line.text),
+        Sign::Absent => expected_nothing(alloc, line.text),
+        _ => Err(Fault::NoKind),
+    }
+}
+
+fn given(alloc: Global, path: &str, kind: GivenKind) -> Result<Action, Fault> {
+    let path = String::from_str(alloc, path)?;
+    Ok(Action::Give(Given { path, kind }))
+}
+
+fn given_file(alloc: Global, text: &str) -> Result<Action, Fault> {
+    let (path, mode) = path_and_mode(text)?;
+    given(alloc, path, GivenKind::File { mode })
+}
+
+fn given_link(alloc: Global, text: &str) -> Result<Action, Fault> {
+    let (path, text) = two(text)?;
+    let text = String::from_str(alloc, text)?;
+    given(alloc, path, GivenKind::Link { text })
+}
+
+fn expected_file(alloc: Global, text: &str) -> Result<Action, Fault> {
+    let (path, mode) = path_and_mode(text)?;
+    let path = String::from_str(alloc, path)?;
+    Ok(Action::ExpectFile { path, mode })
+}
+
+fn expected_nothing(alloc: Global, text: &str) -> Result<Action, Fault> {
+    let path = String::from_str(alloc, text)?;
+    Ok(Action::ExpectNothing { path })
+}
+
+fn command(alloc: Global, text: &str) -> Result<Action, Fault> {
+    Ok(Action::Run(Command {
+        words: cut_words(alloc, text)?,
+        input: Vec::new(alloc),
+        pieces: None,
+        status: 0,
+        failure: None,
+        calls: None,
+    }))
+}
+
+/// Tells of a command what a line says.
+fn tell(alloc: Global, command: &mut Command, line: Line<'_>) -> Result<(), Fault> {
+    match line.sign {
+        Sign::Input(form) => push_input(alloc, &mut command.input, form, line.text),
+        Sign::Zeros => push_zeros(alloc, &mut command.input, line.text),
+        _ => tell_more(command, line),
+    }
+}
+
+fn push_input(alloc: Global, input: &mut Vec<u8>, form: Form, text: &str) -> Result<(), Fault> {
+    match form {
+        Form::Lines => push_line(input, text),
+        Form::Open => push_text(input, text),
+        Form::Hex => push_hex(alloc, input, text),
+    }
+}
+
+/// Tells of a command what a line says of other things than its input.
+fn tell_more(command: &mut Command, line: Line<'_>) -> Result<(), Fault> {
+    match line.sign {
+        Sign::Pieces => command.pieces = Some(pieces_of(line.text)?),
+        Sign::Status => command.status = status(line.text)?,
+        Sign::Undone => command.failure = Some(failure_of(line.text, false)?),
+        Sign::Done => command.failure = Some(failure_of(line.text, true)?),
+        Sign::Calls => command.calls = Some(number(line.text)?),
+        _ => return Err(Fault::NoKind),
+    }
+    Ok(())
+}
+
+fn push_zeros(alloc: Global, bytes: &mut Vec<u8>, text: &str) -> Result<(), Fault> {
+    let zeros = vec![in alloc; 0u8; size(text)?]?;
+    bytes.extend_from_slice(&zeros)?;
+    Ok(())
+}
+
+fn pieces_of(text: &str) -> Result<Pieces, Fault> {
+    let (first, second) = two(text)?;
+    let size = size(first)?;
+    let calls = number(second)?;
+    Ok(Pieces { size, calls })
+}
+
+fn failure_of(text: &str, is_done: bool) -> Result<Failure, Fault> {
+    let call = number(text)?;
+    Ok(Failure { call, is_done })
+}

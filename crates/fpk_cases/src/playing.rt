@@ -1,0 +1,139 @@
+//! The steps of a case, one after another.
+use crate::case::{Action, Case, Command, Given, Step};
+use crate::stage::{Found, Ran, Stage};
+use crate::wrong::{Wrong, differs, said};
+use std::alloc::{AllocError, Global};
+use std::thread::Threads;
+
+/// Plays the steps of a case, and answers the first that isn't as it says.
+pub fn play<T: Threads + Sync, S: Stage>(
+    rt: &T,
+    alloc: Global,
+    stage: &mut S,
+    case: &Case,
+) -> Result<Option<Wrong>, AllocError> {
+    for step in &case.steps {
+        if let Some(text) = play_step(rt, alloc, stage, step)? {
+            let line = step.line;
+            return Ok(Some(Wrong { line, text }));
+        }
+    }
+    Ok(None)
+}
+
+/// Plays a step, and answers what isn't as it says.
+fn play_step<T: Threads + Sync, S: Stage>(
+    rt: &T,
+    alloc: Global,
+    stage: &mut S,
+    step: &Step,
+) -> Result<Option<String>, AllocError> {
+    match &step.action {
+        Action::Give(given) => play_give(alloc, stage, given, step.bytes()),
+        Action::Run(command) => play_command(rt, alloc, stage, command, step.bytes()),
+        Action::ExpectFile { path, mode } => {
+            let found = stage.find(path.as_str())?;
+            judge_file(alloc, &found, path.as_str(), *mode, step.bytes())
+        }
+        Action::ExpectNothing { path } => expect_nothing(alloc, stage, path.as_str()),
+    }
+}
+
+fn play_give<S: Stage>(
+    alloc: Global,
+    stage: &mut S,
+    given: &Given,
+    bytes: &[u8],
+) -> Result<Option<String>, AllocError> {
+    match stage.give(given, bytes)? {
+        true => Ok(None),
+        false => said(alloc, "it can't be put there"),
+    }
+}
+
+fn expect_nothing<S: Stage>(
+    alloc: Global,
+    stage: &mut S,
+    path: &str,
+) -> Result<Option<String>, AllocError> {
+    match stage.find(path)? {
+        Found::Nothing => Ok(None),
+        _ => said(alloc, "something stands there"),
+    }
+}
+
+fn judge_file(
+    alloc: Global,
+    found: &Found,
+    path: &str,
+    mode: u32,
+    expected: &[u8],
+) -> Result<Option<String>, AllocError> {
+    match found {
+        Found::File { mode: came, .. } if *came != mode => Ok(Some(format!(in alloc;
+            "{path}: expected mode {mode:o}, but {came:o} came"
+        )?)),
+        Found::File { bytes, .. } if bytes.as_slice() != expected => {
+            Ok(Some(differs(alloc, path, expected, bytes)?))
+        }
+        Found::File { .. } => Ok(None),
+        Found::Nothing => said(alloc, "nothing stands there"),
+        Found::Other => said(alloc, "what stands there is no file"),
+    }
+}
+
+/// Runs a command, first with each call of its input failing where that is asked for.
+fn play_command<T: Threads + Sync, S: Stage>(
+    rt: &T,
+    alloc: Global,
+    stage: &mut S,
+    command: &Command,
+    expected: &[u8],
+) -> Result<Option<String>, AllocError> {
+    let unreached = command.pieces.map(|pieces| pieces.calls);
+    for call in 0..unreached.unwrap_or(0) {
+        let ran = stage.run(rt, command, Some(call))?;
+        if ran.status != 5 || !ran.printed.is_empty() {
+            return Ok(Some(failed_text(alloc, call, ran.status)?));
+        }
+    }
+    let ran = stage.run(rt, command, unreached)?;
+    judge(alloc, command, &ran, expected)
+}
+
+fn failed_text(alloc: Global, call: u64, status: u8) -> Result<String, AllocError> {
+    format!(in alloc;
+        "its input failed at call {call}: expected status 5 and nothing printed, but {status} came"
+    )
+}
+
+/// Says what isn't as expected of a command.
+fn judge(
+    alloc: Global,
+    command: &Command,
+    ran: &Ran,
+    expected: &[u8],
+) -> Result<Option<String>, AllocError> {
+    if ran.printed.as_slice() != expected {
+        return Ok(Some(differs(alloc, "printed", expected, &ran.printed)?));
+    }
+    let (want, came) = (command.status, ran.status);
+    if want != came {
+        return Ok(Some(format!(in alloc; "expected status {want}, but {came} came")?));
+    }
+    judge_calls(alloc, command.calls, ran.calls)
+}
+
+/// Says where another number of calls was made than is expected.
+fn judge_calls(
+    alloc: Global,
+    expected: Option<u64>,
+    came: Option<u64>,
+) -> Result<Option<String>, AllocError> {
+    match (expected, came) {
+        (Some(want), Some(made)) if want != made => Ok(Some(format!(in alloc;
+            "expected {want} calls of the host, but {made} were made"
+        )?)),
+        _ => Ok(None),
+    }
+}

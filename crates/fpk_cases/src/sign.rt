@@ -1,0 +1,119 @@
+//! What a line of a case is, by how it begins.
+
+/// How the bytes of a line are written.
+#[derive(Clone, Copy)]
+pub enum Form {
+    /// The line, and a newline after it.
+    Lines,
+    /// The line; after the last one comes no newline.
+    Open,
+    /// Hexadecimal digits.
+    Hex,
+}
+
+/// What a line is.
+#[derive(Clone, Copy)]
+pub enum Sign {
+    /// `case NAME`: the lines up to the next case are over a new host.
+    Case,
+    /// `+ PATH`: a file stands there, with the content that follows.
+    Given(Form),
+    /// `/ PATH`: a folder stands there.
+    Folder,
+    /// `@ PATH TEXT`: a symlink with this text stands there.
+    Link,
+    /// `$ WORDS`: a command, and the lines that it prints.
+    Command,
+    /// `< LINE`: a line of its input.
+    Input(Form),
+    /// `<0 NUMBER`: so many zero bytes of its input.
+    Zeros,
+    /// `<! SIZE CALLS`: the input comes in pieces of this size, and each of so many calls fails in turn.
+    Pieces,
+    /// `? NUMBER`: its status, which is 0 where nothing is said.
+    Status,
+    /// `! NUMBER`: that call of the host fails, and isn't done.
+    Undone,
+    /// `!+ NUMBER`: that call of the host fails, and is done.
+    Done,
+    /// `calls NUMBER`: so many calls of the host are made.
+    Calls,
+    /// `= PATH`: a file that stands there now, with just the content that follows.
+    File(Form),
+    /// `- PATH`: nothing stands there now.
+    Absent,
+    /// `stops`: the case again from its start, with a stop or a failure at each call of the host.
+    Stops,
+    /// `shown`: what the installation shows before the first line that was printed, or after the next one.
+    Shown,
+    /// Two spaces, and a line of what the line above has.
+    Content,
+    /// An empty line, or `#` and anything.
+    Blank,
+    /// Anything else.
+    Unknown,
+}
+
+/// A line without its sign.
+#[derive(Clone, Copy)]
+pub struct Line<'a> {
+    pub sign: Sign,
+    pub text: &'a str,
+}
+
+/// The signs that a text follows.
+const BEFORE_TEXT: [(&str, Sign); 23] = [
+    ("  ", Sign::Content),
+    ("#", Sign::Blank),
+    ("case ", Sign::Case),
+    ("+ ", Sign::Given(Form::Lines)),
+    ("+- ", Sign::Given(Form::Open)),
+    ("+x ", Sign::Given(Form::Hex)),
+    ("/ ", Sign::Folder),
+    ("@ ", Sign::Link),
+    ("$ ", Sign::Command),
+    ("< ", Sign::Input(Form::Lines)),
+    ("<- ", Sign::Input(Form::Open)),
+    ("<x ", Sign::Input(Form::Hex)),
+    ("<0 ", Sign::Zeros),
+    ("<! ", Sign::Pieces),
+    ("? ", Sign::Status),
+    ("! ", Sign::Undone),
+    ("!+ ", Sign::Done),
+    ("calls ", Sign::Calls),
+    ("= ", Sign::File(Form::Lines)),
+    ("=- ", Sign::File(Form::Open)),
+    ("=x ", Sign::File(Form::Hex)),
+    ("- ", Sign::Absent),
+    ("shown ", Sign::Shown),
+];
+
+/// The signs that stand alone.
+const ALONE: [(&str, Sign); 5] = [
+    ("", Sign::Blank),
+    ("$", Sign::Command),
+    ("<", Sign::Input(Form::Lines)),
+    ("stops", Sign::Stops),
+    ("shown", Sign::Shown),
+];
+
+/// Reads how a line begins.
+pub fn line_of(line: &str) -> Line<'_> {
+    for (word, sign) in &ALONE {
+        if *word == line {
+            return Line {
+                sign: *sign,
+                text: "",
+            };
+        }
+    }
+    for (front, sign) in &BEFORE_TEXT {
+        if let Some(text) = line.strip_prefix(*front) {
+            return Line { sign: *sign, text };
+        }
+    }
+    Line {
+        sign: Sign::Unknown,
+        text: line,
+    }
+}

@@ -1,0 +1,125 @@
+//! Where a case is played, and what is asked of any host.
+use crate::case::{Command, Given, GivenKind};
+use fp_host::{Host, HostEnd, Path, Stat};
+use std::alloc::{AllocError, Global};
+use std::thread::Threads;
+
+/// How a command ended.
+#[derive(Drop)]
+pub struct Ran {
+    pub status: u8,
+    pub printed: Vec<u8>,
+    /// How many calls of the host it made, where they are counted.
+    pub calls: Option<u64>,
+}
+
+/// What stands at a path.
+#[derive(Drop)]
+pub enum Found {
+    File { mode: u32, bytes: Vec<u8> },
+    Nothing,
+    /// A folder or a symlink, or what can't be looked at.
+    Other,
+}
+
+/// Where a case is played.
+pub trait Stage {
+    /// Puts something there, with the folders above it. Answers whether that was done.
+    fn give(&mut self, given: &Given, bytes: &[u8]) -> Result<bool, AllocError>;
+
+    /// Runs a command. Its input fails at the call with this number, counted from 0.
+    fn run<T: Threads + Sync>(
+        &mut self,
+        rt: &T,
+        command: &Command,
+        input_fails_at: Option<u64>,
+    ) -> Result<Ran, AllocError>;
+
+    /// Looks at what stands at a path.
+    fn find(&mut self, path: &str) -> Result<Found, AllocError>;
+}
+
+/// An answer, or nothing where the host failed.
+pub fn done<T>(answer: Result<T, HostEnd>) -> Result<Option<T>, AllocError> {
+    match answer {
+        Ok(value) => Ok(Some(value)),
+        Err(HostEnd::Fault) => Ok(None),
+        Err(HostEnd::NoMemory) => Err(AllocError),
+    }
+}
+
+/// Puts something into a host, synced, with the folders above it.
+pub fn give<H: Host>(
+    alloc: Global,
+    host: &mut H,
+    given: &Given,
+    bytes: &[u8],
+) -> Result<(), HostEnd> {
+    make_folders(alloc, host, &given.path)?;
+    let path = Path::parse(alloc, &given.path)?;
+    give_at(host, &path, &given.kind, bytes)
+}
+
+fn give_at<H: Host>(
+    host: &mut H,
+    path: &Path,
+    kind: &GivenKind,
+    bytes: &[u8],
+) -> Result<(), HostEnd> {
+    match kind {
+        GivenKind::File { mode } => give_file(host, path, *mode, bytes)?,
+        GivenKind::Folder => host.make_dir(path)?,
+        GivenKind::Link { text } => host.symlink(text.as_str(), path)?,
+    }
+    host.sync()?;
+    Ok(())
+}
+
+fn give_file<H: Host>(host: &mut H, path: &Path, mode: u32, bytes: &[u8]) -> Result<(), HostEnd> {
+    host.create(path, mode)?;
+    host.append(path, bytes)?;
+    Ok(())
+}
+
+/// Makes the folders above a path.
+fn make_folders<H: Host>(alloc: Global, host: &mut H, path: &str) -> Result<(), HostEnd> {
+    for (at, byte) in path.as_bytes().iter().enumerate() {
+        if *byte == b'/' {
+            make_folder(alloc, host, path.get(..at).unwrap_or(""))?;
+        }
+    }
+    Ok(())
+}
+
+/// Makes a folder that is absent.
+fn make_folder<H: Host>(alloc: Global, host: &mut H, path: &str) -> Result<(), HostEnd> {
+    let path = Path::parse(alloc, path)?;
+    match host.stat(&path)? {
+        Stat::Absent => host.make_dir(&path)?,
+        _ => {}
+    }
+    Ok(())
+}
+
+/// Looks at what stands at a path of a host.
+pub fn find<H: Host>(alloc: Global, host: &mut H, path: &str) -> Result<Found, HostEnd> {
+    let path = Path::parse(alloc, path)?;
+    match host.stat(&path)? {
+        Stat::Absent => Ok(Found::Nothing),
+        Stat::File { mode, size, .. } => read_file(alloc, host, &path, mode, size),
+        Stat::Dir | Stat::Link => Ok(Found::Other),
+    }
+}
+
+fn read_file<H: Host>(
+    alloc: Global,
+    host: &mut H,
+    path: &Path,
+    mode: u32,
+    size: u64,
+) -> Result<Found, HostEnd> {
+    let mut bytes = vec![in alloc; 0u8; size as usize]?;
+    let count = host.read_at(path, 0, &mut bytes)?;
+    bytes.truncate(count);
+    Ok(Found::File { mode, bytes })
+}

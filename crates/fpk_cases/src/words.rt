@@ -1,0 +1,81 @@
+//! The parts of a line.
+use crate::fault::Fault;
+use std::alloc::{AllocError, Global};
+
+/// Cuts words at spaces. A word in single quotes may have spaces, and may be empty.
+pub fn cut_words(alloc: Global, text: &str) -> Result<Vec<String>, AllocError> {
+    let mut words = Vec::new(alloc);
+    for (i, piece) in text.split('\'').enumerate() {
+        if i % 2 == 1 {
+            words.push(String::from_str(alloc, piece)?)?;
+        } else {
+            push_plain(alloc, &mut words, piece)?;
+        }
+    }
+    Ok(words)
+}
+
+/// Adds the words outside of quotes.
+fn push_plain(alloc: Global, words: &mut Vec<String>, text: &str) -> Result<(), AllocError> {
+    for word in text.split(' ') {
+        if !word.is_empty() {
+            words.push(String::from_str(alloc, word)?)?;
+        }
+    }
+    Ok(())
+}
+
+/// A number.
+pub fn number(text: &str) -> Result<u64, Fault> {
+    text.parse::<u64>().map_err(|_| Fault::NoNumber)
+}
+
+/// A number of bytes.
+pub fn size(text: &str) -> Result<usize, Fault> {
+    text.parse::<usize>().map_err(|_| Fault::NoNumber)
+}
+
+/// A status.
+pub fn status(text: &str) -> Result<u8, Fault> {
+    text.parse::<u8>().map_err(|_| Fault::NoNumber)
+}
+
+/// A path, and the permission bits behind it in octal digits, which are 644 where none are said.
+pub fn path_and_mode(text: &str) -> Result<(&str, u32), Fault> {
+    match text.split_once(' ') {
+        None => Ok((text, 0o644)),
+        Some((path, digits)) => match u32::from_str_radix(digits, 8) {
+            Ok(mode) => Ok((path, mode)),
+            Err(_) => Err(Fault::NoMode),
+        },
+    }
+}
+
+/// A word, and what stands behind the space after it.
+pub fn two(text: &str) -> Result<(&str, &str), Fault> {
+    text.split_once(' ').ok_or(Fault::OneWord)
+}
+
+/// Adds a line and its newline.
+pub fn push_line(bytes: &mut Vec<u8>, text: &str) -> Result<(), Fault> {
+    bytes.extend_from_slice(text.as_bytes())?;
+    bytes.push(b'\n')?;
+    Ok(())
+}
+
+/// Adds a line without a newline.
+pub fn push_text(bytes: &mut Vec<u8>, text: &str) -> Result<(), Fault> {
+    bytes.extend_from_slice(text.as_bytes())?;
+    Ok(())
+}
+
+/// Adds the bytes that hexadecimal digits stand for.
+pub fn push_hex(alloc: Global, bytes: &mut Vec<u8>, digits: &str) -> Result<(), Fault> {
+    match hex::decode(alloc, digits) {
+        Ok(some) => {
+            bytes.extend_from_slice(&some)?;
+            Ok(())
+        }
+        Err(_) => Err(Fault::NoHex),
+    }
+}
