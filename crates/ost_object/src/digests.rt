@@ -1,4 +1,4 @@
-// Digests in metadata objects.
+//! Digests in metadata objects.
 ghost use Rattle.std.specs.Prelude.{◌≡◌, ◌==◌, ◌||◌, length, Some, None, if◌then◌else◌};
 ghost use Rattle.ost_model.specs.Readers.{is_long};
 ghost use Rattle.ost_object.specs.Answers.{Tries, as_is};
