@@ -1,12 +1,14 @@
 pub mod Bound
-pub mod Copied
-pub mod Eight
+pub mod Divided
+pub mod Judging
+pub mod Kept
 pub mod Lengths
 pub mod Merging
 pub mod Names
 pub mod OneCommit
 pub mod OneTree
 pub mod OneValue
+pub mod Parts
 pub mod Rows
 pub mod Shapes
 pub mod Trees

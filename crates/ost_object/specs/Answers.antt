@@ -1,5 +1,6 @@
 -- What reading and writing answer, by what the definitions read. Nothing is said of want of memory.
 use Rattle.std.specs.Prelude.{◌≡◌, ⊤, List, [], ◌∷◌, Bool, if◌then◌else◌, Option, Some, None, option_map, option_and_then, Result, Ok, Err}
+use Rattle.std.specs.Option.{IsSome}
 use Rattle.fp_base.specs.declared.rule.Rule.{Rule}
 use Rattle.fp_base.specs.declared.rule.Rule.TheVariants as rules
 use Rattle.ost_object.specs.declared.error.ObjectError.{ObjectError}
@@ -23,6 +24,11 @@ Tries broken view (Err e) there = Misses broken e there
 abbrev pub Finds : {X Y : Type 0} → (X → Y) → Result X ObjectError → Option Y → Type 0
 Finds = Tries rules.Value
 
+-- what was returned is whether a value is there
+abbrev pub Holds : {X Y : Type 0} → Result X ObjectError → Option Y → Type 0
+Holds (Ok x) there = IsSome there
+Holds (Err e) there = Misses rules.Value e there
+
 unfoldable pub passing : {A : Type 0} → (A → Bool) → A → Option A
 passing test a = if test a then Some a else None
 
@@ -41,3 +47,8 @@ Breaks errors.NoMemory read = ⊤
 abbrev pub Reads : {X Y : Type 0} → (X → Y) → Result X ObjectError → Result Y Rule → Type 0
 Reads view (Ok x) read = read ≡ Ok (view x)
 Reads view (Err e) read = Breaks e read
+
+-- a part of what is read
+abbrev pub mapped : {A B : Type 0} → (A → B) → Result A Rule → Result B Rule
+mapped part (Ok a) = Ok (part a)
+mapped part (Err rule) = Err rule

@@ -1,6 +1,6 @@
 pub mod Answers
-pub mod Copies
-pub mod Members
+pub mod Decodes
+pub mod Entries
 pub mod Values
 pub mod Views
 pub mod Writes

@@ -1,18 +1,42 @@
 -- What the objects of the code stand for.
-use Rattle.std.specs.Prelude.{ℕ, true, List, [], map, Option, Some, None}
+use Rattle.std.specs.Prelude.{ℕ, true, List, [], ◌∷◌, map, Option, Some, None, option_and_then, unwrap_or}
+use Rattle.gv_value.specs.declared.basic.Basic.TheVariants as basics
+use Rattle.gv_value.specs.Reading.{value_of}
+use Rattle.gv_value.specs.Shape.{Shape}
 use Rattle.gv_value.specs.Tree.{Tree}
-use Rattle.gv_value.specs.Views.{plain}
-use Rattle.ost_model.specs.Fields.{CommitView, FileRow, DirRow, TreeView, MetaView}
+use Rattle.ost_model.specs.Types.{dictionary_shape, related_shape, text_shape}
+use Rattle.ost_model.specs.Fields.{CommitView, FileRow, DirRow, TreeView, MetaView, text_in, time_in}
 use Rattle.ost_model.specs.Readers.{file_name, dir_name}
 use Rattle.ost_object.specs.declared.commit.Commit.{Commit}
+use Rattle.ost_object.specs.declared.commit.CommitRoot.{CommitRoot}
+use Rattle.ost_object.specs.declared.commit_parts.CommitParts.{CommitParts}
+use Rattle.ost_object.specs.declared.commit_parts.CommitDigests.{CommitDigests}
 use Rattle.ost_object.specs.declared.dirtree.FileEntry.{FileEntry}
 use Rattle.ost_object.specs.declared.dirtree.DirEntry.{DirEntry}
 use Rattle.ost_object.specs.declared.dirtree.DirTree.{DirTree}
 use Rattle.ost_object.specs.declared.dirmeta.DirMeta.{DirMeta}
-use Rattle.ost_object.specs.declared.fields.CommitFields.{CommitFields}
 use Rattle.ost_object.specs.declared.fields.FileFields.{FileFields}
 use Rattle.ost_object.specs.declared.fields.DirFields.{DirFields}
 use Rattle.ost_object.specs.declared.fields.MetaFields.{MetaFields}
+
+-- ---- bytes that are kept
+
+-- the value of a type that bytes are; `nothing` where they are none
+unfoldable pub tree_at : Shape → List ℕ → Tree
+tree_at t bytes = unwrap_or (value_of t bytes) Tree.nothing
+
+abbrev pub time_shape : Shape
+time_shape = Shape.basic basics.Uint64
+
+-- the text that bytes of type `s` are, else the empty one
+abbrev pub text_at : List ℕ → List ℕ
+text_at bytes = unwrap_or (option_and_then text_in (value_of text_shape bytes)) []
+
+-- the time that bytes of type `t` are, else 0
+abbrev pub time_at : List ℕ → ℕ
+time_at bytes = unwrap_or (option_and_then time_in (value_of time_shape bytes)) 0
+
+-- ---- commits
 
 -- no bytes where there is no parent
 abbrev pub parent_bytes : Option (List ℕ) → List ℕ
@@ -21,15 +45,52 @@ parent_bytes (Some digest) = digest
 
 abbrev pub commit_view : Commit → CommitView
 commit_view c = record {
-  metadata = plain c.metadata;
+  metadata = tree_at dictionary_shape c.metadata;
   parent = parent_bytes c.parent;
-  related = plain c.related;
+  related = tree_at related_shape c.related;
   subject = c.subject;
   body = c.body;
   timestamp = c.timestamp;
   tree = c.tree;
   meta = c.meta;
 }
+
+-- the two digests of the root
+abbrev pub root_in : CommitView → List ℕ × List ℕ
+root_in c = (c.tree, c.meta)
+
+abbrev pub root_view : CommitRoot → List ℕ × List ℕ
+root_view r = (r.tree, r.meta)
+
+-- and the parent before them
+abbrev pub digests_in : CommitView → List ℕ × List ℕ × List ℕ
+digests_in c = (c.parent, c.tree, c.meta)
+
+abbrev pub digests_view : CommitDigests → List ℕ × List ℕ × List ℕ
+digests_view d = (parent_bytes d.parent, d.tree, d.meta)
+
+-- the bytes of the eight fields of a commit, as what they say
+abbrev pub parts_view : CommitParts → CommitView
+parts_view p = record {
+  metadata = tree_at dictionary_shape p.metadata.now;
+  parent = p.parent.now;
+  related = tree_at related_shape p.related.now;
+  subject = text_at p.subject.now;
+  body = text_at p.body.now;
+  timestamp = time_at p.time.now;
+  tree = p.tree.now;
+  meta = p.meta.now;
+}
+
+abbrev pub part_list : CommitParts → List (List ℕ)
+part_list p = p.metadata.now ∷ p.parent.now ∷ p.related.now ∷ p.subject.now ∷ p.body.now ∷ p.time.now ∷ p.tree.now ∷ p.meta.now ∷ []
+
+-- lists of eight
+abbrev pub if_eight : List (List ℕ) → Option (List (List ℕ))
+if_eight (a ∷ p ∷ r ∷ s ∷ b ∷ t ∷ d ∷ m ∷ []) = Some (a ∷ p ∷ r ∷ s ∷ b ∷ t ∷ d ∷ m ∷ [])
+if_eight _ = None
+
+-- ---- dirtrees and dirmetas
 
 abbrev pub file_row : FileEntry → FileRow
 file_row f = record { name = f.name; digest = f.digest }
@@ -47,19 +108,6 @@ abbrev pub meta_view : DirMeta → MetaView
 meta_view m = record { uid = 0; gid = 0; mode = m.mode; bare = true }
 
 -- ---- fields as they were read
-
--- with the two fields that are kept as values
-abbrev pub commit_fields : Tree → Tree → CommitFields → CommitView
-commit_fields metadata related c = record {
-  metadata = metadata;
-  parent = c.parent;
-  related = related;
-  subject = c.subject;
-  body = c.body;
-  timestamp = c.timestamp;
-  tree = c.tree;
-  meta = c.meta;
-}
 
 abbrev pub file_fields : FileFields → FileRow
 file_fields f = record { name = f.name; digest = f.digest }

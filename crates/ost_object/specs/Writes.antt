@@ -10,7 +10,7 @@ use Rattle.ost_object.specs.declared.error.ObjectError.TheVariants as errors
 
 -- ---- bytes that read as an object
 
--- Why there are none: no bytes read as it. The rule is the first behind `Value` that it breaks itself, and `Value` where it
+-- Why there are none: no bytes read as it. The rule is the first after `Value` that it breaks itself, and `Value` where it
 -- breaks none of them.
 abbrev pub Refuses : {Y : Type 0} → (List ℕ → Result Y Rule) → (Y → Option Rule) → ObjectError → Y → Type 0
 Refuses read breaks (errors.Malformed rule) y = (rule ≡ unwrap_or (breaks y) rules.Value) × ((bytes : List ℕ) → read bytes ≢ Ok y)

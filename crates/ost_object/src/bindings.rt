@@ -1,39 +1,67 @@
-// The refs that a commit is bound to.
-ghost use Rattle.std.specs.Prelude.{◌≡◌, IfOk, option_map, option_and_then};
-ghost use Rattle.gv_value.specs.Shape.{basic};
+//! The refs that a commit is bound to.
+ghost use Rattle.std.specs.Prelude.{◌≡◌, ◌↔◌, ◌∷◌, [], IfOk, IsTrue, option_map, option_and_then};
+ghost use Rattle.std.specs.Option.{IsSome};
+ghost use Rattle.gv_value.specs.Reading.{value_of};
+ghost use Rattle.gv_value.specs.Shape.{basic, variant};
 ghost use Rattle.gv_value.specs.Tree.{array, byte_trees};
 ghost use Rattle.gv_value.specs.Views.{shape_of, plain, plains};
+ghost use Rattle.gv_decode.specs.Decoded.{slices};
 ghost use Rattle.ost_model.specs.Fields.{text_in, items_in, each_of};
 ghost use Rattle.ost_model.specs.Binding as spec;
 ghost use Rattle.ost_model.specs.Binding.{texts_in, is_named, named_in, binding_name, binding_in};
+ghost use Rattle.ost_model.specs.Types.{dictionary_shape, text_shape};
 ghost use Rattle.ost_object.specs.Answers.{Finds};
+ghost use Rattle.ost_object.specs.Entries.{entry_shape, entry_trees, pair_tree, AreEntries, Divides};
+ghost use Rattle.ost_object.specs.Views.{tree_at};
 
 use crate::commit::Commit;
 use crate::error::ObjectError;
-use crate::values::text_of;
-use fp_host::Items;
-use gv_value::{Basic, GvType, GvValue, Kind, Parts, Text};
+use crate::types::{dictionary_type, entry_type, variant_type};
+use crate::values::{check, children_of, text_of, text_of_bytes, value_of};
+use fp_base::{Items, Text};
+use gv_decode::{DecodeError, variant_parts};
+use gv_value::{Basic, GvType, GvValue, Kind, Parts};
 use std::alloc::{AllocError, Global};
 
 /// The refs that a commit says it was made for: the value of the last entry `ostree.ref-binding` of its metadata, where that
-/// has type `as`.
+/// has type `as`. Of the metadata no value is made but that one.
 pub fn binding(alloc: Global, commit: &Commit) -> Result<Option<Items<Text>>, AllocError>
-    ensures { IfOk result (λ found. found ≡ binding_in (plain commit.now.metadata)) }
+    ensures { IfOk result (λ found. found ≡ binding_in (tree_at dictionary_shape commit.now.metadata)) }
 {
-    match commit.metadata.parts() {
-        Parts::Array(entries) => last_binding(alloc, entries),
-        Parts::Bytes(_bytes) => Ok(None),
-        _ => Ok(None),
+    match entries_of(alloc, commit.metadata.as_slice()) {
+        Ok(entries) => last_binding(alloc, &entries),
+        Err(ObjectError::Malformed(_rule)) => Ok(None),
+        Err(ObjectError::NoMemory) => Err(AllocError),
     }
 }
 
-/// The same by the entries of the metadata.
-fn last_binding(alloc: Global, entries: &[GvValue]) -> Result<Option<Items<Text>>, AllocError>
-    ensures { IfOk result (λ found. found ≡ binding_in (array (plains entries.now))) }
+/// The bytes of the entries of metadata.
+fn entries_of(alloc: Global, bytes: &[u8]) -> Result<Vec<&[u8]>, ObjectError>
+    ensures { Divides (λ entries. slices entries.items) result bytes.now }
+{
+    let of = dictionary_type(alloc)?;
+    check(alloc, &of, bytes)?;
+    children_of(alloc, &of, bytes)
+}
+
+/// The last binding among entries.
+fn last_binding(alloc: Global, entries: &[&[u8]]) -> Result<Option<Items<Text>>, AllocError>
+    requires { AreEntries (slices entries.now) }
+    ensures { IfOk result (λ found. found ≡ binding_in (array (entry_trees (slices entries.now)))) }
+{
+    let of = entry_type(alloc)?;
+    last_of(alloc, &of, entries)
+}
+
+/// The last binding among entries, by their type.
+fn last_of(alloc: Global, of: &GvType, entries: &[&[u8]]) -> Result<Option<Items<Text>>, AllocError>
+    requires shape { shape_of of.now ≡ entry_shape }
+    requires normal { AreEntries (slices entries.now) }
+    ensures { IfOk result (λ found. found ≡ binding_in (array (entry_trees (slices entries.now)))) }
 {
     let mut found = None;
     for entry in entries {
-        if let Some(texts) = bound_by(alloc, entry)? {
+        if let Some(texts) = bound_by(alloc, of, entry)? {
             found = texts;
         }
     }
@@ -41,13 +69,30 @@ fn last_binding(alloc: Global, entries: &[GvValue]) -> Result<Option<Items<Text>
 }
 
 /// The texts of an entry, where it is a binding.
-fn bound_by(alloc: Global, entry: &GvValue) -> Result<Option<Option<Items<Text>>>, AllocError>
-    ensures { IfOk result (λ found. found ≡ option_map texts_in (named_in binding_name (plain entry.now))) }
+fn bound_by(
+    alloc: Global,
+    of: &GvType,
+    entry: &[u8],
+) -> Result<Option<Option<Items<Text>>>, AllocError>
+    requires shape { shape_of of.now ≡ entry_shape }
+    requires normal { IsSome (value_of entry_shape entry.now) }
+    ensures { IfOk result (λ found. found ≡ option_map texts_in (named_in binding_name (tree_at entry_shape entry.now))) }
 {
-    match entry.parts() {
-        Parts::Entry(key, value) => {
-            if is_binding_name(key) {
-                Ok(Some(texts_of(alloc, value)?))
+    match children_of(alloc, of, entry) {
+        Ok(members) => bound_pair(alloc, &members),
+        Err(ObjectError::Malformed(_rule)) => Ok(None),
+        Err(ObjectError::NoMemory) => Err(AllocError),
+    }
+}
+
+/// The same by the entry's key and value.
+fn bound_pair(alloc: Global, members: &[&[u8]]) -> Result<Option<Option<Items<Text>>>, AllocError>
+    ensures { IfOk result (λ found. found ≡ option_map texts_in (named_in binding_name (pair_tree (slices members.now)))) }
+{
+    match members {
+        [key, value] => {
+            if is_binding(alloc, key)? {
+                Ok(Some(texts_of_bytes(alloc, value)?))
             } else {
                 Ok(None)
             }
@@ -56,13 +101,51 @@ fn bound_by(alloc: Global, entry: &GvValue) -> Result<Option<Option<Items<Text>>
     }
 }
 
-/// Whether a key is the name of the binding.
-fn is_binding_name(key: &GvValue) -> bool
-    ensures { result ≡ is_named binding_name (plain key.now) }
+/// Whether the bytes of a key are the name of the binding.
+fn is_binding(alloc: Global, key: &[u8]) -> Result<bool, AllocError>
+    ensures { IfOk result (λ named. named ≡ is_named binding_name (tree_at text_shape key.now)) }
 {
-    match key {
-        GvValue::Str(text) => text.as_str() == "ostree.ref-binding",
+    let text = text_of_bytes(alloc, key)?;
+    Ok(text.as_str() == "ostree.ref-binding")
+}
+
+/// The texts of the bytes of a variant of type `as`.
+fn texts_of_bytes(alloc: Global, bytes: &[u8]) -> Result<Option<Items<Text>>, AllocError>
+    ensures { IfOk result (λ found. found ≡ texts_in (tree_at variant bytes.now)) }
+{
+    match variant_parts(bytes) {
+        Ok((_inside, text)) => {
+            if are_texts_by(text) {
+                texts_of_variant(alloc, bytes)
+            } else {
+                Ok(None)
+            }
+        }
+        Err(DecodeError::NotNormal) => Ok(None),
+        Err(DecodeError::TooLong) => Ok(None),
+        Err(DecodeError::NoMemory) => Err(AllocError),
+    }
+}
+
+/// Whether a type string is `as`.
+fn are_texts_by(text: &[u8]) -> bool
+    ensures { IsTrue result ↔ (text.now ≡ 97 ∷ (115 ∷ [])) }
+{
+    match text {
+        [b'a', b's'] => true,
         _ => false,
+    }
+}
+
+/// The same where the type is `as`.
+fn texts_of_variant(alloc: Global, bytes: &[u8]) -> Result<Option<Items<Text>>, AllocError>
+    ensures { IfOk result (λ found. found ≡ texts_in (tree_at variant bytes.now)) }
+{
+    let of = variant_type(alloc)?;
+    match value_of(alloc, &of, bytes) {
+        Ok(value) => texts_of(alloc, &value),
+        Err(ObjectError::Malformed(_rule)) => Ok(None),
+        Err(ObjectError::NoMemory) => Err(AllocError),
     }
 }
 

@@ -1,19 +1,29 @@
-// A commit.
+//! A commit.
+use fp_base::{Blob, Text};
 use fp_name::Digest;
-use gv_value::{GvValue, Text};
 
-/// A commit object: `(a{sv}aya(say)sstayay)`.
+/// A commit object: `(a{sv}aya(say)sstayay)`. What isn't looked at is kept as its bytes, which a reader has checked to be in
+/// GVariant's normal form: so the memory of a commit is little more than its bytes, however they were made.
 #[derive(Drop)]
 pub struct Commit {
-    /// Of type `a{sv}`.
-    pub metadata: GvValue,
+    /// The bytes of a value of type `a{sv}`.
+    pub metadata: Blob,
     pub parent: Option<Digest>,
-    /// Of type `a(say)`.
-    pub related: GvValue,
+    /// The bytes of a value of type `a(say)`.
+    pub related: Blob,
     pub subject: Text,
     pub body: Text,
     /// Seconds since the beginning of 1970.
     pub timestamp: u64,
+    /// The dirtree of the root.
+    pub tree: Digest,
+    /// The dirmeta of the root.
+    pub meta: Digest,
+}
+
+/// The root of a commit: all that a walk reads of it.
+#[derive(Clone, Copy, Debug, PartialEq, Eq)]
+pub struct CommitRoot {
     /// The dirtree of the root.
     pub tree: Digest,
     /// The dirmeta of the root.

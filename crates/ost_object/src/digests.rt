@@ -1,12 +1,12 @@
-// Digests in metadata objects.
+//! Digests in metadata objects.
 ghost use Rattle.std.specs.Prelude.{◌≡◌, ◌==◌, ◌||◌, length, Some, None, if◌then◌else◌};
 ghost use Rattle.ost_model.specs.Readers.{is_long};
 ghost use Rattle.ost_object.specs.Answers.{Tries, as_is};
 ghost use Rattle.ost_object.specs.Views.{parent_bytes};
 
 use crate::error::ObjectError;
+use fp_base::Rule;
 use fp_name::Digest;
-use ost_model::Rule;
 
 /// A digest of 32 bytes. Bytes of another length break the rule.
 pub fn digest_of(bytes: &[u8], broken: Rule) -> Result<Digest, ObjectError>

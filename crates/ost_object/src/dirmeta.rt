@@ -1,4 +1,4 @@
-// The metadata of a directory.
+//! The metadata of a directory.
 
 /// A dirmeta object, `(uuua(ayay))`: owner and group are 0, and there are no extended attributes.
 #[derive(Clone, Copy, Debug, PartialEq, Eq)]

@@ -1,7 +1,6 @@
-// The names in a directory.
-use fp_host::Items;
+//! The names in a directory.
+use fp_base::{Items, Text};
 use fp_name::Digest;
-use gv_value::Text;
 
 /// A file or a link in a directory, with the digest of its object.
 #[derive(Drop)]

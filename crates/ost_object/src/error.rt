@@ -1,7 +1,7 @@
 ghost use Rattle.std.specs.Prelude.{◌≡◌};
 ghost use Rattle.ost_object.specs.declared.error.ObjectError.TheVariants.{NoMemory};
 
-use ost_model::Rule;
+use fp_base::Rule;
 use std::alloc::{AllocError, AllocFailed};
 use std::error::Error;
 use std::fmt;

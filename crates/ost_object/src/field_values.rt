@@ -1,11 +1,12 @@
-// The values that fields are written as.
+//! The values that fields are written as.
 ghost use Rattle.std.specs.Prelude.{◌≡◌, true, IfOk};
 ghost use Rattle.gv_value.specs.Views.{plain};
 ghost use Rattle.ost_model.specs.Readers.{is_long};
 ghost use Rattle.ost_object.specs.Values.{text_value, bytes_value};
 
+use fp_base::{Blob, Text};
 use fp_name::Digest;
-use gv_value::{Blob, GvValue, Text};
+use gv_value::GvValue;
 use std::alloc::{AllocError, Global};
 
 /// A text as a value of type `s`.

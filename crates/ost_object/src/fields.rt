@@ -1,16 +1,5 @@
-// Fields of metadata objects as they were read, before the rules behind `Value` are tried.
-use gv_value::{Blob, Text};
-
-/// The fields of a commit but for its metadata and what is related.
-#[derive(Drop)]
-pub struct CommitFields {
-    pub parent: Blob,
-    pub subject: Text,
-    pub body: Text,
-    pub timestamp: u64,
-    pub tree: Blob,
-    pub meta: Blob,
-}
+//! Fields of metadata objects as they were read, before the rules after `Value` are tried.
+use fp_base::{Blob, Text};
 
 /// A file's name and digest.
 #[derive(Drop)]

@@ -3,6 +3,7 @@
 
 mod bindings;
 mod commit;
+mod commit_parts;
 mod digests;
 mod dirmeta;
 mod dirtree;
@@ -23,11 +24,11 @@ mod writing_metas;
 mod writing_trees;
 
 pub use bindings::binding;
-pub use commit::Commit;
+pub use commit::{Commit, CommitRoot};
 pub use dirmeta::DirMeta;
 pub use dirtree::{DirEntry, DirTree, FileEntry};
 pub use error::ObjectError;
-pub use reading_commits::read_commit;
+pub use reading_commits::{commit_root, read_commit};
 pub use reading_metas::read_dirmeta;
 pub use reading_trees::read_dirtree;
 pub use writing_commits::write_commit;

@@ -1,108 +1,77 @@
-// Commits, as they are read.
-ghost use Rattle.std.specs.Prelude.{◌≡◌, length, OnOk, Some};
-ghost use Rattle.gv_value.specs.Tree.{Tree, tuple};
-ghost use Rattle.gv_value.specs.Views.{plain, plains};
-ghost use Rattle.ost_model.specs.Fields.{commit_in, commit_from, bytes_in, text_in, time_in};
-ghost use Rattle.ost_model.specs.Readers.{judged, commit_breaks, commit_read};
-ghost use Rattle.ost_object.specs.Answers.{Finds, Reads};
-ghost use Rattle.ost_object.specs.Members.{plain_at};
-ghost use Rattle.ost_object.specs.Views.{commit_fields, commit_view};
+//! Commits, as they are read.
+ghost use Rattle.std.specs.Prelude.{◌≡◌, IfOk};
+ghost use Rattle.ost_model.specs.Readers.{commit_read};
+ghost use Rattle.ost_object.specs.Answers.{Reads, mapped};
+ghost use Rattle.ost_object.specs.Views.{commit_view, parts_view, digests_view, digests_in, root_view, root_in, text_at, time_at};
 
-use crate::commit::Commit;
-use crate::digests::{digest_of, parent_of};
+use crate::commit::{Commit, CommitRoot};
+use crate::commit_parts::{CommitDigests, CommitParts, commit_digests, commit_parts};
 use crate::error::ObjectError;
-use crate::fields::CommitFields;
-use crate::types::commit_type;
-use crate::values::{bytes_of, text_of, time_of, value_of};
-use gv_value::GvValue;
-use ost_model::Rule;
-use std::alloc::Global;
+use crate::values::{text_of_bytes, time_of_bytes};
+use fp_base::{Blob, Text};
+use std::alloc::{AllocError, Global};
 
 /// The commit that bytes are, or the first rule that they break.
 pub fn read_commit(alloc: Global, bytes: &[u8]) -> Result<Commit, ObjectError>
     ensures { Reads commit_view result (commit_read bytes.now) }
 {
-    let of = commit_type(alloc)?;
-    let value = value_of(alloc, &of, bytes)?;
-    match value {
-        GvValue::Tuple(members) => commit_members(alloc, members),
-        _other => Err(ObjectError::Malformed(Rule::Value)),
+    let parts = commit_parts(alloc, bytes)?;
+    let digests = commit_digests(&parts)?;
+    Ok(whole_commit(alloc, &parts, digests)?)
+}
+
+/// The root of the commit that bytes are, or the first rule that they break: as `read_commit`, with nothing copied.
+pub fn commit_root(alloc: Global, bytes: &[u8]) -> Result<CommitRoot, ObjectError>
+    ensures { Reads root_view result (mapped root_in (commit_read bytes.now)) }
+{
+    let parts = commit_parts(alloc, bytes)?;
+    match commit_digests(&parts) {
+        Ok(digests) => Ok(CommitRoot {
+            tree: digests.tree,
+            meta: digests.meta,
+        }),
+        Err(error) => Err(error),
     }
 }
 
-/// The commit that a value's members are, or the first rule that they break.
-fn commit_members(alloc: Global, members: Vec<GvValue>) -> Result<Commit, ObjectError>
-    ensures { Reads commit_view result (judged commit_breaks (commit_in (tuple (plains members.items)))) }
-{
-    let mut members = members;
-    let fields = fields_of(alloc, &members)?;
-    let related = members.swap_remove(2);
-    let metadata = members.swap_remove(0);
-    kept_commit(metadata, related, fields)
-}
-
-/// The fields of a commit's members, but for two.
-fn fields_of(alloc: Global, members: &[GvValue]) -> Result<CommitFields, ObjectError>
-    ensures fields { Finds (commit_fields (plain_at members.now 0) (plain_at members.now 2)) result (commit_in (tuple (plains members.now))) }
-    ensures count { OnOk result (length members.now ≡ 8) }
-{
-    match members {
-        [_, parent, _, subject, body, time, tree, meta] => {
-            middle_fields(alloc, parent, subject, body, time, tree, meta)
-        }
-        _ => Err(ObjectError::Malformed(Rule::Value)),
-    }
-}
-
-/// The fields that are texts, numbers and digests.
-fn middle_fields(
+/// The commit of these fields and digests.
+fn whole_commit(
     alloc: Global,
-    parent: &GvValue,
-    subject: &GvValue,
-    body: &GvValue,
-    time: &GvValue,
-    tree: &GvValue,
-    meta: &GvValue,
-) -> Result<CommitFields, ObjectError>
-    ensures { (metadata related : Tree) → Finds (commit_fields metadata related) result (commit_from metadata related
-        (bytes_in (plain parent.now)) (text_in (plain subject.now)) (text_in (plain body.now)) (time_in (plain time.now))
-        (bytes_in (plain tree.now)) (bytes_in (plain meta.now))) }
+    parts: &CommitParts<'_>,
+    digests: CommitDigests,
+) -> Result<Commit, AllocError>
+    requires { digests_view digests ≡ digests_in (parts_view parts.now) }
+    ensures { IfOk result (λ commit. commit_view commit ≡ parts_view parts.now) }
 {
-    let parent = bytes_of(alloc, parent)?;
-    let subject = text_of(alloc, subject)?;
-    let body = text_of(alloc, body)?;
-    let timestamp = time_of(time)?;
-    let tree = bytes_of(alloc, tree)?;
-    let meta = bytes_of(alloc, meta)?;
-    Ok(CommitFields {
-        parent,
+    let timestamp = time_of_bytes(alloc, parts.time)?;
+    let (subject, body) = said_in(alloc, parts)?;
+    let (metadata, related) = kept_of(alloc, parts)?;
+    Ok(Commit {
+        metadata,
+        parent: digests.parent,
+        related,
         subject,
         body,
         timestamp,
-        tree,
-        meta,
+        tree: digests.tree,
+        meta: digests.meta,
     })
 }
 
-/// The commit of these fields, or the first rule behind `Value` that they break.
-fn kept_commit(
-    metadata: GvValue,
-    related: GvValue,
-    fields: CommitFields,
-) -> Result<Commit, ObjectError>
-    ensures { Reads commit_view result (judged commit_breaks (Some (commit_fields (plain metadata) (plain related) fields))) }
+/// The subject and the body.
+fn said_in(alloc: Global, parts: &CommitParts<'_>) -> Result<(Text, Text), AllocError>
+    ensures { IfOk result (λ texts. (texts.0 ≡ text_at parts.now.subject.now) × (texts.1 ≡ text_at parts.now.body.now)) }
 {
-    let parent = parent_of(fields.parent.as_slice())?;
-    let tree = digest_of(fields.tree.as_slice(), Rule::Tree)?;
-    let meta = digest_of(fields.meta.as_slice(), Rule::Meta)?;
-    Ok(Commit {
-        metadata,
-        parent,
-        related,
-        subject: fields.subject,
-        body: fields.body,
-        timestamp: fields.timestamp,
-        tree,
-        meta,
-    })
+    let subject = text_of_bytes(alloc, parts.subject)?;
+    let body = text_of_bytes(alloc, parts.body)?;
+    Ok((subject, body))
+}
+
+/// The metadata and what is related, which are kept as they are.
+fn kept_of(alloc: Global, parts: &CommitParts<'_>) -> Result<(Blob, Blob), AllocError>
+    ensures { IfOk result (λ kept. (kept.0 ≡ parts.now.metadata.now) × (kept.1 ≡ parts.now.related.now)) }
+{
+    let metadata = Blob::from_slice(alloc, parts.metadata)?;
+    let related = Blob::from_slice(alloc, parts.related)?;
+    Ok((metadata, related))
 }

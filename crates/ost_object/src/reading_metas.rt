@@ -1,4 +1,4 @@
-// Dirmetas, as they are read.
+//! Dirmetas, as they are read.
 ghost use Rattle.std.specs.Prelude.{◌≡◌};
 ghost use Rattle.gv_value.specs.Tree.{tuple, byte_trees};
 ghost use Rattle.gv_value.specs.Views.{plain, plains};
@@ -13,8 +13,8 @@ use crate::error::ObjectError;
 use crate::fields::MetaFields;
 use crate::types::meta_type;
 use crate::values::{number_of, value_of};
+use fp_base::Rule;
 use gv_value::{GvValue, Parts};
-use ost_model::Rule;
 use std::alloc::Global;
 
 /// The dirmeta that bytes are, or the first rule that they break.
@@ -83,7 +83,7 @@ fn is_bare_of_bytes(bytes: &[u8]) -> bool
     }
 }
 
-/// The dirmeta of these fields, or the first rule behind `Value` that they break.
+/// The dirmeta of these fields, or the first rule after `Value` that they break.
 fn judged(fields: MetaFields) -> Result<DirMeta, ObjectError>
     ensures { Reads meta_view result (kept (meta_breaks (meta_fields fields)) (meta_fields fields)) }
 {

@@ -1,4 +1,4 @@
-// The rows of a dirtree, as they are read.
+//! The rows of a dirtree, as they are read.
 ghost use Rattle.std.specs.Prelude.{◌≡◌, map, option_and_then};
 ghost use Rattle.gv_value.specs.Tree.{tuple, byte_trees};
 ghost use Rattle.gv_value.specs.Views.{plain, plains};
@@ -12,8 +12,8 @@ use crate::dirtree::{DirEntry, FileEntry};
 use crate::error::ObjectError;
 use crate::fields::{DirFields, FileFields};
 use crate::values::{bytes_of, text_of};
-use gv_value::{GvValue, Text};
-use ost_model::Rule;
+use fp_base::{Rule, Text};
+use gv_value::GvValue;
 use std::alloc::Global;
 
 /// A file: its name and its digest.

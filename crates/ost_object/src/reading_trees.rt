@@ -1,4 +1,4 @@
-// Dirtrees, as they are read.
+//! Dirtrees, as they are read.
 ghost use Rattle.std.specs.Prelude.{◌≡◌, true, map};
 ghost use Rattle.std.specs.List.{list_all};
 ghost use Rattle.gv_value.specs.Tree.{tuple};
@@ -15,9 +15,8 @@ use crate::reading_rows::{dir_entries, dirs_of, file_entries, files_of};
 use crate::tree_rules::broken_name;
 use crate::types::tree_type;
 use crate::values::value_of;
-use fp_host::Items;
+use fp_base::{Items, Rule};
 use gv_value::GvValue;
-use ost_model::Rule;
 use std::alloc::Global;
 
 /// The dirtree that bytes are, or the first rule that they break.
@@ -60,7 +59,7 @@ fn row_members(
     }
 }
 
-/// The dirtree of these rows, or the first rule behind `Value` that they break.
+/// The dirtree of these rows, or the first rule after `Value` that they break.
 fn judged(alloc: Global, files: &[FileFields], dirs: &[DirFields]) -> Result<DirTree, ObjectError>
     ensures { Reads tree_view result (kept (tree_breaks (tree_fields files.now dirs.now)) (tree_fields files.now dirs.now)) }
 {
@@ -85,7 +84,7 @@ fn judged_dirs(
     }
 }
 
-/// The dirtree, or the first rule behind `Digest` that it breaks.
+/// The dirtree, or the first rule after `Digest` that it breaks.
 fn named(files: Vec<FileEntry>, dirs: Vec<DirEntry>) -> Result<DirTree, ObjectError>
     ensures { Reads tree_view result (kept (first_broken (name_tests (rows_view files.items dirs.items))) (rows_view files.items dirs.items)) }
 {

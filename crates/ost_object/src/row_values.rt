@@ -1,4 +1,4 @@
-// The values that the rows of a dirtree are written as.
+//! The values that the rows of a dirtree are written as.
 ghost use Rattle.std.specs.Prelude.{◌≡◌, true, map, IfOk, OnOk};
 ghost use Rattle.std.specs.List.{list_all};
 ghost use Rattle.gv_value.specs.Views.{plain, plains};

@@ -1,4 +1,4 @@
-// The rules of names in a dirtree.
+//! The rules of names in a dirtree.
 ghost use Rattle.std.specs.Prelude.{◌≡◌, true};
 ghost use Rattle.std.specs.List.{list_all};
 ghost use Rattle.fp_host.specs.Paths.{is_element as is_name};
@@ -7,11 +7,11 @@ ghost use Rattle.ost_model.specs.Readers.{first_broken, name_tests, shares};
 ghost use Rattle.ost_object.specs.Views.{names_of_files, names_of_dirs, rows_view};
 
 use crate::dirtree::{DirEntry, FileEntry};
+use fp_base::Rule;
 use fp_host::is_element;
-use ost_model::Rule;
 use std::cmp::Ordering;
 
-/// The first rule behind `Digest` that a dirtree breaks.
+/// The first rule after `Digest` that a dirtree breaks.
 pub fn broken_name(files: &[FileEntry], dirs: &[DirEntry]) -> Option<Rule>
     ensures { result ≡ first_broken (name_tests (rows_view files.now dirs.now)) }
 {

@@ -1,7 +1,9 @@
-// The types of metadata objects.
+//! The types of metadata objects.
 ghost use Rattle.std.specs.Prelude.{◌≡◌, IfOk, IsErr};
+ghost use Rattle.gv_value.specs.Shape.{variant};
 ghost use Rattle.gv_value.specs.Views.{shape_of};
 ghost use Rattle.ost_model.specs.Types.{commit_shape, dictionary_shape, related_shape, tree_shape, meta_shape};
+ghost use Rattle.ost_object.specs.Entries.{entry_shape};
 
 use gv_value::{GvType, TypeError};
 use std::alloc::{AllocError, Global};
@@ -44,6 +46,28 @@ pub fn dictionary_type(alloc: Global) -> Result<GvType, AllocError>
     ensures { IfOk result (λ of. shape_of of ≡ dictionary_shape) }
 {
     match GvType::parse(alloc, b"a{sv}") {
+        Ok(of) => Ok(of),
+        Err(TypeError::NoMemory) => Err(AllocError),
+        Err(TypeError::Bad) => unreachable!(),
+    }
+}
+
+/// The type of an entry of a commit's metadata.
+pub fn entry_type(alloc: Global) -> Result<GvType, AllocError>
+    ensures { IfOk result (λ of. shape_of of ≡ entry_shape) }
+{
+    match GvType::parse(alloc, b"{sv}") {
+        Ok(of) => Ok(of),
+        Err(TypeError::NoMemory) => Err(AllocError),
+        Err(TypeError::Bad) => unreachable!(),
+    }
+}
+
+/// The type of variants.
+pub fn variant_type(alloc: Global) -> Result<GvType, AllocError>
+    ensures { IfOk result (λ of. shape_of of ≡ variant) }
+{
+    match GvType::parse(alloc, b"v") {
         Ok(of) => Ok(of),
         Err(TypeError::NoMemory) => Err(AllocError),
         Err(TypeError::Bad) => unreachable!(),

@@ -1,16 +1,20 @@
-// The values that fields are.
-ghost use Rattle.std.specs.Prelude.{◌≡◌};
+//! The values that fields are.
+ghost use Rattle.std.specs.Prelude.{◌≡◌, ◌≤◌, length, IfOk, option_and_then};
 ghost use Rattle.gv_value.specs.Reading.{value_of};
+ghost use Rattle.gv_value.specs.Spelled.{max_bytes};
 ghost use Rattle.gv_value.specs.Tree.{byte_trees};
 ghost use Rattle.gv_value.specs.Views.{shape_of, plain, plains};
 ghost use Rattle.ost_model.specs.Fields.{byte_in, text_in, bytes_in, number_in, time_in, each_of};
-ghost use Rattle.ost_object.specs.Answers.{Finds, as_is};
+ghost use Rattle.gv_decode.specs.Decoded.{slices, children_of as children_in};
+ghost use Rattle.ost_model.specs.Types.{text_shape};
+ghost use Rattle.ost_object.specs.Answers.{Finds, Holds, as_is};
+ghost use Rattle.ost_object.specs.Views.{time_shape, text_at, time_at};
 
 use crate::error::ObjectError;
-use gv_decode::{DecodeError, decode};
-use gv_value::{Blob, GvType, GvValue, Parts, Text};
-use ost_model::Rule;
-use std::alloc::Global;
+use fp_base::{Blob, Rule, Text};
+use gv_decode::{DecodeError, check_normal, children, decode};
+use gv_value::{Basic, GvType, GvValue, Parts};
+use std::alloc::{AllocError, Global};
 
 /// The value of a type that bytes are.
 pub fn value_of(alloc: Global, of: &GvType, bytes: &[u8]) -> Result<GvValue, ObjectError>
@@ -22,6 +26,73 @@ pub fn value_of(alloc: Global, of: &GvType, bytes: &[u8]) -> Result<GvValue, Obj
         Err(DecodeError::NotNormal) => Err(ObjectError::Malformed(Rule::Value)),
         Err(DecodeError::NoMemory) => Err(ObjectError::NoMemory),
     }
+}
+
+/// Whether bytes are a value of a type.
+pub fn check(alloc: Global, of: &GvType, bytes: &[u8]) -> Result<(), ObjectError>
+    ensures { Holds result (value_of (shape_of of.now) bytes.now) }
+{
+    match check_normal(alloc, of, bytes) {
+        Ok(()) => Ok(()),
+        Err(DecodeError::TooLong) => Err(ObjectError::Malformed(Rule::Value)),
+        Err(DecodeError::NotNormal) => Err(ObjectError::Malformed(Rule::Value)),
+        Err(DecodeError::NoMemory) => Err(ObjectError::NoMemory),
+    }
+}
+
+/// The bytes of the children of a container that isn't too long.
+pub fn children_of<'a>(
+    alloc: Global,
+    of: &GvType,
+    bytes: &'a [u8],
+) -> Result<Vec<&'a [u8]>, ObjectError>
+    requires { length bytes.now ≤ max_bytes }
+    ensures { Finds (λ found. slices found.items) result (children_in (shape_of of.now) bytes.now) }
+{
+    match children(alloc, of, bytes) {
+        Ok(found) => Ok(found),
+        Err(DecodeError::TooLong) => Err(ObjectError::Malformed(Rule::Value)),
+        Err(DecodeError::NotNormal) => Err(ObjectError::Malformed(Rule::Value)),
+        Err(DecodeError::NoMemory) => Err(ObjectError::NoMemory),
+    }
+}
+
+/// The text that bytes of type `s` are, or the empty text where they are none.
+pub fn text_of_bytes(alloc: Global, bytes: &[u8]) -> Result<Text, AllocError>
+    ensures { IfOk result (λ text. text ≡ text_at bytes.now) }
+{
+    match text_in_bytes(alloc, bytes) {
+        Ok(text) => Ok(text),
+        Err(ObjectError::Malformed(_rule)) => Ok(Text::from_string(String::new(alloc))),
+        Err(ObjectError::NoMemory) => Err(AllocError),
+    }
+}
+
+/// The text that bytes of type `s` are.
+fn text_in_bytes(alloc: Global, bytes: &[u8]) -> Result<Text, ObjectError>
+    ensures { Finds as_is result (option_and_then text_in (value_of text_shape bytes.now)) }
+{
+    let value = value_of(alloc, &GvType::from_basic(Basic::Str), bytes)?;
+    text_of(alloc, &value)
+}
+
+/// The number that bytes of type `t` are, which is kept big endian, or 0 where they are none.
+pub fn time_of_bytes(alloc: Global, bytes: &[u8]) -> Result<u64, AllocError>
+    ensures { IfOk result (λ time. time ≡ time_at bytes.now) }
+{
+    match time_in_bytes(alloc, bytes) {
+        Ok(time) => Ok(time),
+        Err(ObjectError::Malformed(_rule)) => Ok(0),
+        Err(ObjectError::NoMemory) => Err(AllocError),
+    }
+}
+
+/// The number that bytes of type `t` are, which is kept big endian.
+fn time_in_bytes(alloc: Global, bytes: &[u8]) -> Result<u64, ObjectError>
+    ensures { Finds as_is result (option_and_then time_in (value_of time_shape bytes.now)) }
+{
+    let value = value_of(alloc, &GvType::from_basic(Basic::Uint64), bytes)?;
+    time_of(&value)
 }
 
 /// The text of a value of type `s`.

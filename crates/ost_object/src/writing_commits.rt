@@ -1,21 +1,23 @@
-// Commits, as they are written.
+//! Commits, as they are written.
 ghost use Rattle.std.specs.Prelude.{◌≡◌, ◌<◌, ◌^◌, true, None, ◌==◌, ◌||◌, length, IfOk, OnOk};
 ghost use Rattle.gv_value.specs.Tree.{tuple, tree as first, no_trees};
 ghost use Rattle.gv_value.specs.Views.{plain};
 ghost use Rattle.ost_model.specs.Readers.{commit_breaks, commit_read, is_long};
 ghost use Rattle.ost_model.specs.Types.{commit_shape, dictionary_shape, related_shape};
-ghost use Rattle.ost_object.specs.Copies.{Copies};
+ghost use Rattle.ost_object.specs.Decodes.{Decodes};
 ghost use Rattle.ost_object.specs.Values.{bytes_value, text_value, time_value};
-ghost use Rattle.ost_object.specs.Views.{commit_view, parent_bytes};
+ghost use Rattle.ost_object.specs.Views.{commit_view, parent_bytes, tree_at};
 ghost use Rattle.ost_object.specs.Writes.{Spells, Writes};
 
 use crate::commit::Commit;
 use crate::error::ObjectError;
 use crate::field_values::{bytes_as_value, digest_as_value, text_as_value};
-use crate::spelling::{copied, spelled};
+use crate::spelling::spelled;
 use crate::types::{commit_type, dictionary_type, related_type};
+use crate::values::value_of;
+use fp_base::Blob;
 use fp_name::Digest;
-use gv_value::{Blob, GvValue};
+use gv_value::GvValue;
 use std::alloc::{AllocError, Global};
 
 /// The bytes that read as a commit. `Malformed` comes exactly where there are none.
@@ -23,13 +25,13 @@ pub fn write_commit(alloc: Global, commit: &Commit) -> Result<Blob, ObjectError>
     ensures { Writes commit_read commit_breaks result (commit_view commit.now) }
 {
     let digests = digest_values(alloc, commit)?;
-    match metadata_again(alloc, commit) {
+    match metadata_of(alloc, commit) {
         Ok(metadata) => with_metadata(alloc, commit, metadata, digests),
         Err(error) => Err(error),
     }
 }
 
-/// The same with copied metadata.
+/// The same with the metadata's value.
 fn with_metadata(
     alloc: Global,
     commit: &Commit,
@@ -37,32 +39,32 @@ fn with_metadata(
     digests: DigestValues,
 ) -> Result<Blob, ObjectError>
     requires good { commit_breaks (commit_view commit.now) ≡ None }
-    requires metadata { plain metadata ≡ plain commit.now.metadata }
+    requires metadata { plain metadata ≡ tree_at dictionary_shape commit.now.metadata }
     requires parent { plain digests.parent ≡ bytes_value (parent_bytes commit.now.parent) }
     requires tree { plain digests.tree ≡ bytes_value commit.now.tree }
     requires meta { plain digests.meta ≡ bytes_value commit.now.meta }
     ensures { Writes commit_read commit_breaks result (commit_view commit.now) }
 {
-    match related_again(alloc, commit) {
+    match related_of(alloc, commit) {
         Ok(related) => spelled_commit(alloc, commit, metadata, related, digests),
         Err(error) => Err(error),
     }
 }
 
-/// The metadata of a commit, copied.
-fn metadata_again(alloc: Global, commit: &Commit) -> Result<GvValue, ObjectError>
-    ensures { Copies result dictionary_shape (plain commit.now.metadata) }
+/// The value of a commit's metadata.
+fn metadata_of(alloc: Global, commit: &Commit) -> Result<GvValue, ObjectError>
+    ensures { Decodes result dictionary_shape (tree_at dictionary_shape commit.now.metadata) }
 {
     let of = dictionary_type(alloc)?;
-    copied(alloc, &of, &commit.metadata)
+    value_of(alloc, &of, commit.metadata.as_slice())
 }
 
-/// What a commit is related to, copied.
-fn related_again(alloc: Global, commit: &Commit) -> Result<GvValue, ObjectError>
-    ensures { Copies result related_shape (plain commit.now.related) }
+/// The value of what a commit is related to.
+fn related_of(alloc: Global, commit: &Commit) -> Result<GvValue, ObjectError>
+    ensures { Decodes result related_shape (tree_at related_shape commit.now.related) }
 {
     let of = related_type(alloc)?;
-    copied(alloc, &of, &commit.related)
+    value_of(alloc, &of, commit.related.as_slice())
 }
 
 /// The values of a commit's digests.
@@ -112,12 +114,61 @@ fn spelled_commit(
         (first (plain digests.tree) (first (plain digests.meta) no_trees))))))))) }
     ensures small { commit.now.timestamp < 2 ^ 64 }
 {
+    match said_values(alloc, commit) {
+        Ok(said) => spelled_members(alloc, metadata, related, said, digests),
+        Err(_error) => Err(ObjectError::NoMemory),
+    }
+}
+
+/// The values of what a commit says: its subject, its body and its time.
+#[derive(Drop)]
+struct SaidValues {
+    subject: GvValue,
+    body: GvValue,
+    time: GvValue,
+}
+
+/// What a commit says, as values.
+fn said_values(alloc: Global, commit: &Commit) -> Result<SaidValues, AllocError>
+    ensures subject { IfOk result (λ said. plain said.subject ≡ text_value commit.now.subject) }
+    ensures body { IfOk result (λ said. plain said.body ≡ text_value commit.now.body) }
+    ensures time { IfOk result (λ said. plain said.time ≡ time_value commit.now.timestamp) }
+    ensures small { commit.now.timestamp < 2 ^ 64 }
+{
     let time = time_as_value(commit.timestamp);
     let subject = text_as_value(alloc, commit.subject.as_str())?;
     let body = text_as_value(alloc, commit.body.as_str())?;
-    let value = commit_as_value(alloc, metadata, related, subject, body, time, digests)?;
+    Ok(SaidValues {
+        subject,
+        body,
+        time,
+    })
+}
+
+/// The bytes of a commit's members.
+fn spelled_members(
+    alloc: Global,
+    metadata: GvValue,
+    related: GvValue,
+    said: SaidValues,
+    digests: DigestValues,
+) -> Result<Blob, ObjectError>
+    ensures { Spells result commit_shape (tuple (first (plain metadata) (first (plain digests.parent) (first (plain related)
+        (first (plain said.subject) (first (plain said.body) (first (plain said.time)
+        (first (plain digests.tree) (first (plain digests.meta) no_trees))))))))) }
+{
+    match commit_as_value(alloc, metadata, related, said, digests) {
+        Ok(value) => spelled_value(alloc, &value),
+        Err(_error) => Err(ObjectError::NoMemory),
+    }
+}
+
+/// The bytes of a commit's value.
+fn spelled_value(alloc: Global, value: &GvValue) -> Result<Blob, ObjectError>
+    ensures { Spells result commit_shape (plain value.now) }
+{
     let of = commit_type(alloc)?;
-    spelled(alloc, &of, &value)
+    spelled(alloc, &of, value)
 }
 
 /// A time as a value of type `t`, big endian.
@@ -133,21 +184,19 @@ fn commit_as_value(
     alloc: Global,
     metadata: GvValue,
     related: GvValue,
-    subject: GvValue,
-    body: GvValue,
-    time: GvValue,
+    said: SaidValues,
     digests: DigestValues,
 ) -> Result<GvValue, AllocError>
     ensures { IfOk result (λ value. plain value ≡ tuple (first (plain metadata) (first (plain digests.parent) (first (plain related)
-        (first (plain subject) (first (plain body) (first (plain time) (first (plain digests.tree) (first (plain digests.meta) no_trees))))))))) }
+        (first (plain said.subject) (first (plain said.body) (first (plain said.time) (first (plain digests.tree) (first (plain digests.meta) no_trees))))))))) }
 {
     Ok(GvValue::Tuple(vec![in alloc;
         metadata,
         digests.parent,
         related,
-        subject,
-        body,
-        time,
+        said.subject,
+        said.body,
+        said.time,
         digests.tree,
         digests.meta,
     ]?))

@@ -1,4 +1,4 @@
-// Dirmetas, as they are written.
+//! Dirmetas, as they are written.
 ghost use Rattle.std.specs.Prelude.{◌≡◌, ◌<◌, ◌^◌, IfOk};
 ghost use Rattle.gv_value.specs.Views.{plain};
 ghost use Rattle.ost_model.specs.Readers.{meta_breaks, meta_read};
@@ -10,8 +10,8 @@ use crate::dirmeta::DirMeta;
 use crate::error::ObjectError;
 use crate::spelling::spelled;
 use crate::types::meta_type;
-use gv_value::{Blob, GvValue};
-use ost_model::Rule;
+use fp_base::{Blob, Rule};
+use gv_value::GvValue;
 use std::alloc::{AllocError, Global};
 
 /// The bytes that read as a dirmeta. `Malformed` comes exactly where there are none.

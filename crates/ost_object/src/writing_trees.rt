@@ -1,4 +1,4 @@
-// Dirtrees, as they are written.
+//! Dirtrees, as they are written.
 ghost use Rattle.std.specs.Prelude.{◌≡◌, IfOk};
 ghost use Rattle.gv_value.specs.Tree.{tuple, array, tree as first, no_trees};
 ghost use Rattle.gv_value.specs.Views.{plain, plains};
@@ -13,7 +13,8 @@ use crate::row_values::{dirs_as_values, files_as_values};
 use crate::spelling::spelled;
 use crate::tree_rules::broken_name;
 use crate::types::tree_type;
-use gv_value::{Blob, GvValue};
+use fp_base::Blob;
+use gv_value::GvValue;
 use std::alloc::{AllocError, Global};
 
 /// The bytes that read as a dirtree. `Malformed` comes exactly where there are none.

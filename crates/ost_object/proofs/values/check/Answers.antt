@@ -1,0 +1,16 @@
+use Rattle.std.proofs.Common.{Err, refl, ap, ◌∙◌, subst}
+use Rattle.gv_value.specs.Reading.{value_of}
+use Rattle.gv_value.specs.Views.{shape_of}
+use Rattle.gv_decode.specs.Decoded.{Passes}
+use Rattle.ost_object.proofs.Shapes.{long_is_none, short_is_none}
+use Rattle.ost_object.proofs.values.check.Goals as goal
+
+pub returns-in-Err-TooLong : goal.returns-in-Err-TooLong
+returns-in-Err-TooLong c = (refl, long_is_none (shape_of c.args.of.now) c.args.bytes.now (c.check_normal.ensures.too_long.0 (c.in-Err-TooLong.is ∙ ap Err c.in-Err-TooLong.field-0-is)))
+
+pub returns-in-Err-NotNormal : goal.returns-in-Err-NotNormal
+returns-in-Err-NotNormal c = (
+  refl,
+  short_is_none (shape_of c.args.of.now) c.args.bytes.now (λ short.
+      subst (λ r. Passes r (value_of (shape_of c.args.of.now) c.args.bytes.now)) (c.in-Err-NotNormal.is ∙ ap Err c.in-Err-NotNormal.field-0-is) (c.check_normal.ensures.read short)),
+)
