@@ -326,9 +326,9 @@ fn first_other_names(
 fn bare_commit(alloc: Global, subject: &str) -> Result<Commit, Fail> {
     let subject = Text::from_string(String::from_str(alloc, subject)?);
     Ok(Commit {
-        metadata: GvValue::Array(Vec::new(alloc)),
+        metadata: Blob::from_vec(Vec::new(alloc)),
         parent: None,
-        related: GvValue::Array(Vec::new(alloc)),
+        related: Blob::from_vec(Vec::new(alloc)),
         subject,
         body: Text::from_string(String::new(alloc)),
         timestamp: 0,
