@@ -3,8 +3,8 @@ use Rattle.std.proofs.Common.{◌≡◌, ℕ, zero, suc, ◌+◌, ◌-◌, ◌<�
 use Rattle.std.specs.Prelude.{◌⊎◌, ◌≢◌}
 use Rattle.std.proofs.lemmas.Bool.{eqb-true, eqb-false, eq-eqb, ne_eqb, cases_Bool, false≢true}
 use Rattle.std.proofs.lemmas.List.{length-append, append-nil, nil_from_length}
-use Rattle.bus_frame.specs.declared.rule.FrameRule.{FrameRule}
-use Rattle.bus_frame.specs.declared.rule.FrameRule.TheVariants.{Fields}
+use Rattle.fp_base.specs.declared.frame_rule.FrameRule.{FrameRule}
+use Rattle.fp_base.specs.declared.frame_rule.FrameRule.TheVariants.{Fields}
 use Rattle.bus_frame.specs.Places.{Place}
 use Rattle.bus_frame.specs.Fields.{Known, Field, or_rule, ◌>=>◌, field_at, add_field, fields_at}
 use Rattle.bus_frame.specs.Writing.{zeros}
@@ -23,7 +23,7 @@ pub record AllFine (little : Bool) (before : List Field) (p : Place) (k : Known)
   pub fine : AreFine before fields
   pub tied : Tied k (before ++ fields)
 
--- why reading stops behind fine fields
+-- why reading stops after fine fields
 abbrev pub Why : Bool → (before : List Field) → (at : ℕ) → List ℕ → FrameRule → Type 0
 Why little before at y rule =
     ((y ≢ []) × ((f : Field) (u v : List ℕ) → y ≡ u ++ v → IsField little at f u → ⊥) × (rule ≡ Fields))

@@ -177,7 +177,7 @@ three_law h message found fits is a b c =
 
 -- ---- names
 
--- the elements of an array, and nothing behind them
+-- the elements of an array, and nothing after them
 record Elements (little : Bool) (p q : Place) : Type 0 where
   fits : length q.rest ≤ 67108864
   spelled : p.rest ≡ array_head little 4 p.at (length q.rest) ++ q.rest

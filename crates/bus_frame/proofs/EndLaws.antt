@@ -1,15 +1,18 @@
--- The rules behind the fields, said of what is known and of the fields.
+-- The rules after the fields, said of what is known and of the fields.
 use Rattle.std.proofs.Common.{◌≡◌, ℕ, zero, suc, ◌+◌, ◌-◌, ◌<◌, ◌≤◌, Bool, true, false, not, cond, eqb, ltb, List, [], ◌∷◌, ◌++◌, length, Option, Some, None, refl, sym, ap, subst, ◌∙◌, inl, inr, arith}
 use Rattle.std.specs.Prelude.{◌&&◌, ◌||◌, option_map, is_some, is_none, unwrap_or}
 use Rattle.std.specs.List.{list_all}
 use Rattle.std.proofs.lemmas.Bool.{eqb-true, eqb-false, eq-eqb, ne_eqb, lt-ltb, le-ltb, cases_Bool}
-use Rattle.bus_frame.specs.declared.rule.FrameRule.{FrameRule}
-use Rattle.bus_frame.specs.declared.rule.FrameRule.TheVariants.{Padding, Required, Body}
+use Rattle.fp_base.specs.declared.frame_rule.FrameRule.{FrameRule}
+use Rattle.fp_base.specs.declared.frame_rule.FrameRule.TheVariants.{Padding, Required, Body}
 use Rattle.bus_frame.specs.declared.fixed.Fixed.{Fixed}
 use Rattle.bus_frame.specs.declared.header.Header.{Header}
+use Rattle.bus_frame.specs.declared.message.MessageType.{MessageType}
+use Rattle.bus_frame.specs.declared.message.MessageType.TheVariants as type
+use Rattle.bus_frame.specs.declared.message.Flags.{Flags}
 use Rattle.bus_frame.specs.Numbers.{are_zero}
 use Rattle.bus_frame.specs.Fields.{Content, word, number, other, Field, Known}
-use Rattle.bus_frame.specs.Reading.{is_little, body_start, lacks_field, end_fault, header_of}
+use Rattle.bus_frame.specs.Reading.{is_little, type_of, body_start, lacks_field, end_fault, header_of}
 use Rattle.bus_frame.specs.Frame.{given, has_needed, needed_fields, is_typing, rest_fault, header_says, IsHeader}
 use Rattle.bus_frame.proofs.KnownLaws.{known_says, Tied}
 use Rattle.bus_frame.proofs.ValueAgain.{at_yes, at_no}
@@ -39,60 +42,43 @@ one_lacks : (a : Bool) → a ≡ not (not a && true)
 one_lacks true = refl
 one_lacks false = refl
 
-push_cond : (p : List ℕ → Bool) (b : Bool) (x y : List ℕ) → p (cond b x y) ≡ cond b (p x) (p y)
-push_cond p true x y = refl
-push_cond p false x y = refl
-
-not_cond : (b x y : Bool) → not (cond b x y) ≡ cond b (not x) (not y)
-not_cond true x y = refl
-not_cond false x y = refl
-
-same_cond : (b w x y z : Bool) → w ≡ y → x ≡ z → cond b w x ≡ cond b y z
-same_cond true w x y z e f = e
-same_cond false w x y z e f = f
-
-lacks-known : (kind : ℕ) (k : Known) → lacks_field kind k ≡ not (knows k (needed_fields kind))
-unfolding lacks_field
-lacks-known kind k =
-    let p = λ (codes : List ℕ). not (knows k codes) in
+lacks-known : (kind : MessageType) (k : Known) → lacks_field kind k ≡ not (knows k (needed_fields kind))
+lacks-known type.MethodCall k =
+    let path = is_some_map (word 111) k.path in
+    let member = is_some_map (word 115) k.member in
+    two_lack (is_none k.path) (is_none k.member) ∙ sym (rw (path, member) refl)
+lacks-known type.MethodReturn k =
+    let reply = is_some_map number k.reply_serial in
+    one_lacks (is_none k.reply_serial) ∙ sym (rw reply refl)
+lacks-known type.Error k =
+    let error_name = is_some_map (word 115) k.error_name in
+    let reply = is_some_map number k.reply_serial in
+    two_lack (is_none k.error_name) (is_none k.reply_serial) ∙ sym (rw (error_name, reply) refl)
+lacks-known type.Signal k =
     let path = is_some_map (word 111) k.path in
     let interface = is_some_map (word 115) k.interface in
     let member = is_some_map (word 115) k.member in
-    let error_name = is_some_map (word 115) k.error_name in
-    let reply = is_some_map number k.reply_serial in
-    let call : (is_none k.path || is_none k.member) ≡ p (1 ∷ 3 ∷ []) = two_lack (is_none k.path) (is_none k.member) ∙ sym (rw (path, member) refl) in
-    let answer : is_none k.reply_serial ≡ p (5 ∷ []) = one_lacks (is_none k.reply_serial) ∙ sym (rw reply refl) in
-    let error : (is_none k.error_name || is_none k.reply_serial) ≡ p (4 ∷ 5 ∷ []) = two_lack (is_none k.error_name) (is_none k.reply_serial) ∙ sym (rw (error_name, reply) refl) in
-    let signal : ((is_none k.path || is_none k.interface) || is_none k.member) ≡ p (1 ∷ 2 ∷ 3 ∷ []) = three_lack (is_none k.path) (is_none k.interface) (is_none k.member) ∙ sym (rw (path, interface, member) refl) in
-    same_cond (eqb kind 1) _ _ _ _ call (same_cond (eqb kind 2) _ _ _ _ answer (same_cond (eqb kind 3) _ _ _ _ error (same_cond (eqb kind 4) _ _ _ _ signal refl)))
-    ∙ sym (
-    push_cond p (eqb kind 1) (1 ∷ 3 ∷ []) (cond (eqb kind 2) (5 ∷ []) (cond (eqb kind 3) (4 ∷ 5 ∷ []) (cond (eqb kind 4) (1 ∷ 2 ∷ 3 ∷ []) [])))
-    ∙ same_cond (eqb kind 1) _ _ _ _ refl (push_cond p (eqb kind 2) (5 ∷ []) (cond (eqb kind 3) (4 ∷ 5 ∷ []) (cond (eqb kind 4) (1 ∷ 2 ∷ 3 ∷ []) [])))
-    ∙ same_cond (eqb kind 1) _ _ _ _ refl (same_cond (eqb kind 2) _ _ _ _ refl (push_cond p (eqb kind 3) (4 ∷ 5 ∷ []) (cond (eqb kind 4) (1 ∷ 2 ∷ 3 ∷ []) [])))
-    ∙ same_cond (eqb kind 1) _ _ _ _ refl (same_cond (eqb kind 2) _ _ _ _ refl (same_cond (eqb kind 3) _ _ _ _ refl (push_cond p (eqb kind 4) (1 ∷ 2 ∷ 3 ∷ []) []))))
+    three_lack (is_none k.path) (is_none k.interface) (is_none k.member) ∙ sym (rw (path, interface, member) refl)
+lacks-known (type.Unknown n) k = refl
 
 -- codes of known fields
 abbrev InRange : List ℕ → Type 0
 InRange [] = Unit {0}
 InRange (c ∷ codes) = (1 ≤ c) × (c ≤ 9) × InRange codes
 
-in_range_either : (b : Bool) (x y : List ℕ) → InRange x → InRange y → InRange (cond b x y)
-in_range_either true x y p q = p
-in_range_either false x y p q = q
-
-needed_in_range : (kind : ℕ) → InRange (needed_fields kind)
-needed_in_range kind =
-    in_range_either (eqb kind 1) _ _ (omega arith, omega arith, (omega arith, omega arith, tt))
-    (in_range_either (eqb kind 2) _ _ (omega arith, omega arith, tt)
-    (in_range_either (eqb kind 3) _ _ (omega arith, omega arith, (omega arith, omega arith, tt))
-    (in_range_either (eqb kind 4) _ _ (omega arith, omega arith, (omega arith, omega arith, (omega arith, omega arith, tt))) tt)))
+needed_in_range : (kind : MessageType) → InRange (needed_fields kind)
+needed_in_range type.MethodCall = (omega arith, omega arith, (omega arith, omega arith, tt))
+needed_in_range type.MethodReturn = (omega arith, omega arith, tt)
+needed_in_range type.Error = (omega arith, omega arith, (omega arith, omega arith, tt))
+needed_in_range type.Signal = (omega arith, omega arith, (omega arith, omega arith, (omega arith, omega arith, tt)))
+needed_in_range (type.Unknown n) = tt
 
 all_known : (k : Known) (fields : List Field) → Tied k fields → (codes : List ℕ) → InRange codes → knows k codes ≡ list_all (λ code. is_some (given code fields)) codes
 all_known k fields t [] r = refl
 all_known k fields t (c ∷ codes) r =
     ap (λ (o : Option Content). is_some o && knows k codes) (t.says c r.0 r.1) ∙ ap (λ (b : Bool). is_some (given c fields) && b) (all_known k fields t codes r.2)
 
-pub lacks-needed : (kind : ℕ) (k : Known) (fields : List Field) → Tied k fields → lacks_field kind k ≡ not (has_needed kind fields)
+pub lacks-needed : (kind : MessageType) (k : Known) (fields : List Field) → Tied k fields → lacks_field kind k ≡ not (has_needed kind fields)
 lacks-needed kind k fields t = lacks-known kind k ∙ ap not (all_known k fields t (needed_fields kind) (needed_in_range kind))
 
 -- ---- the signature
@@ -125,13 +111,13 @@ body_untyped k fields n t =
 
 -- ---- both
 
-pub end-rest : (f : Fixed) (k : Known) (fields : List Field) (gap body : List ℕ) → Tied k fields → length body ≡ f.body_len → end_fault f k gap ≡ rest_fault f.kind fields gap body
+pub end-rest : (f : Fixed) (k : Known) (fields : List Field) (gap body : List ℕ) → Tied k fields → length body ≡ f.body_len → end_fault f k gap ≡ rest_fault (type_of f) fields gap body
 unfolding end_fault
 end-rest f k fields gap body t len =
     let typed : (ltb 0 f.body_len && eqb (length (unwrap_or k.signature [])) 0) ≡ not (eqb (length body) 0 || is_typing (given 8 fields)) =
     body_untyped k fields f.body_len t ∙ ap (λ (n : ℕ). not (eqb n 0 || is_typing (given 8 fields))) (sym len) in
-    ap (λ (b : Bool). cond (not (are_zero gap)) (Some Padding) (cond b (Some Required) (cond (ltb 0 f.body_len && eqb (length (unwrap_or k.signature [])) 0) (Some Body) None))) (lacks-needed f.kind k fields t)
-    ∙ ap (λ (b : Bool). cond (not (are_zero gap)) (Some Padding) (cond (not (has_needed f.kind fields)) (Some Required) (cond b (Some Body) None))) typed
+    ap (λ (b : Bool). cond (not (are_zero gap)) (Some Padding) (cond b (Some Required) (cond (ltb 0 f.body_len && eqb (length (unwrap_or k.signature [])) 0) (Some Body) None))) (lacks-needed (type_of f) k fields t)
+    ∙ ap (λ (b : Bool). cond (not (are_zero gap)) (Some Padding) (cond (not (has_needed (type_of f) fields)) (Some Required) (cond b (Some Body) None))) typed
 
 -- ---- the header
 
@@ -164,7 +150,7 @@ number_same None (Some b) e = absurd cc
 number_same (Some a) None e = absurd cc
 number_same (Some a) (Some b) e = cc
 
-abbrev made : Bool → (kind flags serial body_at body_len : ℕ) → Known → Header
+abbrev made : Bool → MessageType → Flags → (serial body_at body_len : ℕ) → Known → Header
 made little kind flags serial body_at body_len k = record {
   little = little;
   kind = kind;
@@ -211,6 +197,6 @@ header_same f k fields h t is =
     let destination = text_same 115 h.destination k.destination (is.known 6 (omega arith) (omega arith) ∙ sym (t.says 6 (omega arith) (omega arith))) in
     let sender = text_same 115 h.sender k.sender (is.known 7 (omega arith) (omega arith) ∙ sym (t.says 7 (omega arith) (omega arith))) in
     let signature = text_same 103 h.signature k.signature (is.known 8 (omega arith) (omega arith) ∙ sym (t.says 8 (omega arith) (omega arith))) in
-    let fixed : made h.little h.kind h.flags h.serial h.body_at h.body_len (known_in_header h) ≡ made (is_little f) f.kind f.flags f.serial (body_start f) f.body_len (known_in_header h) = cc (is.little, is.kind, is.flags, is.serial, is.body_at, is.body_len) in
+    let fixed : made h.little h.kind h.flags h.serial h.body_at h.body_len (known_in_header h) ≡ made (is_little f) (type_of f) f.flags f.serial (body_start f) f.body_len (known_in_header h) = cc (is.little, is.kind, is.flags, is.serial, is.body_at, is.body_len) in
     let texts : known_in_header h ≡ record k { unix_fds = None } = known_same h.path k.path h.interface k.interface h.member k.member h.error_name k.error_name h.reply_serial k.reply_serial h.destination k.destination h.sender k.sender h.signature k.signature path interface member error_name reply destination sender signature in
-    fixed ∙ ap (made (is_little f) f.kind f.flags f.serial (body_start f) f.body_len) texts
+    fixed ∙ ap (made (is_little f) (type_of f) f.flags f.serial (body_start f) f.body_len) texts

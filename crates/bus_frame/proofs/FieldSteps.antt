@@ -1,7 +1,7 @@
 -- Reading fields one after another, as a loop does.
 use Rattle.std.proofs.Common.{◌≡◌, ℕ, zero, suc, ◌+◌, ◌-◌, ◌<◌, ◌≤◌, Bool, true, false, eqb, List, length, Option, Some, None, Result, Ok, Err, refl, ap, sym, ◌∙◌, arith}
-use Rattle.bus_frame.specs.declared.rule.FrameRule.{FrameRule}
-use Rattle.bus_frame.specs.declared.rule.FrameRule.TheVariants.{Fields}
+use Rattle.fp_base.specs.declared.frame_rule.FrameRule.{FrameRule}
+use Rattle.fp_base.specs.declared.frame_rule.FrameRule.TheVariants.{Fields}
 use Rattle.bus_frame.specs.Places.{Place}
 use Rattle.bus_frame.specs.Fields.{Known, Field, field_at, add_field, fields_at}
 

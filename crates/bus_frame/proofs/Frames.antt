@@ -2,8 +2,8 @@
 use Rattle.std.proofs.Common.{◌≡◌, ℕ, ◌+◌, ◌-◌, ◌<◌, ◌≤◌, Bool, true, false, ◌||◌, not, eqb, ltb, cond, List, ◌++◌, length, Option, Some, None, Result, Ok, Err, refl, sym, ap, subst, ◌∙◌, inl, inr, arith}
 use Rattle.std.specs.Prelude.{◌⊎◌}
 use Rattle.std.proofs.lemmas.Bool.{ltb-false, le-ltb, ltb-true, not-false, or_cases, eqb-true, eqb-false}
-use Rattle.bus_frame.specs.declared.rule.FrameRule.{FrameRule}
-use Rattle.bus_frame.specs.declared.rule.FrameRule.TheVariants.{Order, ZeroType, Version, Serial, Length}
+use Rattle.fp_base.specs.declared.frame_rule.FrameRule.{FrameRule}
+use Rattle.fp_base.specs.declared.frame_rule.FrameRule.TheVariants.{Order, ZeroType, Version, Serial, Length}
 use Rattle.bus_frame.specs.declared.fixed.Fixed.{Fixed}
 use Rattle.bus_frame.specs.declared.header.Header.{Header}
 use Rattle.bus_frame.specs.Fields.{Known}
@@ -154,7 +154,7 @@ makes_bad bytes rule broken =
           ∙ ap (read_known f) w.2
     ]
 
--- a message and a broken rule stay, whatever comes behind them
+-- a message and a broken rule stay, whatever comes after them
 pub stays_whole : (x y : List ℕ) (h : Header) (n : ℕ) → frame_of x ≡ whole h n → frame_of (x ++ y) ≡ whole h n
 stays_whole x y h n e =
     let r = reads_whole x h n e in

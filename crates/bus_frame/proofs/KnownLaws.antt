@@ -3,8 +3,8 @@ use Rattle.std.proofs.Common.{◌≡◌, ℕ, zero, suc, ◌+◌, ◌-◌, ◌<�
 use Rattle.std.specs.Prelude.{◌&&◌, ◌||◌, ◌⊎◌, option_map, is_some, MatchOption}
 use Rattle.std.proofs.lemmas.Bool.{cases_eq, eqb-true, eqb-false, eq-eqb, ne_eqb, ltb-true, ltb-false, lt-ltb, le-ltb, cases_Bool, cases_lt, false≢true}
 use Rattle.std.proofs.lemmas.List.{length-append, append-nil}
-use Rattle.bus_frame.specs.declared.rule.FrameRule.{FrameRule}
-use Rattle.bus_frame.specs.declared.rule.FrameRule.TheVariants.{Code, Double, Kind, Value}
+use Rattle.fp_base.specs.declared.frame_rule.FrameRule.{FrameRule}
+use Rattle.fp_base.specs.declared.frame_rule.FrameRule.TheVariants.{Code, Double, Kind, Value}
 use Rattle.bus_frame.specs.declared.header.Header.{Header}
 use Rattle.bus_frame.specs.declared.fixed.Fixed.{Fixed}
 use Rattle.bus_frame.specs.declared.known.Grammar.{Grammar}

@@ -3,16 +3,17 @@ use Rattle.std.proofs.Common.{◌≡◌, ℕ, zero, suc, ◌+◌, ◌-◌, ◌<�
 use Rattle.std.specs.Prelude.{◌||◌, ◌⊎◌, ◌≢◌, is_some}
 use Rattle.std.proofs.lemmas.Bool.{ltb-true, ltb-false, le-ltb, lt-ltb, not-false, false≢true}
 use Rattle.std.proofs.lemmas.List.{length-append, length-take-le, take-append-drop, take_at, drop_at, append-nil}
-use Rattle.bus_frame.specs.declared.rule.FrameRule.{FrameRule}
-use Rattle.bus_frame.specs.declared.rule.FrameRule.TheVariants.{Fields, Padding, Required, Body}
+use Rattle.fp_base.specs.declared.frame_rule.FrameRule.{FrameRule}
+use Rattle.fp_base.specs.declared.frame_rule.FrameRule.TheVariants.{Fields, Padding, Required, Body}
 use Rattle.bus_frame.specs.declared.fixed.Fixed.{Fixed}
 use Rattle.bus_frame.specs.declared.header.Header.{Header}
+use Rattle.bus_frame.specs.declared.message.MessageType.{MessageType}
 use Rattle.bus_frame.specs.Numbers.{padding, are_zero}
 use Rattle.bus_frame.specs.Places.{Place}
 use Rattle.bus_frame.specs.Fields.{Known, none_known, Field, ◌>=>◌, fields_at}
-use Rattle.bus_frame.specs.Reading.{is_little, fixed_of, array_end, body_start, message_len, fixed_fault, end_fault, unless_broken, known_in, header_of, Read, need, bad, whole, read_known, read_fixed, frame_of}
-use Rattle.bus_frame.specs.declared.rule.FrameError.{FrameError}
-use Rattle.bus_frame.specs.declared.rule.FrameError.TheVariants as errors
+use Rattle.bus_frame.specs.Reading.{type_of, is_little, fixed_of, array_end, body_start, message_len, fixed_fault, end_fault, unless_broken, known_in, header_of, Read, need, bad, whole, read_known, read_fixed, frame_of}
+use Rattle.bus_frame.specs.declared.error.FrameError.{FrameError}
+use Rattle.bus_frame.specs.declared.error.FrameError.TheVariants as errors
 use Rattle.bus_frame.specs.declared.header.ReadFrame.{ReadFrame}
 use Rattle.bus_frame.specs.declared.header.ReadFrame.TheVariants as answer
 use Rattle.bus_frame.specs.Answers.{AnswersFrame, IfFrame, IfNeed, IfBad, BeginsBroken, Lacks}
@@ -93,20 +94,20 @@ first_none : (b : Bool) (rule : FrameRule) (x : Option FrameRule) → cond b (So
 first_none true rule x e = absurd cc
 first_none false rule x e = (refl, e)
 
--- no rule is broken behind the fields
-pub record NoRest (kind : ℕ) (fields : List Field) (gap body : List ℕ) : Type 0 where
+-- no rule is broken after the fields
+pub record NoRest (kind : MessageType) (fields : List Field) (gap body : List ℕ) : Type 0 where
   pub padded : are_zero gap ≡ true
   pub needed : has_needed kind fields ≡ true
   pub typed : (eqb (length body) 0 || is_typing (given 8 fields)) ≡ true
 
-no_rest : (kind : ℕ) (fields : List Field) (gap body : List ℕ) → rest_fault kind fields gap body ≡ None → NoRest kind fields gap body
+no_rest : (kind : MessageType) (fields : List Field) (gap body : List ℕ) → rest_fault kind fields gap body ≡ None → NoRest kind fields gap body
 no_rest kind fields gap body e =
     let a = first_none (not (are_zero gap)) Padding _ e in
     let b = first_none (not (has_needed kind fields)) Required _ a.1 in
     let c = first_none (not (eqb (length body) 0 || is_typing (given 8 fields))) Body None b.1 in
     record { padded = not-false _ a.0; needed = not-false _ b.0; typed = not-false _ c.0 }
 
-rest_none : (kind : ℕ) (fields : List Field) (gap body : List ℕ) → NoRest kind fields gap body → rest_fault kind fields gap body ≡ None
+rest_none : (kind : MessageType) (fields : List Field) (gap body : List ℕ) → NoRest kind fields gap body → rest_fault kind fields gap body ≡ None
 rest_none kind fields gap body n = rw (n.padded, n.needed, n.typed) refl
 
 array_place : List ℕ → Fixed → Place
@@ -133,7 +134,7 @@ whole_frame m h fits e =
     let all = fine_outcome little p read.0 (fields_at little f.array_len none_known p) read.1 (fields_take little f.array_len none_known [] p array_fits (omega (arith, same_len, c.array_len)) tied_none) in
     let tied : Tied k all.fields = subst (λ (x : Known). Tied x all.fields) ends.1 all.tied in
     let end_none : end_fault f k c.gap ≡ None = ap (λ (g : List ℕ). end_fault f k g) c.gap_is ∙ sym (ap (λ (x : Known). end_fault f x (take (body_start f - array_end f) (drop (array_end f) m))) ends.1) ∙ ends.0 in
-    let rest = no_rest f.kind all.fields c.gap c.body (sym (end-rest f k all.fields c.gap c.body tied c.body_len) ∙ end_none) in
+    let rest = no_rest (type_of f) all.fields c.gap c.body (sym (end-rest f k all.fields c.gap c.body tied c.body_len) ∙ end_none) in
     record {
       array = c.array;
       gap = c.gap;
@@ -159,7 +160,7 @@ frame_whole m h is =
     let p = place 16 is.array in
     let all = fields_again little is.fields f.array_len none_known [] p is.spelled is.fine tied_none (omega (arith, is.parts.array_len)) in
     let k = all.0 in
-    let ends : end_fault f k is.gap ≡ None = end-rest f k is.fields is.gap is.body all.2 is.parts.body_len ∙ rest_none f.kind is.fields is.gap is.body (record { padded = is.padded; needed = is.needed; typed = is.typed }) in
+    let ends : end_fault f k is.gap ≡ None = end-rest f k is.fields is.gap is.body all.2 is.parts.body_len ∙ rest_none (type_of f) is.fields is.gap is.body (record { padded = is.padded; needed = is.needed; typed = is.typed }) in
     let known : known_in f m ≡ Ok k =
     ap (λ (a : List ℕ). fields_at little f.array_len none_known (place 16 a) >=> λ x. unless_broken (end_fault f x (take (body_start f - array_end f) (drop (array_end f) m))) x) parts.0
     ∙ ap (λ (o : Result Known FrameRule). o >=> λ x. unless_broken (end_fault f x (take (body_start f - array_end f) (drop (array_end f) m))) x) all.1
@@ -219,7 +220,7 @@ rest_breaks m rule fits head sound len known =
           ]
       | inr e ↦
           let all = fine_outcome little p e.0 (fields_at little f.array_len none_known p) e.1 outcome in
-          let fault : rest_fault f.kind all.fields c.gap c.body ≡ Some rule =
+          let fault : rest_fault (type_of f) all.fields c.gap c.body ≡ Some rule =
           sym (end-rest f e.0 all.fields c.gap c.body all.tied c.body_len) ∙ ap (λ (g : List ℕ). end_fault f e.0 g) c.gap_is ∙ broken_is (end_fault f e.0 zeros_read) e.0 rule e.2 in
           broken_rest c.array c.gap c.body all.fields parts (subst (λ (l : List ℕ). AreFields little 16 all.fields l) (sym c.array_is) all.spelled) all.fine fault
     ]
@@ -246,7 +247,7 @@ stop_bad m before at rest rule fits up_to why =
     ∙ ap (λ (o : Result Known FrameRule). o >=> λ x. unless_broken (end_fault f x (take (body_start f - array_end f) (drop (array_end f) m))) x) read in
     makes_bad m rule (record { head = up_to.parts.head; why = inr (up_to.parts.sound, omega (arith, parts.2), known) })
 
-rest_bad : (m array gap body : List ℕ) (fields : List Field) (rule : FrameRule) → HasParts m array gap body → AreFields (is_little (fixed_of m)) 16 fields array → AreFine [] fields → rest_fault (fixed_of m).kind fields gap body ≡ Some rule → frame_of m ≡ bad rule
+rest_bad : (m array gap body : List ℕ) (fields : List Field) (rule : FrameRule) → HasParts m array gap body → AreFields (is_little (fixed_of m)) 16 fields array → AreFine [] fields → rest_fault (type_of (fixed_of m)) fields gap body ≡ Some rule → frame_of m ≡ bad rule
 unfolding known_in
 rest_bad m array gap body fields rule has spelled fine fault =
     let f = fixed_of m in

@@ -26,7 +26,7 @@ pub text-le : (little : Bool) (at : ℕ) (text : List ℕ) → length text ≤ l
 text-le little at text =
     omega (arith, length-append (zeros 4 at) (text_bytes little text), length-append (number_bytes little (length text)) text, length-append (number_bytes little (length text) ++ text) (0 ∷ []))
 
--- padding and a text behind what was written are one element more
+-- padding and a text after what was written are one element more
 pub element_written : (little : Bool) (at len : ℕ) (out padded new so_far s text : List ℕ) → new ≡ padded ++ text_bytes little s → padded ≡ out ++ zeros 4 (at + len) → s ≡ text → out ≡ so_far → len ≡ length so_far → new ≡ so_far ++ element_bytes little (at + length so_far) text
 element_written little at len out padded new so_far s text new_is padded_is s_is out_is len_is =
     new_is

@@ -1,9 +1,9 @@
 -- Numbers and texts that are read are the spelled ones, and what is spelled is read.
 use Rattle.std.proofs.Common.{◌≡◌, ℕ, zero, suc, ◌+◌, ◌-◌, ◌^◌, ◌<◌, ◌≤◌, Bool, true, false, cond, eqb, ltb, List, [], ◌∷◌, ◌++◌, length, get_or, take, drop, Option, Some, None, refl, sym, ap, subst, ◌∙◌, append_assoc, inl, inr, arith}
 use Rattle.std.specs.Prelude.{◌&&◌, option_map, MatchBool, ◌||◌}
-use Rattle.std.specs.Int.{w32, from_le_bytes, from_be_bytes, to_le_bytes, to_be_bytes}
 use Rattle.std.proofs.lemmas.Bool.{ltb-false, le-ltb, lt-ltb, eqb-true, eq-eqb, and_parts, and_from, cases_Bool, cases_lt}
-use Rattle.std.proofs.lemmas.Nat.{le_bytes_4, be_bytes_4, from_le_bytes-to_le_bytes_4, from_be_bytes-to_be_bytes_4}
+use Rattle.std.proofs.lemmas.Nat.{le_bytes_4, be_bytes_4}
+use Rattle.byteorder.specs.Numbers.{little_number-reads_back, big_number-reads_back}
 use Rattle.std.proofs.lemmas.Option.{cond_some, some_pair_parts}
 use Rattle.std.proofs.lemmas.List.{length-append, get_or-append-add, get_or_append_left, get_or_past}
 use Rattle.bus_frame.specs.Steps.{◌>>=◌}
@@ -32,12 +32,12 @@ Takes-bytes p q x fits t =
     (IsBytes-left x q.rest both, IsBytes-right x q.rest both)
 
 pub number_bytes-from : (little : Bool) (digits : List ℕ) → length digits ≡ 4 → IsBytes digits → number_bytes little (number_from little digits) ≡ digits
-number_bytes-from true digits len fits = le_bytes_4 digits _ len fits refl
-number_bytes-from false digits len fits = be_bytes_4 digits _ len fits refl
+number_bytes-from true digits len fits = le_bytes_4 digits _ len fits (omega arith)
+number_bytes-from false digits len fits = be_bytes_4 digits _ len fits (omega arith)
 
 pub number_from-bytes : (little : Bool) (n : ℕ) → n < 2 ^ 32 → number_from little (number_bytes little n) ≡ n
-number_from-bytes true n lt = from_le_bytes-to_le_bytes_4 n lt
-number_from-bytes false n lt = from_be_bytes-to_be_bytes_4 n lt
+number_from-bytes true n lt = little_number-reads_back 4 n [] lt
+number_from-bytes false n lt = big_number-reads_back 4 n [] lt
 
 pub number_from-below : (little : Bool) (digits : List ℕ) → IsBytes digits → number_from little digits < 2 ^ 32
 number_from-below true digits fits = omega (arith, fits 0, fits 1, fits 2, fits 3)

@@ -3,7 +3,7 @@ use Rattle.std.proofs.Common.{◌≡◌, ℕ, zero, suc, ◌+◌, ◌-◌, ◌<�
 use Rattle.std.specs.Prelude.{slice_index}
 use Rattle.std.proofs.lemmas.Bool.{ltb-true, ltb-false, le-ltb, lt-ltb, false≢true}
 use Rattle.std.proofs.lemmas.List.{length-append, length-take-le, take-append-le, drop-append-le, take-append-drop, get_or_append_left}
-use Rattle.bus_frame.specs.declared.rule.FrameRule.{FrameRule}
+use Rattle.fp_base.specs.declared.frame_rule.FrameRule.{FrameRule}
 use Rattle.bus_frame.specs.declared.fixed.Fixed.{Fixed}
 use Rattle.bus_frame.specs.declared.header.Header.{Header}
 use Rattle.bus_frame.specs.Numbers.{padding, number_from}
@@ -23,7 +23,7 @@ fixed_made letter order kind flags version a b c =
     record {
       order = order;
       kind = kind;
-      flags = flags;
+      flags = record { bits = flags };
       version = version;
       body_len = number_from little a;
       serial = number_from little b;

@@ -28,7 +28,7 @@ CompleteAt one types left P = (p : Place) (v rest : List ℕ) → p.rest ≡ v +
 pub map_is : {A B : Type 0} (o : Option A) (f : A → B) (x : A) → o ≡ Some x → option_map f o ≡ Some (f x)
 map_is {A} o f x e = ap (λ (r : Option A). option_map f r) e
 
--- a place behind two pieces
+-- a place after two pieces
 pub behind_both : (at : ℕ) (x y z rest : List ℕ) → z ≡ x ++ y → place ((at + length x) + length y) rest ≡ place (at + length z) rest
 behind_both at x y z rest e = ap (λ (k : ℕ). place k rest) (omega (arith, length-append x y, ap (λ (l : List ℕ). length l) e))
 

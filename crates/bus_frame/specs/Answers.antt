@@ -1,8 +1,8 @@
 -- What the reader of messages answers.
 use Rattle.std.specs.Prelude.{◌≡◌, ◌⊎◌, ℕ, ◌+◌, ◌<◌, ◌≤◌, List, ◌++◌, length, None, Result, Ok, Err}
-use Rattle.bus_frame.specs.declared.rule.FrameRule.{FrameRule}
-use Rattle.bus_frame.specs.declared.rule.FrameError.{FrameError}
-use Rattle.bus_frame.specs.declared.rule.FrameError.TheVariants.{Bad, NoMemory}
+use Rattle.fp_base.specs.declared.frame_rule.FrameRule.{FrameRule}
+use Rattle.bus_frame.specs.declared.error.FrameError.{FrameError}
+use Rattle.bus_frame.specs.declared.error.FrameError.TheVariants.{Bad, NoMemory}
 use Rattle.bus_frame.specs.declared.header.Header.{Header}
 use Rattle.bus_frame.specs.declared.header.ReadFrame.{ReadFrame}
 use Rattle.bus_frame.specs.declared.header.ReadFrame.TheVariants.{Frame, Need}

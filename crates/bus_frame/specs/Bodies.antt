@@ -32,7 +32,7 @@ pub record BeginsWithText (h : Header) (message text : List ℕ) : Type 0 where
   pub parts : body_bytes h message ≡ first ++ rest
   pub is : IsLongText h.little h.body_at text first
 
--- texts one after another, and nothing behind them
+-- texts one after another, and nothing after them
 abbrev pub AreTexts : Bool → ℕ → List (List ℕ) → List ℕ → Type 0
 AreTexts little at [] bytes = bytes ≡ []
 AreTexts little at (text ∷ texts) bytes =
@@ -60,7 +60,7 @@ first_text h message = do
   text ← long_text_at h.little (body_place h message)
   Some text.0
 
--- three texts, and nothing behind them
+-- three texts, and nothing after them
 unfoldable pub three_texts_at : Bool → Place → Option (List ℕ × List ℕ × List ℕ)
 three_texts_at little p = do
   first ← long_text_at little p
@@ -79,7 +79,7 @@ texts_at little (suc n) p =
     if length p.rest == 0 then Some []
     else (long_text_at little p >>= λ text. option_map (λ more. text.0 ∷ more) (texts_at little n text.1))
 
--- the elements of an array of texts, behind which nothing stands
+-- the elements of an array of texts, after which nothing stands
 unfoldable pub elements_place : Bool → Place → Option Place
 elements_place little p = do
   head ← array_head_at little (codes "s") p

@@ -1,7 +1,7 @@
 -- The fields of a header, after the D-Bus specification's "Message Protocol", "Header Fields".
 use Rattle.std.specs.Prelude.{◌≡◌, ℕ, zero, suc, Bool, true, false, ◌||◌, ◌==◌, not, if◌then◌else◌, List, length, Option, Some, None, is_some, option_map, Result, Ok, Err}
-use Rattle.bus_frame.specs.declared.rule.FrameRule.{FrameRule}
-use Rattle.bus_frame.specs.declared.rule.FrameRule.TheVariants.{Fields, Code, Double, Kind, Value}
+use Rattle.fp_base.specs.declared.frame_rule.FrameRule.{FrameRule}
+use Rattle.fp_base.specs.declared.frame_rule.FrameRule.TheVariants.{Fields, Code, Double, Kind, Value}
 use Rattle.bus_frame.specs.declared.known.Grammar.{Grammar}
 use Rattle.bus_frame.specs.declared.known.Grammar.TheVariants as grammar
 use Rattle.bus_frame.specs.declared.field.RawContent.{RawContent}

@@ -1,15 +1,17 @@
 -- What a message is, and which rule bytes break first: the D-Bus specification's "Message Protocol".
 use Rattle.std.specs.Prelude.{◌≡◌, ◌≢◌, ◌⊎◌, ℕ, ◌+◌, ◌≤◌, Bool, true, false, ◌||◌, ◌&&◌, ◌==◌, not, nat_lt, if◌then◌else◌, List, [], ◌∷◌, ◌++◌, length, take, drop, Option, Some, None, is_some, option_map}
 use Rattle.std.specs.List.{list_all}
-use Rattle.bus_frame.specs.declared.rule.FrameRule.{FrameRule}
-use Rattle.bus_frame.specs.declared.rule.FrameRule.TheVariants.{Fields, Code, Double, Kind, Value, Padding, Required, Body}
+use Rattle.fp_base.specs.declared.frame_rule.FrameRule.{FrameRule}
+use Rattle.fp_base.specs.declared.frame_rule.FrameRule.TheVariants.{Fields, Code, Double, Kind, Value, Padding, Required, Body}
 use Rattle.bus_frame.specs.declared.known.Grammar.{Grammar}
 use Rattle.bus_frame.specs.declared.known.Grammar.TheVariants as grammar
 use Rattle.bus_frame.specs.declared.fixed.Fixed.{Fixed}
 use Rattle.bus_frame.specs.declared.header.Header.{Header}
+use Rattle.bus_frame.specs.declared.message.MessageType.{MessageType}
+use Rattle.bus_frame.specs.declared.message.MessageType.TheVariants as type
 use Rattle.bus_frame.specs.Numbers.{padding, are_zero}
 use Rattle.bus_frame.specs.Fields.{Content, word, number, other, Field, good_text}
-use Rattle.bus_frame.specs.Reading.{is_little, fixed_of, array_end, body_start, message_len, fixed_fault}
+use Rattle.bus_frame.specs.Reading.{is_little, type_of, fixed_of, array_end, body_start, message_len, fixed_fault}
 use Rattle.bus_frame.specs.Grammar.{IsField, AreFields}
 
 -- ---- the known fields
@@ -48,7 +50,7 @@ is_good code (word type text) = not (is_number_field code) && good_text (known_g
 is_good code (number n) = code == 9 || (code == 5 && not (n == 0))
 is_good code other = false
 
--- the first rule that a field breaks, behind others
+-- the first rule that a field breaks, after others
 abbrev pub field_fault : List Field → Field → Option FrameRule
 field_fault before f =
     if f.code == 0 then Some Code
@@ -58,21 +60,20 @@ field_fault before f =
     else (if not (is_good f.code f.content) then Some Value
     else None))))
 
--- no field breaks a rule, behind others
+-- no field breaks a rule, after others
 abbrev pub AreFine : List Field → List Field → Type 0
 AreFine before [] = Unit {0}
 AreFine before (f ∷ fs) = (field_fault before f ≡ None) × AreFine (before ++ f ∷ []) fs
 
--- the fields that messages of a type need: a call, a return, an error, a signal
-abbrev pub needed_fields : ℕ → List ℕ
-needed_fields kind =
-    if kind == 1 then 1 ∷ 3 ∷ []
-    else (if kind == 2 then 5 ∷ []
-    else (if kind == 3 then 4 ∷ 5 ∷ []
-    else (if kind == 4 then 1 ∷ 2 ∷ 3 ∷ []
-    else [])))
+-- the fields that messages of a type need
+abbrev pub needed_fields : MessageType → List ℕ
+needed_fields type.MethodCall = 1 ∷ 3 ∷ []
+needed_fields type.MethodReturn = 5 ∷ []
+needed_fields type.Error = 4 ∷ 5 ∷ []
+needed_fields type.Signal = 1 ∷ 2 ∷ 3 ∷ []
+needed_fields (type.Unknown n) = []
 
-abbrev pub has_needed : ℕ → List Field → Bool
+abbrev pub has_needed : MessageType → List Field → Bool
 has_needed kind fields = list_all (λ code. is_some (given code fields)) (needed_fields kind)
 
 -- whether there is a signature that isn't empty
@@ -109,7 +110,7 @@ header_says h code =
 -- the header of a fixed part and fields
 pub record IsHeader (f : Fixed) (fields : List Field) (h : Header) : Type 0 where
   pub little : h.little ≡ is_little f
-  pub kind : h.kind ≡ f.kind
+  pub kind : h.kind ≡ type_of f
   pub flags : h.flags ≡ f.flags
   pub serial : h.serial ≡ f.serial
   pub known : (code : ℕ) → 1 ≤ code → code ≤ 8 → header_says h code ≡ given code fields
@@ -126,7 +127,7 @@ pub record Frame (bytes : List ℕ) (h : Header) : Type 0 where
   pub spelled : AreFields (is_little (fixed_of bytes)) 16 fields array
   pub fine : AreFine [] fields
   pub padded : are_zero gap ≡ true
-  pub needed : has_needed (fixed_of bytes).kind fields ≡ true
+  pub needed : has_needed (type_of (fixed_of bytes)) fields ≡ true
   pub typed : (length body == 0 || is_typing (given 8 fields)) ≡ true
   pub header : IsHeader (fixed_of bytes) fields h
 
@@ -144,8 +145,8 @@ pub record FineUpTo (bytes : List ℕ) (before : List Field) (at : ℕ) (rest : 
   pub spelled : AreFields (is_little (fixed_of bytes)) 16 before front
   pub fine : AreFine [] before
 
--- the first rule behind the fields
-abbrev pub rest_fault : ℕ → List Field → (gap body : List ℕ) → Option FrameRule
+-- the first rule after the fields
+abbrev pub rest_fault : MessageType → List Field → (gap body : List ℕ) → Option FrameRule
 rest_fault kind fields gap body =
     if not (are_zero gap) then Some Padding
     else (if not (has_needed kind fields) then Some Required
@@ -153,7 +154,7 @@ rest_fault kind fields gap body =
     else None))
 
 -- The rule that bytes break first: one of the fixed part, or, in bytes as long as their message, that something else
--- than a field stands at a field's place, one that a field breaks, or one behind the fields.
+-- than a field stands at a field's place, one that a field breaks, or one after the fields.
 pub data Breaks (bytes : List ℕ) (rule : FrameRule) : Type 0 where
   fixed_part : 16 ≤ length bytes → fixed_fault (fixed_of bytes) ≡ Some rule → Breaks bytes rule
   no_field : (before : List Field) (at : ℕ) (rest : List ℕ) → FineUpTo bytes before at rest → rest ≢ []
@@ -161,4 +162,4 @@ pub data Breaks (bytes : List ℕ) (rule : FrameRule) : Type 0 where
   broken_field : (before : List Field) (at : ℕ) (x y : List ℕ) (f : Field) → FineUpTo bytes before at (x ++ y) → IsField (is_little (fixed_of bytes)) at f x
       → field_fault before f ≡ Some rule → Breaks bytes rule
   broken_rest : (array gap body : List ℕ) (fields : List Field) → HasParts bytes array gap body → AreFields (is_little (fixed_of bytes)) 16 fields array → AreFine [] fields
-      → rest_fault (fixed_of bytes).kind fields gap body ≡ Some rule → Breaks bytes rule
+      → rest_fault (type_of (fixed_of bytes)) fields gap body ≡ Some rule → Breaks bytes rule

@@ -75,7 +75,7 @@ pub record IsStruct (P : Ty → ℕ → List ℕ → Type 0) (ts : Tys) (at : �
   pub spelled : bytes ≡ zeros 8 at ++ members
   pub each : AreMembers P ts (at + length (zeros 8 at)) members
 
--- the text of a complete type, with its length before it and a zero byte behind it
+-- the text of a complete type, with its length before it and a zero byte after it
 pub record IsTypeText (t : Ty) (bytes : List ℕ) : Type 0 where
   pub complete : is_type false t 32 32 ≡ true
   pub fits : length (type_text t) < 256

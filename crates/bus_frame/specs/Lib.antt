@@ -2,6 +2,7 @@ pub mod Answers
 pub mod Fields
 pub mod Frame
 pub mod Grammar
+pub mod Messages
 pub mod Names
 pub mod Numbers
 pub mod Places

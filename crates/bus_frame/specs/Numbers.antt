@@ -1,7 +1,7 @@
 -- Padding, numbers and texts, after the D-Bus specification's "Marshaling".
 use Rattle.std.specs.Prelude.{ℕ, ◌-◌, ◌%◌, Bool, ◌&&◌, ◌==◌, not, if◌then◌else◌, List}
 use Rattle.std.specs.List.{list_all, list_any}
-use Rattle.std.specs.Int.{w32, from_le_bytes, from_be_bytes}
+use Rattle.byteorder.specs.Endian.{little_number, big_number}
 use Rattle.std.specs.Str.{is_utf8}
 
 -- how many bytes lead to the next multiple of n
@@ -13,7 +13,7 @@ are_zero = list_all (λ b. b == 0)
 
 -- the number of 32 bits that four bytes stand for
 abbrev pub number_from : Bool → List ℕ → ℕ
-number_from little bytes = if little then from_le_bytes w32 bytes else from_be_bytes w32 bytes
+number_from little bytes = if little then little_number 4 bytes else big_number 4 bytes
 
 -- UTF-8 without a zero byte
 abbrev pub is_text : List ℕ → Bool

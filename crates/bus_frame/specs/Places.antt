@@ -13,7 +13,7 @@ pub record Place : Type 0 where
 abbrev pub place_of : Cursor → Place
 place_of c = record { at = c.at; rest = c.rest.now }
 
--- n bytes, and the place behind them
+-- n bytes, and the place after them
 abbrev pub bytes_at : ℕ → Place → Option (List ℕ × Place)
 bytes_at n p = if nat_lt (length p.rest) n then None else Some (take n p.rest, record { at = p.at + n; rest = drop n p.rest })
 
@@ -42,7 +42,7 @@ text_at n p = do
   end ← byte_at text.1
   if is_text text.0 && end.0 == 0 then Some (text.0, end.1) else None
 
--- a text behind a number of 32 bits, as of the types s and o; a text behind a byte, as of g
+-- a text after a number of 32 bits, as of the types s and o; a text after a byte, as of g
 unfoldable pub long_text_at : Bool → Place → Option (List ℕ × Place)
 long_text_at little p = do
   len ← number_at little p

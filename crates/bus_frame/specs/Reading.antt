@@ -1,9 +1,12 @@
 -- Reading a message, after the D-Bus specification's "Message Protocol": what stands at the front of some bytes.
 use Rattle.std.specs.Prelude.{◌≡◌, ℕ, ◌+◌, ◌-◌, Bool, true, false, ◌||◌, ◌&&◌, ◌==◌, not, nat_lt, if◌then◌else◌, List, [], length, take, drop, slice_index, Option, Some, None, is_none, option_map, unwrap_or, Result, Ok, Err}
-use Rattle.bus_frame.specs.declared.rule.FrameRule.{FrameRule}
-use Rattle.bus_frame.specs.declared.rule.FrameRule.TheVariants.{Order, ZeroType, Version, Serial, Length, Padding, Required, Body}
+use Rattle.fp_base.specs.declared.frame_rule.FrameRule.{FrameRule}
+use Rattle.fp_base.specs.declared.frame_rule.FrameRule.TheVariants.{Order, ZeroType, Version, Serial, Length, Padding, Required, Body}
 use Rattle.bus_frame.specs.declared.fixed.Fixed.{Fixed}
 use Rattle.bus_frame.specs.declared.header.Header.{Header}
+use Rattle.bus_frame.specs.declared.message.MessageType.{MessageType}
+use Rattle.bus_frame.specs.declared.message.MessageType.TheVariants as type
+use Rattle.bus_frame.specs.Messages.{message_type}
 use Rattle.bus_frame.specs.Numbers.{padding, are_zero, number_from}
 use Rattle.bus_frame.specs.Places.{Place}
 use Rattle.bus_frame.specs.Fields.{Known, none_known, ◌>=>◌, fields_at}
@@ -12,6 +15,10 @@ use Rattle.bus_frame.specs.Fields.{Known, none_known, ◌>=>◌, fields_at}
 abbrev pub is_little : Fixed → Bool
 is_little f = f.order == 108
 
+-- the message type
+abbrev pub type_of : Fixed → MessageType
+type_of f = message_type f.kind
+
 -- the fixed part, the first 16 bytes
 unfoldable pub fixed_of : List ℕ → Fixed
 fixed_of bytes =
@@ -19,7 +26,7 @@ fixed_of bytes =
     record {
       order = slice_index bytes 0;
       kind = slice_index bytes 1;
-      flags = slice_index bytes 2;
+      flags = record { bits = slice_index bytes 2 };
       version = slice_index bytes 3;
       body_len = number_from little (take 4 (drop 4 bytes));
       serial = number_from little (take 4 (drop 8 bytes));
@@ -46,20 +53,19 @@ fixed_fault f =
     else (if nat_lt 67108864 f.array_len || nat_lt 16777216 (message_len f) then Some Length
     else None))))
 
--- whether a field that messages of this type need isn't there: of a call, a return, an error and a signal
-unfoldable pub lacks_field : ℕ → Known → Bool
-lacks_field kind k =
-    if kind == 1 then is_none k.path || is_none k.member
-    else (if kind == 2 then is_none k.reply_serial
-    else (if kind == 3 then is_none k.error_name || is_none k.reply_serial
-    else (if kind == 4 then is_none k.path || is_none k.interface || is_none k.member
-    else false)))
+-- whether a field that messages of this type need isn't there
+abbrev pub lacks_field : MessageType → Known → Bool
+lacks_field type.MethodCall k = is_none k.path || is_none k.member
+lacks_field type.MethodReturn k = is_none k.reply_serial
+lacks_field type.Error k = is_none k.error_name || is_none k.reply_serial
+lacks_field type.Signal k = is_none k.path || is_none k.interface || is_none k.member
+lacks_field (type.Unknown n) k = false
 
--- the first rule that is broken behind the fields
+-- the first rule that is broken after the fields
 unfoldable pub end_fault : Fixed → Known → List ℕ → Option FrameRule
 end_fault f k zeros =
     if not (are_zero zeros) then Some Padding
-    else (if lacks_field f.kind k then Some Required
+    else (if lacks_field (type_of f) k then Some Required
     else (if nat_lt 0 f.body_len && length (unwrap_or k.signature []) == 0 then Some Body
     else None))
 
@@ -67,7 +73,7 @@ abbrev pub unless_broken : {A : Type 0} → Option FrameRule → A → Result A 
 unless_broken None x = Ok x
 unless_broken (Some rule) x = Err rule
 
--- the known fields of a whole message, or the first rule behind the fixed part that is broken
+-- the known fields of a whole message, or the first rule after the fixed part that is broken
 unfoldable pub known_in : Fixed → List ℕ → Result Known FrameRule
 known_in f bytes =
     fields_at (is_little f) f.array_len none_known (record { at = 16; rest = take f.array_len (drop 16 bytes) })
@@ -76,7 +82,7 @@ known_in f bytes =
 abbrev pub header_of : Fixed → Known → Header
 header_of f k = record {
   little = is_little f;
-  kind = f.kind;
+  kind = type_of f;
   flags = f.flags;
   serial = f.serial;
   path = k.path;

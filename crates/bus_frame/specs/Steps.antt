@@ -15,7 +15,7 @@ abbrev pub Gives : {X Y : Type 0} → (X → Y) → Option X → Option Y → Ty
 Gives view (Some x) read = read ≡ Some (view x)
 Gives view None read = read ≡ None
 
--- the first byte and those behind it
+-- the first byte and those after it
 abbrev pub first_of : List ℕ → Option (ℕ × List ℕ)
 first_of [] = None
 first_of (byte ∷ rest) = Some (byte, rest)

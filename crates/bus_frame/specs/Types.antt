@@ -83,7 +83,7 @@ type_after (suc all) arrays structs types = type_step (suc all) arrays structs (
 abbrev pub whole_type_after : List ℕ → Option (List ℕ)
 whole_type_after = type_after 64 32 32
 
--- one complete type and nothing behind it
+-- one complete type and nothing after it
 abbrev pub is_one_type : List ℕ → Bool
 is_one_type types = option_map_or (λ rest. length rest == 0) (whole_type_after types) false
 

@@ -46,7 +46,7 @@ basic_at little c p =
 abbrev pub Ended : Type 0
 Ended = List ℕ × Place
 
--- behind the bracket that closes a struct or an entry
+-- after the bracket that closes a struct or an entry
 abbrev pub closed : List ℕ → Option (List ℕ)
 closed types = first_of types >>= λ c. if c.0 == 41 || c.0 == 125 then Some c.1 else None
 

@@ -1,19 +1,23 @@
 -- How messages are written, after the D-Bus specification's "Marshaling" and "Message Protocol".
 use Rattle.std.specs.Prelude.{ℕ, ◌+◌, ◌-◌, Bool, if◌then◌else◌, List, [], ◌∷◌, ◌++◌, length, take, drop, replicate, codes, Option, Some, None}
-use Rattle.std.specs.Int.{w32, to_le_bytes, to_be_bytes}
+use Rattle.byteorder.specs.Endian.{little_bytes, big_bytes}
 use Rattle.bus_frame.specs.declared.header.Header.{Header}
+use Rattle.bus_frame.specs.declared.message.MessageType.{MessageType}
+use Rattle.bus_frame.specs.declared.message.MessageType.TheVariants as type
+use Rattle.bus_frame.specs.declared.message.Flags.{Flags}
+use Rattle.bus_frame.specs.Messages.{type_code, no_reply_expected}
 use Rattle.bus_frame.specs.Numbers.{padding}
 use Rattle.bus_frame.specs.Fields.{Content, word, number, other, Field}
 
 -- the four bytes of a number
 abbrev pub number_bytes : Bool → ℕ → List ℕ
-number_bytes little n = if little then to_le_bytes w32 n else to_be_bytes w32 n
+number_bytes little n = if little then little_bytes 4 n else big_bytes 4 n
 
 -- the zero bytes between a place and the next multiple of n
 abbrev pub zeros : ℕ → ℕ → List ℕ
 zeros n at = replicate (padding n at) 0
 
--- a text at a multiple of 4, with its length before it and a zero byte behind it
+-- a text at a multiple of 4, with its length before it and a zero byte after it
 abbrev pub text_bytes : Bool → List ℕ → List ℕ
 text_bytes little text = number_bytes little (length text) ++ text ++ 0 ∷ []
 
@@ -36,9 +40,9 @@ abbrev pub fields_bytes : Bool → ℕ → List Field → List ℕ
 fields_bytes little = in_row (field_bytes little)
 
 -- the fixed part: byte order, message type, flags, version 1, and the three numbers
-abbrev pub fixed_bytes : Bool → (kind flags body_len serial array_len : ℕ) → List ℕ
+abbrev pub fixed_bytes : Bool → MessageType → Flags → (body_len serial array_len : ℕ) → List ℕ
 fixed_bytes little kind flags body_len serial array_len =
-    (if little then 108 else 66) ∷ kind ∷ flags ∷ 1 ∷ number_bytes little body_len ++ number_bytes little serial ++ number_bytes little array_len
+    (if little then 108 else 66) ∷ type_code kind ∷ flags.bits ∷ 1 ∷ number_bytes little body_len ++ number_bytes little serial ++ number_bytes little array_len
 
 abbrev pub field_of_peer : Option (List ℕ) → List Field
 field_of_peer None = []
@@ -51,14 +55,14 @@ error_fields name reply to =
     ++ record { code = 7; content = word 115 (codes "org.freedesktop.DBus") } ∷ []
 
 -- a message with these fields and no body
-abbrev pub bare_bytes : Bool → (kind flags serial : ℕ) → List Field → List ℕ
+abbrev pub bare_bytes : Bool → MessageType → Flags → ℕ → List Field → List ℕ
 bare_bytes little kind flags serial fields =
     let array = fields_bytes little 16 fields in
     fixed_bytes little kind flags 0 serial (length array) ++ array ++ zeros 8 (16 + length array)
 
 -- the answer: an error that wants no reply, with the greatest serial
 unfoldable pub error_bytes : Bool → List ℕ → ℕ → Option (List ℕ) → List ℕ
-error_bytes little name reply to = bare_bytes little 3 1 4294967295 (error_fields name reply to)
+error_bytes little name reply to = bare_bytes little type.Error no_reply_expected 4294967295 (error_fields name reply to)
 
 -- the elements of an array of texts, from a place on
 abbrev pub element_bytes : Bool → ℕ → List ℕ → List ℕ

@@ -7,10 +7,9 @@ ghost use Rattle.bus_frame.specs.Bodies.{BeginsWithText, AreThreeTexts, AreNames
 
 use crate::cursor::Cursor;
 use crate::header::Header;
-use crate::items::Items;
 use crate::steps::after_byte;
-use crate::text::Text;
 use crate::value::array_head;
+use fp_base::{Items, Text};
 use std::alloc::{AllocError, Global};
 
 /// The body of a message.
@@ -140,7 +139,7 @@ fn texts(alloc: Global, little: bool, place: Cursor<'_>) -> Result<Option<Vec<Te
         let Some((text, behind)) = next.long_text(little) else {
             return Ok(None);
         };
-        texts.push(Text::copy_of(alloc, text)?)?;
+        texts.push(Text::from_str(alloc, text)?)?;
         next = behind;
     }
     if !next.rest.is_empty() {

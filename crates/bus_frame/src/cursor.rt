@@ -4,6 +4,7 @@ ghost use Rattle.std.specs.Prelude.{◌≡◌, ℕ, ◌+◌, ◌^◌, ◌<◌, �
 ghost use Rattle.bus_frame.specs.Steps.{Gives};
 
 use crate::steps::first_byte;
+use byteorder::{BigEndian, ByteOrder, LittleEndian};
 use std::str;
 
 /// A place in a message, counted from the message's first byte, and the bytes from there on.
@@ -23,14 +24,15 @@ pub fn all_zero(bytes: &[u8]) -> bool
     bytes.iter().all(|byte| *byte == 0)
 }
 
-/// The number that four bytes stand for.
-pub fn number(little: bool, digits: [u8; 4]) -> u32
-    ensures { result ≡ number_from little digits }
+/// The number that the first four bytes stand for.
+pub fn number(little: bool, digits: &[u8]) -> u32
+    requires { 4 ≤ length digits.now }
+    ensures { result ≡ number_from little digits.now }
 {
     if little {
-        u32::from_le_bytes(digits)
+        LittleEndian::read_u32(digits)
     } else {
-        u32::from_be_bytes(digits)
+        BigEndian::read_u32(digits)
     }
 }
 
@@ -51,7 +53,7 @@ impl<'a> Cursor<'a> {
     ghost use Rattle.bus_frame.specs.Steps.{Gives};
     ghost use Rattle.bus_frame.specs.Places.{place_of, bytes_at, byte_at, aligned_at, number_at, text_at, long_text_at, short_text_at};
 
-    /// So many bytes, and the place behind them.
+    /// So many bytes, and the place after them.
     pub fn bytes(self, count: usize) -> Option<(&'a [u8], Cursor<'a>)>
         ensures { Gives (λ x. (x.0.now, place_of x.1)) result (bytes_at count (place_of self.entry)) }
     {
@@ -66,7 +68,7 @@ impl<'a> Cursor<'a> {
         Some((front, behind))
     }
 
-    /// A byte, and the place behind it.
+    /// A byte, and the place after it.
     pub fn byte(self) -> Option<(u8, Cursor<'a>)>
         ensures { Gives (λ x. (x.0, place_of x.1)) result (byte_at (place_of self.entry)) }
     {
@@ -98,7 +100,6 @@ impl<'a> Cursor<'a> {
         ensures { Gives (λ x. (x.0, place_of x.1)) result (number_at little (place_of self.entry)) }
     {
         let (digits, behind) = self.aligned(4)?.bytes(4)?;
-        let digits = [digits[0], digits[1], digits[2], digits[3]];
         Some((number(little, digits), behind))
     }
 
@@ -116,7 +117,7 @@ impl<'a> Cursor<'a> {
         Some((text, behind))
     }
 
-    /// A text behind a number of 32 bits.
+    /// A text after a number of 32 bits.
     #[tactic(auto, unfolding(crate::specs::Places::long_text_at))]
     pub fn long_text(self, little: bool) -> Option<(&'a str, Cursor<'a>)>
         ensures { Gives (λ x. (x.0.now, place_of x.1)) result (long_text_at little (place_of self.entry)) }
@@ -125,7 +126,7 @@ impl<'a> Cursor<'a> {
         behind.text(count as usize)
     }
 
-    /// A text behind a byte.
+    /// A text after a byte.
     #[tactic(auto, unfolding(crate::specs::Places::short_text_at))]
     pub fn short_text(self) -> Option<(&'a str, Cursor<'a>)>
         ensures { Gives (λ x. (x.0.now, place_of x.1)) result (short_text_at (place_of self.entry)) }

@@ -61,7 +61,7 @@ fn content<'a>(
     }
 }
 
-/// The field that stands at the next multiple of 8, and the place behind it.
+/// The field that stands at the next multiple of 8, and the place after it.
 #[tactic(auto, unfolding(crate::specs::Fields::field_at))]
 pub fn field<'a>(little: bool, place: Cursor<'a>) -> Option<(RawField<'a>, Cursor<'a>)>
     ensures { Gives (λ x. (field_of x.0, place_of x.1)) result (field_at little (place_of place.entry)) }

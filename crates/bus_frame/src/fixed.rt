@@ -2,10 +2,11 @@
 
 ghost use Rattle.std.specs.Prelude.{◌≡◌, ◌+◌, ◌<◌, ◌≤◌, ◌^◌, take, drop, length};
 ghost use Rattle.bus_frame.specs.Numbers.{number_from};
-ghost use Rattle.bus_frame.specs.Reading.{is_little, fixed_of, array_end, body_start, message_len, fixed_fault};
+ghost use Rattle.bus_frame.specs.Reading.{is_little, type_of, fixed_of, array_end, body_start, message_len, fixed_fault};
 
 use crate::cursor::number;
-use crate::rule::FrameRule;
+use crate::message::{Flags, MessageType};
+use fp_base::FrameRule;
 
 const MAX_ARRAY: u64 = 67_108_864;
 
@@ -16,7 +17,7 @@ const MAX_MESSAGE: u64 = 16_777_216;
 pub struct Fixed {
     pub order: u8,
     pub kind: u8,
-    pub flags: u8,
+    pub flags: Flags,
     pub version: u8,
     pub body_len: u32,
     pub serial: u32,
@@ -27,8 +28,7 @@ fn number_at(little: bool, bytes: &[u8], at: usize) -> u32
     requires { at + 4 ≤ length bytes.now }
     ensures { result ≡ number_from little (take 4 (drop at bytes.now)) }
 {
-    let digits = &bytes[at..at + 4];
-    number(little, [digits[0], digits[1], digits[2], digits[3]])
+    number(little, &bytes[at..at + 4])
 }
 
 impl Fixed {
@@ -42,7 +42,7 @@ impl Fixed {
         Fixed {
             order: bytes[0],
             kind: bytes[1],
-            flags: bytes[2],
+            flags: Flags { bits: bytes[2] },
             version: bytes[3],
             body_len: number_at(little, bytes, 4),
             serial: number_at(little, bytes, 8),
@@ -55,6 +55,13 @@ impl Fixed {
         ensures { result ≡ is_little self.now }
     {
         self.order == b'l'
+    }
+
+    /// The message type.
+    pub fn message_type(&self) -> MessageType
+        ensures { result ≡ type_of self.now }
+    {
+        MessageType::from_code(self.kind)
     }
 
     /// Where the field array ends.

@@ -1,14 +1,17 @@
-use crate::text::Text;
+//! Headers of messages.
+
+use crate::message::{Flags, MessageType};
+use fp_base::Text;
 
 /// The header of a message: its fixed part and the known fields of its field array.
-#[derive(Debug, Drop)]
+#[derive(Drop)]
 pub struct Header {
     /// Whether numbers are little endian.
     pub little: bool,
-    /// The message type: 1 a call, 2 a return, 3 an error, 4 a signal.
-    pub kind: u8,
-    /// The flags, of which 1 says that no reply is wanted.
-    pub flags: u8,
+    /// The message type.
+    pub kind: MessageType,
+    /// The flags.
+    pub flags: Flags,
     /// The sender's number for the message, which isn't 0.
     pub serial: u32,
     /// The object that is called or that signals.
@@ -34,7 +37,7 @@ pub struct Header {
 }
 
 /// What stands at the front of some bytes that break no rule.
-#[derive(Debug, Drop)]
+#[derive(Drop)]
 pub enum ReadFrame {
     /// A whole message with this header and of this many bytes.
     Frame(Header, u64),

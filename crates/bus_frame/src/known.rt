@@ -8,8 +8,8 @@ ghost use Rattle.bus_frame.specs.Fields.{content_of, field_of, known_of, none_kn
 use crate::cursor::Cursor;
 use crate::field::{RawContent, RawField, field};
 use crate::names::{is_bus_name, is_interface_name, is_member_name, is_object_path};
-use crate::rule::FrameRule;
 use crate::types::is_type_signature;
+use fp_base::FrameRule;
 
 /// The known fields, lent from the message.
 #[derive(Clone, Copy)]

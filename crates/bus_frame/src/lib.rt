@@ -1,39 +1,33 @@
 //! D-Bus messages: what a whole message is, its header, and the few bodies that a filter reads or writes.
 #![tactic(auto)]
 
-mod blob;
 mod bodies;
 mod cursor;
+mod error;
 mod field;
 mod fixed;
 mod header;
-mod items;
 mod known;
+mod message;
 mod names;
 mod reading;
 mod renaming;
 mod room;
-mod rule;
-mod side;
 mod steps;
-mod text;
 mod types;
 mod value;
 mod writing;
 
-pub use blob::Blob;
 pub use bodies::{first_string, is_names, names_body, three_strings};
+pub use error::FrameError;
 pub use header::{Header, ReadFrame};
-pub use items::Items;
+pub use message::{Flags, MessageType};
 pub use names::{
     are_name_elements, is_bus_name, is_interface_name, is_member_name, is_object_path,
     is_unique_name, is_well_known_name,
 };
 pub use reading::read_frame;
 pub use renaming::with_names;
-pub use rule::{FrameError, FrameRule};
-pub use side::Side;
-pub use text::Text;
 pub use writing::error_frame;
 
 #[cfg(test)]

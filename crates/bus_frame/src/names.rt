@@ -5,7 +5,7 @@ ghost use Rattle.std.specs.List.{list_all, slice_split};
 ghost use Rattle.bus_frame.specs.Names.{begins_element, continues_element, is_element, are_elements, is_dotted, is_interface, is_member, is_unique, is_well_known, is_bus, is_path};
 
 /// Which characters the elements of a name have.
-#[derive(Clone, Copy, Debug, PartialEq, Eq)]
+#[derive(Clone, Copy)]
 pub enum Alphabet {
     /// Letters, digits and `_`, where a digit isn't first.
     Interface,

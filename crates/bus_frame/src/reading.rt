@@ -2,7 +2,7 @@
 
 ghost use Rattle.std.specs.Prelude.{◌≡◌, ℕ, ◌≤◌, List, ◌++◌, IfOk, take, length, option_map};
 ghost use Rattle.bus_frame.specs.declared.header.Header.{Header};
-ghost use Rattle.bus_frame.specs.declared.rule.FrameRule.{FrameRule};
+ghost use Rattle.fp_base.specs.declared.frame_rule.FrameRule.{FrameRule};
 ghost use Rattle.bus_frame.specs.Frame.{Frame, Breaks};
 ghost use Rattle.bus_frame.specs.Results.{Reads};
 ghost use Rattle.bus_frame.specs.Fields.{known_of};
@@ -10,36 +10,38 @@ ghost use Rattle.bus_frame.specs.Reading.{message_len, lacks_field, end_fault, k
 ghost use Rattle.bus_frame.specs.Answers.{AnswersFrame, IfFrame, IfNeed, IfBad, BeginsBroken, Lacks};
 
 use crate::cursor::{Cursor, all_zero};
+use crate::error::FrameError;
 use crate::fixed::Fixed;
 use crate::header::{Header, ReadFrame};
 use crate::known::{RawKnown, known_fields};
-use crate::rule::{FrameError, FrameRule};
-use crate::text::Text;
+use crate::message::MessageType;
+use fp_base::{FrameRule, Text};
 use std::alloc::{AllocError, Global};
 
 /// Whether a field that messages of this type need isn't there.
-#[tactic(auto, unfolding(crate::specs::Reading::lacks_field))]
-fn lacks(kind: u8, known: &RawKnown<'_>) -> bool
+fn lacks(kind: MessageType, known: &RawKnown<'_>) -> bool
     ensures { result ≡ lacks_field kind (known_of known.now) }
 {
     match kind {
-        1 => known.path.is_none() || known.member.is_none(),
-        2 => known.reply_serial.is_none(),
-        3 => known.error_name.is_none() || known.reply_serial.is_none(),
-        4 => known.path.is_none() || known.interface.is_none() || known.member.is_none(),
-        _ => false,
+        MessageType::MethodCall => known.path.is_none() || known.member.is_none(),
+        MessageType::MethodReturn => known.reply_serial.is_none(),
+        MessageType::Error => known.error_name.is_none() || known.reply_serial.is_none(),
+        MessageType::Signal => {
+            known.path.is_none() || known.interface.is_none() || known.member.is_none()
+        }
+        MessageType::Unknown(_) => false,
     }
 }
 
-/// The first rule that is broken behind the fields.
+/// The first rule that is broken after the fields.
 #[tactic(auto, unfolding(crate::specs::Reading::end_fault))]
-fn rule_behind_fields(fixed: &Fixed, known: &RawKnown<'_>, zeros: &[u8]) -> Option<FrameRule>
+fn rule_after_fields(fixed: &Fixed, known: &RawKnown<'_>, zeros: &[u8]) -> Option<FrameRule>
     ensures { result ≡ end_fault fixed.now (known_of known.now) zeros.now }
 {
     if !all_zero(zeros) {
         return Some(FrameRule::Padding);
     }
-    if lacks(fixed.kind, known) {
+    if lacks(fixed.message_type(), known) {
         return Some(FrameRule::Required);
     }
     if fixed.body_len > 0 && known.signature.unwrap_or("").is_empty() {
@@ -48,7 +50,7 @@ fn rule_behind_fields(fixed: &Fixed, known: &RawKnown<'_>, zeros: &[u8]) -> Opti
     None
 }
 
-/// The known fields of a whole message, or the first rule behind the fixed part that is broken.
+/// The known fields of a whole message, or the first rule after the fixed part that is broken.
 #[tactic(auto, unfolding(crate::specs::Reading::known_in))]
 fn known_of_message<'a>(fixed: &Fixed, bytes: &'a [u8]) -> Result<RawKnown<'a>, FrameRule>
     requires { message_len fixed.now ≤ length bytes.now }
@@ -61,7 +63,7 @@ fn known_of_message<'a>(fixed: &Fixed, bytes: &'a [u8]) -> Result<RawKnown<'a>, 
         rest: &bytes[16..array_end],
     };
     let known = known_fields(fixed.is_little_endian(), array)?;
-    match rule_behind_fields(fixed, &known, &bytes[array_end..body_start]) {
+    match rule_after_fields(fixed, &known, &bytes[array_end..body_start]) {
         Some(rule) => Err(rule),
         None => Ok(known),
     }
@@ -71,28 +73,69 @@ fn copied(alloc: Global, text: Option<&str>) -> Result<Option<Text>, AllocError>
     ensures { IfOk result (λ copy. copy ≡ option_map (λ t. t.now) text.entry) }
 {
     match text {
-        Some(text) => Ok(Some(Text::copy_of(alloc, text)?)),
+        Some(text) => Ok(Some(Text::from_str(alloc, text)?)),
         None => Ok(None),
     }
+}
+
+/// The member that a message is about.
+#[derive(Drop)]
+pub struct Target {
+    pub path: Option<Text>,
+    pub interface: Option<Text>,
+    pub member: Option<Text>,
+}
+
+fn target_of(alloc: Global, known: &RawKnown<'_>) -> Result<Target, AllocError>
+    ensures path { IfOk result (λ t. t.path ≡ (known_of known.now).path) }
+    ensures interface { IfOk result (λ t. t.interface ≡ (known_of known.now).interface) }
+    ensures member { IfOk result (λ t. t.member ≡ (known_of known.now).member) }
+{
+    Ok(Target {
+        path: copied(alloc, known.path)?,
+        interface: copied(alloc, known.interface)?,
+        member: copied(alloc, known.member)?,
+    })
+}
+
+/// The bus names of those between whom a message goes.
+#[derive(Drop)]
+pub struct Parties {
+    pub destination: Option<Text>,
+    pub sender: Option<Text>,
+}
+
+fn parties_of(alloc: Global, known: &RawKnown<'_>) -> Result<Parties, AllocError>
+    ensures destination { IfOk result (λ p. p.destination ≡ (known_of known.now).destination) }
+    ensures sender { IfOk result (λ p. p.sender ≡ (known_of known.now).sender) }
+{
+    Ok(Parties {
+        destination: copied(alloc, known.destination)?,
+        sender: copied(alloc, known.sender)?,
+    })
 }
 
 /// The header of a message with texts of its own.
 fn header(alloc: Global, fixed: &Fixed, known: &RawKnown<'_>) -> Result<Header, AllocError>
     ensures { IfOk result (λ h. h ≡ header_of fixed.now (known_of known.now)) }
 {
+    let error_name = copied(alloc, known.error_name)?;
+    let signature = copied(alloc, known.signature)?;
+    let target = target_of(alloc, known)?;
+    let parties = parties_of(alloc, known)?;
     Ok(Header {
         little: fixed.is_little_endian(),
-        kind: fixed.kind,
+        kind: fixed.message_type(),
         flags: fixed.flags,
         serial: fixed.serial,
-        path: copied(alloc, known.path)?,
-        interface: copied(alloc, known.interface)?,
-        member: copied(alloc, known.member)?,
-        error_name: copied(alloc, known.error_name)?,
+        path: target.path,
+        interface: target.interface,
+        member: target.member,
+        error_name,
         reply_serial: known.reply_serial,
-        destination: copied(alloc, known.destination)?,
-        sender: copied(alloc, known.sender)?,
-        signature: copied(alloc, known.signature)?,
+        destination: parties.destination,
+        sender: parties.sender,
+        signature,
         body_at: fixed.start_of_body(),
         body_len: u64::from(fixed.body_len),
     })

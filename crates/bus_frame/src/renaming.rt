@@ -5,11 +5,9 @@ ghost use Rattle.bus_frame.specs.Reading.{frame_of, whole};
 ghost use Rattle.bus_frame.specs.Bodies.{names_in};
 ghost use Rattle.bus_frame.specs.Writing.{number_bytes, elements_bytes, names_bytes, with_body, with_names_bytes};
 
-use crate::blob::Blob;
 use crate::header::Header;
-use crate::items::Items;
-use crate::text::Text;
 use crate::writing::{number_bytes_of, put_text, put_zeros};
+use fp_base::{Blob, Items, Text};
 use std::alloc::{AllocError, Global};
 
 /// The elements of an array of texts, the first at a place.

@@ -1,7 +1,7 @@
 ghost use Rattle.std.specs.Prelude.{◌≡◌, ◌-◌, ◌≤◌, ◌==◌, ◌||◌, if◌then◌else◌, Some, None};
 
 /// How many containers may still be opened: of any kind, and of them arrays and structs.
-#[derive(Clone, Copy, Debug, PartialEq, Eq)]
+#[derive(Clone, Copy)]
 pub struct Room {
     pub containers: u8,
     pub arrays: u8,

@@ -2,7 +2,7 @@
 
 ghost use Rattle.bus_frame.specs.Steps.{Gives, first_of, behind_byte};
 
-/// The first byte and those behind it.
+/// The first byte and those after it.
 pub fn first_byte(bytes: &[u8]) -> Option<(u8, &[u8])>
     ensures { Gives (λ b. (b.0, b.1.now)) result (first_of bytes.now) }
 {

@@ -8,18 +8,22 @@ ghost use Rattle.std.specs.Prelude.{◌==◌};
 ghost use Rattle.bus_frame.specs.Numbers.{padding};
 ghost use Rattle.bus_frame.specs.Writing.{number_bytes, zeros, text_bytes, field_bytes, fields_bytes, fixed_bytes, error_fields, error_bytes};
 
-use crate::blob::Blob;
+use crate::message::{Flags, MessageType};
+use byteorder::{BigEndian, ByteOrder, LittleEndian};
+use fp_base::Blob;
 use std::alloc::{AllocError, Global};
 
 /// The four bytes of a number.
 pub fn number_bytes_of(little: bool, number: u32) -> [u8; 4]
     ensures { result ≡ number_bytes little number }
 {
+    let mut digits = [0; 4];
     if little {
-        number.to_le_bytes()
+        LittleEndian::write_u32(&mut digits, number);
     } else {
-        number.to_be_bytes()
+        BigEndian::write_u32(&mut digits, number);
     }
+    digits
 }
 
 /// Adds the zero bytes that lead from a place to the next multiple of `alignment`.
@@ -33,7 +37,7 @@ pub fn put_zeros(out: &mut Vec<u8>, alignment: usize, at: usize) -> Result<(), A
     Ok(())
 }
 
-/// Adds a text with its length before it and a zero byte behind it.
+/// Adds a text with its length before it and a zero byte after it.
 pub fn put_text(out: &mut Vec<u8>, little: bool, text: &str) -> Result<(), AllocError>
     requires { length text.now < 2 ^ 32 }
     ensures { OnOk result (out.new.items ≡ out.old.items ++ text_bytes little text.now) }
@@ -99,15 +103,15 @@ fn error_array(
 fn put_fixed(
     out: &mut Vec<u8>,
     little: bool,
-    kind: u8,
-    flags: u8,
+    kind: MessageType,
+    flags: Flags,
     serial: u32,
     array_len: u32,
 ) -> Result<(), AllocError>
     ensures { OnOk result (out.new.items ≡ out.old.items ++ fixed_bytes little kind flags 0 serial array_len) }
 {
     let order = if little { b'l' } else { b'B' };
-    out.extend_from_slice(&[order, kind, flags, 1])?;
+    out.extend_from_slice(&[order, kind.code(), flags.bits, 1])?;
     out.extend_from_slice(&number_bytes_of(little, 0))?;
     out.extend_from_slice(&number_bytes_of(little, serial))?;
     out.extend_from_slice(&number_bytes_of(little, array_len))?;
@@ -130,7 +134,14 @@ pub fn error_frame(
 {
     let fields = error_array(alloc, little, name, reply, to)?;
     let mut out = Vec::new(alloc);
-    put_fixed(&mut out, little, 3, 1, u32::MAX, fields.len() as u32)?;
+    put_fixed(
+        &mut out,
+        little,
+        MessageType::Error,
+        Flags::NO_REPLY_EXPECTED,
+        u32::MAX,
+        fields.len() as u32,
+    )?;
     out.extend_from_slice(&fields)?;
     put_zeros(&mut out, 8, 16 + fields.len())?;
     Ok(Blob::from_vec(out))

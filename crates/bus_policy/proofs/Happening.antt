@@ -3,15 +3,18 @@ use Rattle.std.proofs.Common.{◌≡◌, ◌==◌, ℕ, Bool, true, false, List,
 use Rattle.std.specs.Prelude.{◌||◌, ◌&&◌, not, if◌then◌else◌, is_some}
 use Rattle.std.specs.Option.{option_map_or}
 use Rattle.std.specs.Str.{bytes_eq}
-use Rattle.std.proofs.lemmas.Bool.{and_parts, cases_Bool, false≢true, eqb-true}
+use Rattle.std.proofs.lemmas.Bool.{and_parts, cases_Bool, false≢true}
 use Rattle.std.proofs.lemmas.Slice.Eq.{bytes_eq-Decides}
 use Rattle.bus_frame.specs.declared.header.Header.{Header}
-use Rattle.bus_frame.specs.declared.side.Side.TheVariants as side
+use Rattle.bus_frame.specs.declared.message.MessageType.{MessageType}
+use Rattle.bus_frame.specs.declared.message.MessageType.TheVariants as type
+use Rattle.fp_base.specs.declared.side.Side.TheVariants as side
 use Rattle.bus_frame.specs.Bodies.{three_texts}
 use Rattle.bus_rules.specs.Rules.{says}
+use Rattle.bus_policy.specs.Driver.{driver}
 use Rattle.bus_policy.specs.declared.policy.PolicyRule.{PolicyRule}
 use Rattle.bus_policy.specs.declared.verdict.Verdict.{Verdict}
-use Rattle.bus_policy.specs.Events.{Judged, driver, is_unique_like, is_call, is_reply, is_signal, wants_no_reply, tells_owner, is_forwarded, is_serial, new_owner, is_addressed_by, is_bus_call, is_client_reply}
+use Rattle.bus_policy.specs.Events.{Judged, is_unique_like, is_call_type, is_signal_type, is_call, is_reply, is_signal, wants_no_reply, tells_owner, is_forwarded, is_serial, new_owner, is_addressed_by, is_bus_call, is_client_reply}
 use Rattle.bus_policy.specs.Watching.{Known, with_name, with_name_if, name_told, with_message_if, with_call_if, without_call, waiting_call, with_event, judged_event}
 use Rattle.bus_policy.proofs.Opening.{both_unique}
 
@@ -67,8 +70,12 @@ not_driver (Some s) q b e =
       | inr h ↦ ap (λ (t : Bool). is_unique_like q && (t && b)) h ∙ and_no (is_unique_like q)
     ]
 
-signal_no_call : (kind : ℕ) → (kind == 4) ≡ true → (kind == 1) ≡ false
-signal_no_call kind e = ap (λ (n : ℕ). n == 1) (eqb-true kind 4 e)
+signal_no_call : (kind : MessageType) → is_signal_type kind ≡ true → is_call_type kind ≡ false
+signal_no_call type.MethodCall e = absurd (false≢true e)
+signal_no_call type.MethodReturn e = refl
+signal_no_call type.Error e = refl
+signal_no_call type.Signal e = refl
+signal_no_call (type.Unknown n) e = refl
 
 pub owned : (rules : List PolicyRule) (name other owner q : List ℕ) (h : Header) (bytes : List ℕ) (v : Verdict) (k : Known)
     → tells_owner h ≡ true → three_texts h bytes ≡ Some (name, other, owner)

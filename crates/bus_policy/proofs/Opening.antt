@@ -11,7 +11,7 @@ use Rattle.bus_policy.specs.declared.level.Level.{Level}
 use Rattle.bus_policy.specs.declared.policy.PolicyRule.{PolicyRule}
 use Rattle.bus_policy.specs.Levels.{greater, pattern_matches}
 use Rattle.bus_policy.specs.Events.{is_unique_like, name_owned, names_of, has_written, peer_waits}
-use Rattle.bus_policy.specs.Watching.{Owners, Known, known_of, name_level, names_level, known_by, known_after, or_each, with_name}
+use Rattle.bus_policy.specs.Watching.{Owners, Known, unknown, name_level, names_level, known_by, known_after, or_each, with_name}
 use Rattle.bus_policy.proofs.Greatest.{greater_assoc, greater_comm}
 
 level_push : (rules : List PolicyRule) (names : List (List ℕ)) (name : List ℕ) → names_level rules (names ++ name ∷ []) ≡ greater (name_level rules name) (names_level rules names)
@@ -40,7 +40,7 @@ flags_push names name (rule ∷ rules) =
 known_push : (rules : List PolicyRule) (names : List (List ℕ)) (name : List ℕ) (wrote : Bool) (waits : ℕ → Bool) → known_by rules (names ++ name ∷ []) wrote waits ≡ with_name rules name (known_by rules names wrote waits)
 known_push rules names name wrote waits = λ i. record { had = level_push rules names name i; wrote = wrote; meant = flags_push names name rules i; waits = waits }
 
--- a row behind others
+-- a row after others
 row_filtered : (owners : Owners) (row : List ℕ × List ℕ) (q : List ℕ) (e : Bool) → bytes_eq row.1 q ≡ e → filter_map (name_owned q) (owners ++ row ∷ []) ≡ cond e (filter_map (name_owned q) owners ++ row.0 ∷ []) (filter_map (name_owned q) owners)
 row_filtered owners row q e h = filter_map-append (name_owned q) owners (row ∷ []) ∙ ap (λ (b : Bool). filter_map (name_owned q) owners ++ cons_option (if b then Some row.0 else None) []) h ∙ by e
   where
@@ -82,10 +82,10 @@ known_row rules owners row q =
     by true names wrote waits = known_push rules names row.0 wrote waits
     by false names wrote waits = refl
 
-pub known_none : (rules : List PolicyRule) (q : List ℕ) → known_of rules None ≡ known_after rules [] [] q
+pub known_none : (rules : List PolicyRule) (q : List ℕ) → unknown rules ≡ known_after rules [] [] q
 known_none rules q = by (is_unique_like q)
   where
-    by : (u : Bool) → known_of rules None ≡ known_by rules (if u then [] else []) (u && false) (λ s. false)
+    by : (u : Bool) → unknown rules ≡ known_by rules (if u then [] else []) (u && false) (λ s. false)
     by true = refl
     by false = refl
 

@@ -1,31 +1,30 @@
 -- What a watch knows is what is known after the events that it noted.
 use Rattle.std.proofs.Common.{◌≡◌, ℕ, Bool, true, false, List, [], ◌∷◌, ◌++◌, Option, Some, None, refl, sym, ap, subst, ◌∙◌}
-use Rattle.std.specs.Prelude.{◌||◌, ◌&&◌, if◌then◌else◌, map, option_map}
+use Rattle.std.specs.Prelude.{◌||◌, ◌&&◌, if◌then◌else◌, map, nat_eq, unwrap_or}
 use Rattle.std.specs.List.{list_any, filter_map, cons_option}
-use Rattle.std.specs.Ordering.{nat_cmp}
-use Rattle.std.specs.BTreeMap.{get, get_by_text}
+use Rattle.indexmap.specs.IndexMap.{get, get_by_text}
 use Rattle.bus_frame.specs.declared.header.Header.{Header}
 use Rattle.bus_policy.specs.declared.policy.PolicyRule.{PolicyRule}
 use Rattle.bus_policy.specs.declared.policy.RuleKind.{RuleKind}
 use Rattle.bus_policy.specs.declared.watch.Watch.{Watch}
 use Rattle.bus_policy.specs.Levels.{pattern_matches}
-use Rattle.bus_policy.specs.Events.{Judged, is_unique_like, name_given, name_owned, names_of, is_addressed_by, has_written, client_waits, peer_waits, is_client_call, is_bus_reply}
-use Rattle.bus_policy.specs.Verdicts.{is_listing}
-use Rattle.bus_policy.specs.Watching.{Owners, known_of, known_by, known_after, or_each, with_name, with_name_if, name_told, with_event, call_with_event, rules_of, client_of, WatchAt, sight_by, sight_of, sight_after, level_after, leave_after, any_leave}
+use Rattle.bus_policy.specs.Events.{Judged, is_unique_like, name_given, name_owned, names_of, is_addressed_by, has_written, client_calls, peer_waits, is_client_call, is_bus_reply}
+use Rattle.bus_policy.specs.Driver.{is_listing}
+use Rattle.bus_policy.specs.Watching.{Owners, awaited, known_of, known_by, known_after, or_each, with_name, with_name_if, name_told, with_event, call_with_event, rules_of, client_of, WatchAt, sight_by, sight_of, sight_after, level_after, leave_after, any_leave}
 use Rattle.bus_policy.proofs.Leave.{all_flags}
 
 leave_same : (rules : List PolicyRule) (owners : Owners) (noted : List Judged) → (λ kind peer header. any_leave kind peer header rules (known_after rules owners noted peer).meant) ≡ leave_after rules owners noted
 leave_same rules owners noted = λ i kind peer header. all_flags kind peer header (names_of owners noted peer) rules i
 
-pub sight_same : (w : Watch) (owners : Owners) (noted : List Judged) → WatchAt w owners noted → sight_of w ≡ sight_after (rules_of w) (client_of w) owners noted
+pub sight_same : {S H : Type 0} (w : Watch S H) (owners : Owners) (noted : List Judged) → WatchAt w owners noted → sight_of w ≡ sight_after (rules_of w) (client_of w) owners noted
 unfolding sight_of
 sight_same w owners noted at =
-    let known : sight_of w ≡ sight_by (rules_of w) (client_of w) (known_after (rules_of w) owners noted) (λ serial. option_map is_listing (client_waits noted serial)) =
+    let known : sight_of w ≡ sight_by (rules_of w) (client_of w) (known_after (rules_of w) owners noted) (λ serial. awaited (client_calls noted serial)) =
     λ i. sight_by (rules_of w) (client_of w) (λ name. at.peers name i) (λ serial. at.calls serial i) in
     known ∙ ap (λ (g : RuleKind → List ℕ → Header → Bool). record {
       level_of = level_after (rules_of w) (client_of w) owners noted;
       gives_leave = g;
-      client_waits = λ serial. option_map is_listing (client_waits noted serial);
+      client_waits = λ serial. awaited (client_calls noted serial);
       peer_waits = peer_waits noted;
     }) (leave_same (rules_of w) owners noted)
 
@@ -74,19 +73,24 @@ known_next rules owners noted j q =
       waits = peer_waits (j ∷ noted) q;
     }))
 
-pub call_next : (noted : List Judged) (j : Judged) (s : ℕ) → call_with_event j s (option_map is_listing (client_waits noted s)) ≡ option_map is_listing (client_waits (j ∷ noted) s)
+-- a call more, and whether one of them lists names
+called_more : (h : Header) (calls : List Header) → Some (is_listing h || unwrap_or (awaited calls) false) ≡ awaited (h ∷ calls)
+called_more h [] = refl
+called_more h (c ∷ calls) = refl
+
+pub call_next : (noted : List Judged) (j : Judged) (s : ℕ) → call_with_event j s (awaited (client_calls noted s)) ≡ awaited (client_calls (j ∷ noted) s)
 call_next noted j s = by (is_client_call s j) (is_bus_reply s j)
   where
-    by : (a b : Bool) → (if a then Some (is_listing j.event.header) else (if b then None else option_map is_listing (client_waits noted s)))
-        ≡ option_map is_listing (if a then Some j.event.header else (if b then None else client_waits noted s))
-    by true b = refl
+    by : (a b : Bool) → (if a then Some (is_listing j.event.header || unwrap_or (awaited (client_calls noted s)) false) else (if b then None else awaited (client_calls noted s)))
+        ≡ awaited (if a then j.event.header ∷ client_calls noted s else (if b then [] else client_calls noted s))
+    by true b = called_more j.event.header (client_calls noted s)
     by false true = refl
     by false false = refl
 
 -- an event noted
-pub watch_next : (old new : Watch) (owners : Owners) (noted : List Judged) (j : Judged) → rules_of new ≡ rules_of old
+pub watch_next : {S H : Type 0} (old new : Watch S H) (owners : Owners) (noted : List Judged) (j : Judged) → rules_of new ≡ rules_of old
     → ((q : List ℕ) → known_of (rules_of old) (get_by_text new.peers q) ≡ with_event (rules_of old) j q (known_of (rules_of old) (get_by_text old.peers q)))
-    → ((s : ℕ) → get nat_cmp new.waiting s ≡ call_with_event j s (get nat_cmp old.waiting s))
+    → ((s : ℕ) → get nat_eq new.waiting s ≡ call_with_event j s (get nat_eq old.waiting s))
     → WatchAt old owners noted → WatchAt new owners (j ∷ noted)
 watch_next old new owners noted j same peers calls at = record {
   peers = λ q. subst (λ (rules : List PolicyRule). known_of rules (get_by_text new.peers q) ≡ known_after rules owners (j ∷ noted) q) (sym same)
@@ -95,9 +99,9 @@ watch_next old new owners noted j same peers calls at = record {
 }
 
 -- nothing noted
-pub watch_same : (old new : Watch) (owners : Owners) (noted : List Judged) → rules_of new ≡ rules_of old
+pub watch_same : {S H : Type 0} (old new : Watch S H) (owners : Owners) (noted : List Judged) → rules_of new ≡ rules_of old
     → ((q : List ℕ) → known_of (rules_of old) (get_by_text new.peers q) ≡ known_of (rules_of old) (get_by_text old.peers q))
-    → ((s : ℕ) → get nat_cmp new.waiting s ≡ get nat_cmp old.waiting s)
+    → ((s : ℕ) → get nat_eq new.waiting s ≡ get nat_eq old.waiting s)
     → WatchAt old owners noted → WatchAt new owners noted
 watch_same old new owners noted same peers calls at = record {
   peers = λ q. subst (λ (rules : List PolicyRule). known_of rules (get_by_text new.peers q) ≡ known_after rules owners noted q) (sym same) (peers q ∙ at.peers q);

@@ -5,10 +5,14 @@ use Rattle.std.specs.Option.{option_map_or}
 use Rattle.std.specs.List.{list_any, filter_map}
 use Rattle.std.specs.Str.{bytes_eq}
 use Rattle.bus_frame.specs.declared.header.Header.{Header}
-use Rattle.bus_frame.specs.declared.side.Side.{Side}
-use Rattle.bus_frame.specs.declared.side.Side.TheVariants as side
+use Rattle.bus_frame.specs.declared.message.MessageType.{MessageType}
+use Rattle.bus_frame.specs.declared.message.MessageType.TheVariants as type
+use Rattle.fp_base.specs.declared.side.Side.{Side}
+use Rattle.fp_base.specs.declared.side.Side.TheVariants as side
 use Rattle.bus_frame.specs.Bodies.{three_texts}
+use Rattle.bus_frame.specs.Messages.{wants_no_reply as flags_want_none}
 use Rattle.bus_rules.specs.Rules.{says}
+use Rattle.bus_policy.specs.Driver.{driver}
 use Rattle.bus_policy.specs.declared.verdict.Verdict.{Verdict}
 use Rattle.bus_policy.specs.declared.verdict.Verdict.TheVariants as verdict
 
@@ -27,30 +31,53 @@ abbrev pub is_bus_side : Side → Bool
 is_bus_side side.Client = false
 is_bus_side side.Bus = true
 
--- the bus itself, by its name
-abbrev pub driver : List ℕ
-driver = codes "org.freedesktop.DBus"
-
 -- A name that begins with `:` is unique, also where it isn't good.
 abbrev pub is_unique_like : List ℕ → Bool
 is_unique_like [] = false
 is_unique_like (c ∷ cs) = c == 58
 
+abbrev pub is_call_type : MessageType → Bool
+is_call_type type.MethodCall = true
+is_call_type type.MethodReturn = false
+is_call_type type.Error = false
+is_call_type type.Signal = false
+is_call_type (type.Unknown n) = false
+
+abbrev pub is_return_type : MessageType → Bool
+is_return_type type.MethodCall = false
+is_return_type type.MethodReturn = true
+is_return_type type.Error = false
+is_return_type type.Signal = false
+is_return_type (type.Unknown n) = false
+
+abbrev pub is_reply_type : MessageType → Bool
+is_reply_type type.MethodCall = false
+is_reply_type type.MethodReturn = true
+is_reply_type type.Error = true
+is_reply_type type.Signal = false
+is_reply_type (type.Unknown n) = false
+
+abbrev pub is_signal_type : MessageType → Bool
+is_signal_type type.MethodCall = false
+is_signal_type type.MethodReturn = false
+is_signal_type type.Error = false
+is_signal_type type.Signal = true
+is_signal_type (type.Unknown n) = false
+
 abbrev pub is_call : Header → Bool
-is_call h = h.kind == 1
+is_call h = is_call_type h.kind
 
 abbrev pub is_return : Header → Bool
-is_return h = h.kind == 2
+is_return h = is_return_type h.kind
 
 abbrev pub is_reply : Header → Bool
-is_reply h = h.kind == 2 || h.kind == 3
+is_reply h = is_reply_type h.kind
 
 abbrev pub is_signal : Header → Bool
-is_signal h = h.kind == 4
+is_signal h = is_signal_type h.kind
 
--- flag 1, NO_REPLY_EXPECTED
 abbrev pub wants_no_reply : Header → Bool
-wants_no_reply h = h.flags % 2 == 1
+wants_no_reply h = flags_want_none h.flags
 
 -- ---- owners of names
 
@@ -90,10 +117,10 @@ has_written noted peer = is_unique_like peer && list_any (λ j. is_addressed_by 
 -- ---- calls that wait for a reply
 
 abbrev pub is_forwarded : Verdict → Bool
-is_forwarded verdict.Forward = true
-is_forwarded verdict.Reduce = true
-is_forwarded verdict.AnswerDenied = false
-is_forwarded verdict.AnswerUnknown = false
+is_forwarded verdict.Pass = true
+is_forwarded verdict.FilterNameList = true
+is_forwarded verdict.Deny = false
+is_forwarded verdict.Hide = false
 is_forwarded verdict.Drop = false
 
 abbrev pub is_serial : Option ℕ → ℕ → Bool
@@ -110,12 +137,12 @@ abbrev pub is_bus_reply : ℕ → Judged → Bool
 is_bus_reply serial j =
     is_bus_side j.event.side && is_reply j.event.header && is_serial j.event.header.reply_serial serial && is_forwarded j.verdict
 
--- the latest call of the client with this serial that waits
-abbrev pub client_waits : List Judged → ℕ → Option Header
-client_waits [] serial = None
-client_waits (j ∷ before) serial =
-    if is_client_call serial j then Some j.event.header
-    else (if is_bus_reply serial j then None else client_waits before serial)
+-- The calls of the client with this serial that wait, the latest first. A reply ends all of them.
+abbrev pub client_calls : List Judged → ℕ → List Header
+client_calls [] serial = []
+client_calls (j ∷ before) serial =
+    if is_client_call serial j then j.event.header ∷ client_calls before serial
+    else (if is_bus_reply serial j then [] else client_calls before serial)
 
 -- a call from a peer to the client with this serial that wants a reply, and a forwarded reply to it
 abbrev pub is_bus_call : List ℕ → ℕ → Judged → Bool

@@ -1,12 +1,11 @@
 -- What is known after events, and that a watch knows it.
-use Rattle.std.specs.Prelude.{◌≡◌, ℕ, Bool, true, false, ◌||◌, ◌&&◌, ◌==◌, not, if◌then◌else◌, List, [], ◌∷◌, map, Option, Some, None, option_map}
-use Rattle.std.specs.Ordering.{nat_cmp}
-use Rattle.std.specs.BTreeMap.{get, get_by_text}
-use Rattle.std.specs.BTreeSet as set
+use Rattle.std.specs.Prelude.{◌≡◌, ℕ, Bool, true, false, ◌||◌, ◌&&◌, ◌==◌, not, if◌then◌else◌, List, [], ◌∷◌, map, nat_eq, Option, Some, None, unwrap_or}
+use Rattle.indexmap.specs.IndexMap.{get, get_by_text}
+use Rattle.indexmap.specs.IndexSet as set
 use Rattle.std.specs.List.{list_any}
 use Rattle.std.specs.Str.{bytes_eq}
 use Rattle.bus_frame.specs.declared.header.Header.{Header}
-use Rattle.bus_frame.specs.declared.side.Side.{Side}
+use Rattle.fp_base.specs.declared.side.Side.{Side}
 use Rattle.bus_rules.specs.Rules.{says}
 use Rattle.bus_policy.specs.declared.level.Level.{Level}
 use Rattle.bus_policy.specs.declared.level.Level.TheVariants as level
@@ -18,8 +17,9 @@ use Rattle.bus_policy.specs.declared.peer.RawNews.{RawNews}
 use Rattle.bus_policy.specs.declared.peer.RawNews.TheVariants as raw
 use Rattle.bus_policy.specs.declared.verdict.Verdict.{Verdict}
 use Rattle.bus_policy.specs.Levels.{greater, rules_level, allows, pattern_matches}
-use Rattle.bus_policy.specs.Events.{Event, Judged, driver, is_unique_like, is_call, wants_no_reply, is_forwarded, name_given, names_of, is_addressed_by, has_written, is_client_call, is_bus_reply, is_bus_call, is_client_reply, client_waits, peer_waits}
-use Rattle.bus_policy.specs.Verdicts.{Sight, is_listing, verdict_in}
+use Rattle.bus_policy.specs.Events.{Event, Judged, is_unique_like, is_call, wants_no_reply, is_forwarded, name_given, names_of, is_addressed_by, has_written, is_client_call, is_bus_reply, is_bus_call, is_client_reply, client_calls, peer_waits}
+use Rattle.bus_policy.specs.Driver.{driver, is_listing}
+use Rattle.bus_policy.specs.Verdicts.{Sight, verdict_in}
 
 -- ---- what is known
 
@@ -58,15 +58,20 @@ abbrev pub leave_after : List PolicyRule → Owners → List Judged → RuleKind
 leave_after rules owners noted kind peer header =
     list_any (λ rule. allows kind header rule.grant && is_meant (names_of owners noted peer) peer rule) rules
 
+-- whether calls wait, and if so, whether one of them lists names
+abbrev pub awaited : List Header → Option Bool
+awaited [] = None
+awaited (h ∷ calls) = Some (list_any is_listing (h ∷ calls))
+
 abbrev pub sight_after : List PolicyRule → Option (List ℕ) → Owners → List Judged → Sight
 sight_after rules client owners noted = record {
   level_of = level_after rules client owners noted;
   gives_leave = leave_after rules owners noted;
-  client_waits = λ serial. option_map is_listing (client_waits noted serial);
+  client_waits = λ serial. awaited (client_calls noted serial);
   peer_waits = peer_waits noted;
 }
 
--- what becomes of a message behind others
+-- what becomes of a message after others
 abbrev pub verdict_after : List PolicyRule → Option (List ℕ) → Owners → List Judged → Event → Verdict
 verdict_after rules client owners noted e = verdict_in (sight_after rules client owners noted) e
 
@@ -79,10 +84,10 @@ judged rules client owners (e ∷ before) =
 
 -- ---- what a watch knows
 
-abbrev pub rules_of : Watch → List PolicyRule
+abbrev pub rules_of : {S H : Type 0} → Watch S H → List PolicyRule
 rules_of w = w.policy
 
-abbrev pub client_of : Watch → Option (List ℕ)
+abbrev pub client_of : {S H : Type 0} → Watch S H → Option (List ℕ)
 client_of w = w.client
 
 -- what is known of a peer: the level of the names that it had, whether it wrote, which rules' patterns match a name that
@@ -93,9 +98,17 @@ pub record Known : Type 0 where
   pub meant : List Bool
   pub waits : ℕ → Bool
 
-abbrev pub known_of : List PolicyRule → Option Peer → Known
-known_of rules None = record { had = level.None; wrote = false; meant = map (λ rule. false) rules; waits = λ serial. false }
-known_of rules (Some peer) = record { had = peer.had; wrote = peer.wrote; meant = peer.meant.items; waits = λ serial. set.contains nat_cmp peer.waiting serial }
+abbrev pub unknown : List PolicyRule → Known
+unknown rules = record { had = level.None; wrote = false; meant = map (λ rule. false) rules; waits = λ serial. false }
+
+abbrev pub known_of : {S H : Type 0} → List PolicyRule → Option (Peer S H) → Known
+known_of rules None = unknown rules
+known_of rules (Some peer) = record {
+  had = peer.had;
+  wrote = peer.wrote;
+  meant = peer.meant.items;
+  waits = λ serial. set.contains nat_eq peer.waiting serial;
+}
 
 -- by the names that it had
 abbrev pub known_by : List PolicyRule → List (List ℕ) → Bool → (ℕ → Bool) → Known
@@ -126,6 +139,10 @@ with_call serial k = record k { waits = λ n. if serial == n then true else k.wa
 
 abbrev pub without_call : ℕ → Known → Known
 without_call serial k = record k { waits = λ n. if serial == n then false else k.waits n }
+
+-- a change of what is known of one peer
+abbrev pub changed_if : Bool → (Known → Known) → Known → Known
+changed_if b change k = if b then change k else k
 
 abbrev pub with_message_if : Bool → Known → Known
 with_message_if true k = with_message k
@@ -165,13 +182,13 @@ judged_event side header bytes verdict = record { event = record { side = side; 
 -- what is known of a call of the client with an event more
 abbrev pub call_with_event : Judged → ℕ → Option Bool → Option Bool
 call_with_event j serial waits =
-    if is_client_call serial j then Some (is_listing j.event.header)
+    if is_client_call serial j then Some (is_listing j.event.header || unwrap_or waits false)
     else (if is_bus_reply serial j then None else waits)
 
 -- a watch knows what is known after these events
-pub record WatchAt (w : Watch) (owners : Owners) (noted : List Judged) : Type 0 where
+pub record WatchAt {S H : Type 0} (w : Watch S H) (owners : Owners) (noted : List Judged) : Type 0 where
   pub peers : (name : List ℕ) → known_of (rules_of w) (get_by_text w.peers name) ≡ known_after (rules_of w) owners noted name
-  pub calls : (serial : ℕ) → get nat_cmp w.waiting serial ≡ option_map is_listing (client_waits noted serial)
+  pub calls : (serial : ℕ) → get nat_eq w.waiting serial ≡ awaited (client_calls noted serial)
 
 -- ---- what it answers by
 
@@ -188,8 +205,8 @@ sight_by rules client known waits = record {
   peer_waits = λ peer serial. (known peer).waits serial;
 }
 
-unfoldable pub sight_of : Watch → Sight
-sight_of w = sight_by (rules_of w) (client_of w) (λ name. known_of (rules_of w) (get_by_text w.peers name)) (λ serial. get nat_cmp w.waiting serial)
+unfoldable pub sight_of : {S H : Type 0} → Watch S H → Sight
+sight_of w = sight_by (rules_of w) (client_of w) (λ name. known_of (rules_of w) (get_by_text w.peers name)) (λ serial. get nat_eq w.waiting serial)
 
 abbrev pub event : Side → Header → List ℕ → Event
 event side header bytes = record { side = side; header = header; bytes = bytes }

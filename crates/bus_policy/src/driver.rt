@@ -1,26 +1,33 @@
-//! Calls to the bus itself.
+//! Calls to the bus itself: its methods, and what xdg-dbus-proxy(1) makes of them.
 
-ghost use Rattle.std.specs.Prelude.{◌≡◌, ◌||◌, ◌&&◌};
+ghost use Rattle.std.specs.Prelude.{◌≡◌};
 ghost use Rattle.bus_rules.specs.Rules.{says};
-ghost use Rattle.bus_policy.specs.Verdicts.{is_to_driver, is_driver_interface, is_listing_member, is_free_member, is_asking_member, is_owning_member, is_free_elsewhere, own_need, need_of, is_listing};
+ghost use Rattle.bus_policy.specs.Driver.{is_to_driver, called_interface, called_member, own_handler, other_handler, handler_of, is_listing};
 
 use crate::level::Level;
-use bus_frame::{Header, Text};
+use bus_frame::Header;
+use fp_base::Text;
 
 /// The bus's name, and that of its interface.
 pub const DRIVER: &str = "org.freedesktop.DBus";
 
-/// What a call to the bus needs.
+const INTROSPECTABLE: &str = "org.freedesktop.DBus.Introspectable";
+
+const PEER: &str = "org.freedesktop.DBus.Peer";
+
+/// What becomes of a call to the bus.
 #[derive(Clone, Copy)]
-pub enum Need {
-    /// Nothing.
-    Nothing,
-    /// An argument without the word `eavesdrop`.
-    Match,
-    /// That the name in its argument has a level.
-    Name(Level),
-    /// Leave, which isn't given.
-    Leave,
+pub enum Handler {
+    /// It passes.
+    Pass,
+    /// It passes, and the names that may not be seen are taken out of the reply.
+    FilterNameListReply,
+    /// It passes where its first argument is a text without the word `eavesdrop`.
+    ValidateMatch,
+    /// It passes where the name in its first argument has this level.
+    Validate(Level),
+    /// It is denied.
+    Deny,
 }
 
 /// Whether a header's text is this one.
@@ -39,83 +46,63 @@ fn is_for_driver(header: &Header) -> bool
     header.destination.is_none() || is_text(&header.destination, DRIVER)
 }
 
-fn has_driver_interface(header: &Header) -> bool
-    ensures { result ≡ is_driver_interface header.now }
+/// The interface of a call to the bus, which is the bus's own where none is named.
+fn interface_called(header: &Header) -> &str
+    ensures { result.now ≡ called_interface header.now }
 {
-    header.interface.is_none() || is_text(&header.interface, DRIVER)
-}
-
-fn lists_names(header: &Header) -> bool
-    ensures { result ≡ is_listing_member header.now }
-{
-    is_text(&header.member, "ListNames") || is_text(&header.member, "ListActivatableNames")
-}
-
-fn is_free(header: &Header) -> bool
-    ensures { result ≡ is_free_member header.now }
-{
-    is_text(&header.member, "Hello")
-        || is_text(&header.member, "RemoveMatch")
-        || is_text(&header.member, "GetId")
-        || lists_names(header)
-}
-
-fn asks_about_name(header: &Header) -> bool
-    ensures { result ≡ is_asking_member header.now }
-{
-    is_text(&header.member, "NameHasOwner")
-        || is_text(&header.member, "GetNameOwner")
-        || is_text(&header.member, "GetConnectionUnixProcessID")
-        || is_text(&header.member, "GetConnectionUnixUser")
-        || is_text(&header.member, "GetConnectionCredentials")
-}
-
-fn is_about_owning(header: &Header) -> bool
-    ensures { result ≡ is_owning_member header.now }
-{
-    is_text(&header.member, "RequestName")
-        || is_text(&header.member, "ReleaseName")
-        || is_text(&header.member, "ListQueuedOwners")
-}
-
-fn is_free_of_others(header: &Header) -> bool
-    ensures { result ≡ is_free_elsewhere header.now }
-{
-    (is_text(&header.interface, "org.freedesktop.DBus.Introspectable")
-        && is_text(&header.member, "Introspect"))
-        || (is_text(&header.interface, "org.freedesktop.DBus.Peer")
-            && (is_text(&header.member, "Ping") || is_text(&header.member, "GetMachineId")))
-}
-
-fn need_of_own(header: &Header) -> Need
-    ensures { result ≡ own_need header.now }
-{
-    if is_free(header) {
-        Need::Nothing
-    } else if is_text(&header.member, "AddMatch") {
-        Need::Match
-    } else if asks_about_name(header) {
-        Need::Name(Level::See)
-    } else if is_text(&header.member, "StartServiceByName") {
-        Need::Name(Level::Talk)
-    } else if is_about_owning(header) {
-        Need::Name(Level::Own)
-    } else {
-        Need::Leave
+    match &header.interface {
+        Some(interface) => interface.as_str(),
+        None => DRIVER,
     }
 }
 
-/// What a call to the bus needs.
-#[tactic(auto, unfolding(crate::specs::Verdicts::need_of))]
-pub fn need_of_call(header: &Header) -> Need
-    ensures { result ≡ need_of header.now }
+fn member_called(header: &Header) -> &str
+    ensures { result.now ≡ called_member header.now }
 {
-    if has_driver_interface(header) {
-        need_of_own(header)
-    } else if is_free_of_others(header) {
-        Need::Nothing
+    match &header.member {
+        Some(member) => member.as_str(),
+        None => "",
+    }
+}
+
+/// What becomes of a call of the bus's own interface, by its member.
+fn own_handler_of(member: &str) -> Handler
+    ensures { result ≡ own_handler member.now }
+{
+    match member {
+        "Hello" | "RemoveMatch" | "GetId" => Handler::Pass,
+        "ListNames" | "ListActivatableNames" => Handler::FilterNameListReply,
+        "AddMatch" => Handler::ValidateMatch,
+        "NameHasOwner"
+        | "GetNameOwner"
+        | "GetConnectionUnixProcessID"
+        | "GetConnectionUnixUser"
+        | "GetConnectionCredentials" => Handler::Validate(Level::See),
+        "StartServiceByName" => Handler::Validate(Level::Talk),
+        "RequestName" | "ReleaseName" | "ListQueuedOwners" => Handler::Validate(Level::Own),
+        _ => Handler::Deny,
+    }
+}
+
+/// What becomes of a call of another interface of the bus.
+fn other_handler_of(interface: &str, member: &str) -> Handler
+    ensures { result ≡ other_handler interface.now member.now }
+{
+    let passes = (interface == INTROSPECTABLE && member == "Introspect")
+        || (interface == PEER && (member == "Ping" || member == "GetMachineId"));
+    if passes { Handler::Pass } else { Handler::Deny }
+}
+
+/// What becomes of a call to the bus.
+#[tactic(auto, unfolding(crate::specs::Driver::handler_of))]
+pub fn handler_of_call(header: &Header) -> Handler
+    ensures { result ≡ handler_of header.now }
+{
+    let interface = interface_called(header);
+    if interface == DRIVER {
+        own_handler_of(member_called(header))
     } else {
-        Need::Leave
+        other_handler_of(interface, member_called(header))
     }
 }
 
@@ -123,5 +110,5 @@ pub fn need_of_call(header: &Header) -> Need
 pub fn asks_for_names(header: &Header) -> bool
     ensures { result ≡ is_listing header.now }
 {
-    is_for_driver(header) && has_driver_interface(header) && lists_names(header)
+    is_for_driver(header) && matches!(handler_of_call(header), Handler::FilterNameListReply)
 }

@@ -3,21 +3,20 @@
 
 mod driver;
 mod judging;
+pub mod laws;
 mod level;
 mod noting;
 mod pattern;
 mod peer;
 mod peers;
 mod policy;
-mod sight;
 mod verdict;
 mod watch;
-mod watching;
 
 pub use level::Level;
 pub use policy::{Grant, Policy, PolicyError, PolicyRule, RuleKind};
 pub use verdict::Verdict;
-pub use watch::Watch;
+pub use watch::{FixedHasher, Watch};
 
 #[cfg(test)]
 mod tests;

@@ -1,28 +1,29 @@
 //! Noting events.
 
-ghost use Rattle.std.specs.Prelude.{◌≡◌, ◌&&◌, ℕ, List, false, is_some, OnOk, OnErr};
-ghost use Rattle.std.specs.Ordering.{nat_cmp};
-ghost use Rattle.std.specs.BTreeMap.{get, get_by_text};
+ghost use Rattle.std.specs.Prelude.{◌≡◌, ◌&&◌, ℕ, nat_eq, List, false, is_some, unwrap_or, OnOk, OnErr};
+ghost use Rattle.indexmap.specs.IndexMap.{get, get_by_text};
 ghost use Rattle.bus_policy.specs.declared.policy.PolicyRule.{PolicyRule as TheRule};
 ghost use Rattle.bus_policy.specs.Events.{tells_owner, is_unique_like};
 ghost use Rattle.bus_policy.specs.Watching.{known_of, waiting_call, with_event, call_with_event, judged_event};
 
 use crate::driver::asks_for_names;
-use crate::judging::{is_a_reply, is_about_owner, is_without_reply};
+use crate::judging::{is_a_call, is_a_reply, is_about_owner};
+use crate::pattern::is_like_unique;
 use crate::peer::RawNews;
 use crate::peers::{Peers, add_owned, learn, settle};
 use crate::policy::PolicyRule;
 use crate::verdict::Verdict;
-use crate::watch::is_like_unique;
-use bus_frame::{Header, Side, three_strings};
-use std::alloc::{AllocError, Global};
-use std::collections::BTreeMap;
+use bus_frame::{Header, three_strings};
+use fp_base::Side;
+use indexmap::IndexMap;
+use std::alloc::AllocError;
+use std::hash::BuildHasher;
 
 /// The serial of a call that waits from now on.
 fn serial_to_wait(header: &Header, verdict: Verdict) -> Option<u32>
     ensures { result ≡ waiting_call header.now verdict }
 {
-    if header.kind != 1 || is_without_reply(header) || !verdict.is_forwarding() {
+    if !is_a_call(header) || header.flags.want_no_reply() || !verdict.is_forwarding() {
         return None;
     }
     Some(header.serial)
@@ -35,27 +36,45 @@ fn is_written_by(header: &Header, sender: &str) -> bool
     is_like_unique(sender.as_bytes()) && header.destination.is_some()
 }
 
+/// Whether a call with this serial waits that lists names.
+fn waits_for_names<S: BuildHasher>(waiting: &IndexMap<u32, bool, S>, serial: u32) -> bool
+    ensures { result ≡ unwrap_or (get nat_eq waiting.now serial) false }
+{
+    match waiting.get(&serial) {
+        Some(for_names) => *for_names,
+        None => false,
+    }
+}
+
 /// A message of the client may be a call that waits.
-pub fn note_client_call(
-    waiting: &mut BTreeMap<u32, bool>,
+pub fn note_client_call<S: BuildHasher + Copy>(
+    waiting: &mut IndexMap<u32, bool, S>,
     header: &Header,
     message: &[u8],
     verdict: Verdict,
 ) -> Result<(), AllocError>
-    ensures ok { OnOk result ((s : ℕ) → get nat_cmp waiting.new s
-        ≡ call_with_event (judged_event Side.Client header.now message.now verdict) s (get nat_cmp waiting.old s)) }
-    ensures err { OnErr result ((s : ℕ) → get nat_cmp waiting.new s ≡ get nat_cmp waiting.old s) }
+    ensures ok { OnOk result ((s : ℕ) → get nat_eq waiting.new s
+        ≡ call_with_event (judged_event Side.Client header.now message.now verdict) s
+        (get nat_eq waiting.old s)) }
+    ensures err { OnErr result ((s : ℕ) → get nat_eq waiting.new s ≡ get nat_eq waiting.old s) }
 {
     if let Some(serial) = serial_to_wait(header, verdict) {
-        waiting.insert(serial, asks_for_names(header))?;
+        let for_names = asks_for_names(header) || waits_for_names(waiting, serial);
+        waiting.insert(serial, for_names)?;
     }
     Ok(())
 }
 
 /// A message of the client may be a reply to a peer's call.
-pub fn note_client_reply(peers: &mut Peers, header: &Header, message: &[u8], verdict: Verdict)
+pub fn note_client_reply<S: BuildHasher + Copy>(
+    peers: &mut Peers<S>,
+    header: &Header,
+    message: &[u8],
+    verdict: Verdict,
+)
     ensures { (rules : List TheRule) (q : List ℕ) → known_of rules (get_by_text peers.new q)
-        ≡ with_event rules (judged_event Side.Client header.now message.now verdict) q (known_of rules (get_by_text peers.old q)) }
+        ≡ with_event rules (judged_event Side.Client header.now message.now verdict) q
+        (known_of rules (get_by_text peers.old q)) }
 {
     if !is_a_reply(header) || !verdict.is_forwarding() {
         return;
@@ -67,27 +86,27 @@ pub fn note_client_reply(peers: &mut Peers, header: &Header, message: &[u8], ver
 }
 
 /// A message of the bus may be a reply to the client's call.
-pub fn note_bus_reply(
-    waiting: &mut BTreeMap<u32, bool>,
+pub fn note_bus_reply<S: BuildHasher + Copy>(
+    waiting: &mut IndexMap<u32, bool, S>,
     header: &Header,
     message: &[u8],
     verdict: Verdict,
 )
-    ensures { (s : ℕ) → get nat_cmp waiting.new s
-        ≡ call_with_event (judged_event Side.Bus header.now message.now verdict) s (get nat_cmp waiting.old s) }
+    ensures { (s : ℕ) → get nat_eq waiting.new s
+        ≡ call_with_event (judged_event Side.Bus header.now message.now verdict) s
+        (get nat_eq waiting.old s) }
 {
     if !is_a_reply(header) || !verdict.is_forwarding() {
         return;
     }
     if let Some(serial) = header.reply_serial {
-        waiting.remove(&serial);
+        waiting.swap_remove(&serial);
     }
 }
 
 /// A message of a peer may be for the client, and a call that waits.
-fn note_sender(
-    alloc: Global,
-    peers: &mut Peers,
+fn note_sender<S: BuildHasher + Copy>(
+    peers: &mut Peers<S>,
     rules: &[PolicyRule],
     header: &Header,
     message: &[u8],
@@ -95,8 +114,10 @@ fn note_sender(
 ) -> Result<(), AllocError>
     requires { tells_owner header.now ≡ false }
     ensures ok { OnOk result ((q : List ℕ) → known_of rules.now (get_by_text peers.new q)
-        ≡ with_event rules.now (judged_event Side.Bus header.now message.now verdict) q (known_of rules.now (get_by_text peers.old q))) }
-    ensures err { OnErr result ((q : List ℕ) → known_of rules.now (get_by_text peers.new q) ≡ known_of rules.now (get_by_text peers.old q)) }
+        ≡ with_event rules.now (judged_event Side.Bus header.now message.now verdict) q
+        (known_of rules.now (get_by_text peers.old q))) }
+    ensures err { OnErr result ((q : List ℕ) → known_of rules.now (get_by_text peers.new q)
+        ≡ known_of rules.now (get_by_text peers.old q)) }
 {
     let Some(sender) = &header.sender else {
         return Ok(());
@@ -105,27 +126,28 @@ fn note_sender(
         is_written_by(header, sender.as_str()),
         serial_to_wait(header, verdict),
     );
-    learn(alloc, peers, rules, sender.as_str(), news)
+    learn(peers, rules, sender.as_str(), news)
 }
 
 /// A message of the bus tells something of a peer.
-pub fn note_bus_peer(
-    alloc: Global,
-    peers: &mut Peers,
+pub fn note_bus_peer<S: BuildHasher + Copy>(
+    peers: &mut Peers<S>,
     rules: &[PolicyRule],
     header: &Header,
     message: &[u8],
     verdict: Verdict,
 ) -> Result<(), AllocError>
     ensures ok { OnOk result ((q : List ℕ) → known_of rules.now (get_by_text peers.new q)
-        ≡ with_event rules.now (judged_event Side.Bus header.now message.now verdict) q (known_of rules.now (get_by_text peers.old q))) }
-    ensures err { OnErr result ((q : List ℕ) → known_of rules.now (get_by_text peers.new q) ≡ known_of rules.now (get_by_text peers.old q)) }
+        ≡ with_event rules.now (judged_event Side.Bus header.now message.now verdict) q
+        (known_of rules.now (get_by_text peers.old q))) }
+    ensures err { OnErr result ((q : List ℕ) → known_of rules.now (get_by_text peers.new q)
+        ≡ known_of rules.now (get_by_text peers.old q)) }
 {
     if !is_about_owner(header) {
-        return note_sender(alloc, peers, rules, header, message, verdict);
+        return note_sender(peers, rules, header, message, verdict);
     }
     match three_strings(header, message) {
-        Some((name, _, owner)) => add_owned(alloc, peers, rules, owner, name),
+        Some((name, _, owner)) => add_owned(peers, rules, owner, name),
         None => Ok(()),
     }
 }

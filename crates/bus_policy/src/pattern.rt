@@ -1,7 +1,8 @@
-//! Patterns of names.
+//! Patterns of names, and unique names.
 
 ghost use Rattle.std.specs.Prelude.{◌≡◌, if◌then◌else◌, Some, None};
 ghost use Rattle.bus_frame.specs.Steps.{Gives};
+ghost use Rattle.bus_policy.specs.Events.{is_unique_like};
 ghost use Rattle.bus_policy.specs.Levels.{is_open, stem, is_pattern, pattern_matches};
 
 use bus_frame::{are_name_elements, is_well_known_name};
@@ -9,7 +10,8 @@ use bus_rules::is_at_or_under;
 
 /// NAME of `NAME.*`.
 fn stem_of(pattern: &[u8]) -> Option<&[u8]>
-    ensures { Gives (λ s. s.now) result (if is_open pattern.now then Some (stem pattern.now) else None) }
+    ensures { Gives (λ s. s.now) result
+        (if is_open pattern.now then Some (stem pattern.now) else None) }
 {
     if !pattern.ends_with(b".*") {
         return None;
@@ -39,5 +41,15 @@ pub fn matches_name(pattern: &[u8], name: &[u8]) -> bool
     match stem_of(pattern) {
         Some(stem) => is_at_or_under(b'.', name, stem),
         None => name == pattern,
+    }
+}
+
+/// Whether a name is unique, good or not.
+pub fn is_like_unique(name: &[u8]) -> bool
+    ensures { result ≡ is_unique_like name.now }
+{
+    match name {
+        [first, ..] => *first == b':',
+        [] => false,
     }
 }

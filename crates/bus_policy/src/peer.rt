@@ -1,19 +1,20 @@
 //! What a watch keeps of a peer.
 
-ghost use Rattle.std.specs.Prelude.{◌≡◌, ◌||◌, ◌==◌, ◌++◌, [], ℕ, Bool, false, List, true, map, if◌then◌else◌, slice_set, IfOk, OnOk, OnErr, Some, None};
+ghost use Rattle.std.specs.Prelude.{◌≡◌, ◌||◌, ◌==◌, ◌++◌, [], ℕ, Bool, false, List, true, map, if◌then◌else◌, slice_set, IfOk, OnOk, OnErr, Some};
 ghost use Rattle.bus_policy.specs.declared.policy.PolicyRule.{PolicyRule as TheRule};
 ghost use Rattle.bus_policy.specs.Levels.{pattern_matches};
-ghost use Rattle.bus_policy.specs.Watching.{known_of, name_level, or_each, with_name, with_message_if, with_call_if, without_call, with_news};
+ghost use Rattle.bus_policy.specs.Watching.{known_of, unknown, name_level, or_each, with_name, with_message_if, with_call_if, without_call, with_news};
 
 use crate::level::Level;
 use crate::pattern::matches_name;
 use crate::policy::{PolicyRule, level_by_rules};
+use indexmap::IndexSet;
 use std::alloc::{AllocError, Global};
-use std::collections::BTreeSet;
+use std::hash::BuildHasher;
 
 /// What is known of a peer.
 #[derive(Drop)]
-pub struct Peer {
+pub struct Peer<S: BuildHasher> {
     /// The greatest level of the names that it had.
     pub had: Level,
     /// Whether it wrote to the client.
@@ -21,7 +22,7 @@ pub struct Peer {
     /// For each rule of the policy, whether its pattern matches a name that the peer had.
     pub meant: Vec<bool>,
     /// The serials of its calls that wait for a reply.
-    pub waiting: BTreeSet<u32>,
+    pub waiting: IndexSet<u32, S>,
 }
 
 /// What an event tells of a peer.
@@ -54,7 +55,8 @@ fn unmeant(alloc: Global, rules: &[PolicyRule]) -> Result<Vec<bool>, AllocError>
 }
 
 fn raise(flags: &mut Vec<bool>, at: usize, raised: bool)
-    ensures { flags.new.items ≡ (if raised then slice_set flags.old.items at true else flags.old.items) }
+    ensures { flags.new.items
+        ≡ (if raised then slice_set flags.old.items at true else flags.old.items) }
 {
     if raised && at < flags.len() {
         flags[at] = true;
@@ -63,7 +65,8 @@ fn raise(flags: &mut Vec<bool>, at: usize, raised: bool)
 
 /// Notes which rules' patterns match a name.
 fn add_meant(meant: &mut Vec<bool>, rules: &[PolicyRule], name: &[u8])
-    ensures { meant.new.items ≡ or_each (λ rule. pattern_matches rule.pattern name.now) rules.now meant.old.items }
+    ensures { meant.new.items
+        ≡ or_each (λ rule. pattern_matches rule.pattern name.now) rules.now meant.old.items }
 {
     for (i, rule) in rules.iter().enumerate() {
         let is_meant = matches_name(rule.pattern.as_str().as_bytes(), name);
@@ -71,29 +74,46 @@ fn add_meant(meant: &mut Vec<bool>, rules: &[PolicyRule], name: &[u8])
     }
 }
 
-impl Peer {
+impl<S: BuildHasher + Copy> Peer<S> {
     /// A peer of which nothing is known.
-    pub fn fresh(alloc: Global, rules: &[PolicyRule]) -> Result<Self, AllocError>
-        ensures { IfOk result (λ peer. known_of rules.now (Some peer) ≡ known_of rules.now None) }
+    pub fn fresh(alloc: Global, hash_builder: S, rules: &[PolicyRule]) -> Result<Self, AllocError>
+        ensures { IfOk result (λ peer. known_of rules.now (Some peer) ≡ unknown rules.now) }
     {
         Ok(Peer {
             had: Level::None,
             wrote: false,
             meant: unmeant(alloc, rules)?,
-            waiting: BTreeSet::new(alloc),
+            waiting: IndexSet::with_hasher(alloc, hash_builder),
         })
+    }
+
+    /// A peer of which an event tells first.
+    pub fn with_news(
+        alloc: Global,
+        hash_builder: S,
+        rules: &[PolicyRule],
+        news: RawNews<'_>,
+    ) -> Result<Self, AllocError>
+        ensures { IfOk result (λ peer. known_of rules.now (Some peer)
+            ≡ with_news rules.now news.entry (unknown rules.now)) }
+    {
+        let mut peer = Peer::fresh(alloc, hash_builder, rules)?;
+        peer.learn(rules, news)?;
+        Ok(peer)
     }
 
     /// A name more that the peer has.
     pub fn add_name(&mut self, rules: &[PolicyRule], name: &[u8])
-        ensures { known_of rules.now (Some self.new) ≡ with_name rules.now name.now (known_of rules.now (Some self.old)) }
+        ensures { known_of rules.now (Some self.new)
+            ≡ with_name rules.now name.now (known_of rules.now (Some self.old)) }
     {
         self.had = level_had(rules, name).or(self.had);
         add_meant(&mut self.meant, rules, name);
     }
 
     fn add_message_if(&mut self, wrote: bool)
-        ensures { (rules : List TheRule) → known_of rules (Some self.new) ≡ with_message_if wrote (known_of rules (Some self.old)) }
+        ensures { (rules : List TheRule) → known_of rules (Some self.new)
+            ≡ with_message_if wrote (known_of rules (Some self.old)) }
     {
         if wrote {
             self.wrote = true;
@@ -101,8 +121,12 @@ impl Peer {
     }
 
     fn add_call_if(&mut self, call: Option<u32>) -> Result<(), AllocError>
-        ensures ok { OnOk result ((rules : List TheRule) → known_of rules (Some self.new) ≡ with_call_if call (known_of rules (Some self.old))) }
-        ensures err { OnErr result ((rules : List TheRule) → known_of rules (Some self.new) ≡ known_of rules (Some self.old)) }
+        ensures ok { OnOk result
+            ((rules : List TheRule) → known_of rules (Some self.new)
+            ≡ with_call_if call (known_of rules (Some self.old))) }
+        ensures err { OnErr result
+            ((rules : List TheRule) → known_of rules (Some self.new)
+            ≡ known_of rules (Some self.old)) }
     {
         if let Some(serial) = call {
             self.waiting.insert(serial)?;
@@ -112,8 +136,11 @@ impl Peer {
 
     /// What an event tells. Without memory nothing changes.
     pub fn learn(&mut self, rules: &[PolicyRule], news: RawNews<'_>) -> Result<(), AllocError>
-        ensures ok { OnOk result (known_of rules.now (Some self.new) ≡ with_news rules.now news.entry (known_of rules.now (Some self.old))) }
-        ensures err { OnErr result (known_of rules.now (Some self.new) ≡ known_of rules.now (Some self.old)) }
+        ensures ok { OnOk result
+            (known_of rules.now (Some self.new)
+            ≡ with_news rules.now news.entry (known_of rules.now (Some self.old))) }
+        ensures err { OnErr result
+            (known_of rules.now (Some self.new) ≡ known_of rules.now (Some self.old)) }
     {
         match news {
             RawNews::Name(name) => self.add_name(rules, name.as_bytes()),
@@ -127,8 +154,9 @@ impl Peer {
 
     /// A call of the peer that waits no more.
     pub fn remove_call(&mut self, serial: u32)
-        ensures { (rules : List TheRule) → known_of rules (Some self.new) ≡ without_call serial (known_of rules (Some self.old)) }
+        ensures { (rules : List TheRule) → known_of rules (Some self.new)
+            ≡ without_call serial (known_of rules (Some self.old)) }
     {
-        self.waiting.remove(&serial);
+        self.waiting.swap_remove(&serial);
     }
 }

@@ -3,17 +3,21 @@
 ghost use Rattle.std.specs.Prelude.{◌≡◌, ◌↔◌, [], ◌∷◌, ◌++◌, ℕ, List, true, false, OnOk, OnErr, IsErrOf, IsOkUnless};
 ghost use Rattle.bus_rules.specs.declared.rule.Rule.{Rule as TheRule};
 ghost use Rattle.bus_rules.specs.Rules.{IsRule, IsNoRule};
-ghost use Rattle.bus_policy.specs.Levels.{is_pattern, rules_level, given_level, level_by, allows, same_kind};
+ghost use Rattle.bus_policy.specs.Levels.{is_pattern, rules_level, level_by, allows, same_kind};
+ghost use Rattle.bus_policy.specs.Watching.{any_leave};
 
 use crate::level::Level;
 use crate::pattern::{is_name_pattern, matches_name};
-use bus_frame::{Header, Text};
+use bus_frame::Header;
 use bus_rules::{Rule, RuleError};
+use fp_base::Text;
 use std::alloc::{AllocError, AllocFailed, Global};
+use std::error::Error;
+use std::fmt;
 use std::marker::Model;
 
 /// Which messages a rule is for.
-#[derive(Clone, Copy, Debug, PartialEq, Eq)]
+#[derive(Clone, Copy)]
 pub enum RuleKind {
     /// Calls of the client to a peer.
     Call,
@@ -22,7 +26,7 @@ pub enum RuleKind {
 }
 
 /// What a pattern's names get.
-#[derive(Debug, Drop)]
+#[derive(Drop)]
 pub enum Grant {
     /// A level.
     Level(Level),
@@ -31,7 +35,7 @@ pub enum Grant {
 }
 
 /// A pattern of names, and what they get.
-#[derive(Debug, Drop)]
+#[derive(Drop)]
 pub struct PolicyRule {
     /// A name that isn't unique, or `NAME.*` for NAME and all names below it.
     pub pattern: Text,
@@ -44,9 +48,20 @@ pub struct PolicyRule {
 pub enum PolicyError {
     /// The pattern or the rule isn't one.
     Bad,
-    /// There is no memory.
+    /// Memory ran out.
     NoMemory,
 }
+
+impl fmt::Display for PolicyError {
+    fn fmt<W: fmt::Write>(&self, f: &mut fmt::Formatter<W>) -> fmt::Result {
+        match self {
+            PolicyError::Bad => write!(f, "not a pattern of names or not a rule"),
+            PolicyError::NoMemory => write!(f, "out of memory"),
+        }
+    }
+}
+
+impl Error for PolicyError {}
 
 impl From<AllocError> for PolicyError {
     ghost use Rattle.std.specs.Prelude.{◌≡◌};
@@ -97,7 +112,9 @@ impl Policy {
 
     /// Adds a rule that gives a level, at the end.
     pub fn add(&mut self, alloc: Global, pattern: &str, level: Level) -> Result<(), PolicyError>
-        ensures ok { OnOk result (self.new ≡ self.old ++ record { pattern = pattern.now; grant = Grant.Level level } ∷ []) }
+        ensures ok { OnOk result
+            (self.new ≡ self.old
+            ++ record { pattern = pattern.now; grant = Grant.Level level } ∷ []) }
         ensures bad { IsErrOf result PolicyError.Bad ↔ (is_pattern pattern.now ≡ false) }
         ensures err { OnErr result (self.new ≡ self.old) }
     {
@@ -108,11 +125,12 @@ impl Policy {
     }
 
     fn push(&mut self, alloc: Global, pattern: &str, grant: Grant) -> Result<(), PolicyError>
-        ensures ok { OnOk result (self.new ≡ self.old ++ record { pattern = pattern.now; grant = grant } ∷ []) }
+        ensures ok { OnOk result
+            (self.new ≡ self.old ++ record { pattern = pattern.now; grant = grant } ∷ []) }
         ensures err { OnErr result (self.new ≡ self.old) }
         ensures memory { IsOkUnless result PolicyError.NoMemory }
     {
-        let pattern = Text::copy_of(alloc, pattern)?;
+        let pattern = Text::from_str(alloc, pattern)?;
         self.rules.push(PolicyRule { pattern, grant })?;
         Ok(())
     }
@@ -126,10 +144,12 @@ impl Policy {
         rule: &str,
     ) -> Result<(), PolicyError>
         ensures ok { OnOk result ((read : TheRule) × IsRule read rule.now
-            × (self.new ≡ self.old ++ record { pattern = pattern.now; grant = Grant.Rule kind read } ∷ [])) }
+            × (self.new ≡ self.old
+            ++ record { pattern = pattern.now; grant = Grant.Rule kind read } ∷ [])) }
         ensures bad_pattern { is_pattern pattern.now ≡ false → IsErrOf result PolicyError.Bad }
         ensures bad_rule { IsNoRule rule.now → IsErrOf result PolicyError.Bad }
-        ensures bad { IsErrOf result PolicyError.Bad → is_pattern pattern.now ≡ true → IsNoRule rule.now }
+        ensures bad { IsErrOf result PolicyError.Bad → is_pattern pattern.now ≡ true
+            → IsNoRule rule.now }
         ensures err { OnErr result (self.new ≡ self.old) }
     {
         if !is_name_pattern(pattern.as_bytes()) {
@@ -192,4 +212,28 @@ fn is_same_kind(kind: RuleKind, other: RuleKind) -> bool
         (kind, other),
         (RuleKind::Call, RuleKind::Call) | (RuleKind::Broadcast, RuleKind::Broadcast)
     )
+}
+
+/// Whether a rule gives leave to a message of a peer. The flags tell which rules' patterns match a name that it had.
+pub fn any_gives_leave(
+    rules: &[PolicyRule],
+    flags: &[bool],
+    kind: RuleKind,
+    peer: &[u8],
+    header: &Header,
+) -> bool
+    ensures { result ≡ any_leave kind peer.now header.now rules.now flags.now }
+{
+    for (i, rule) in rules.iter().enumerate() {
+        let is_had = match flags.get(i) {
+            Some(flag) => *flag,
+            None => false,
+        };
+        if rule.gives_leave(kind, header)
+            && (matches_name(rule.pattern.as_str().as_bytes(), peer) || is_had)
+        {
+            return true;
+        }
+    }
+    false
 }

@@ -1,3 +1,5 @@
+//! Verdicts on messages, named as xdg-dbus-proxy names them.
+
 ghost use Rattle.std.specs.Prelude.{◌≡◌};
 ghost use Rattle.bus_policy.specs.Events.{is_forwarded};
 
@@ -5,14 +7,14 @@ ghost use Rattle.bus_policy.specs.Events.{is_forwarded};
 #[derive(Clone, Copy, Debug, PartialEq, Eq)]
 pub enum Verdict {
     /// It goes to the other side.
-    Forward,
-    /// It goes there with those names alone that may be seen.
-    Reduce,
-    /// The client is told that it has no leave.
-    AnswerDenied,
-    /// The client is told that there is no such name.
-    AnswerUnknown,
-    /// Nothing.
+    Pass,
+    /// It is a list of names, and goes to the other side with those names alone that may be seen.
+    FilterNameList,
+    /// The client is told that it may not do this: `AccessDenied`.
+    Deny,
+    /// The client is told that there is no such name: `ServiceUnknown`.
+    Hide,
+    /// Nothing goes anywhere.
     Drop,
 }
 
@@ -21,6 +23,6 @@ impl Verdict {
     pub fn is_forwarding(self) -> bool
         ensures { result ≡ is_forwarded self }
     {
-        matches!(self, Verdict::Forward | Verdict::Reduce)
+        matches!(self, Verdict::Pass | Verdict::FilterNameList)
     }
 }

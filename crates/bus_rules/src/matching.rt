@@ -5,7 +5,8 @@ ghost use Rattle.bus_rules.specs.Rules.{says, has_member, has_object, members_ma
 
 use crate::rule::{Members, Objects, Rule};
 use crate::within::is_at_or_under;
-use bus_frame::{Header, Text};
+use bus_frame::Header;
+use fp_base::Text;
 
 fn is_text(found: &Option<Text>, text: &Text) -> bool
     ensures { result ≡ says found.now text.now }

@@ -6,7 +6,8 @@ ghost use Rattle.bus_rules.specs.declared.rule.Objects.{Objects as TheObjects};
 ghost use Rattle.bus_rules.specs.Rules.{IsRule, IsNoRule, NamesMembers, NamesObjects, members_of, objects_of, rule_of};
 
 use crate::rule::{Members, Objects, Rule, RuleError};
-use bus_frame::{Text, is_interface_name, is_member_name, is_object_path};
+use bus_frame::{is_interface_name, is_member_name, is_object_path};
+use fp_base::Text;
 use std::alloc::{AllocError, Global};
 
 /// What a text says of methods or signals.
@@ -31,7 +32,7 @@ pub struct RawRule<'a> {
     pub objects: Option<RawObjects<'a>>,
 }
 
-/// What stands before the last dot, and what behind it.
+/// What stands before the last dot, and what after it.
 fn at_last_dot(text: &str) -> Option<(&str, &str)>
     ensures { MatchOption result ((i : ℕ) → i < length text.now → slice_index text.now i ≢ 46)
         (λ parts. (text.now ≡ parts.0.now ++ 46 ∷ parts.1.now) × ((i : ℕ) → i < length parts.1.now → slice_index parts.1.now i ≢ 46)) }
@@ -97,10 +98,10 @@ fn own_members(alloc: Global, raw: RawMembers<'_>) -> Result<Members, AllocError
 {
     match raw {
         RawMembers::All => Ok(Members::All),
-        RawMembers::Of(interface) => Ok(Members::Of(Text::copy_of(alloc, interface)?)),
+        RawMembers::Of(interface) => Ok(Members::Of(Text::from_str(alloc, interface)?)),
         RawMembers::One(interface, member) => Ok(Members::One(
-            Text::copy_of(alloc, interface)?,
-            Text::copy_of(alloc, member)?,
+            Text::from_str(alloc, interface)?,
+            Text::from_str(alloc, member)?,
         )),
     }
 }
@@ -109,8 +110,8 @@ fn own_objects(alloc: Global, raw: RawObjects<'_>) -> Result<Objects, AllocError
     ensures { IfOk result (λ o. o ≡ objects_of raw.entry) }
 {
     match raw {
-        RawObjects::At(path) => Ok(Objects::At(Text::copy_of(alloc, path)?)),
-        RawObjects::Below(path) => Ok(Objects::Below(Text::copy_of(alloc, path)?)),
+        RawObjects::At(path) => Ok(Objects::At(Text::from_str(alloc, path)?)),
+        RawObjects::Below(path) => Ok(Objects::Below(Text::from_str(alloc, path)?)),
     }
 }
 

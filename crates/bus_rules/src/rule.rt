@@ -1,10 +1,12 @@
 //! Rules and their texts.
 
-use bus_frame::Text;
+use fp_base::Text;
 use std::alloc::AllocError;
+use std::error::Error;
+use std::fmt;
 
 /// Which methods or signals.
-#[derive(Debug, Drop)]
+#[derive(Drop)]
 pub enum Members {
     /// All of them: `*`.
     All,
@@ -15,7 +17,7 @@ pub enum Members {
 }
 
 /// Which objects.
-#[derive(Debug, Drop)]
+#[derive(Drop)]
 pub enum Objects {
     /// The object at a path.
     At(Text),
@@ -24,7 +26,7 @@ pub enum Objects {
 }
 
 /// A rule for calls or for broadcasts. A part that isn't there says nothing; one is.
-#[derive(Debug, Drop)]
+#[derive(Drop)]
 pub struct Rule {
     /// The methods or signals.
     pub members: Option<Members>,
@@ -33,13 +35,24 @@ pub struct Rule {
 }
 
 /// Why a text isn't read.
-#[derive(Debug, PartialEq, Eq, Drop)]
+#[derive(Debug, Drop)]
 pub enum RuleError {
     /// It is no rule.
     Bad,
-    /// There is no memory.
+    /// Memory ran out.
     NoMemory,
 }
+
+impl fmt::Display for RuleError {
+    fn fmt<W: fmt::Write>(&self, f: &mut fmt::Formatter<W>) -> fmt::Result {
+        match self {
+            RuleError::Bad => write!(f, "not a rule"),
+            RuleError::NoMemory => write!(f, "out of memory"),
+        }
+    }
+}
+
+impl Error for RuleError {}
 
 impl From<AllocError> for RuleError {
     ghost use Rattle.std.specs.Prelude.{◌≡◌};

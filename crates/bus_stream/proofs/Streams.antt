@@ -4,9 +4,9 @@ use Rattle.std.specs.Prelude.{OnOk, OnErr}
 use Rattle.std.specs.List.{AllByRecursion}
 use Rattle.std.proofs.lemmas.List.{length-append, append-nil, take_at, drop_at, take-append-drop}
 use Rattle.bus_frame.specs.declared.header.Header.{Header}
-use Rattle.bus_frame.specs.declared.rule.FrameRule.{FrameRule}
-use Rattle.bus_frame.specs.declared.rule.FrameError.{FrameError}
-use Rattle.bus_frame.specs.declared.rule.FrameError.TheVariants.{Bad, NoMemory}
+use Rattle.fp_base.specs.declared.frame_rule.FrameRule.{FrameRule}
+use Rattle.bus_frame.specs.declared.error.FrameError.{FrameError}
+use Rattle.bus_frame.specs.declared.error.FrameError.TheVariants.{Bad, NoMemory}
 use Rattle.bus_frame.specs.Reading.{Read, need, bad, whole, frame_of}
 use Rattle.bus_frame.specs.Frame.{Frame}
 use Rattle.bus_frame.specs.Answers.{IsWhole, BeginsBroken}

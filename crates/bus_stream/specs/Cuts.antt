@@ -1,7 +1,7 @@
 -- What a cutter answers.
 use Rattle.std.specs.Prelude.{◌≡◌, ℕ, List, [], ◌∷◌, ◌++◌, length, Some, None, Result, Ok, Err}
-use Rattle.bus_frame.specs.declared.rule.FrameError.{FrameError}
-use Rattle.bus_frame.specs.declared.rule.FrameError.TheVariants.{Bad, NoMemory}
+use Rattle.bus_frame.specs.declared.error.FrameError.{FrameError}
+use Rattle.bus_frame.specs.declared.error.FrameError.TheVariants.{Bad, NoMemory}
 use Rattle.bus_frame.specs.Reading.{bad, whole, frame_of}
 use Rattle.bus_frame.specs.Answers.{IsWhole}
 use Rattle.bus_stream.specs.declared.cutter.Cut.{Cut}

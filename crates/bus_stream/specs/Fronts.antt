@@ -1,8 +1,8 @@
 -- What stands at the front of the bytes that aren't taken.
 use Rattle.std.specs.Prelude.{◌≡◌, ℕ, List, length, take, ◌≤◌, Option, Some, None, Result, Ok, Err}
 use Rattle.bus_frame.specs.declared.header.Header.{Header}
-use Rattle.bus_frame.specs.declared.rule.FrameError.{FrameError}
-use Rattle.bus_frame.specs.declared.rule.FrameError.TheVariants.{Bad, NoMemory}
+use Rattle.bus_frame.specs.declared.error.FrameError.{FrameError}
+use Rattle.bus_frame.specs.declared.error.FrameError.TheVariants.{Bad, NoMemory}
 use Rattle.bus_frame.specs.Reading.{Read, need, bad, whole, frame_of}
 use Rattle.bus_frame.specs.Answers.{IsWhole}
 

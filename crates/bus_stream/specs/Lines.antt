@@ -4,7 +4,7 @@ use Rattle.std.specs.List.{list_all, position}
 use Rattle.std.specs.Result.{result_ok}
 use Rattle.hex.specs.Hex.{decode_of}
 
--- what stands before the first such byte, and behind it
+-- what stands before the first such byte, and after it
 unfoldable pub parts_at : ℕ → List ℕ → Option (List ℕ × List ℕ)
 parts_at byte bytes = option_map (λ at. (take at bytes, drop (at + 1) bytes)) (position (λ b. b == byte) bytes)
 

@@ -5,8 +5,8 @@ use Rattle.std.specs.List.{list_any, slice_split}
 use Rattle.std.specs.Str.{bytes_eq}
 use Rattle.bus_frame.specs.Names.{is_unique, is_well_known}
 use Rattle.bus_frame.specs.Steps.{◌>>=◌}
-use Rattle.bus_frame.specs.declared.side.Side.{Side}
-use Rattle.bus_frame.specs.declared.side.Side.TheVariants as side
+use Rattle.fp_base.specs.declared.side.Side.{Side}
+use Rattle.fp_base.specs.declared.side.Side.TheVariants as side
 use Rattle.bus_stream.specs.declared.recording.Recording.{Recording}
 use Rattle.bus_stream.specs.declared.recording.RecordError.{RecordError}
 use Rattle.bus_stream.specs.declared.recording.RecordError.TheVariants.{BadRecord, NoMemory}
@@ -54,7 +54,7 @@ abbrev pub or_bad : {A : Type 0} → ℕ → Option Recording → (Recording →
 or_bad number (Some r) next = next r
 or_bad number None next = Err number
 
--- What lines say, counted from a number, or the number of the first bad one. Nothing may stand behind the last newline.
+-- What lines say, counted from a number, or the number of the first bad one. Nothing may stand after the last newline.
 abbrev pub with_lines : ℕ → Recording → List (List ℕ) → Result Recording ℕ
 with_lines number r [] = Ok r
 with_lines number r (last ∷ []) = if length last == 0 then Ok r else Err number

@@ -2,7 +2,7 @@
 use Rattle.std.specs.Prelude.{◌≡◌, ℕ, zero, suc, List, [], ◌∷◌, ◌++◌, length, take, drop, Option, Some, None}
 use Rattle.std.specs.List.{flat_map, AllByRecursion}
 use Rattle.bus_frame.specs.declared.header.Header.{Header}
-use Rattle.bus_frame.specs.declared.rule.FrameRule.{FrameRule}
+use Rattle.fp_base.specs.declared.frame_rule.FrameRule.{FrameRule}
 use Rattle.bus_frame.specs.Reading.{Read, need, bad, whole, frame_of}
 use Rattle.bus_frame.specs.Frame.{Frame, Breaks}
 
@@ -41,7 +41,7 @@ taken_in (suc n) bytes = first_taken (frame_of bytes) bytes (taken_in n)
 unfoldable pub messages_in : List ℕ → List Message
 messages_in bytes = taken_in (length bytes) bytes
 
--- the rule that the stream breaks behind its whole messages
+-- the rule that the stream breaks after its whole messages
 abbrev pub rule_behind : Read → List ℕ → (List ℕ → Option FrameRule) → Option FrameRule
 rule_behind (need n) bytes others = None
 rule_behind (bad rule) bytes others = Some rule

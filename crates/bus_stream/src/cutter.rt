@@ -1,20 +1,21 @@
 //! A stream of messages that comes in pieces.
 
 ghost use Rattle.std.specs.Prelude.{◌≡◌, ◌↔◌, ℕ, List, [], ◌++◌, ◌<◌, slice_index, length, IfOk, OnOk, OnErr, IsErrOf};
-ghost use Rattle.bus_frame.specs.declared.rule.FrameRule.{FrameRule};
+ghost use Rattle.fp_base.specs.declared.frame_rule.FrameRule.{FrameRule};
 ghost use Rattle.bus_frame.specs.Answers.{BeginsBroken};
 ghost use Rattle.bus_stream.specs.Fronts.{AnswersFront};
 ghost use Rattle.bus_stream.specs.Stream.{Message, CutterAt, NothingYet};
 
-use bus_frame::{Blob, FrameError, Header, ReadFrame, read_frame};
+use bus_frame::{FrameError, Header, ReadFrame, read_frame};
 use bytes::BytesMut;
+use fp_base::Blob;
 use std::alloc::{AllocError, Global};
 use std::marker::Model;
 
 const FIRST_ROOM: usize = 4_096;
 
 /// What the next bytes of a stream are.
-#[derive(Debug, Drop)]
+#[derive(Drop)]
 pub enum Cut {
     /// A whole message with its header.
     Message(Header, Blob),
@@ -30,7 +31,7 @@ fn message_at_front(alloc: Global, bytes: &[u8]) -> Result<Option<(Header, Blob)
     match read_frame(alloc, bytes)? {
         ReadFrame::Need(_) => Ok(None),
         ReadFrame::Frame(header, len) => {
-            let message = Blob::copy_of(alloc, &bytes[..len as usize])?;
+            let message = Blob::from_slice(alloc, &bytes[..len as usize])?;
             Ok(Some((header, message)))
         }
     }

@@ -5,7 +5,6 @@ mod cutter;
 mod lines;
 mod recording;
 
-pub use bus_frame::Side;
 pub use cutter::{Cut, Cutter};
 pub use recording::{RecordError, Recording, read_recording};
 

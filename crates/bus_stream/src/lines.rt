@@ -17,7 +17,7 @@ fn place_of_first(byte: u8, bytes: &[u8]) -> Option<usize>
     bytes.iter().position(|b| *b == byte)
 }
 
-/// What stands before the first such byte, and what stands behind it.
+/// What stands before the first such byte, and what stands after it.
 #[tactic(auto, unfolding(crate::specs::Lines::parts_at))]
 pub fn cut(byte: u8, bytes: &[u8]) -> Option<(&[u8], &[u8])>
     ensures { Gives (λ p. (p.0.now, p.1.now)) result (parts_at byte bytes.now) }

@@ -4,9 +4,11 @@ ghost use Rattle.std.specs.Prelude.{◌≡◌, IfOk, OnOk};
 ghost use Rattle.bus_stream.specs.Recordings.{with_client, push_names, with_owner, with_piece, with_line, recording_of, said, Knows, Took, AnswersRecording};
 
 use crate::lines::{cut, decoded, unique_name, well_known_name};
-use bus_frame::{Blob, Items, Side, Text};
+use fp_base::{Blob, Items, Side, Text};
 use std::alloc::{AllocError, Global};
 use std::collections::BTreeSet;
+use std::error::Error;
+use std::fmt;
 
 /// What a client and its bus sent to each other, and what was known of names before.
 #[derive(Drop)]
@@ -20,13 +22,24 @@ pub struct Recording {
 }
 
 /// Why bytes aren't a recording.
-#[derive(Debug, PartialEq, Eq, Drop)]
+#[derive(Debug, Drop)]
 pub enum RecordError {
     /// The first line that is bad, counted from 1.
     BadRecord(u64),
-    /// There is no memory.
+    /// Memory ran out.
     NoMemory,
 }
+
+impl fmt::Display for RecordError {
+    fn fmt<W: fmt::Write>(&self, f: &mut fmt::Formatter<W>) -> fmt::Result {
+        match self {
+            RecordError::BadRecord(line) => write!(f, "line {line} is bad"),
+            RecordError::NoMemory => write!(f, "out of memory"),
+        }
+    }
+}
+
+impl Error for RecordError {}
 
 impl From<AllocError> for RecordError {
     ghost use Rattle.std.specs.Prelude.{◌≡◌};
@@ -60,7 +73,7 @@ impl Draft {
         let Some(name) = unique_name(name) else {
             return Ok(false);
         };
-        self.client = Some(Text::copy_of(alloc, name)?);
+        self.client = Some(Text::from_str(alloc, name)?);
         Ok(true)
     }
 
@@ -70,7 +83,7 @@ impl Draft {
         ensures knows { OnOk result (Knows self.new) }
     {
         self.owned.insert(String::from_str(alloc, name)?)?;
-        let names = (Text::copy_of(alloc, name)?, Text::copy_of(alloc, owner)?);
+        let names = (Text::from_str(alloc, name)?, Text::from_str(alloc, owner)?);
         self.owners.push(names)?;
         Ok(())
     }

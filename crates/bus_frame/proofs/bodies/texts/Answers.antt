@@ -13,7 +13,7 @@ returns-in_default c =
 
 pub loop-preserved : goal.loop-preserved
 loop-preserved c =
-    rw (c.in_ok-push.ensures.items, c.in_ok-copy_of.ensures)
+    rw (c.in_ok-push.ensures.items, c.in_ok-from_str.ensures)
     (collects_more c.args.little c.loop.texts.items (place_of c.loop.next) _ _ _ _ _ c.loop-test.true (sym c.is_empty.ensures ∙ c.if-is_empty.false) c.loop.invariant c.in-Some.ensures)
 
 pub returns-then-not-is_empty : goal.returns-then-not-is_empty

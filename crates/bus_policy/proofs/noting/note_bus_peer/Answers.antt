@@ -1,5 +1,5 @@
 use Rattle.std.proofs.Common.{◌≡◌, true, sym, ◌∙◌}
-use Rattle.std.specs.BTreeMap.{get_by_text}
+use Rattle.indexmap.specs.IndexMap.{get_by_text}
 use Rattle.bus_policy.specs.Events.{tells_owner}
 use Rattle.bus_policy.specs.Watching.{known_of}
 use Rattle.bus_policy.proofs.Telling.{ok_then}
@@ -7,7 +7,7 @@ use Rattle.bus_policy.proofs.Happening.{owned}
 use Rattle.bus_policy.proofs.noting.note_bus_peer.Goals as goal
 
 pub returns-in-Some-clause-ok : goal.returns-in-Some-clause-ok
-returns-in-Some-clause-ok c =
+returns-in-Some-clause-ok g c =
     let policy = c.args.rules.now in
     let tells : tells_owner c.args.header.now ≡ true = sym c.is_about_owner.ensures ∙ c.if-not-is_about_owner.false in
     ok_then c.add_owned.result

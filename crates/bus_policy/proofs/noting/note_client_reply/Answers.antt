@@ -1,6 +1,6 @@
 use Rattle.std.proofs.Common.{◌≡◌, List, ℕ, true, ap, sym, ◌∙◌}
 use Rattle.std.specs.Prelude.{if◌then◌else◌}
-use Rattle.std.specs.BTreeMap.{get_by_text}
+use Rattle.indexmap.specs.IndexMap.{get_by_text}
 use Rattle.std.specs.Str.{bytes_eq}
 use Rattle.bus_policy.specs.Events.{is_reply, is_forwarded}
 use Rattle.bus_policy.specs.Watching.{known_of, without_call}
@@ -8,7 +8,7 @@ use Rattle.bus_policy.proofs.Happening.{settled}
 use Rattle.bus_policy.proofs.noting.note_client_reply.Goals as goal
 
 pub returns : goal.returns
-returns c = λ policy q.
+returns g c = λ policy q.
     let k = known_of policy (get_by_text c.args.peers.now q) in
     let peer = c.in-Some-Some.peer in
     let serial = c.in-Some-Some.serial in

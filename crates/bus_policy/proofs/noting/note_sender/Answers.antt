@@ -1,6 +1,6 @@
 use Rattle.std.proofs.Common.{List, ℕ, Bool, Option, ap, ◌∙◌}
 use Rattle.std.specs.Prelude.{if◌then◌else◌, ◌&&◌, is_some}
-use Rattle.std.specs.BTreeMap.{get_by_text}
+use Rattle.indexmap.specs.IndexMap.{get_by_text}
 use Rattle.std.specs.Str.{bytes_eq}
 use Rattle.bus_policy.specs.Events.{is_unique_like}
 use Rattle.bus_policy.specs.Watching.{known_of, with_message_if, with_call_if}
@@ -9,7 +9,7 @@ use Rattle.bus_policy.proofs.Happening.{sent}
 use Rattle.bus_policy.proofs.noting.note_sender.Goals as goal
 
 pub returns-clause-ok : goal.returns-clause-ok
-returns-clause-ok c =
+returns-clause-ok g c =
     let policy = c.args.rules.now in
     let header = c.args.header.now in
     let sender = c.in-Some.sender in

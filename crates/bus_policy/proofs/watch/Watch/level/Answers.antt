@@ -4,4 +4,4 @@ use Rattle.bus_policy.proofs.Sights.{sight_same}
 use Rattle.bus_policy.proofs.watch.Watch.level.Goals as goal
 
 pub returns : goal.returns
-returns c = λ owners noted at. c.level_now.ensures ∙ ap (λ (s : Sight). s.level_of c.args.name.now) (sight_same c.args.self.now owners noted at)
+returns g c = λ owners noted at. c.level_now.ensures ∙ ap (λ (s : Sight). s.level_of c.args.name.now) (sight_same c.args.self.now owners noted at)

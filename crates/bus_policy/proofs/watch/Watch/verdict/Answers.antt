@@ -5,4 +5,4 @@ use Rattle.bus_policy.proofs.Sights.{sight_same}
 use Rattle.bus_policy.proofs.watch.Watch.verdict.Goals as goal
 
 pub returns : goal.returns
-returns c = λ owners noted at. c.judge.ensures ∙ ap (λ (s : Sight). verdict_in s (event c.args.side c.args.header.now c.args.message.now)) (sight_same c.args.self.now owners noted at)
+returns g c = λ owners noted at. c.judge.ensures ∙ ap (λ (s : Sight). verdict_in s (event c.args.side c.args.header.now c.args.message.now)) (sight_same c.args.self.now owners noted at)

@@ -1,8 +1,0 @@
-/// Which side sent.
-#[derive(Clone, Copy, Debug, PartialEq, Eq)]
-pub enum Side {
-    /// The client.
-    Client,
-    /// The bus.
-    Bus,
-}

@@ -1,0 +1,62 @@
+-- Calls to the bus itself.
+use Rattle.std.specs.Prelude.{ℕ, Bool, true, false, ◌||◌, ◌&&◌, if◌then◌else◌, List, [], ◌∷◌, codes, is_none, unwrap_or}
+use Rattle.std.specs.List.{list_any}
+use Rattle.std.specs.Str.{bytes_eq}
+use Rattle.bus_frame.specs.declared.header.Header.{Header}
+use Rattle.bus_rules.specs.Rules.{says}
+use Rattle.bus_policy.specs.declared.driver.Handler.{Handler}
+use Rattle.bus_policy.specs.declared.driver.Handler.TheVariants as handler
+use Rattle.bus_policy.specs.declared.level.Level.TheVariants as level
+
+-- the bus itself, by its name
+abbrev pub driver : List ℕ
+driver = codes "org.freedesktop.DBus"
+
+-- to its name, or to none
+abbrev pub is_to_driver : Header → Bool
+is_to_driver h = is_none h.destination || says h.destination driver
+
+-- the interface of a call, or the bus's own where none is named, and the member
+abbrev pub called_interface : Header → List ℕ
+called_interface h = unwrap_or h.interface driver
+
+abbrev pub called_member : Header → List ℕ
+called_member h = unwrap_or h.member []
+
+abbrev pub is_among : List ℕ → List (List ℕ) → Bool
+is_among name = list_any (bytes_eq name)
+
+-- the members of the bus's own interface, row by row
+abbrev pub own_handler : List ℕ → Handler
+own_handler member =
+    if is_among member (codes "Hello" ∷ codes "RemoveMatch" ∷ codes "GetId" ∷ []) then handler.Pass
+    else (if is_among member (codes "ListNames" ∷ codes "ListActivatableNames" ∷ []) then handler.FilterNameListReply
+    else (if is_among member (codes "AddMatch" ∷ []) then handler.ValidateMatch
+    else (if is_among member (codes "NameHasOwner" ∷ codes "GetNameOwner" ∷ codes "GetConnectionUnixProcessID" ∷ codes "GetConnectionUnixUser" ∷ codes "GetConnectionCredentials" ∷ []) then handler.Validate level.See
+    else (if is_among member (codes "StartServiceByName" ∷ []) then handler.Validate level.Talk
+    else (if is_among member (codes "RequestName" ∷ codes "ReleaseName" ∷ codes "ListQueuedOwners" ∷ []) then handler.Validate level.Own
+    else handler.Deny)))))
+
+-- those of its other interfaces
+abbrev pub other_handler : (interface member : List ℕ) → Handler
+other_handler interface member =
+    if (bytes_eq interface (codes "org.freedesktop.DBus.Introspectable") && bytes_eq member (codes "Introspect"))
+    || (bytes_eq interface (codes "org.freedesktop.DBus.Peer")
+    && (bytes_eq member (codes "Ping") || bytes_eq member (codes "GetMachineId"))) then handler.Pass
+    else handler.Deny
+
+unfoldable pub handler_of : Header → Handler
+handler_of h =
+    if bytes_eq (called_interface h) driver then own_handler (called_member h)
+    else other_handler (called_interface h) (called_member h)
+
+abbrev pub filters_reply : Handler → Bool
+filters_reply handler.Pass = false
+filters_reply handler.FilterNameListReply = true
+filters_reply handler.ValidateMatch = false
+filters_reply (handler.Validate level) = false
+filters_reply handler.Deny = false
+
+-- a call to the bus that lists names
+abbrev pub is_listing : Header → Bool
+is_listing h = is_to_driver h && filters_reply (handler_of h)
