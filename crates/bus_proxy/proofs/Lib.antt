@@ -1,0 +1,11 @@
+pub mod Fronts
+pub mod Arriving
+pub mod Feeding
+pub mod Taking
+pub mod Ending
+pub mod Shorter
+pub mod Cutting
+pub mod Giving
+pub mod Seeing
+pub mod Draining
+pub mod Naming

@@ -1,0 +1,82 @@
+-- What a filter is, by what it was fed, what was taken of it, and what it gave.
+use Rattle.std.specs.Prelude.{◌≡◌, ℕ, List, [], ◌∷◌, ◌++◌, Option, Some, None, option_map, Result, Ok, Err}
+use Rattle.fp_base.specs.declared.side.Side.{Side}
+use Rattle.bus_policy.specs.Events.{Event}
+use Rattle.bus_policy.specs.Watching.{Owners, WatchAt, rules_of, client_of}
+use Rattle.bus_proxy.specs.declared.out.Out.{Out}
+use Rattle.bus_proxy.specs.declared.error.FilterError.{FilterError}
+use Rattle.bus_proxy.specs.declared.error.FilterError.TheVariants.{Bad, NoMemory}
+use Rattle.bus_proxy.specs.declared.judge.Judge.{Judge}
+use Rattle.bus_proxy.specs.declared.judge.Fate.{Fate}
+use Rattle.bus_proxy.specs.declared.judge.Fate.TheVariants as fate
+use Rattle.bus_proxy.specs.declared.proxy.Filter.{Filter}
+use Rattle.bus_proxy.specs.declared.proxy.Next.{Next}
+use Rattle.bus_proxy.specs.declared.proxy.Next.TheVariants as next
+use Rattle.bus_proxy.specs.Arrivals.{Pieces, End, other_side, breach, events, end_of}
+use Rattle.bus_proxy.specs.Outs.{Setting, judged_by, out_after, forwarded}
+use Rattle.bus_proxy.specs.Streaming.{StreamsAt, unread_bytes}
+
+-- a judge knows what is known after these events
+pub record JudgeAt {S H : Type 0} (j : Judge S H) (s : Setting) (taken : List Event) : Type 0 where
+  pub watch : WatchAt j.watch s.owners (judged_by s taken)
+  pub rules : rules_of j.watch ≡ s.rules
+  pub client : client_of j.watch ≡ s.client
+  pub named : option_map (λ name. name.text) j.client ≡ s.client
+
+-- what goes to a side of a message
+abbrev pub fate_of : Fate → Side → List ℕ → Option Out
+fate_of fate.Passes side bytes = Some (record { to = other_side side; bytes = bytes })
+fate_of (fate.Replaced out) side bytes = Some out
+fate_of fate.Vanishes side bytes = None
+
+-- A filter that was made with this setting and fed these pieces, of which these events were taken, the latest first. What
+-- it gave is what these events give.
+pub record FilterAt {S H : Type 0} (f : Filter S H) (s : Setting) (fed : Pieces) (taken : List Event) (given : List Out) : Type 0 where
+  pub streams : StreamsAt f.streams fed taken
+  pub judge : JudgeAt f.judge s taken
+  pub gave : given ≡ forwarded s taken
+
+-- every event is taken, and no rule is broken
+pub record AllTaken (fed : Pieces) (taken : List Event) : Type 0 where
+  pub all : events fed ≡ taken
+  pub sound : breach fed ≡ None
+
+-- what an event gives, which is judged from now on
+abbrev pub Made : {S H : Type 0} → Result Next FilterError → Judge S H → Setting → List Event → Event → Type 0
+Made (Ok (next.Out out)) j s before e = (out_after s before e ≡ Some out) × JudgeAt j s (e ∷ before)
+Made (Ok next.Quiet) j s before e = (out_after s before e ≡ None) × JudgeAt j s (e ∷ before)
+Made (Ok next.NotYet) j s before e = ⊥
+Made (Err (Bad side index rule)) j s before e = ⊥
+Made (Err NoMemory) j s before e = Unit {0}
+
+-- one event more is taken, and gives what it gives; or none is left, or a rule is broken after them all
+abbrev pub Gives : {S H : Type 0} → Result Next FilterError → Filter S H → Setting → Pieces → List Event → List Out → Type 0
+Gives (Ok (next.Out out)) f s fed taken given =
+    (e : Event) × (out_after s taken e ≡ Some out) × FilterAt f s fed (e ∷ taken) (given ++ out ∷ [])
+Gives (Ok next.Quiet) f s fed taken given = (e : Event) × (out_after s taken e ≡ None) × FilterAt f s fed (e ∷ taken) given
+Gives (Ok next.NotYet) f s fed taken given = FilterAt f s fed taken given × AllTaken fed taken
+Gives (Err (Bad side index rule)) f s fed taken given =
+    FilterAt f s fed taken given × (events fed ≡ taken) × (breach fed ≡ Some (side, index, rule))
+Gives (Err NoMemory) f s fed taken given = Unit {0}
+
+abbrev pub IsNotYet : Result Next FilterError → Type 0
+IsNotYet (Ok (next.Out out)) = ⊥
+IsNotYet (Ok next.Quiet) = ⊥
+IsNotYet (Ok next.NotYet) = Unit {0}
+IsNotYet (Err e) = ⊥
+
+-- whether an event was taken
+abbrev pub TookEvent : Result Next FilterError → Type 0
+TookEvent (Ok (next.Out out)) = Unit {0}
+TookEvent (Ok next.Quiet) = Unit {0}
+TookEvent (Ok next.NotYet) = ⊥
+TookEvent (Err e) = ⊥
+
+-- an end, or none
+abbrev pub AnswersEnd : Result (Unit {0}) FilterError → Option End → Type 0
+AnswersEnd (Ok u) end = end ≡ None
+AnswersEnd (Err (Bad side index rule)) end = end ≡ Some (side, index, rule)
+AnswersEnd (Err NoMemory) end = ⊥
+
+abbrev pub unread : {S H : Type 0} → Filter S H → ℕ
+unread f = unread_bytes f.streams

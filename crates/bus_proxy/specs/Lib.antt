@@ -1,0 +1,5 @@
+pub mod Arrivals
+pub mod Outs
+pub mod Streaming
+pub mod Filters
+pub mod Rows

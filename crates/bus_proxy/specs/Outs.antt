@@ -1,0 +1,70 @@
+-- What a filter gives: for each event, by the events before it, the message itself, with fewer names, or an error.
+use Rattle.std.specs.Prelude.{ℕ, List, [], ◌∷◌, ◌++◌, codes, Option, Some, None}
+use Rattle.std.specs.Option.{option_map_or, option_to_list}
+use Rattle.std.specs.List.{filter}
+use Rattle.fp_base.specs.declared.side.Side.TheVariants as side
+use Rattle.bus_frame.specs.declared.header.Header.{Header}
+use Rattle.bus_frame.specs.Bodies.{names_in}
+use Rattle.bus_frame.specs.Writing.{error_bytes, with_names_bytes}
+use Rattle.bus_policy.specs.declared.level.Level.{Level}
+use Rattle.bus_policy.specs.declared.level.Level.TheVariants as level
+use Rattle.bus_policy.specs.declared.policy.PolicyRule.{PolicyRule}
+use Rattle.bus_policy.specs.declared.verdict.Verdict.{Verdict}
+use Rattle.bus_policy.specs.declared.verdict.Verdict.TheVariants as verdict
+use Rattle.bus_policy.specs.Levels.{is_at_least}
+use Rattle.bus_policy.specs.Events.{Event, Judged}
+use Rattle.bus_policy.specs.Watching.{Owners, level_after, verdict_after, judged}
+use Rattle.bus_proxy.specs.declared.out.Out.{Out}
+use Rattle.bus_proxy.specs.Arrivals.{other_side}
+
+-- what a filter is made with
+pub record Setting : Type 0 where
+  pub rules : List PolicyRule
+  pub client : Option (List ℕ)
+  pub owners : Owners
+
+abbrev pub setting : List PolicyRule → Option (List ℕ) → Owners → Setting
+setting rules client owners = record { rules = rules; client = client; owners = owners }
+
+abbrev pub Levels : Type 0
+Levels = List ℕ → Level
+
+-- the names that may be seen
+abbrev pub seen_names : Levels → List (List ℕ) → List (List ℕ)
+seen_names level_of = filter (λ name. is_at_least level.See (level_of name))
+
+-- a list of names without those that may not be seen
+abbrev pub reduced : Levels → Event → List ℕ
+reduced level_of e =
+    option_map_or (λ names. with_names_bytes e.header e.bytes (seen_names level_of names)) (names_in e.header e.bytes) e.bytes
+
+-- the error that answers a call
+abbrev pub refusal : List ℕ → Option (List ℕ) → Header → Out
+refusal name client call = record { to = side.Client; bytes = error_bytes call.little name call.serial client }
+
+-- what a verdict makes of an event
+abbrev pub out_by : Levels → Option (List ℕ) → Event → Verdict → Option Out
+out_by level_of client e verdict.Pass = Some (record { to = other_side e.side; bytes = e.bytes })
+out_by level_of client e verdict.FilterNameList = Some (record { to = other_side e.side; bytes = reduced level_of e })
+out_by level_of client e verdict.Deny = Some (refusal (codes "org.freedesktop.DBus.Error.AccessDenied") client e.header)
+out_by level_of client e verdict.Hide = Some (refusal (codes "org.freedesktop.DBus.Error.ServiceUnknown") client e.header)
+out_by level_of client e verdict.Drop = None
+
+-- the events, the latest first, with their verdicts
+abbrev pub judged_by : Setting → List Event → List Judged
+judged_by s = judged s.rules s.client s.owners
+
+-- the levels after events
+abbrev pub level_in : Setting → List Event → Levels
+level_in s before = level_after s.rules s.client s.owners (judged_by s before)
+
+-- what an event gives, by the events before it
+abbrev pub out_after : Setting → List Event → Event → Option Out
+out_after s before e =
+    let noted = judged_by s before in
+    out_by (level_after s.rules s.client s.owners noted) s.client e (verdict_after s.rules s.client s.owners noted e)
+
+-- what events give, in order
+abbrev pub forwarded : Setting → List Event → List Out
+forwarded s [] = []
+forwarded s (e ∷ before) = forwarded s before ++ option_to_list (out_after s before e)

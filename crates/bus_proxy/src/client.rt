@@ -1,0 +1,29 @@
+//! The client's name.
+
+ghost use Rattle.std.specs.Prelude.{◌≡◌, ◌≤◌, length, IfOk, option_map};
+ghost use Rattle.std.specs.Option.{ForSome};
+
+use fp_base::Text;
+use std::alloc::{AllocError, Global};
+
+/// A name of at most 255 bytes.
+#[derive(Drop)]
+pub struct Name {
+    pub text: Text,
+    ghost short: { length text ≤ 255 },
+}
+
+/// The client's name, where it is known.
+pub fn name_of(alloc: Global, client: Option<&str>) -> Result<Option<Name>, AllocError>
+    requires { ForSome client (λ t. length t.now ≤ 255) }
+    ensures { IfOk result
+        (λ c. option_map (λ name. name.text) c ≡ option_map (λ t. t.now) client.entry) }
+{
+    match client {
+        Some(client) => {
+            let text = Text::from_str(alloc, client)?;
+            Ok(Some(Name { text }))
+        }
+        None => Ok(None),
+    }
+}

@@ -1,0 +1,154 @@
+//! What becomes of messages.
+
+ghost use Rattle.std.specs.Prelude.{◌≡◌, ◌≤◌, ◌∷◌, ℕ, [], List, Option, length, IfOk, OnOk, option_map};
+ghost use Rattle.std.specs.Option.{ForSome};
+ghost use Rattle.bus_frame.specs.Reading.{whole, frame_of};
+ghost use Rattle.bus_frame.specs.Writing.{error_bytes};
+ghost use Rattle.bus_policy.specs.Events.{Event, Judged};
+ghost use Rattle.bus_policy.specs.Watching.{Owners, WatchAt, rules_of, client_of, level_after, event};
+ghost use Rattle.bus_proxy.specs.Arrivals.{other_side};
+ghost use Rattle.bus_proxy.specs.Outs.{Setting, setting, out_by, out_after};
+ghost use Rattle.bus_proxy.specs.Filters.{JudgeAt, fate_of};
+
+use crate::client::{Name, name_of};
+use crate::out::Out;
+use crate::reducing::without_unseen;
+use bus_frame::{Header, error_frame};
+use bus_policy::{Policy, Verdict, Watch};
+use fp_base::{Blob, Items, Side, Text};
+use std::alloc::{AllocError, Global};
+use std::hash::BuildHasher;
+
+/// What is known of the messages so far, and the client's name for the errors that it gets.
+#[derive(Drop)]
+pub struct Judge<S: BuildHasher> {
+    alloc: Global,
+    pub watch: Watch<S>,
+    pub client: Option<Name>,
+}
+
+/// What becomes of a message.
+#[derive(Drop)]
+pub enum Fate {
+    /// It goes to the other side.
+    Passes,
+    /// Something else goes to a side in its place.
+    Replaced(Out),
+    /// Nothing.
+    Vanishes,
+}
+
+const DENIED: &str = "org.freedesktop.DBus.Error.AccessDenied";
+
+const UNKNOWN: &str = "org.freedesktop.DBus.Error.ServiceUnknown";
+
+/// The side that a side's messages go to.
+fn opposite(side: Side) -> Side
+    ensures { result ≡ other_side side }
+{
+    match side {
+        Side::Client => Side::Bus,
+        Side::Bus => Side::Client,
+    }
+}
+
+fn passed(fate: Fate, side: Side, message: Blob) -> Option<Out>
+    ensures { result ≡ fate_of fate side message }
+{
+    match fate {
+        Fate::Passes => Some(Out {
+            to: opposite(side),
+            bytes: message,
+        }),
+        Fate::Replaced(out) => Some(out),
+        Fate::Vanishes => None,
+    }
+}
+
+impl<S: BuildHasher + Copy> Judge<S> {
+    /// Nothing is known yet.
+    pub fn new(
+        alloc: Global,
+        policy: Policy,
+        client: Option<&str>,
+        owners: &Items<(Text, Text)>,
+        hash_builder: S,
+    ) -> Result<Self, AllocError>
+        requires client { ForSome client (λ t. length t.now ≤ 255) }
+        ensures { IfOk result (λ j.
+            JudgeAt j (setting policy (option_map (λ t. t.now) client.entry) owners.now) []) }
+    {
+        Ok(Judge {
+            alloc,
+            watch: Watch::with_hasher(alloc, policy, client, owners, hash_builder)?,
+            client: name_of(alloc, client)?,
+        })
+    }
+
+    /// The error that answers a call.
+    fn refusal(&self, name: &str, call: &Header) -> Result<Out, AllocError>
+        requires { length name.now ≤ 255 }
+        ensures { IfOk result (λ out. out ≡ record {
+          to = Side.Client;
+          bytes = error_bytes call.now.little name.now call.now.serial
+              (option_map (λ name. name.text) self.now.client);
+        }) }
+    {
+        let client = match &self.client {
+            Some(name) => Some(name.text.as_str()),
+            None => None,
+        };
+        let bytes = error_frame(self.alloc, call.little, name, call.serial, client)?;
+        Ok(Out {
+            to: Side::Client,
+            bytes,
+        })
+    }
+
+    /// What a verdict makes of a message.
+    fn fate(
+        &self,
+        verdict: Verdict,
+        side: Side,
+        header: &Header,
+        message: &[u8],
+    ) -> Result<Fate, AllocError>
+        requires { frame_of message.now ≡ whole header.now (length message.now) }
+        ensures { IfOk result
+            (λ fate. (owners : Owners) (noted : List Judged) → WatchAt self.now.watch owners noted
+            → fate_of fate side message.now
+            ≡ out_by (level_after (rules_of self.now.watch) (client_of self.now.watch) owners noted)
+            (option_map (λ name. name.text) self.now.client)
+            (event side header.now message.now) verdict) }
+    {
+        match verdict {
+            Verdict::Pass => Ok(Fate::Passes),
+            Verdict::FilterNameList => {
+                let bytes = without_unseen(self.alloc, &self.watch, header, message)?;
+                let to = opposite(side);
+                Ok(Fate::Replaced(Out { to, bytes }))
+            }
+            Verdict::Deny => Ok(Fate::Replaced(self.refusal(DENIED, header)?)),
+            Verdict::Hide => Ok(Fate::Replaced(self.refusal(UNKNOWN, header)?)),
+            Verdict::Drop => Ok(Fate::Vanishes),
+        }
+    }
+
+    /// What a message gives, by the messages before it. From now on it is one of them.
+    pub fn take(
+        &mut self,
+        side: Side,
+        header: &Header,
+        message: Blob,
+    ) -> Result<Option<Out>, AllocError>
+        requires { frame_of message ≡ whole header.now (length message) }
+        ensures { (s : Setting) (before : List Event) → JudgeAt self.old s before
+            → IfOk result (λ out. (out ≡ out_after s before (event side header.now message))
+            × JudgeAt self.new s (event side header.now message ∷ before)) }
+    {
+        let verdict = self.watch.verdict(side, header, message.as_slice());
+        let fate = self.fate(verdict, side, header, message.as_slice())?;
+        self.watch.note(side, header, message.as_slice(), verdict)?;
+        Ok(passed(fate, side, message))
+    }
+}

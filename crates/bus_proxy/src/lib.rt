@@ -1,0 +1,18 @@
+//! A filter between a client and its bus: what it forwards, takes away and answers.
+#![tactic(auto)]
+
+mod client;
+mod error;
+mod judge;
+pub mod laws;
+mod out;
+mod proxy;
+mod recorded;
+mod reducing;
+mod stream;
+mod streams;
+
+pub use error::FilterError;
+pub use out::Out;
+pub use proxy::{Filter, Next};
+pub use recorded::{Filtered, filter};

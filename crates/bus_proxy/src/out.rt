@@ -1,0 +1,12 @@
+//! What a filter gives.
+
+use fp_base::{Blob, Side};
+
+/// A message that goes to a side.
+#[derive(Drop)]
+pub struct Out {
+    /// The side that it goes to.
+    pub to: Side,
+    /// The whole message.
+    pub bytes: Blob,
+}

@@ -1,0 +1,69 @@
+//! Lists of names with those alone that may be seen.
+
+ghost use Rattle.std.specs.Prelude.{◌≡◌, ◌≤◌, ℕ, Bool, List, length, IfOk};
+ghost use Rattle.bus_frame.specs.Reading.{whole, frame_of};
+ghost use Rattle.bus_frame.specs.Writing.{elements_bytes};
+ghost use Rattle.bus_policy.specs.declared.level.Level.TheVariants.{See as see};
+ghost use Rattle.bus_policy.specs.Levels.{is_at_least};
+ghost use Rattle.bus_policy.specs.Events.{Judged};
+ghost use Rattle.bus_policy.specs.Watching.{Owners, WatchAt, rules_of, client_of, level_after, event};
+ghost use Rattle.bus_proxy.specs.Outs.{seen_names, reduced};
+
+use bus_frame::{Header, names_body, with_names};
+use bus_policy::{Level, Watch};
+use fp_base::{Blob, Items, Side, Text};
+use std::alloc::{AllocError, Global};
+use std::hash::BuildHasher;
+
+fn is_seen<S: BuildHasher + Copy>(watch: &Watch<S>, name: &Text) -> bool
+    ensures { (owners : Owners) (noted : List Judged) → WatchAt watch.now owners noted
+        → result ≡ is_at_least see
+        (level_after (rules_of watch.now) (client_of watch.now) owners noted name.now) }
+{
+    watch.level(name.as_str()).reaches(Level::See)
+}
+
+/// The names that may be seen. As an array they are no longer than all.
+fn seen<S: BuildHasher + Copy>(
+    alloc: Global,
+    watch: &Watch<S>,
+    names: Items<Text>,
+) -> Result<Items<Text>, AllocError>
+    ensures names { IfOk result
+        (λ seen. (owners : Owners) (noted : List Judged) → WatchAt watch.now owners noted
+        → seen ≡ seen_names
+        (level_after (rules_of watch.now) (client_of watch.now) owners noted) names) }
+    ensures shorter { IfOk result (λ seen. (little : Bool) (at : ℕ)
+        → length (elements_bytes little at seen) ≤ length (elements_bytes little at names)) }
+{
+    let mut seen = Vec::new(alloc);
+    for name in names.into_vec() {
+        if is_seen(watch, &name) {
+            seen.push(name)?;
+        }
+    }
+    Ok(Items::from_vec(seen))
+}
+
+/// A message with those of its names alone that may be seen; one that has no list of names as it came.
+pub fn without_unseen<S: BuildHasher + Copy>(
+    alloc: Global,
+    watch: &Watch<S>,
+    header: &Header,
+    message: &[u8],
+) -> Result<Blob, AllocError>
+    requires { frame_of message.now ≡ whole header.now (length message.now) }
+    ensures { IfOk result
+        (λ bytes. (side : Side) (owners : Owners) (noted : List Judged)
+        → WatchAt watch.now owners noted
+        → bytes ≡ reduced (level_after (rules_of watch.now) (client_of watch.now) owners noted)
+        (event side header.now message.now)) }
+{
+    match names_body(alloc, header, message)? {
+        Some(names) => {
+            let seen = seen(alloc, watch, names)?;
+            with_names(alloc, header, message, &seen)
+        }
+        None => Blob::from_slice(alloc, message),
+    }
+}
