@@ -1,9 +1,9 @@
 #!/usr/bin/env python3
-"""Prints metadata objects of repositories that the real `ostree` command made, as a test module: for each object its kind, its
-bytes in hexadecimal digits, and what `show` prints of it by what `ostree show` and `ostree ls` say. It needs Debian's package
-ostree. The same trees give the same objects.
+"""Prints cases of metadata objects of repositories that the real `ostree` command made: each has the bytes of an object, and
+what `show` prints of it by what `ostree show` and `ostree ls` say. It needs Debian's package ostree. The same trees give the
+same objects.
 
-    scripts/ostree_shows.py >crates/fpk/src/tests/made.rt
+    scripts/ostree_shows.py >crates/fpk_cases/data/objects.case
 """
 import datetime
 import os
@@ -74,9 +74,9 @@ def commit_text(repo, commit):
                     f"subject {escaped(subject.encode())}", f"tree {root[2]}", f"meta {root[3]}"]
 
 
-def written(text):
-    """Returns a text as a Rust string says it."""
-    return "".join(f"\\u{{{ord(c):x}}}" if ord(c) > 126 else {"\\": "\\\\", "\n": "\\n", '"': '\\"'}.get(c, c) for c in text)
+NAMES = ["a commit without a parent", "a commit with a parent and a body", "a commit whose subject is escaped",
+         "a dirtree with a file and two dirs", "a dirtree with a link", "an empty dirtree",
+         "a dirtree with a dir that is not ASCII", "a dirtree whose names are escaped", "a dirmeta"]
 
 
 def main():
@@ -96,15 +96,16 @@ def main():
         shown = [("commit", *commit_text(repo, it)) for it in commits]
         shown += [("dirtree", *tree_text(repo, first, it)) for it in ["/", "/files", "/files/none", "/files/share", "/odd"]]
         shown.append(("dirmeta", *meta_text(repo, first)))
-        print("//! Metadata objects of a repository that the `ostree` command made (`scripts/ostree_shows.py`).\n")
-        print("/// Their kinds, their bytes in hexadecimal digits, and what is printed of them by what `ostree` says of them.")
-        print(f"pub const OBJECTS: [(&str, &str, &str); {len(shown)}] = [")
-        for kind, digest, lines in shown:
+        print("# Metadata objects of a repository that the `ostree` command made, and what it says of them")
+        print("# (`scripts/ostree_shows.py` asks it).")
+        for name, (kind, digest, lines) in zip(NAMES, shown, strict=True):
             with open(f"{repo}/objects/{digest[:2]}/{digest[2:]}.{kind}", "rb") as it:
                 digits = it.read().hex()
-            text = "".join(f"{line}\n" for line in lines)
-            print(f'    (\n        "{kind}",\n        "{digits}",\n        "{written(text)}",\n    ),')
-        print("];")
+            print(f"\ncase {name}\n$ show {kind}")
+            for at in range(0, len(digits), 96):
+                print(f"<x {digits[at:at + 96]}")
+            for line in lines:
+                print(f"  {line}")
 
 
 main()

@@ -39,7 +39,7 @@ impl Step {
 /// What a step does or expects.
 #[derive(Drop)]
 pub enum Action {
-    Give(Given),
+    Give(Fixture),
     Run(Command),
     /// A file stands there, with these permission bits.
     ExpectFile { path: String, mode: u32 },
@@ -48,14 +48,14 @@ pub enum Action {
 
 /// What is put somewhere before the first command.
 #[derive(Drop)]
-pub struct Given {
+pub struct Fixture {
     pub path: String,
-    pub kind: GivenKind,
+    pub kind: FixtureKind,
 }
 
 /// What is put there.
 #[derive(Drop)]
-pub enum GivenKind {
+pub enum FixtureKind {
     /// A file with these permission bits.
     File { mode: u32 },
     Folder,
@@ -100,12 +100,12 @@ pub struct Stops {
     /// Not tried where it is empty.
     pub open: Vec<u8>,
     /// What the installation shows at first and after each line that is printed. Not tried where there is none.
-    pub shown: Vec<Shown>,
+    pub shown: Vec<ShownText>,
 }
 
 /// What the installation shows at one of these moments.
 #[derive(Drop)]
-pub struct Shown {
+pub struct ShownText {
     /// The number of its line, from 1.
     pub line: u64,
     pub text: Vec<u8>,

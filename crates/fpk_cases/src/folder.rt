@@ -1,10 +1,10 @@
 //! A case over a real folder.
 use crate::capture::Capture;
-use crate::case::{Action, Case, Command, Given};
+use crate::case::{Action, Case, Command, Fixture};
 use crate::memory::input_of;
 use crate::own_remotes::OwnRemotes;
 use crate::playing::play;
-use crate::stage::{Found, Ran, Stage, done, find, give};
+use crate::stage::{Ending, PathState, Stage, find, give, unless_fault};
 use crate::system::System;
 use crate::wrong::Wrong;
 use fl_top::run;
@@ -100,9 +100,9 @@ impl<R> Drop for FolderStage<'_, '_, R> {
 }
 
 impl<R: Files + AllocGlobal> Stage for FolderStage<'_, '_, R> {
-    fn give(&mut self, given: &Given, bytes: &[u8]) -> Result<bool, AllocError> {
+    fn give(&mut self, given: &Fixture, bytes: &[u8]) -> Result<bool, AllocError> {
         let answer = give(self.alloc, &mut self.host, given, bytes);
-        Ok(done(answer)?.is_some())
+        Ok(unless_fault(answer)?.is_some())
     }
 
     fn run<T: Threads + Sync>(
@@ -110,7 +110,7 @@ impl<R: Files + AllocGlobal> Stage for FolderStage<'_, '_, R> {
         rt: &T,
         command: &Command,
         input_fails_at: Option<u64>,
-    ) -> Result<Ran, AllocError> {
+    ) -> Result<Ending, AllocError> {
         let mut input = input_of(self.alloc, command, input_fails_at)?;
         let status = run(
             rt,
@@ -120,15 +120,15 @@ impl<R: Files + AllocGlobal> Stage for FolderStage<'_, '_, R> {
             &mut self.host,
             &mut self.remotes,
         );
-        Ok(Ran {
+        Ok(Ending {
             status,
             printed: self.capture.take(),
             calls: None,
         })
     }
 
-    fn find(&mut self, path: &str) -> Result<Found, AllocError> {
+    fn find(&mut self, path: &str) -> Result<PathState, AllocError> {
         let answer = find(self.alloc, &mut self.host, path);
-        Ok(done(answer)?.unwrap_or(Found::Other))
+        Ok(unless_fault(answer)?.unwrap_or(PathState::Other))
     }
 }

@@ -41,7 +41,7 @@ fn main(rt: HostRuntime) -> io::Result<ExitCode> {
 
 /// Tries the files of these names, and answers the status: 0 where all is as the cases say.
 fn try_files<R: System>(rt: &R, alloc: Global, names: &[String]) -> io::Result<u8> {
-    let mut wrong = others(rt, names)?;
+    let mut wrong = say_others(rt, names)?;
     for name in names {
         wrong = wrong.saturating_add(try_file(rt, alloc, name.as_str())?);
     }
@@ -49,11 +49,11 @@ fn try_files<R: System>(rt: &R, alloc: Global, names: &[String]) -> io::Result<u
         println!(rt; "the arguments name files of cases")?;
         return Ok(2);
     }
-    end(rt, wrong)
+    say_end(rt, wrong)
 }
 
 /// Says whether something was wrong, and answers the status.
-fn end<R: System>(rt: &R, wrong: u64) -> io::Result<u8> {
+fn say_end<R: System>(rt: &R, wrong: u64) -> io::Result<u8> {
     if wrong > 0 {
         println!(rt; "{wrong} wrong")?;
         return Ok(1);
@@ -74,7 +74,7 @@ fn names_of<R: System>(rt: &R, alloc: Global) -> io::Result<Vec<String>> {
 }
 
 /// Says which files of cases in the current folder aren't named, and answers how many.
-fn others<R: System>(rt: &R, names: &[String]) -> io::Result<u64> {
+fn say_others<R: System>(rt: &R, names: &[String]) -> io::Result<u64> {
     let mut count = 0u64;
     for entry in fs::read_dir(rt, ".")? {
         let entry = entry?;

@@ -1,7 +1,7 @@
 //! A case over the host in memory.
-use crate::case::{Case, Command, Failure, Given};
+use crate::case::{Case, Command, Failure, Fixture};
 use crate::playing::play;
-use crate::stage::{Found, Ran, Stage, done, find, give};
+use crate::stage::{Ending, PathState, Stage, find, give, unless_fault};
 use crate::wrong::Wrong;
 use fl_top::run;
 use fp_base::Blob;
@@ -67,9 +67,9 @@ fn let_fail(host: &mut MemHost, failure: Option<Failure>) -> Result<(), AllocErr
 }
 
 impl Stage for MemStage {
-    fn give(&mut self, given: &Given, bytes: &[u8]) -> Result<bool, AllocError> {
+    fn give(&mut self, given: &Fixture, bytes: &[u8]) -> Result<bool, AllocError> {
         let answer = give(self.alloc, &mut self.host, given, bytes);
-        Ok(done(answer)?.is_some())
+        Ok(unless_fault(answer)?.is_some())
     }
 
     fn run<T: Threads + Sync>(
@@ -77,7 +77,7 @@ impl Stage for MemStage {
         rt: &T,
         command: &Command,
         input_fails_at: Option<u64>,
-    ) -> Result<Ran, AllocError> {
+    ) -> Result<Ending, AllocError> {
         let start = self.host.printed().len();
         let calls = self.host.calls();
         let_fail(&mut self.host, command.failure)?;
@@ -86,9 +86,9 @@ impl Stage for MemStage {
         ran_since(self.alloc, &self.host, status, start, calls)
     }
 
-    fn find(&mut self, path: &str) -> Result<Found, AllocError> {
+    fn find(&mut self, path: &str) -> Result<PathState, AllocError> {
         let answer = find(self.alloc, &mut self.host, path);
-        Ok(done(answer)?.unwrap_or(Found::Other))
+        Ok(unless_fault(answer)?.unwrap_or(PathState::Other))
     }
 }
 
@@ -99,9 +99,9 @@ fn ran_since(
     status: u8,
     start: usize,
     calls: u64,
-) -> Result<Ran, AllocError> {
+) -> Result<Ending, AllocError> {
     let printed = host.printed().get(start..).unwrap_or(&[]);
-    Ok(Ran {
+    Ok(Ending {
         status,
         printed: printed.to_vec(alloc)?,
         calls: Some(host.calls().saturating_sub(calls)),

@@ -5,7 +5,7 @@ use fp_memhost::{Choice, FileRow, Image, MemHost};
 use std::alloc::{AllocError, Global};
 
 /// What a stop after so many calls leaves: these names at these entries, these files with these bytes, all else as it is.
-fn left(
+fn image_left(
     host: &MemHost,
     calls: u64,
     names: Vec<(Path, u64)>,
@@ -19,19 +19,27 @@ fn left(
 }
 
 /// What a stop leaves where all is as it is.
-pub fn present(alloc: Global, host: &MemHost, calls: u64) -> Result<Option<Image>, AllocError> {
-    left(host, calls, Vec::new(alloc), Vec::new(alloc))
+pub fn present_image(
+    alloc: Global,
+    host: &MemHost,
+    calls: u64,
+) -> Result<Option<Image>, AllocError> {
+    image_left(host, calls, Vec::new(alloc), Vec::new(alloc))
 }
 
 /// Every name at its oldest entry.
-pub fn oldest(alloc: Global, host: &MemHost, calls: u64) -> Result<Option<Image>, AllocError> {
+pub fn oldest_image(
+    alloc: Global,
+    host: &MemHost,
+    calls: u64,
+) -> Result<Option<Image>, AllocError> {
     let mut names = Vec::new(alloc);
     for (path, entries) in host.choices(calls)?.as_slice() {
         if *entries > 0 {
             names.push((path.copy()?, 1))?;
         }
     }
-    left(host, calls, names, Vec::new(alloc))
+    image_left(host, calls, names, Vec::new(alloc))
 }
 
 /// One name at another entry.
@@ -44,7 +52,7 @@ fn with_name(
 ) -> Result<Option<Image>, AllocError> {
     let mut names = Vec::new(alloc);
     names.push((name.copy()?, entry))?;
-    left(host, calls, names, Vec::new(alloc))
+    image_left(host, calls, names, Vec::new(alloc))
 }
 
 /// One file with other bytes. There is none where the file was synced.
@@ -57,15 +65,15 @@ fn with_file(
 ) -> Result<Option<Image>, AllocError> {
     let mut files = Vec::new(alloc);
     files.push((id, Blob::from_vec(bytes)))?;
-    left(host, calls, Vec::new(alloc), files)
+    image_left(host, calls, Vec::new(alloc), files)
 }
 
 /// What a stop after so many calls may leave: all as it is, every name at its oldest entry, each name alone at each other
 /// entry, and each new file without bytes and with all its bytes turned to ff.
 pub fn outcomes(alloc: Global, host: &MemHost, calls: u64) -> Result<Vec<Image>, AllocError> {
     let mut images = Vec::new(alloc);
-    keep(&mut images, present(alloc, host, calls)?)?;
-    keep(&mut images, oldest(alloc, host, calls)?)?;
+    keep(&mut images, present_image(alloc, host, calls)?)?;
+    keep(&mut images, oldest_image(alloc, host, calls)?)?;
     add_names(alloc, host, calls, &mut images)?;
     add_files(alloc, host, calls, &mut images)?;
     Ok(images)
@@ -98,7 +106,7 @@ fn add_files(
     calls: u64,
     images: &mut Vec<Image>,
 ) -> Result<(), AllocError> {
-    let Some(image) = present(alloc, host, calls)? else {
+    let Some(image) = present_image(alloc, host, calls)? else {
         return Ok(());
     };
     for row in image.files.as_slice() {

@@ -1,9 +1,11 @@
 //! Lines to cases.
-use crate::case::{Action, Case, Command, Failure, Given, GivenKind, Pieces, Shown, Step, Stops};
+use crate::case::{
+    Action, Case, Command, Failure, Fixture, FixtureKind, Pieces, ShownText, Step, Stops,
+};
 use crate::fault::Fault;
 use crate::sign::{Form, Line, Sign, line_of};
 use crate::words::{
-    cut_words, number, path_and_mode, push_hex, push_line, push_text, size, status, two,
+    cut_words, number, path_and_mode, push_hex, push_line, push_text, size, status, word_and_rest,
 };
 use std::alloc::Global;
 
@@ -60,8 +62,8 @@ impl Parser {
             Sign::Case => self.begin_case(line.text),
             Sign::Content => self.take_content(line.text),
             Sign::Stops => self.begin_stops(),
-            Sign::Shown => self.begin_shown(),
-            Sign::Given(_)
+            Sign::ShownText => self.begin_shown(),
+            Sign::Fixture(_)
             | Sign::Folder
             | Sign::Link
             | Sign::Command
@@ -71,8 +73,8 @@ impl Parser {
             | Sign::Zeros
             | Sign::Pieces
             | Sign::Status
-            | Sign::Undone
-            | Sign::Done
+            | Sign::FailureUndone
+            | Sign::FailureDone
             | Sign::Calls => self.take_of_command(line),
         }
     }
@@ -117,7 +119,7 @@ impl Parser {
     }
 
     fn begin_shown(&mut self) -> Result<(), Fault> {
-        let shown = Shown {
+        let shown = ShownText {
             line: self.line,
             text: Vec::new(self.alloc),
         };
@@ -162,7 +164,7 @@ impl Parser {
 /// How the content of a step is written.
 fn form_of(sign: Sign) -> Form {
     match sign {
-        Sign::Given(form) | Sign::File(form) => form,
+        Sign::Fixture(form) | Sign::File(form) => form,
         _ => Form::Lines,
     }
 }
@@ -187,44 +189,44 @@ fn take_of_steps(alloc: Global, steps: &mut Vec<Step>, text: &str) -> Result<(),
 /// What a step does or expects.
 fn action_of(alloc: Global, line: Line<'_>) -> Result<Action, Fault> {
     match line.sign {
-        Sign::Given(_) => given_file(alloc, line.text),
-        Sign::Folder => given(alloc, line.text, GivenKind::Folder),
-        Sign::Link => given_link(alloc, line.text),
-        Sign::Command => command(alloc, line.text),
-        Sign::File(_) => expected_file(alloc, line.text),
-        Sign::Absent => expected_nothing(alloc, line.text),
+        Sign::Fixture(_) => give_file_action(alloc, line.text),
+        Sign::Folder => give_action(alloc, line.text, FixtureKind::Folder),
+        Sign::Link => give_link_action(alloc, line.text),
+        Sign::Command => run_action(alloc, line.text),
+        Sign::File(_) => expect_file_action(alloc, line.text),
+        Sign::Absent => expect_nothing_action(alloc, line.text),
         _ => Err(Fault::NoKind),
     }
 }
 
-fn given(alloc: Global, path: &str, kind: GivenKind) -> Result<Action, Fault> {
+fn give_action(alloc: Global, path: &str, kind: FixtureKind) -> Result<Action, Fault> {
     let path = String::from_str(alloc, path)?;
-    Ok(Action::Give(Given { path, kind }))
+    Ok(Action::Give(Fixture { path, kind }))
 }
 
-fn given_file(alloc: Global, text: &str) -> Result<Action, Fault> {
+fn give_file_action(alloc: Global, text: &str) -> Result<Action, Fault> {
     let (path, mode) = path_and_mode(text)?;
-    given(alloc, path, GivenKind::File { mode })
+    give_action(alloc, path, FixtureKind::File { mode })
 }
 
-fn given_link(alloc: Global, text: &str) -> Result<Action, Fault> {
-    let (path, text) = two(text)?;
+fn give_link_action(alloc: Global, text: &str) -> Result<Action, Fault> {
+    let (path, text) = word_and_rest(text)?;
     let text = String::from_str(alloc, text)?;
-    given(alloc, path, GivenKind::Link { text })
+    give_action(alloc, path, FixtureKind::Link { text })
 }
 
-fn expected_file(alloc: Global, text: &str) -> Result<Action, Fault> {
+fn expect_file_action(alloc: Global, text: &str) -> Result<Action, Fault> {
     let (path, mode) = path_and_mode(text)?;
     let path = String::from_str(alloc, path)?;
     Ok(Action::ExpectFile { path, mode })
 }
 
-fn expected_nothing(alloc: Global, text: &str) -> Result<Action, Fault> {
+fn expect_nothing_action(alloc: Global, text: &str) -> Result<Action, Fault> {
     let path = String::from_str(alloc, text)?;
     Ok(Action::ExpectNothing { path })
 }
 
-fn command(alloc: Global, text: &str) -> Result<Action, Fault> {
+fn run_action(alloc: Global, text: &str) -> Result<Action, Fault> {
     Ok(Action::Run(Command {
         words: cut_words(alloc, text)?,
         input: Vec::new(alloc),
@@ -257,8 +259,8 @@ fn tell_more(command: &mut Command, line: Line<'_>) -> Result<(), Fault> {
     match line.sign {
         Sign::Pieces => command.pieces = Some(pieces_of(line.text)?),
         Sign::Status => command.status = status(line.text)?,
-        Sign::Undone => command.failure = Some(failure_of(line.text, false)?),
-        Sign::Done => command.failure = Some(failure_of(line.text, true)?),
+        Sign::FailureUndone => command.failure = Some(failure_of(line.text, false)?),
+        Sign::FailureDone => command.failure = Some(failure_of(line.text, true)?),
         Sign::Calls => command.calls = Some(number(line.text)?),
         _ => return Err(Fault::NoKind),
     }
@@ -272,7 +274,7 @@ fn push_zeros(alloc: Global, bytes: &mut Vec<u8>, text: &str) -> Result<(), Faul
 }
 
 fn pieces_of(text: &str) -> Result<Pieces, Fault> {
-    let (first, second) = two(text)?;
+    let (first, second) = word_and_rest(text)?;
     let size = size(first)?;
     let calls = number(second)?;
     Ok(Pieces { size, calls })

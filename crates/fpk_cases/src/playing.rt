@@ -1,7 +1,7 @@
 //! The steps of a case, one after another.
-use crate::case::{Action, Case, Command, Given, Step};
-use crate::stage::{Found, Ran, Stage};
-use crate::wrong::{Wrong, differs, said};
+use crate::case::{Action, Case, Command, Fixture, Step};
+use crate::stage::{Ending, PathState, Stage};
+use crate::wrong::{Wrong, difference, message};
 use std::alloc::{AllocError, Global};
 use std::thread::Threads;
 
@@ -42,12 +42,12 @@ fn play_step<T: Threads + Sync, S: Stage>(
 fn play_give<S: Stage>(
     alloc: Global,
     stage: &mut S,
-    given: &Given,
+    given: &Fixture,
     bytes: &[u8],
 ) -> Result<Option<String>, AllocError> {
     match stage.give(given, bytes)? {
         true => Ok(None),
-        false => said(alloc, "it can't be put there"),
+        false => message(alloc, "it can't be put there"),
     }
 }
 
@@ -57,28 +57,28 @@ fn expect_nothing<S: Stage>(
     path: &str,
 ) -> Result<Option<String>, AllocError> {
     match stage.find(path)? {
-        Found::Nothing => Ok(None),
-        _ => said(alloc, "something stands there"),
+        PathState::Nothing => Ok(None),
+        _ => message(alloc, "something stands there"),
     }
 }
 
 fn judge_file(
     alloc: Global,
-    found: &Found,
+    found: &PathState,
     path: &str,
     mode: u32,
     expected: &[u8],
 ) -> Result<Option<String>, AllocError> {
     match found {
-        Found::File { mode: came, .. } if *came != mode => Ok(Some(format!(in alloc;
+        PathState::File { mode: came, .. } if *came != mode => Ok(Some(format!(in alloc;
             "{path}: expected mode {mode:o}, but {came:o} came"
         )?)),
-        Found::File { bytes, .. } if bytes.as_slice() != expected => {
-            Ok(Some(differs(alloc, path, expected, bytes)?))
+        PathState::File { bytes, .. } if bytes.as_slice() != expected => {
+            Ok(Some(difference(alloc, path, expected, bytes)?))
         }
-        Found::File { .. } => Ok(None),
-        Found::Nothing => said(alloc, "nothing stands there"),
-        Found::Other => said(alloc, "what stands there is no file"),
+        PathState::File { .. } => Ok(None),
+        PathState::Nothing => message(alloc, "nothing stands there"),
+        PathState::Other => message(alloc, "what stands there is no file"),
     }
 }
 
@@ -111,11 +111,11 @@ fn failed_text(alloc: Global, call: u64, status: u8) -> Result<String, AllocErro
 fn judge(
     alloc: Global,
     command: &Command,
-    ran: &Ran,
+    ran: &Ending,
     expected: &[u8],
 ) -> Result<Option<String>, AllocError> {
     if ran.printed.as_slice() != expected {
-        return Ok(Some(differs(alloc, "printed", expected, &ran.printed)?));
+        return Ok(Some(difference(alloc, "printed", expected, &ran.printed)?));
     }
     let (want, came) = (command.status, ran.status);
     if want != came {

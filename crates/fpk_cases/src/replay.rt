@@ -1,7 +1,7 @@
 //! The commands of a case over a new host in memory, with a call that fails.
 use crate::case::{Action, Case, Failure};
 use crate::memory::run_in_memory;
-use crate::stage::{done, give};
+use crate::stage::{give, unless_fault};
 use fp_memhost::MemHost;
 use std::alloc::{AllocError, Global};
 use std::thread::Threads;
@@ -52,7 +52,7 @@ pub fn replay_case<R: Threads + Sync>(
 fn give_all(alloc: Global, host: &mut MemHost, case: &Case) -> Result<(), AllocError> {
     for step in &case.steps {
         if let Action::Give(given) = &step.action {
-            done(give(alloc, host, given, step.bytes()))?;
+            unless_fault(give(alloc, host, given, step.bytes()))?;
         }
     }
     Ok(())

@@ -1,7 +1,7 @@
 //! What an installation shows when it is opened again.
 use crate::case::Command;
 use crate::memory::run_in_memory;
-use crate::stage::{Found, done, find};
+use crate::stage::{PathState, find, unless_fault};
 use fp_memhost::{Image, MemHost};
 use std::alloc::{AllocError, Global};
 use std::thread::Threads;
@@ -46,7 +46,7 @@ fn command_of(alloc: Global, words: &[&str]) -> Result<Command, AllocError> {
 }
 
 /// Whether a command of these words is done.
-fn does<R: Threads + Sync>(
+fn is_done<R: Threads + Sync>(
     rt: &R,
     alloc: Global,
     host: &mut MemHost,
@@ -63,9 +63,9 @@ fn state_of<R: Threads + Sync>(
     host: &mut MemHost,
 ) -> Result<Option<State>, AllocError> {
     let config = find(alloc, host, "config");
-    let has_config = matches!(done(config)?, Some(Found::File { .. }));
+    let has_config = matches!(unless_fault(config)?, Some(PathState::File { .. }));
     for words in &LISTS {
-        if !does(rt, alloc, host, words)? {
+        if !is_done(rt, alloc, host, words)? {
             return Ok(None);
         }
     }
@@ -84,7 +84,7 @@ pub fn reopen<R: Threads + Sync>(
     }
     let mut host = MemHost::from_image(alloc, image)?;
     let state = state_of(rt, alloc, &mut host)?;
-    match does(rt, alloc, &mut host, &NEXT)? {
+    match is_done(rt, alloc, &mut host, &NEXT)? {
         true => Ok(state),
         false => Ok(None),
     }

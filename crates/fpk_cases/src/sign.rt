@@ -17,7 +17,7 @@ pub enum Sign {
     /// `case NAME`: the lines up to the next case are over a new host.
     Case,
     /// `+ PATH`: a file stands there, with the content that follows.
-    Given(Form),
+    Fixture(Form),
     /// `/ PATH`: a folder stands there.
     Folder,
     /// `@ PATH TEXT`: a symlink with this text stands there.
@@ -33,9 +33,9 @@ pub enum Sign {
     /// `? NUMBER`: its status, which is 0 where nothing is said.
     Status,
     /// `! NUMBER`: that call of the host fails, and isn't done.
-    Undone,
+    FailureUndone,
     /// `!+ NUMBER`: that call of the host fails, and is done.
-    Done,
+    FailureDone,
     /// `calls NUMBER`: so many calls of the host are made.
     Calls,
     /// `= PATH`: a file that stands there now, with just the content that follows.
@@ -45,7 +45,7 @@ pub enum Sign {
     /// `stops`: the case again from its start, with a stop or a failure at each call of the host.
     Stops,
     /// `shown`: what the installation shows before the first line that was printed, or after the next one.
-    Shown,
+    ShownText,
     /// Two spaces, and a line of what the line above has.
     Content,
     /// An empty line, or `#` and anything.
@@ -62,13 +62,13 @@ pub struct Line<'a> {
 }
 
 /// The signs that a text follows.
-const BEFORE_TEXT: [(&str, Sign); 23] = [
+const BEFORE_TEXT: [(&str, Sign); 22] = [
     ("  ", Sign::Content),
     ("#", Sign::Blank),
     ("case ", Sign::Case),
-    ("+ ", Sign::Given(Form::Lines)),
-    ("+- ", Sign::Given(Form::Open)),
-    ("+x ", Sign::Given(Form::Hex)),
+    ("+ ", Sign::Fixture(Form::Lines)),
+    ("+- ", Sign::Fixture(Form::Open)),
+    ("+x ", Sign::Fixture(Form::Hex)),
     ("/ ", Sign::Folder),
     ("@ ", Sign::Link),
     ("$ ", Sign::Command),
@@ -78,14 +78,13 @@ const BEFORE_TEXT: [(&str, Sign); 23] = [
     ("<0 ", Sign::Zeros),
     ("<! ", Sign::Pieces),
     ("? ", Sign::Status),
-    ("! ", Sign::Undone),
-    ("!+ ", Sign::Done),
+    ("! ", Sign::FailureUndone),
+    ("!+ ", Sign::FailureDone),
     ("calls ", Sign::Calls),
     ("= ", Sign::File(Form::Lines)),
     ("=- ", Sign::File(Form::Open)),
     ("=x ", Sign::File(Form::Hex)),
     ("- ", Sign::Absent),
-    ("shown ", Sign::Shown),
 ];
 
 /// The signs that stand alone.
@@ -94,7 +93,7 @@ const ALONE: [(&str, Sign); 5] = [
     ("$", Sign::Command),
     ("<", Sign::Input(Form::Lines)),
     ("stops", Sign::Stops),
-    ("shown", Sign::Shown),
+    ("shown", Sign::ShownText),
 ];
 
 /// Reads how a line begins.

@@ -1,12 +1,12 @@
 //! Where a case is played, and what is asked of any host.
-use crate::case::{Command, Given, GivenKind};
+use crate::case::{Command, Fixture, FixtureKind};
 use fp_host::{Host, HostEnd, Path, Stat};
 use std::alloc::{AllocError, Global};
 use std::thread::Threads;
 
 /// How a command ended.
 #[derive(Drop)]
-pub struct Ran {
+pub struct Ending {
     pub status: u8,
     pub printed: Vec<u8>,
     /// How many calls of the host it made, where they are counted.
@@ -15,7 +15,7 @@ pub struct Ran {
 
 /// What stands at a path.
 #[derive(Drop)]
-pub enum Found {
+pub enum PathState {
     File { mode: u32, bytes: Vec<u8> },
     Nothing,
     /// A folder or a symlink, or what can't be looked at.
@@ -25,7 +25,7 @@ pub enum Found {
 /// Where a case is played.
 pub trait Stage {
     /// Puts something there, with the folders above it. Answers whether that was done.
-    fn give(&mut self, given: &Given, bytes: &[u8]) -> Result<bool, AllocError>;
+    fn give(&mut self, given: &Fixture, bytes: &[u8]) -> Result<bool, AllocError>;
 
     /// Runs a command. Its input fails at the call with this number, counted from 0.
     fn run<T: Threads + Sync>(
@@ -33,14 +33,14 @@ pub trait Stage {
         rt: &T,
         command: &Command,
         input_fails_at: Option<u64>,
-    ) -> Result<Ran, AllocError>;
+    ) -> Result<Ending, AllocError>;
 
     /// Looks at what stands at a path.
-    fn find(&mut self, path: &str) -> Result<Found, AllocError>;
+    fn find(&mut self, path: &str) -> Result<PathState, AllocError>;
 }
 
 /// An answer, or nothing where the host failed.
-pub fn done<T>(answer: Result<T, HostEnd>) -> Result<Option<T>, AllocError> {
+pub fn unless_fault<T>(answer: Result<T, HostEnd>) -> Result<Option<T>, AllocError> {
     match answer {
         Ok(value) => Ok(Some(value)),
         Err(HostEnd::Fault) => Ok(None),
@@ -52,7 +52,7 @@ pub fn done<T>(answer: Result<T, HostEnd>) -> Result<Option<T>, AllocError> {
 pub fn give<H: Host>(
     alloc: Global,
     host: &mut H,
-    given: &Given,
+    given: &Fixture,
     bytes: &[u8],
 ) -> Result<(), HostEnd> {
     make_folders(alloc, host, &given.path)?;
@@ -63,13 +63,13 @@ pub fn give<H: Host>(
 fn give_at<H: Host>(
     host: &mut H,
     path: &Path,
-    kind: &GivenKind,
+    kind: &FixtureKind,
     bytes: &[u8],
 ) -> Result<(), HostEnd> {
     match kind {
-        GivenKind::File { mode } => give_file(host, path, *mode, bytes)?,
-        GivenKind::Folder => host.make_dir(path)?,
-        GivenKind::Link { text } => host.symlink(text.as_str(), path)?,
+        FixtureKind::File { mode } => give_file(host, path, *mode, bytes)?,
+        FixtureKind::Folder => host.make_dir(path)?,
+        FixtureKind::Link { text } => host.symlink(text.as_str(), path)?,
     }
     host.sync()?;
     Ok(())
@@ -102,12 +102,12 @@ fn make_folder<H: Host>(alloc: Global, host: &mut H, path: &str) -> Result<(), H
 }
 
 /// Looks at what stands at a path of a host.
-pub fn find<H: Host>(alloc: Global, host: &mut H, path: &str) -> Result<Found, HostEnd> {
+pub fn find<H: Host>(alloc: Global, host: &mut H, path: &str) -> Result<PathState, HostEnd> {
     let path = Path::parse(alloc, path)?;
     match host.stat(&path)? {
-        Stat::Absent => Ok(Found::Nothing),
+        Stat::Absent => Ok(PathState::Nothing),
         Stat::File { mode, size, .. } => read_file(alloc, host, &path, mode, size),
-        Stat::Dir | Stat::Link => Ok(Found::Other),
+        Stat::Dir | Stat::Link => Ok(PathState::Other),
     }
 }
 
@@ -117,9 +117,9 @@ fn read_file<H: Host>(
     path: &Path,
     mode: u32,
     size: u64,
-) -> Result<Found, HostEnd> {
+) -> Result<PathState, HostEnd> {
     let mut bytes = vec![in alloc; 0u8; size as usize]?;
     let count = host.read_at(path, 0, &mut bytes)?;
     bytes.truncate(count);
-    Ok(Found::File { mode, bytes })
+    Ok(PathState::File { mode, bytes })
 }

@@ -1,9 +1,9 @@
 //! A case with a stop, and with a failure, at each call of the host.
-use crate::case::{Case, Failure, Shown, Stops};
-use crate::outcomes::{last_open, oldest, open_names, outcomes, present};
+use crate::case::{Case, Failure, ShownText, Stops};
+use crate::outcomes::{last_open, oldest_image, open_names, outcomes, present_image};
 use crate::replay::{Replay, replay_case};
 use crate::showing::{State, reopen};
-use crate::wrong::{Wrong, differs, said, shown_bytes};
+use crate::wrong::{Wrong, bytes_text, difference, message};
 use fp_memhost::{Image, MemHost};
 use std::alloc::{AllocError, Global};
 use std::thread::Threads;
@@ -43,18 +43,18 @@ fn judge_course<R: Threads + Sync>(
     course: &Course,
 ) -> Result<Option<Wrong>, AllocError> {
     if let Some(text) = judge_open(rt, alloc, &plain.host, &stops.open, &course.states)? {
-        return Ok(Some(at(stops, text)));
+        return Ok(Some(wrong_at(stops, text)));
     }
     if let Some(text) = stop_everywhere(rt, alloc, plain, course)? {
-        return Ok(Some(at(stops, text)));
+        return Ok(Some(wrong_at(stops, text)));
     }
     match fail_everywhere(rt, alloc, case, plain, &course.states)? {
-        Some(text) => Ok(Some(at(stops, text))),
+        Some(text) => Ok(Some(wrong_at(stops, text))),
         None => Ok(None),
     }
 }
 
-fn at(stops: &Stops, text: String) -> Wrong {
+fn wrong_at(stops: &Stops, text: String) -> Wrong {
     let line = stops.line;
     Wrong { line, text }
 }
@@ -74,7 +74,7 @@ fn course_of<R: Threads + Sync>(
         let lines = lines_before(rt, alloc, case, plain, call)?;
         course.lines.push(lines)?;
         if course.states.len() <= lines {
-            let image = present(alloc, &plain.host, call)?;
+            let image = present_image(alloc, &plain.host, call)?;
             add_states(rt, alloc, &mut course.states, lines, image)?;
         }
     }
@@ -122,13 +122,13 @@ fn add_states<R: Threads + Sync>(
 /// Compares what is shown after each line with what the case says, where it says so.
 fn judge_shown(
     alloc: Global,
-    expected: &[Shown],
+    expected: &[ShownText],
     states: &[State],
 ) -> Result<Option<Wrong>, AllocError> {
     for (shown, state) in expected.iter().zip(states) {
         if shown.text.as_slice() != state.text.as_slice() {
             let line = shown.line;
-            let text = differs(alloc, "shown", &shown.text, &state.text)?;
+            let text = difference(alloc, "shown", &shown.text, &state.text)?;
             return Ok(Some(Wrong { line, text }));
         }
     }
@@ -157,7 +157,7 @@ fn judge_open<R: Threads + Sync>(
     let calls = last_open(host)?;
     let names = open_names(alloc, host, calls)?;
     if names.as_bytes() != expected {
-        let text = differs(alloc, "may come back", expected, names.as_bytes())?;
+        let text = difference(alloc, "may come back", expected, names.as_bytes())?;
         return Ok(Some(text));
     }
     judge_last(rt, alloc, host, calls, states)
@@ -174,14 +174,14 @@ fn judge_last<R: Threads + Sync>(
 ) -> Result<Option<String>, AllocError> {
     let lines = states.len().saturating_sub(1);
     let before = states.get(lines.saturating_sub(1));
-    if !shows(rt, alloc, oldest(alloc, host, calls)?, before)? {
-        return said(
+    if !shows(rt, alloc, oldest_image(alloc, host, calls)?, before)? {
+        return message(
             alloc,
             "the oldest entries don't show the state before the last line",
         );
     }
-    if !shows(rt, alloc, present(alloc, host, calls)?, states.last())? {
-        return said(
+    if !shows(rt, alloc, present_image(alloc, host, calls)?, states.last())? {
+        return message(
             alloc,
             "the present entries don't show the state after the last line",
         );
@@ -264,7 +264,7 @@ fn judge_failure<R: Threads + Sync>(
         Some(status) => {
             return Ok(Some(format!(in alloc; "expected status 3, but {status} came")?));
         }
-        None => return said(alloc, "expected status 3"),
+        None => return message(alloc, "expected status 3"),
     }
     let host = &failed.host;
     judge_stop(rt, alloc, host, host.calls(), states, failed.lines())
@@ -295,7 +295,7 @@ fn is_expected(states: &[State], lines: usize, state: Option<&State>) -> bool {
 fn other_text(alloc: Global, lines: usize, state: Option<&State>) -> Result<String, AllocError> {
     match state {
         Some(state) => {
-            let shown = shown_bytes(alloc, &state.text)?;
+            let shown = bytes_text(alloc, &state.text)?;
             format!(in alloc; "after {lines} lines this was shown: {shown}")
         }
         None => format!(in alloc; "after {lines} lines it can't be opened and changed"),

@@ -52,7 +52,7 @@ pub fn path_and_mode(text: &str) -> Result<(&str, u32), Fault> {
 }
 
 /// A word, and what stands behind the space after it.
-pub fn two(text: &str) -> Result<(&str, &str), Fault> {
+pub fn word_and_rest(text: &str) -> Result<(&str, &str), Fault> {
     text.split_once(' ').ok_or(Fault::OneWord)
 }
 

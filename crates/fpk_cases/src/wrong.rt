@@ -9,7 +9,7 @@ pub struct Wrong {
 }
 
 /// The bytes as a text, for a message.
-pub fn shown_bytes(alloc: Global, bytes: &[u8]) -> Result<String, AllocError> {
+pub fn bytes_text(alloc: Global, bytes: &[u8]) -> Result<String, AllocError> {
     match std::str::from_utf8(bytes) {
         Ok(text) => format!(in alloc; "{text:?}"),
         Err(_) => hex_text(alloc, bytes),
@@ -25,18 +25,18 @@ fn hex_text(alloc: Global, bytes: &[u8]) -> Result<String, AllocError> {
 }
 
 /// Says what was expected and what came.
-pub fn differs(
+pub fn difference(
     alloc: Global,
     what: &str,
     expected: &[u8],
     came: &[u8],
 ) -> Result<String, AllocError> {
-    let expected = shown_bytes(alloc, expected)?;
-    let came = shown_bytes(alloc, came)?;
+    let expected = bytes_text(alloc, expected)?;
+    let came = bytes_text(alloc, came)?;
     format!(in alloc; "{what}: expected {expected}, but {came} came")
 }
 
 /// Says this.
-pub fn said(alloc: Global, text: &str) -> Result<Option<String>, AllocError> {
+pub fn message(alloc: Global, text: &str) -> Result<Option<String>, AllocError> {
     Ok(Some(String::from_str(alloc, text)?))
 }
