@@ -1,15 +1,15 @@
 //! Batches of commands, a line each.
 
-use crate::words::told_command;
-use fl_words::{BatchError, Command, read_batch};
+use crate::words::told_change;
+use fl_words::{BatchError, Change, read_batch};
 use std::alloc::{AllocError, Global};
 use std::test::Fail;
 
-/// The commands in one text, each with a newline.
-fn told_commands(alloc: Global, commands: &[Command]) -> Result<String, AllocError> {
+/// The changes in one text, each with a newline.
+fn told_changes(alloc: Global, changes: &[Change]) -> Result<String, AllocError> {
     let mut text = String::new(alloc);
-    for command in commands {
-        let told = told_command(alloc, command)?;
+    for change in changes {
+        let told = told_change(alloc, change)?;
         text.push_str(&told)?;
         text.push('\n')?;
     }
@@ -19,7 +19,7 @@ fn told_commands(alloc: Global, commands: &[Command]) -> Result<String, AllocErr
 /// What the bytes read as, in one text.
 fn told(alloc: Global, bytes: &[u8]) -> Result<String, AllocError> {
     match read_batch(alloc, bytes) {
-        Ok(commands) => told_commands(alloc, commands.as_slice()),
+        Ok(changes) => told_changes(alloc, changes.as_slice()),
         Err(error) => format!(in alloc; "{error}"),
     }
 }

@@ -1,12 +1,13 @@
 //! Words of command lines, and the lines that commands print.
 
 use fl_words::{
-    Command, WordsError, escape, op_line, pins_text, read_words, refusal_line, remotes_text,
+    Change, Command, Listing, Shown, WordsError, escape, op_line, pins_text, read_words,
+    refusal_line, remotes_text,
 };
-use fp_base::Text;
+use fp_base::{ObjKind, Rule, Text, What};
 use fp_host::Path;
 use fp_name::{Digest, PinPattern, RemoteName, RemoteUrl};
-use fp_small::{Op, Refusal, RemoteRow, What};
+use fp_small::{Op, Refusal, RemoteRow};
 use std::alloc::{AllocError, Global};
 use std::test::Fail;
 
@@ -26,20 +27,33 @@ fn told(alloc: Global, words: &[&str]) -> Result<String, AllocError> {
 }
 
 /// A command in one text.
-pub fn told_command(alloc: Global, command: &Command) -> Result<String, AllocError> {
+fn told_command(alloc: Global, command: &Command) -> Result<String, AllocError> {
     match command {
-        Command::Pin(pin) => format!(in alloc; "Pin {}", pin.as_str()),
-        Command::Unpin(pin) => format!(in alloc; "Unpin {}", pin.as_str()),
-        Command::RemoteAdd(row) => told_remote(alloc, "RemoteAdd", row),
-        Command::RemoteModify(row) => told_remote(alloc, "RemoteModify", row),
-        Command::RemoteDelete(name) => format!(in alloc; "RemoteDelete {}", name.as_str()),
-        Command::ListRemotes => "ListRemotes".to_string(alloc),
-        Command::ListPins => "ListPins".to_string(alloc),
+        Command::Change(change) => told_change(alloc, change),
+        Command::List(Listing::Remotes) => "ListRemotes".to_string(alloc),
+        Command::List(Listing::Pins) => "ListPins".to_string(alloc),
+        Command::Show(thing) => told_shown(alloc, thing),
         Command::Batch => "Batch".to_string(alloc),
-        Command::ShowCommit => "ShowCommit".to_string(alloc),
-        Command::ShowDirTree => "ShowDirTree".to_string(alloc),
-        Command::ShowDirMeta => "ShowDirMeta".to_string(alloc),
-        Command::ShowValue(of) => format!(in alloc; "ShowValue {:?}", of.as_type()),
+    }
+}
+
+/// A change in one text.
+pub fn told_change(alloc: Global, change: &Change) -> Result<String, AllocError> {
+    match change {
+        Change::Pin(pin) => format!(in alloc; "Pin {}", pin.as_str()),
+        Change::Unpin(pin) => format!(in alloc; "Unpin {}", pin.as_str()),
+        Change::RemoteAdd(row) => told_remote(alloc, "RemoteAdd", row),
+        Change::RemoteModify(row) => told_remote(alloc, "RemoteModify", row),
+        Change::RemoteDelete(name) => format!(in alloc; "RemoteDelete {}", name.as_str()),
+    }
+}
+
+fn told_shown(alloc: Global, thing: &Shown) -> Result<String, AllocError> {
+    match thing {
+        Shown::Commit => "ShowCommit".to_string(alloc),
+        Shown::DirTree => "ShowDirTree".to_string(alloc),
+        Shown::DirMeta => "ShowDirMeta".to_string(alloc),
+        Shown::Value(of) => format!(in alloc; "ShowValue {:?}", of.as_type()),
     }
 }
 
@@ -212,8 +226,8 @@ fn is_bad_word(alloc: Global, index: u64, want: &str) -> Result<bool, AllocError
 /// Whether a malformed object is told so.
 fn is_malformed(alloc: Global) -> Result<bool, Fail> {
     let digest = Digest::parse(EMPTY.as_bytes())?;
-    let kind = Text::from_string("dirtree".to_string(alloc)?);
-    let rule = Text::from_string("value".to_string(alloc)?);
+    let kind = ObjKind::DirTree;
+    let rule = Rule::Value;
     let want =
         "error: malformed object e3b0c44298fc1c149afbf4c8996fb92427ae41e4649b934ca495991b7852b855.dirtree value\n";
     Ok(is_line(

@@ -10,9 +10,10 @@ use Rattle.fp_small.proofs.Keeping.{files_stay, files_on}
 use Rattle.fp_small.specs.declared.state.State.{State}
 use Rattle.fp_small.specs.declared.op.Op.{Op}
 use Rattle.dep_states.specs.Names.{config}
+use Rattle.dep_states.specs.Sound.{IsOld, is_remotes, is_pins}
 use Rattle.dep_open.specs.Tidy.{Tidies, TakenAway, left_work, old_file}
 use Rattle.op_change.specs.Applied.{Applies}
-use Rattle.fl_top.specs.Changes.{MayHold, new_config, work_folder, some_work, old_gone, Changes, OnlyTidied}
+use Rattle.fl_top.specs.Changes.{MayHold, new_config, work_folder, some_work, old_gone, Changes, OnlyTidied, IsUntouched, HasText}
 
 pub change_on : (u v w : View) → Changes u v → Changes v w → Changes u w
 change_on u v w first second = record {
@@ -25,6 +26,28 @@ change_on u v w first second = record {
 
 pub change_none : {u w : View} → ((q : Elements) → w.names q ≡ u.names q) → KeepsFiles u w → Changes u w
 change_none names files = record { names = λ q. inl (names q); files = files }
+
+-- ---- nothing but what is printed
+
+pub not_touched : {v : View} → IsUntouched v v
+not_touched = record { names = λ q. refl; earlier = λ q. refl; files = λ id. refl; dirty = λ id. refl }
+
+pub same_untouched : {u w : View} → w ≡ u → IsUntouched u w
+same_untouched {u = u} same = subst (IsUntouched u) (sym same) not_touched
+
+pub untouched_both : {u v w : View} → IsUntouched u v → IsUntouched v w → IsUntouched u w
+untouched_both first second = record {
+  names = λ q. second.names q ∙ first.names q;
+  earlier = λ q. second.earlier q ∙ first.earlier q;
+  files = λ id. second.files id ∙ first.files id;
+  dirty = λ id. second.dirty id ∙ first.dirty id;
+}
+
+pub keeps_files : {u w : View} → IsUntouched u w → KeepsFiles u w
+keeps_files same = record { rows = λ id f some. same.files id ∙ some }
+
+pub change_untouched : {u w : View} → IsUntouched u w → Changes u w
+change_untouched same = change_none same.names (keeps_files same)
 
 -- nothing is done
 pub change_not : {v : View} → Changes v v
@@ -82,3 +105,26 @@ tidied_not = tidied_none (λ q. refl)
 
 pub tidies_only : {s : State} {u w : View} → Tidies s u w → OnlyTidied u w
 tidies_only tidies = record { names = tidies.names }
+
+-- ---- the text of `config`
+
+not_above : IsAbove tmp config → ⊥
+not_above above = elim above [ inl is ↦ cc is | inr none ↦ none ]
+
+not_old : IsOld config → ⊥
+not_old (is_remotes is) = cc is
+not_old (is_pins is) = cc is
+
+-- a name that nothing tidies
+untaken : (u : View) → TakenAway u config → ⊥
+untaken u (left_work above) = not_above above
+untaken u (old_file there old) = not_old old
+
+pub text_on : {s : State} {v w : View} → w.names config ≡ v.names config → KeepsFiles v w → HasText s v → HasText s w
+text_on same kept text = record { id = text.id; name = same ∙ text.name; row = kept.rows text.id _ text.row }
+
+pub text_tidied : {s : State} {v w : View} → OnlyTidied v w → KeepsFiles v w → HasText s v → HasText s w
+text_tidied {v = v} tidied kept text = elim (tidied.names config) [
+  | inl same ↦ text_on same kept text
+  | inr taken ↦ absurd (untaken v taken.0)
+]

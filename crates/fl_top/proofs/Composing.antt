@@ -17,12 +17,12 @@ use Rattle.fp_host.proofs.Ending.{goes_known}
 use Rattle.fp_small.specs.declared.state.State.{State}
 use Rattle.fp_small.specs.declared.op.Op.{Op}
 use Rattle.dep_states.specs.After.{after, after_all}
-use Rattle.dep_open.specs.Open.{Opened, NoName, IsOpened}
+use Rattle.dep_open.specs.Open.{Opened, NoName, IsOpened, StaysUnread}
 use Rattle.dep_open.specs.Tidy.{Tidies, IsTidy}
 use Rattle.dep_open.specs.declared.open_end.OpenEnd.{OpenEnd}
 use Rattle.op_change.specs.Applied.{Applies, WasApplied}
 use Rattle.fl_words.specs.Lines.{op_text}
-use Rattle.fl_words.specs.declared.command.Command.{Command}
+use Rattle.fl_words.specs.declared.command.Change.{Change}
 use Rattle.fl_top.specs.Answer.{Answer, IsAtOnce, did, act, nothing, ops_of, refusal_of, followed, change_over, in_turn}
 use Rattle.fl_top.specs.Ends.{IsTried, end_of_host, end_of_open}
 use Rattle.fl_top.specs.Performs.{Performs, Performed, WasDone, RunsOver, EndedOver}
@@ -31,6 +31,7 @@ use Rattle.fl_top.specs.declared.end.RunEnd.{RunEnd}
 use Rattle.fl_top.specs.declared.end.RunEnd.TheVariants.{Fault, NoMemory}
 use Rattle.fl_top.proofs.Saying.{says_step, was_said}
 use Rattle.fl_top.proofs.Starting.{Keeping, kept, begun_over, runs_over, done_over, failed_over, ended_open}
+use Rattle.fl_top.proofs.Both.{goes_both}
 use Rattle.fl_top.proofs.Changing.{applied_changes}
 use Rattle.fl_top.proofs.Doing as doing
 use Rattle.fl_top.proofs.Doing.{not_yet, halted, tried, applying, saying, said_done, idle}
@@ -135,44 +136,44 @@ goes_second x f s t r known known_b first second =
     (λ u v w tree p q step. performs_second x y s t q (subst (λ (z : State). Performs (f z) t v w) q.1 step))
     (λ u v w tree p q step last. performed_second x y s t r u v w q (subst (λ (z : State). Performed (f z) t r v w) q.1 last))
 
--- ---- commands in turn
+-- ---- changes in turn
 
-abbrev pub InTurn : List Command → List Command → State → State → Option Moments → Option Moments → Type 0
-InTurn commands left s t a b = Goes a b (Performs (in_turn commands s) s) (Stage commands left s t)
+abbrev pub InTurn : List Change → List Change → State → State → Option Moments → Option Moments → Type 0
+InTurn changes left s t a b = Goes a b (Performs (in_turn changes s) s) (Stage changes left s t)
 
-pub turn_begins : {a : Option Moments} (commands : List Command) (s : State) → IsTold a → InTurn commands commands s s a a
-turn_begins commands s known = stays known (λ u. not_yet (in_turn commands s) s u) (λ u t. first_stage commands s u)
+pub turn_begins : {a : Option Moments} (changes : List Change) (s : State) → IsTold a → InTurn changes changes s s a a
+turn_begins changes s known = stays known (λ u. not_yet (in_turn changes s) s u) (λ u t. first_stage changes s u)
 
-pub turn_goes_on : {a b c : Option Moments} (commands : List Command) (command : Command) (left : List Command) (s t t' : State) → IsTold b → InTurn commands (command ∷ left) s t a b → Goes b c (Performs (change_over command t) t) (Performed (change_over command t) t (Ok t')) → InTurn commands left s t' a c
-turn_goes_on commands command left s t t' known turn goes =
-    goes_on known turn goes (λ u v w tree p q step. stage_performs commands command left s t q step) (λ u v w tree p q step last. next_stage commands command left s t t' q last)
+pub turn_goes_on : {a b c : Option Moments} (changes : List Change) (change : Change) (left : List Change) (s t t' : State) → IsTold b → InTurn changes (change ∷ left) s t a b → Goes b c (Performs (change_over change t) t) (Performed (change_over change t) t (Ok t')) → InTurn changes left s t' a c
+turn_goes_on changes change left s t t' known turn goes =
+    goes_on known turn goes (λ u v w tree p q step. stage_performs changes change left s t q step) (λ u v w tree p q step last. next_stage changes change left s t t' q last)
 
-pub turn_fails : {a b c : Option Moments} (commands : List Command) (command : Command) (left : List Command) (s t : State) (e : RunEnd) (r : Result State RunEnd) → IsTold b → InTurn commands (command ∷ left) s t a b → Goes b c (Performs (change_over command t) t) (Performed (change_over command t) t (Err e)) → IsErrAnd r (λ end. end ≡ e) → Goes a c (Performs (in_turn commands s) s) (Performed (in_turn commands s) s r)
-turn_fails commands command left s t e r known turn goes is =
-    at_end (Performed (in_turn commands s) s) r e is
-    (goes_on known turn goes (λ u v w tree p q step. stage_performs commands command left s t q step) (λ u v w tree p q step last. stage_failed commands command left s t e u v w q last))
+pub turn_fails : {a b c : Option Moments} (changes : List Change) (change : Change) (left : List Change) (s t : State) (e : RunEnd) (r : Result State RunEnd) → IsTold b → InTurn changes (change ∷ left) s t a b → Goes b c (Performs (change_over change t) t) (Performed (change_over change t) t (Err e)) → IsErrAnd r (λ end. end ≡ e) → Goes a c (Performs (in_turn changes s) s) (Performed (in_turn changes s) s r)
+turn_fails changes change left s t e r known turn goes is =
+    at_end (Performed (in_turn changes s) s) r e is
+    (goes_on known turn goes (λ u v w tree p q step. stage_performs changes change left s t q step) (λ u v w tree p q step last. stage_failed changes change left s t e u v w q last))
 
-pub turn_ends : {a b : Option Moments} (commands : List Command) (s t : State) → InTurn commands [] s t a b → Goes a b (Performs (in_turn commands s) s) (Performed (in_turn commands s) s (Ok t))
-turn_ends commands s t turn = ends turn (λ u w q. last_stage commands s t q)
+pub turn_ends : {a b : Option Moments} (changes : List Change) (s t : State) → InTurn changes [] s t a b → Goes a b (Performs (in_turn changes s) s) (Performed (in_turn changes s) s (Ok t))
+turn_ends changes s t turn = ends turn (λ u w q. last_stage changes s t q)
 
 -- ---- an installation that is opened
 
-opening : {a b : Option Moments} {Q : View → View → Type 0} (f : State → Answer) → IsTold a → Frame Nothing NoName NoPath a b → Ends Q a b → Goes a b (RunsOver f) (λ u w. Keeping u w × Q u w)
-opening f known frame tells = begins known (goes_known (keeping known frame) tells) (λ u w t r. begun_over f r) (λ u w t r q. q)
+opening : {a b : Option Moments} {Q : View → View → Type 0} (f : State → Answer) → ((s : State) → IsAtOnce (f s).refusal → ⊥) → IsTold a → Frame Nothing NoName NoPath a b → Goes a b StaysUnread StaysUnread → Ends Q a b → Goes a b (RunsOver f) (λ u w. Keeping u w × Q u w)
+opening f late known frame unread tells = begins known (goes_known (goes_both (keeping known frame) unread) tells) (λ u w t r. begun_over f late r.0 r.1) (λ u w t r q. (q.0.0, q.1))
   where
     keeping : {a b : Option Moments} → IsTold a → Frame Nothing NoName NoPath a b → Goes a b Keeping Keeping
     keeping known frame = begins known frame.goes (λ u w t r. kept r) (λ u w t r q. kept q)
 
-pub goes_not_opened : {a b : Option Moments} (f : State → Answer) (e : OpenEnd) (r : Result (Unit {0}) RunEnd) → IsTold a → Frame Nothing NoName NoPath a b → Ends (Opened (Err e)) a b → IsErrAnd r (λ end. end ≡ end_of_open e) → Goes a b (RunsOver f) (EndedOver f r)
-goes_not_opened {a = a} {b = b} f e r known frame tells is =
+pub goes_not_opened : {a b : Option Moments} (f : State → Answer) (e : OpenEnd) (r : Result (Unit {0}) RunEnd) → ((s : State) → IsAtOnce (f s).refusal → ⊥) → IsTold a → Frame Nothing NoName NoPath a b → Goes a b StaysUnread StaysUnread → Ends (Opened (Err e)) a b → IsErrAnd r (λ end. end ≡ end_of_open e) → Goes a b (RunsOver f) (EndedOver f r)
+goes_not_opened {a = a} {b = b} f e r late known frame unread tells is =
     subst (λ (x : Result (Unit {0}) RunEnd). Goes a b (RunsOver f) (EndedOver f x)) (sym (is_err r (end_of_open e) is))
-    (begins known (opening f known frame tells) (λ u w t p. p) (λ u w t p q. ended_open f e q.0 q.1))
+    (begins known (opening f late known frame unread tells) (λ u w t p. p) (λ u w t p q. ended_open f e q.0 q.1))
 
-pub goes_failed : {a b c : Option Moments} (f : State → Answer) (s : State) (e : RunEnd) (r : Result (Unit {0}) RunEnd) → (IsAtOnce (f s).refusal → ⊥) → IsTold a → IsTold b → Frame Nothing NoName NoPath a b → Ends (IsOpened s) a b → Goes b c (Performs (f s) s) (Performed (f s) s (Err e)) → IsErrAnd r (λ end. end ≡ e) → Goes a c (RunsOver f) (EndedOver f r)
-goes_failed {a = a} {c = c} f s e r late known known_b frame tells goes is =
+pub goes_failed : {a b c : Option Moments} (f : State → Answer) (s : State) (e : RunEnd) (r : Result (Unit {0}) RunEnd) → ((s : State) → IsAtOnce (f s).refusal → ⊥) → IsTold a → IsTold b → Frame Nothing NoName NoPath a b → Goes a b StaysUnread StaysUnread → Ends (IsOpened s) a b → Goes b c (Performs (f s) s) (Performed (f s) s (Err e)) → IsErrAnd r (λ end. end ≡ e) → Goes a c (RunsOver f) (EndedOver f r)
+goes_failed {a = a} {c = c} f s e r late known known_b frame unread tells goes is =
     subst (λ (x : Result (Unit {0}) RunEnd). Goes a c (RunsOver f) (EndedOver f x)) (sym (is_err r e is))
-    (goes_on known_b (opening f known frame tells) goes (λ u v w t p q step. runs_over f s late q.1 q.0 step) (λ u v w t p q step last. failed_over f s e w q.1 q.0 last))
+    (goes_on known_b (opening f late known frame unread tells) goes (λ u v w t p q step. runs_over f s (late s) q.1 q.0 step) (λ u v w t p q step last. failed_over f s e w q.1 q.0 last))
 
-pub goes_opened : {a b c : Option Moments} (f : State → Answer) (s t : State) → (IsAtOnce (f s).refusal → ⊥) → IsTold a → IsTold b → Frame Nothing NoName NoPath a b → Ends (IsOpened s) a b → Goes b c (Performs (f s) s) (Performed (f s) s (Ok t)) → Goes a c (RunsOver f) (EndedOver f (Ok tt))
-goes_opened f s t late known known_b frame tells goes =
-    goes_on known_b (opening f known frame tells) goes (λ u v w tree p q step. runs_over f s late q.1 q.0 step) (λ u v w tree p q step last. done_over f s t w q.1 q.0 last)
+pub goes_opened : {a b c : Option Moments} (f : State → Answer) (s t : State) → ((s : State) → IsAtOnce (f s).refusal → ⊥) → IsTold a → IsTold b → Frame Nothing NoName NoPath a b → Goes a b StaysUnread StaysUnread → Ends (IsOpened s) a b → Goes b c (Performs (f s) s) (Performed (f s) s (Ok t)) → Goes a c (RunsOver f) (EndedOver f (Ok tt))
+goes_opened f s t late known known_b frame unread tells goes =
+    goes_on known_b (opening f late known frame unread tells) goes (λ u v w tree p q step. runs_over f s (late s) q.1 q.0 step) (λ u v w tree p q step last. done_over f s t w q.1 q.0 last)

@@ -18,9 +18,17 @@ use Rattle.fl_top.specs.Performs.{IsSome, Performs, IsDone, IsHalted, Performed,
 use Rattle.fl_top.specs.declared.end.RunEnd.{RunEnd}
 use Rattle.fl_top.specs.declared.end.RunEnd.TheVariants.{Refused, Fault, NoMemory}
 use Rattle.fl_top.specs.Says.{Says, WasSaid}
-use Rattle.fl_top.specs.Changes.{Changes}
-use Rattle.fl_top.proofs.Changing.{change_on, change_none, change_not, applied_changes, tidied_changes, tidied_on, tidied_not, tidies_only}
-use Rattle.fl_top.proofs.Same.{same_opens}
+use Rattle.fp_host.specs.Paths.{Slot, absent, dir, file, link}
+use Rattle.fp_host.specs.View.{Inode}
+use Rattle.fp_host.specs.Paths.{under}
+use Rattle.fp_host.specs.Outcome.{holds as held, holding, spot_of, shows}
+use Rattle.fp_small.specs.Config.{config_text}
+use Rattle.fp_small.specs.Move.{HasNew, IsNew}
+use Rattle.dep_states.specs.Names.{config}
+use Rattle.dep_states.specs.Shown.{settings_of}
+use Rattle.fl_top.specs.Changes.{Changes, HasText}
+use Rattle.fl_top.proofs.Changing.{change_on, change_not, change_untouched, keeps_files, applied_changes, tidied_changes, tidied_on, tidied_not, tidies_only, text_on, text_tidied}
+use Rattle.fl_top.proofs.Same.{same_opens, now_left}
 use Rattle.fl_top.proofs.Starting.{none_yet}
 
 -- ---- before the operation
@@ -43,6 +51,7 @@ refuses refusal s v = record {
   printed = sym (append-nil v.printed);
   opens = λ opens. opens;
   tidied = λ opens why. elim why [ inl tidy ↦ tidy | inr some ↦ absurd (some refl) ];
+  text = λ some. absurd (some refl);
 }
 
 refused_as : (op : Op) (s : State) (o : Option Refusal) (r : Refusal) (v : View) → o ≡ Some r → Performed (unless o (did op)) s (Err (Refused r)) v v
@@ -82,6 +91,36 @@ not_applied op s e {v = v} {w = w} why = elim why [
   | inr is ↦ subst (λ (x : RunEnd). Performed (did op) s (Err x) v w) (sym is.0) (halted (did op) s is.1)
 ]
 
+-- ---- what was written
+
+-- a file stands at the name
+row_at : (files : ℕ → Option Inode) (id mode : ℕ) (bytes : List ℕ) (k : ℕ) (row : Option Inode) → files k ≡ row → holding k row ≡ held id mode bytes → (k ≡ id) × (files k ≡ Some (record { mode = mode; bytes = bytes }))
+row_at files id mode bytes k None is stands = absurd (cc stands)
+row_at files id mode bytes k (Some f) is stands =
+    let same : k ≡ id = cc stands in
+    let mode_is : f.mode ≡ mode = cc stands in
+    let bytes_is : f.bytes ≡ bytes = cc stands in
+    (same, is ∙ ap (λ (m : ℕ). Some (record { mode = m; bytes = f.bytes })) mode_is ∙ ap (λ (b : List ℕ). Some (record { mode = mode; bytes = b })) bytes_is)
+
+text_at : (v : View) (s : State) (slot : Slot) → v.names config ≡ slot → IsNew (config_text (settings_of s)) (spot_of v.files slot) → HasText s v
+text_at v s absent is new = absurd (cc new.1)
+text_at v s dir is new = absurd (cc new.1)
+text_at v s (link text) is new = absurd (cc new.1)
+text_at v s (file k) is new =
+    let row = row_at v.files new.0 420 (config_text (settings_of s)) k (v.files k) refl new.1 in
+    record { id = k; name = is; row = row.1 }
+
+-- where the root isn't a folder nothing stands
+text_in : (v : View) (s : State) (root : Slot) → IsNew (config_text (settings_of s)) (spot_of v.files (under root (v.names config))) → HasText s v
+text_in v s dir new = text_at v s (v.names config) refl new
+text_in v s absent new = absurd (cc new.1)
+text_in v s (file id) new = absurd (cc new.1)
+text_in v s (link text) new = absurd (cc new.1)
+
+-- the new file of an operation
+written : {s : State} {v : View} → HasNew config (config_text (settings_of s)) v → HasText s v
+written {s = s} {v = v} new = text_in v s (v.names []) (new.each (shows v) (now_left v))
+
 -- ---- the line
 
 -- done, and printed or not yet
@@ -100,27 +139,27 @@ saying op s {v = v} {w = w} {x = x} changes same applied says = elim (says.print
   | inl none ↦ record {
     said = [];
     so_far = none_yet (did op) (none ∙ same);
-    changes = change_on v w x changes (change_none says.names says.files);
+    changes = change_on v w x changes (change_untouched says.untouched);
     only_tidied = λ none. absurd (did_some op none);
     some = λ opens disk left. is_done op s [] disk (op ∷ []) refl (same_opens says.follows (applied.opens opens)) left;
   }
   | inr more ↦ record {
     said = piece_of op ∷ [];
     so_far = line_printed op v w x same more;
-    changes = change_on v w x changes (change_none says.names says.files);
+    changes = change_on v w x changes (change_untouched says.untouched);
     only_tidied = λ none. absurd (did_some op none);
     some = λ opens disk left. is_done op s (op ∷ []) disk [] refl (same_opens says.follows (applied.opens opens)) left;
   }
 ]
 
 pub said_done : (op : Op) (s t : State) {v w x : View} → Changes v w → w.printed ≡ v.printed → WasApplied s op v w → WasSaid (op_text op) w x → WasDone op s (Ok t) v x
-said_done op s t {v = v} {w = w} {x = x} changes same applied said = (said.printed ∙ ap (λ (p : List ℕ). p ++ op_text op) same, λ opens. same_opens said.follows (applied.opens opens), change_on v w x changes (change_none said.names said.files))
+said_done op s t {v = v} {w = w} {x = x} changes same applied said = (said.printed ∙ ap (λ (p : List ℕ). p ++ op_text op) same, λ opens. same_opens said.follows (applied.opens opens), change_on v w x changes (change_untouched said.untouched), text_on (said.untouched.names config) (keeps_files said.untouched) (written applied.text))
 
 -- ---- nothing is done
 
 -- there is nothing to do
 pub idle : (s : State) (v : View) → Performed nothing s (Ok s) v v
-idle s v = (refl, refl, record { changes = change_not; only_tidied = λ none. tidied_not; printed = sym (append-nil v.printed); opens = λ opens. opens; tidied = λ opens why. elim why [ inl tidy ↦ tidy | inr some ↦ absurd (some refl) ] })
+idle s v = (refl, refl, record { changes = change_not; only_tidied = λ none. tidied_not; printed = sym (append-nil v.printed); opens = λ opens. opens; tidied = λ opens why. elim why [ inl tidy ↦ tidy | inr some ↦ absurd (some refl) ]; text = λ some. absurd (some refl) })
 
 -- ---- tidying behind an operation
 
@@ -150,6 +189,7 @@ tidied op s t t' {v = v} {w = w} {x = x} is same done tidies tidy = (
     only_tidied = λ none. absurd (did_some op none);
     opens = λ opens. subst (λ (z : State). Opens z x) is (tidies.opens (subst (λ (z : State). Opens z w) (sym is) (done.1 opens)));
     tidied = λ opens why. tidy;
+    text = λ some. text_tidied (tidies_only tidies) tidies.files done.3;
   },
 )
 
@@ -188,6 +228,7 @@ done_tidied a s {u = u} {v = v} {w = w} tidies tidy done = record {
   printed = done.printed ∙ ap (λ (p : List ℕ). p ++ joined a.pieces) tidies.printed;
   opens = λ opens. done.opens (tidies.opens opens);
   tidied = λ opens why. done.tidied (tidies.opens opens) (inl tidy);
+  text = done.text;
 }
 
 pub performed_tidied : (a : Answer) (s : State) (r : Result State RunEnd) (u v w : View) → Tidies s u v → IsTidy v → Performed a s r v w → Performed a s r u w

@@ -8,35 +8,39 @@ use Rattle.fp_host.specs.Outcome.{Disk, Leaves, Follows, Nothing}
 use Rattle.fp_small.specs.declared.state.State.{State}
 use Rattle.fp_small.specs.declared.op.Op.{Op}
 use Rattle.fp_small.specs.declared.refusal.Refusal.{Refusal}
-use Rattle.fp_small.specs.declared.refusal.Refusal.TheVariants.{MalformedObject, Limit, BadRecord, Damaged}
+use Rattle.fp_small.specs.declared.refusal.Refusal.TheVariants.{MalformedObject, MalformedValue, Limit, BadRecord, Damaged}
 use Rattle.fp_base.specs.declared.what.What.TheVariants.{Input}
 use Rattle.dep_states.specs.Shown.{IsShown}
 use Rattle.dep_states.specs.Sound.{IsSound}
 use Rattle.dep_states.specs.After.{after_all}
-use Rattle.fl_words.specs.Lines.{refusal_text, pins_text, remotes_text}
+use Rattle.fl_words.specs.Lines.{refusal_text}
 use Rattle.fl_words.specs.Batch.{batch_of}
 use Rattle.fl_words.specs.declared.command.Command.{Command}
-use Rattle.fl_words.specs.declared.command.Command.TheVariants.{Pin, Unpin, RemoteAdd, RemoteModify, RemoteDelete, ListPins, ListRemotes, Batch, ShowCommit, ShowDirTree, ShowDirMeta, ShowValue}
-use Rattle.fl_top.specs.Answer.{Answer, Piece, lines_of, last_of, joined, ops_in, ops_of, told, refused, changing, told_pins, told_remotes, over, of_batch, answer_over, by_read, by_value, by_type, commit_shown, tree_shown, meta_shown, value_shown, over_input}
-use Rattle.fl_top.specs.Objects.{commit_lines, tree_lines, meta_lines, rule_word}
+use Rattle.fl_words.specs.declared.command.Command.TheVariants.{Change as Changing, List as Listed, Show as Showing, Batch}
+use Rattle.fl_words.specs.declared.command.Change.{Change}
+use Rattle.fl_words.specs.declared.command.Shown.{Shown}
+use Rattle.fl_words.specs.declared.command.Shown.TheVariants as things
+use Rattle.fl_top.specs.Answer.{Answer, Piece, lines_of, last_of, joined, ops_in, ops_of, told, refused, changing, listed, listed_text, shown_by, over, of_batch, answer_over, by_read, by_value, by_type, commit_shown, tree_shown, meta_shown, value_shown, over_input}
+use Rattle.fl_top.specs.Objects.{commit_lines, tree_lines, meta_lines}
 use Rattle.gv_value.specs.Shape.{Shape}
 use Rattle.gv_value.specs.Tree.{Tree}
 use Rattle.gv_value.specs.TypeText.{type_of}
 use Rattle.gv_value.specs.Reading.{value_of}
+use Rattle.fp_base.specs.declared.object.ObjKind.{ObjKind}
+use Rattle.fp_base.specs.declared.object.ObjKind.TheVariants as kinds
 use Rattle.fp_base.specs.declared.rule.Rule.{Rule}
 use Rattle.ost_model.specs.Contents.{meta_digest}
 use Rattle.ost_model.specs.Readers.{commit_read, tree_read, meta_read}
-use Rattle.std.specs.Prelude.{codes}
 use Rattle.fl_top.specs.Input.{input_most}
 use Rattle.fl_top.specs.Runs.{ShowsAfter, IsPrefix, IsJust, Printed, Runs, Stands, Answers, Ran}
 use Rattle.fl_top.specs.Performs.{Completes, Ended}
 use Rattle.fl_top.specs.Says.{Says, WasSaid, Refuses}
 use Rattle.fl_top.specs.Changes.{IsUntouched}
-use Rattle.fp_small.proofs.Keeping.{files_on}
+use Rattle.dep_states.specs.Names.{config}
 use Rattle.fl_top.specs.Status.{status_of, status_by, IsAnswered}
 use Rattle.fl_top.proofs.Same.{unmoved, same_shown, same_sound}
 use Rattle.fl_top.proofs.Starting.{same_tidy, stood, unchanged}
-use Rattle.fl_top.proofs.Changing.{tidied_on, tidied_none}
+use Rattle.fl_top.proofs.Changing.{tidied_on, tidied_none, untouched_both, text_on, keeps_files}
 use Rattle.fl_top.proofs.Turning.{joined-append}
 use Rattle.fl_top.proofs.Refusing.{of_changing}
 
@@ -104,7 +108,7 @@ with_last a r u v w is first more =
     last_text a r is = sym (append-nil (refusal_text r)) ∙ ap (λ (o : Option Refusal). joined (last_of o)) (sym is)
 
 pub untouched_on : {text : List ℕ} {u v w : View} → IsUntouched u v → Says text v w → IsUntouched u w
-untouched_on is says = record { names = λ q. says.names q ∙ is.names q; files = files_on is.files says.files }
+untouched_on is says = untouched_both is says.untouched
 
 pub refusing : (a : Answer) (r : Refusal) {u v w : View} → a.refusal ≡ Some r → Runs a u v → Completes a u v → Says (refusal_text r) v w → Runs a u w
 refusing a r {u = u} {v = v} {w = w} is runs done says = elim (says.printed) [
@@ -112,14 +116,14 @@ refusing a r {u = u} {v = v} {w = w} is runs done says = elim (says.printed) [
     said = a.pieces;
     so_far = before_last a (none ∙ done.printed);
     prefix = λ sound disk left. prefix_all a a.pieces refl (just_on (ops_of a) says.follows (done.just sound) disk left);
-    only_tidied = λ none. tidied_on (runs.only_tidied none) (tidied_none says.names);
+    only_tidied = λ none. tidied_on (runs.only_tidied none) (tidied_none says.untouched.names);
     untouched = λ why. untouched_on (runs.untouched why) says;
   }
   | inr more ↦ record {
     said = lines_of a;
     so_far = all_lines a (with_last a r u v w is done.printed more);
     prefix = λ sound disk left. prefix_all a (lines_of a) (ops_lines a) (just_on (ops_of a) says.follows (done.just sound) disk left);
-    only_tidied = λ none. tidied_on (runs.only_tidied none) (tidied_none says.names);
+    only_tidied = λ none. tidied_on (runs.only_tidied none) (tidied_none says.untouched.names);
     untouched = λ why. untouched_on (runs.untouched why) says;
   }
 ]
@@ -141,7 +145,8 @@ answers_all a r status {u = u} {v = v} {w = w} is status_is done said = record {
   status_is = status_is ∙ ap status_by (sym is);
   printed = with_last a r u v w is done.printed said.printed;
   shown = λ sound s at. same_shown said.shown (done.shown sound s at);
-  tidied = λ sound why. same_tidy said.names (done.tidied sound why);
+  tidied = λ sound why. same_tidy said.untouched.names (done.tidied sound why);
+  text = λ some s at. text_on (said.untouched.names config) (keeps_files said.untouched) (done.text some s at);
 }
 
 pub ran_done : (a : Answer) {u w : View} → Runs a u w → Ended a (Ok tt) u w → Ran a 0 u w
@@ -151,6 +156,7 @@ ran_done a {u = u} runs ended = record {
     printed = ended.1.printed ∙ ap (λ (t : List Piece). u.printed ++ joined t) (sym (append-nil a.pieces) ∙ ap (λ (o : Option Refusal). a.pieces ++ last_of o) (sym ended.0));
     shown = ended.1.shown;
     tidied = ended.1.tidied;
+    text = ended.1.text;
   };
   stands = λ three. stands_before a ended.1;
   sound = runs_sound runs;
@@ -194,16 +200,16 @@ one_of_some r q is one = let same : r ≡ q = cc is in subst (λ (x : Refusal). 
 abbrev IsPlain : Answer → Type 0
 IsPlain a = (r : Refusal) → a.refusal ≡ Some r → 1 ≡ status_of r
 
-changing_plain : (commands : List Command) (s : State) → IsPlain (changing commands s)
-changing_plain commands s = of_changing (λ r. 1 ≡ status_of r) (record { pin_there = λ pin. refl; pins_full = refl; no_pin = λ pin. refl; remote_there = λ name. refl; remotes_full = refl; no_remote = λ name. refl }) commands s
+changing_plain : (changes : List Change) (s : State) → IsPlain (changing changes s)
+changing_plain changes s = of_changing (λ r. 1 ≡ status_of r) (record { pin_there = λ pin. refl; pins_full = refl; no_pin = λ pin. refl; remote_there = λ name. refl; remotes_full = refl; no_remote = λ name. refl }) changes s
 
 over_plain : (f : State → Answer) (shown : Result State Elements) → ((s : State) → IsPlain (f s)) → IsPlain (over f shown)
 over_plain f (Err path) plain r is = one_of_some (Damaged path) r is refl
 over_plain f (Ok s) plain r is = plain s r is
 
-batch_plain : (read : Result (List Command) ℕ) (shown : Result State Elements) → IsPlain (of_batch read shown)
+batch_plain : (read : Result (List Change) ℕ) (shown : Result State Elements) → IsPlain (of_batch read shown)
 batch_plain (Err line) shown r is = one_of_some (BadRecord line) r is refl
-batch_plain (Ok commands) shown r is = over_plain (changing commands) shown (changing_plain commands) r is
+batch_plain (Ok changes) shown r is = over_plain (changing changes) shown (changing_plain changes) r is
 
 if_plain : (b : Bool) (x y : Answer) → IsPlain x → IsPlain y → IsPlain (if b then x else y)
 if_plain true x y first second = first
@@ -212,12 +218,12 @@ if_plain false x y first second = second
 told_plain : (text : List ℕ) → IsPlain (told text)
 told_plain text r is = absurd (cc is)
 
-read_plain : {A : Type 0} (digest kind : List ℕ) (lines : A → List ℕ) (read : Result A Rule) → IsPlain (by_read digest kind lines read)
+read_plain : {A : Type 0} (digest : List ℕ) (kind : ObjKind) (lines : A → List ℕ) (read : Result A Rule) → IsPlain (by_read digest kind lines read)
 read_plain digest kind lines (Ok a) r is = absurd (cc is)
-read_plain digest kind lines (Err rule) r is = one_of_some (MalformedObject digest kind (rule_word rule)) r is refl
+read_plain digest kind lines (Err rule) r is = one_of_some (MalformedObject digest kind rule) r is refl
 
 tree_plain : (bytes : List ℕ) (value : Option Tree) → IsPlain (by_value bytes value)
-tree_plain bytes None r is = one_of_some (MalformedObject (meta_digest bytes) (codes "value") (codes "value")) r is refl
+tree_plain bytes None r is = one_of_some (MalformedValue (meta_digest bytes)) r is refl
 tree_plain bytes (Some value) r is = absurd (cc is)
 
 type_plain : (of : Option Shape) (bytes : List ℕ) → IsPlain (by_type of bytes)
@@ -226,15 +232,15 @@ type_plain (Some of) bytes = tree_plain bytes (value_of of bytes)
 
 commit_plain : (bytes : List ℕ) → IsPlain (commit_shown bytes)
 unfolding commit_shown
-commit_plain bytes = read_plain (meta_digest bytes) (codes "commit") commit_lines (commit_read bytes)
+commit_plain bytes = read_plain (meta_digest bytes) kinds.Commit commit_lines (commit_read bytes)
 
 dirtree_plain : (bytes : List ℕ) → IsPlain (tree_shown bytes)
 unfolding tree_shown
-dirtree_plain bytes = read_plain (meta_digest bytes) (codes "dirtree") tree_lines (tree_read bytes)
+dirtree_plain bytes = read_plain (meta_digest bytes) kinds.DirTree tree_lines (tree_read bytes)
 
 dirmeta_plain : (bytes : List ℕ) → IsPlain (meta_shown bytes)
 unfolding meta_shown
-dirmeta_plain bytes = read_plain (meta_digest bytes) (codes "dirmeta") meta_lines (meta_read bytes)
+dirmeta_plain bytes = read_plain (meta_digest bytes) kinds.DirMeta meta_lines (meta_read bytes)
 
 value_plain : (of bytes : List ℕ) → IsPlain (value_shown of bytes)
 unfolding value_shown
@@ -243,16 +249,14 @@ value_plain of bytes = type_plain (type_of of) bytes
 input_plain : (f : List ℕ → Answer) (input : List ℕ) → IsPlain (f input) → IsPlain (over_input f input)
 input_plain f input plain = if_plain (nat_le (length input) input_most) (f input) (refused (Limit Input (input_most + 1))) plain (λ r is. one_of_some (Limit Input (input_most + 1)) r is refl)
 
+shown_plain : (thing : Shown) (bytes : List ℕ) → IsPlain (shown_by thing bytes)
+shown_plain things.Commit bytes = commit_plain bytes
+shown_plain things.DirTree bytes = dirtree_plain bytes
+shown_plain things.DirMeta bytes = dirmeta_plain bytes
+shown_plain (things.Value of) bytes = value_plain of bytes
+
 pub command_plain : (command : Command) (input : List ℕ) (shown : Result State Elements) → IsPlain (answer_over command input shown)
-command_plain (Pin pin) input shown = over_plain (changing (Pin pin ∷ [])) shown (changing_plain (Pin pin ∷ []))
-command_plain (Unpin pin) input shown = over_plain (changing (Unpin pin ∷ [])) shown (changing_plain (Unpin pin ∷ []))
-command_plain (RemoteAdd row) input shown = over_plain (changing (RemoteAdd row ∷ [])) shown (changing_plain (RemoteAdd row ∷ []))
-command_plain (RemoteModify row) input shown = over_plain (changing (RemoteModify row ∷ [])) shown (changing_plain (RemoteModify row ∷ []))
-command_plain (RemoteDelete name) input shown = over_plain (changing (RemoteDelete name ∷ [])) shown (changing_plain (RemoteDelete name ∷ []))
-command_plain ListPins input shown = over_plain told_pins shown (λ s. told_plain (pins_text s.pins))
-command_plain ListRemotes input shown = over_plain told_remotes shown (λ s. told_plain (remotes_text s.remotes))
+command_plain (Changing change) input shown = over_plain (changing (change ∷ [])) shown (changing_plain (change ∷ []))
+command_plain (Listed listing) input shown = over_plain (listed listing) shown (λ s. told_plain (listed_text listing s))
+command_plain (Showing thing) input shown = input_plain (shown_by thing) input (shown_plain thing input)
 command_plain Batch input shown = input_plain (λ bytes. of_batch (batch_of bytes) shown) input (batch_plain (batch_of input) shown)
-command_plain ShowCommit input shown = input_plain commit_shown input (commit_plain input)
-command_plain ShowDirTree input shown = input_plain tree_shown input (dirtree_plain input)
-command_plain ShowDirMeta input shown = input_plain meta_shown input (dirmeta_plain input)
-command_plain (ShowValue of) input shown = input_plain (value_shown of) input (value_plain of input)

@@ -14,9 +14,10 @@ use Rattle.fp_small.specs.declared.refusal.Refusal.TheVariants.{BadWords, BadRec
 use Rattle.fp_base.specs.declared.what.What.TheVariants.{Input}
 use Rattle.dep_states.specs.Shown.{seen}
 use Rattle.fl_words.specs.Lines.{refusal_text}
-use Rattle.fl_words.specs.Words.{command_of, bad_index}
+use Rattle.fl_words.specs.Forms.{command_of, bad_index}
 use Rattle.fl_words.specs.declared.command.Command.{Command}
-use Rattle.fl_words.specs.declared.command.Command.TheVariants.{Pin, Unpin, RemoteAdd, RemoteModify, RemoteDelete, ListPins, ListRemotes, Batch, ShowCommit, ShowDirTree, ShowDirMeta, ShowValue}
+use Rattle.fl_words.specs.declared.command.Command.TheVariants.{Change as Changing, Batch}
+use Rattle.fl_words.specs.declared.command.Change.{Change}
 use Rattle.fl_words.specs.declared.batch.BatchError.{BatchError}
 use Rattle.fl_words.specs.declared.batch.BatchError.TheVariants as batch
 use Rattle.fl_words.specs.Batch.{batch_of, IsBadBatch}
@@ -24,8 +25,6 @@ use Rattle.fl_top.specs.Answer.{Answer, answer, answer_to, answer_over, refused,
 use Rattle.fl_top.specs.Runs.{Runs, Ran, RunsBy, RanBy, IsGiven, Looks, IsReady, Serves, WasTaken}
 use Rattle.fl_top.specs.Performs.{RunsOver, LooksOver, EndedOver, RunsOn, EndedOn, RanOn, Ended, Closed, Takes, TakenBy, over_view}
 use Rattle.fl_top.specs.Says.{Says, Refuses}
-use Rattle.fl_top.specs.Changes.{IsUntouched}
-use Rattle.fp_small.proofs.Keeping.{files_stay}
 use Rattle.fl_top.specs.Status.{only_looks, reads_input, IsAnswered}
 use Rattle.fl_top.specs.declared.end.RunEnd.{RunEnd}
 use Rattle.fl_top.specs.declared.end.RunEnd.TheVariants as run
@@ -35,9 +34,9 @@ use Rattle.fl_top.specs.declared.input.InputEnd.{InputEnd}
 use Rattle.fl_top.specs.declared.input.InputEnd.TheVariants as input
 use Rattle.fl_top.specs.Input.{input_most, IsWhole, IsTaken, IsDrained, InputStops}
 use Rattle.fl_top.specs.Ends.{end_of_run, end_of_input, end_of_batch}
-use Rattle.fl_top.proofs.Changing.{change_on, change_none, change_not}
+use Rattle.fl_top.proofs.Changing.{change_on, change_not, change_untouched, not_touched}
 use Rattle.fl_top.proofs.Starting.{begun, stood, unchanged, refused_at_once}
-use Rattle.fl_top.proofs.Ending.{refusing, untouched_on, ran_done, ran_fault, ran_input, ran_memory, ran_refused, command_plain}
+use Rattle.fl_top.proofs.Ending.{refusing, untouched_on, ran_done, ran_fault, ran_input, ran_memory, ran_refused, command_plain, not_answered}
 
 -- ---- a command
 
@@ -80,7 +79,7 @@ goes_not_changed {a = a} {b = b} command left f e r known changes is goes err =
     (begins known goes (λ u w t p. runs_change command left f u w changes is p) (λ u w t p q input given. subst (λ (x : Answer). Closed x (Err (end_of_run e)) u w) (is input given u) (closed (over_view f u) e u w q)))
 
 runs_look : (command : Command) (left : Option (List ℕ)) (f : State → Answer) (u w : View) → IsAnswer command left f → LooksOver f u w → RunsOn command left u w
-runs_look command left f u w is p = record { runs = λ input given. subst (λ (x : Answer). Runs x u w) (is input given u) p.runs; changes = change_none p.untouched.names p.untouched.files; untouched = λ why. p.untouched }
+runs_look command left f u w is p = record { runs = λ input given. subst (λ (x : Answer). Runs x u w) (is input given u) p.runs; changes = change_untouched p.untouched; untouched = λ why. p.untouched }
 
 -- one that looks
 pub goes_look : {a b : Option Moments} (command : Command) (left : Option (List ℕ)) (f : State → Answer) → IsTold a → IsAnswer command left f
@@ -125,12 +124,9 @@ serves_change command v changes serves = elim serves [
 pub caused_change : {a : Option Moments} {F G : Type 0} (command : Command) (before now : ℕ) → only_looks command ≡ false → IsCaused F a IsReady before now → (G → F) → IsCaused G a (Serves (Some command)) before now
 caused_change command before now changes cause passes = record { later = cause.later; fault = λ is m told serves. cause.fault (passes is) m told (serves_change command m.now changes serves) }
 
-not_touched : {v : View} → IsUntouched v v
-not_touched = record { names = λ q. refl; files = files_stay }
-
 -- nothing was done
 pub not_begun : (command : Command) (left : Option (List ℕ)) (u : View) → RunsOn command left u u
-not_begun command left u = record { runs = λ input given. begun (on_view command input u) unchanged; changes = change_not; untouched = λ why. not_touched }
+not_begun command left u = record { runs = λ input given. begun (on_view command input u) unchanged (λ why. not_touched); changes = change_not; untouched = λ why. not_touched }
 
 -- what ends a command before the installation is looked at
 pub goes_none : {a : Option Moments} (command : Command) (left : Option (List ℕ)) (e : CommandEnd) (r : Result (Unit {0}) CommandEnd) → IsTold a → IsErrAnd r (λ end. end ≡ e)
@@ -197,32 +193,11 @@ pub batch_input : ByInput Batch batch_by
 batch_input = record { reads = refl; is = λ input u. refl }
 
 pub batch_ends : (left : Option (List ℕ)) (bytes : List ℕ) (e : BatchError) → IsWhole left bytes → IsBadBatch bytes e → (input : List ℕ) → IsGiven left (Some Batch) input → (u : View) → Closed (on_view Batch input u) (Err (end_of_batch e)) u u
-batch_ends left bytes (batch.BadRecord line) whole bad input given u = closed_refused (BadRecord line) (on_view Batch input u) u (ap (λ (x : Result (List Command) ℕ). of_batch x (seen (shows u))) (sym bad) ∙ read_is Batch batch_by batch_input left bytes whole input given u)
+batch_ends left bytes (batch.BadRecord line) whole bad input given u = closed_refused (BadRecord line) (on_view Batch input u) u (ap (λ (x : Result (List Change) ℕ). of_batch x (seen (shows u))) (sym bad) ∙ read_is Batch batch_by batch_input left bytes whole input given u)
 batch_ends left bytes batch.NoMemory whole bad input given u = stood (on_view Batch input u) unchanged
 
-pub batch_answers : (left : Option (List ℕ)) (bytes : List ℕ) (commands : List Command) → IsWhole left bytes → batch_of bytes ≡ Ok commands → IsAnswer Batch left (changing commands)
-batch_answers left bytes commands whole is input given u = ap (λ (x : Result (List Command) ℕ). of_batch x (seen (shows u))) (sym is) ∙ read_is Batch batch_by batch_input left bytes whole input given u
-
--- ---- another command that changes something
-
-pub record IsChange (command : Command) : Type 0 where
-  pub looks : only_looks command ≡ false
-  pub reads : reads_input command ≡ false
-  pub answers : (left : Option (List ℕ)) → IsAnswer command left (changing (command ∷ []))
-
-pub other : (command : Command) → (command ≡ ListPins → ⊥) → (command ≡ ListRemotes → ⊥) → (command ≡ Batch → ⊥) → (command ≡ ShowCommit → ⊥) → (command ≡ ShowDirTree → ⊥) → (command ≡ ShowDirMeta → ⊥) → ((of : List ℕ) → command ≡ ShowValue of → ⊥) → IsChange command
-other (Pin pin) pins remotes batch commit dirtree dirmeta value = record { looks = refl; reads = refl; answers = λ left input given u. refl }
-other (Unpin pin) pins remotes batch commit dirtree dirmeta value = record { looks = refl; reads = refl; answers = λ left input given u. refl }
-other (RemoteAdd row) pins remotes batch commit dirtree dirmeta value = record { looks = refl; reads = refl; answers = λ left input given u. refl }
-other (RemoteModify row) pins remotes batch commit dirtree dirmeta value = record { looks = refl; reads = refl; answers = λ left input given u. refl }
-other (RemoteDelete name) pins remotes batch commit dirtree dirmeta value = record { looks = refl; reads = refl; answers = λ left input given u. refl }
-other ListPins pins remotes batch commit dirtree dirmeta value = absurd (pins refl)
-other ListRemotes pins remotes batch commit dirtree dirmeta value = absurd (remotes refl)
-other Batch pins remotes batch commit dirtree dirmeta value = absurd (batch refl)
-other ShowCommit pins remotes batch commit dirtree dirmeta value = absurd (commit refl)
-other ShowDirTree pins remotes batch commit dirtree dirmeta value = absurd (dirtree refl)
-other ShowDirMeta pins remotes batch commit dirtree dirmeta value = absurd (dirmeta refl)
-other (ShowValue of) pins remotes batch commit dirtree dirmeta value = absurd (value of refl)
+pub batch_answers : (left : Option (List ℕ)) (bytes : List ℕ) (changes : List Change) → IsWhole left bytes → batch_of bytes ≡ Ok changes → IsAnswer Batch left (changing changes)
+batch_answers left bytes changes whole is input given u = ap (λ (x : Result (List Change) ℕ). of_batch x (seen (shows u))) (sym is) ∙ read_is Batch batch_by batch_input left bytes whole input given u
 
 -- ---- what it takes of the input
 
@@ -271,7 +246,7 @@ goes_refused command left r result known_b first second =
     goes_on known_b first second
     (λ u v w t p q s. record {
       runs = λ input given. let e = q input given in refusing (on_view command input u) r e.0 (p.runs input given) e.1 s;
-      changes = change_on u v w p.changes (change_none s.names s.files);
+      changes = change_on u v w p.changes (change_untouched s.untouched);
       untouched = λ why. untouched_on (p.untouched why) s;
     })
     (λ u v w t p q s last input given.
@@ -302,16 +277,21 @@ pub goes_no_command : {a b : Option Moments} (words : List (List ℕ)) (left : O
 goes_no_command words left index result known none is goes = begins known goes
     (λ u w t s. record {
       runs = λ input given. subst (λ (a : Answer). Runs a u w) (no_answer words index input u none is) (runs u w s);
-      changes = change_none s.names s.files;
-      untouched = λ why. record { names = s.names; files = s.files };
+      changes = change_untouched s.untouched;
+      untouched = λ why. s.untouched;
     })
     (λ u w t s e input given. subst (λ (a : Answer). Ran a result u w) (no_answer words index input u none is) (ran_refused (refused (BadWords index)) (BadWords index) 2 result refl refl (refused_at_once (BadWords index) u) (runs u w s) e))
   where
     runs : (u w : View) → Says (refusal_text (BadWords index)) u w → Runs (refused (BadWords index)) u w
-    runs u w s = refusing (refused (BadWords index)) (BadWords index) refl (begun (refused (BadWords index)) unchanged) (refused_at_once (BadWords index) u) s
+    runs u w s = refusing (refused (BadWords index)) (BadWords index) refl (begun (refused (BadWords index)) unchanged (λ why. not_touched)) (refused_at_once (BadWords index) u) s
 
 -- want of memory for the words
 pub goes_unread : {a : Option Moments} (words : List (List ℕ)) (left : Option (List ℕ)) → IsTold a → Goes a a (RunsBy words left) (RanBy words left 6)
 goes_unread words left known = stays known
-    (λ u. record { runs = λ input given. begun (answer words input (shows u)) unchanged; changes = change_not; untouched = λ why. not_touched })
-    (λ u t input given. ran_memory (answer words input (shows u)) (begun (answer words input (shows u)) unchanged) (stood (answer words input (shows u)) unchanged))
+    (λ u. record { runs = λ input given. begun (answer words input (shows u)) unchanged (λ why. not_touched); changes = change_not; untouched = λ why. not_touched })
+    (λ u t input given. ran_memory (answer words input (shows u)) (begun (answer words input (shows u)) unchanged (λ why. not_touched)) (stood (answer words input (shows u)) unchanged))
+
+-- and nothing was taken of the input
+pub took_nothing : (o : Option Command) (left : Option (List ℕ)) → WasTaken o 6 left left
+took_nothing None left = refl
+took_nothing (Some command) left = (λ reads answered. absurd (not_answered 6 (omega arith) answered), λ none. refl)

@@ -1,4 +1,5 @@
 pub mod Same
+pub mod Both
 pub mod Changing
 pub mod Saying
 pub mod Starting

@@ -24,7 +24,7 @@ use Rattle.fl_top.specs.declared.end.RunEnd.{RunEnd}
 use Rattle.fl_top.specs.declared.end.RunEnd.TheVariants.{NoMemory}
 use Rattle.fl_top.proofs.Saying.{says_step, was_said}
 use Rattle.fl_top.proofs.Same.{same_shown}
-use Rattle.fl_top.proofs.Changing.{tidied_none}
+use Rattle.fl_top.proofs.Changing.{tidied_none, keeps_files, same_untouched}
 use Rattle.fl_top.proofs.Starting.{Keeping, begun, stood, unchanged, ended_open, shows_before, view_is, same_tidy}
 use Rattle.fl_top.proofs.Composing.{is_err}
 
@@ -38,13 +38,13 @@ told_printed text u w more = record { left = []; pieces = refl; printed = more �
 
 pub telling : (text : List ℕ) {u w : View} → Says text u w → Runs (told text) u w
 telling text {u = u} {w = w} says_it = elim (says_it.printed) [
-  | inl none ↦ begun (told text) (record { printed = none; follows = says_it.follows; names = says_it.names; files = says_it.files })
+  | inl none ↦ begun (told text) (record { printed = none; follows = says_it.follows; names = says_it.untouched.names; files = keeps_files says_it.untouched }) (λ why. says_it.untouched)
   | inr more ↦ record {
     said = piece_of text ∷ [];
     so_far = told_printed text u w more;
     prefix = λ sound disk left. let just = shows_before says_it.follows sound disk left in record { done = []; undone = []; prefix = refl; more = []; holds = refl; shown = just.shown; sound = just.sound };
-    only_tidied = λ none. tidied_none says_it.names;
-    untouched = λ why. record { names = says_it.names; files = says_it.files };
+    only_tidied = λ none. tidied_none says_it.untouched.names;
+    untouched = λ why. says_it.untouched;
   }
 ]
 
@@ -53,7 +53,8 @@ tells text {u = u} {w = w} said_it = record {
   printed = (told_printed text u w said_it.printed).printed;
   just = λ sound disk left. shows_before said_it.follows sound disk left;
   shown = λ sound s at. same_shown said_it.shown at;
-  tidied = λ sound why. elim why [ inl tidy ↦ same_tidy said_it.names tidy | inr some ↦ absurd (some refl) ];
+  tidied = λ sound why. elim why [ inl tidy ↦ same_tidy said_it.untouched.names tidy | inr some ↦ absurd (some refl) ];
+  text = λ some s at. absurd (some refl);
 }
 
 -- ---- what was read
@@ -68,7 +69,7 @@ keeping {u = u} same = subst (Keeping u) (sym same) unchanged
 
 -- nothing is done yet
 looks : (f : State → Answer) {u w : View} → w ≡ u → LooksOver f u w
-looks f {u = u} same = record { runs = begun (over_view f u) (keeping same); untouched = record { names = (keeping same).names; files = (keeping same).files } }
+looks f {u = u} same = record { runs = begun (over_view f u) (keeping same) (λ why. same_untouched same); untouched = same_untouched same }
 
 pub goes_not_read : {a b : Option Moments} (f : State → Answer) (e : OpenEnd) (r : Result (Unit {0}) RunEnd) → IsTold a → Still a b → Ends (λ u w. Reads u (Err e)) a b → IsErrAnd r (λ end. end ≡ end_of_open e) → Goes a b (LooksOver f) (EndedOver f r)
 goes_not_read {a = a} {b = b} f e r known still tell is =
@@ -93,7 +94,7 @@ read f s known still tell = begins known (goes_known still.goes tell) (λ u w t 
 is_told : (f : State → Answer) (s : State) (text : List ℕ) {u v w : View} → f s ≡ told text → HasRead s u v → Says text v w → LooksOver f u w
 is_told f s text {u = u} {w = w} is read_it says_it =
     let from : Says text u w = subst (λ (x : View). Says text x w) read_it.0.0 says_it in
-    record { runs = subst (λ (a : Answer). Runs a u w) (sym is ∙ view_is f u s read_it.1.0) (telling text from); untouched = record { names = from.names; files = from.files } }
+    record { runs = subst (λ (a : Answer). Runs a u w) (sym is ∙ view_is f u s read_it.1.0) (telling text from); untouched = from.untouched }
 
 was_told : (f : State → Answer) (s : State) (text : List ℕ) {u v w : View} → f s ≡ told text → HasRead s u v → WasSaid text v w → EndedOver f (Ok tt) u w
 was_told f s text {u = u} {w = w} is read_it said_it =

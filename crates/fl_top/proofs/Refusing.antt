@@ -1,4 +1,4 @@
--- The refusals of commands that change something.
+-- The refusals of changes that change something.
 use Rattle.std.proofs.Common.{◌≡◌, ℕ, List, [], ◌∷◌, Bool, true, false, nat_le, length, Option, Some, None, if◌then◌else◌, refl, subst}
 use Rattle.fp_small.specs.declared.state.State.{State}
 use Rattle.fp_small.specs.declared.state.Layout.{Layout}
@@ -11,8 +11,8 @@ use Rattle.fp_base.specs.declared.what.What.TheVariants.{Pins, Remotes}
 use Rattle.fp_small.specs.Config.{name_of}
 use Rattle.fp_small.specs.Order.{has_name}
 use Rattle.dep_states.specs.After.{after_all}
-use Rattle.fl_words.specs.declared.command.Command.{Command}
-use Rattle.fl_top.specs.Answer.{Answer, Piece, ops_of, did, behind, refusal_of, unless, act_on, op_of, change_over, in_turn, migrating, changing, is_pinned, IsAtOnce}
+use Rattle.fl_words.specs.declared.command.Change.{Change}
+use Rattle.fl_top.specs.Answer.{Answer, Piece, ops_of, did, behind, refusal_of, unless, act, op_of, change_over, in_turn, migrating, changing, is_pinned, IsAtOnce}
 
 -- each refusal of the answer is one of these
 abbrev pub Refuses : (Refusal → Type 0) → Answer → Type 0
@@ -52,36 +52,35 @@ module _ (P : Refusal → Type 0) where
   of_unless op None each r is = absurd (cc is)
   of_unless op (Some q) each r is = each r is
 
-  of_asked : OfOps P → (o : Option Op) (s : State) → Refuses P (act_on o s)
-  of_asked holds None s r is = absurd (cc is)
-  of_asked holds (Some op) s r is = of_unless op (refusal_of s op) (of_op holds op s) r is
+  of_act : OfOps P → (op : Op) (s : State) → Refuses P (act op s)
+  of_act holds op s r is = of_unless op (refusal_of s op) (of_op holds op s) r is
 
   of_behind : (pieces : List Piece) (o : Option Refusal) (b : Answer) → ((r : Refusal) → o ≡ Some r → P r) → Refuses P b → Refuses P (behind pieces o b)
   of_behind pieces None b first second r is = second r is
   of_behind pieces (Some q) b first second r is = first r is
 
-  of_turn : OfOps P → (commands : List Command) (s : State) → Refuses P (in_turn commands s)
+  of_turn : OfOps P → (changes : List Change) (s : State) → Refuses P (in_turn changes s)
   of_turn holds [] s r is = absurd (cc is)
-  of_turn holds (command ∷ commands) s r is =
-      let a = change_over command s in
-      of_behind a.pieces a.refusal (in_turn commands (after_all s (ops_of a))) (of_asked holds (op_of command) s) (of_turn holds commands (after_all s (ops_of a))) r is
+  of_turn holds (change ∷ changes) s r is =
+      let a = change_over change s in
+      of_behind a.pieces a.refusal (in_turn changes (after_all s (ops_of a))) (of_act holds (op_of change) s) (of_turn holds changes (after_all s (ops_of a))) r is
 
   of_migrating : (layout : Layout) → Refuses P (migrating layout)
   of_migrating One r is = absurd (cc is)
   of_migrating Two r is = absurd (cc is)
 
-  pub of_changing : OfOps P → (commands : List Command) (s : State) → Refuses P (changing commands s)
-  of_changing holds commands s =
+  pub of_changing : OfOps P → (changes : List Change) (s : State) → Refuses P (changing changes s)
+  of_changing holds changes s =
       let a = migrating s.layout in
-      of_behind a.pieces a.refusal (in_turn commands (after_all s (ops_of a))) (of_migrating s.layout) (of_turn holds commands (after_all s (ops_of a)))
+      of_behind a.pieces a.refusal (in_turn changes (after_all s (ops_of a))) (of_migrating s.layout) (of_turn holds changes (after_all s (ops_of a)))
 
 -- none of them is one of the words or of the input
 at_once_by : (o : Option Refusal) → ((r : Refusal) → o ≡ Some r → IsAtOnce (Some r) → ⊥) → IsAtOnce o → ⊥
 at_once_by None each at_once = at_once
 at_once_by (Some r) each at_once = each r refl at_once
 
-pub changing_late : (commands : List Command) (s : State) → IsAtOnce (changing commands s).refusal → ⊥
-changing_late commands s at_once =
-    at_once_by (changing commands s).refusal
-    (of_changing (λ r. IsAtOnce (Some r) → ⊥) (record { pin_there = λ pin none. none; pins_full = λ none. none; no_pin = λ pin none. none; remote_there = λ name none. none; remotes_full = λ none. none; no_remote = λ name none. none }) commands s)
+pub changing_late : (changes : List Change) (s : State) → IsAtOnce (changing changes s).refusal → ⊥
+changing_late changes s at_once =
+    at_once_by (changing changes s).refusal
+    (of_changing (λ r. IsAtOnce (Some r) → ⊥) (record { pin_there = λ pin none. none; pins_full = λ none. none; no_pin = λ pin none. none; remote_there = λ name none. none; remotes_full = λ none. none; no_remote = λ name none. none }) changes s)
     at_once

@@ -8,19 +8,19 @@ use Rattle.fp_host.specs.declared.host.HostEnd.TheVariants as host
 use Rattle.fp_host.proofs.Framed.{IsTold}
 use Rattle.fp_host.proofs.Goes.{begins}
 use Rattle.fl_words.specs.declared.command.Command.{Command}
-use Rattle.fl_top.specs.Answer.{Answer, shown_by, showing, told}
+use Rattle.fl_top.specs.Answer.{Answer, shown_by, told}
 use Rattle.fl_top.specs.Runs.{Runs, Stands, IsGiven, Serves}
 use Rattle.fl_top.specs.Performs.{RunsOn, EndedOn, Closed}
 use Rattle.fl_top.specs.Says.{Says, SaidBy}
-use Rattle.fl_top.specs.declared.showing.Shown.{Shown}
-use Rattle.fl_top.specs.declared.showing.Shown.TheVariants as things
+use Rattle.fl_words.specs.declared.command.Command.TheVariants.{Show as Showing}
+use Rattle.fl_words.specs.declared.command.Shown.{Shown}
 use Rattle.fl_top.specs.Input.{IsWhole}
 use Rattle.fl_top.specs.Ends.{end_of_host, end_of_run, Prints}
 use Rattle.fl_top.specs.declared.end.RunEnd.{RunEnd}
 use Rattle.fl_top.specs.declared.end.RunEnd.TheVariants as run
 use Rattle.fl_top.specs.declared.command_end.CommandEnd.{CommandEnd}
 use Rattle.fl_top.specs.declared.command_end.CommandEnd.TheVariants.{Fault}
-use Rattle.fl_top.proofs.Changing.{change_none}
+use Rattle.fl_top.proofs.Changing.{change_untouched}
 use Rattle.fl_top.proofs.Starting.{unchanged, stood}
 use Rattle.fl_top.proofs.Listing.{telling, tells}
 use Rattle.fl_top.proofs.Finishing.{is_end, on_view, closed_refused, ByInput, read_is}
@@ -30,23 +30,20 @@ use Rattle.fl_top.proofs.Finishing.{is_end, on_view, closed_refused, ByInput, re
 abbrev pub show_by : Shown → View → List ℕ → Answer
 show_by thing u bytes = shown_by thing bytes
 
-pub show_input : (thing : Shown) → ByInput (showing thing) (show_by thing)
-show_input things.Commit = record { reads = refl; is = λ input u. refl }
-show_input things.DirTree = record { reads = refl; is = λ input u. refl }
-show_input things.DirMeta = record { reads = refl; is = λ input u. refl }
-show_input (things.Value of) = record { reads = refl; is = λ input u. refl }
+pub show_input : (thing : Shown) → ByInput (Showing thing) (show_by thing)
+show_input thing = record { reads = refl; is = λ input u. refl }
 
 -- the answer to it, whose bytes were read
-shown_is : (thing : Shown) (left : Option (List ℕ)) (bytes : List ℕ) → IsWhole left bytes → (input : List ℕ) → IsGiven left (Some (showing thing)) input → (u : View) → shown_by thing bytes ≡ on_view (showing thing) input u
-shown_is thing left bytes whole input given u = read_is (showing thing) (show_by thing) (show_input thing) left bytes whole input given u
+shown_is : (thing : Shown) (left : Option (List ℕ)) (bytes : List ℕ) → IsWhole left bytes → (input : List ℕ) → IsGiven left (Some (Showing thing)) input → (u : View) → shown_by thing bytes ≡ on_view (Showing thing) input u
+shown_is thing left bytes whole input given u = read_is (Showing thing) (show_by thing) (show_input thing) left bytes whole input given u
 
 -- ---- where nothing is printed
 
 -- it isn't what was asked for
-pub show_ends : (thing : Shown) (left : Option (List ℕ)) (bytes : List ℕ) (e : RunEnd) → IsWhole left bytes → Prints (shown_by thing bytes) (Err e) → (input : List ℕ) → IsGiven left (Some (showing thing)) input → (u : View) → Closed (on_view (showing thing) input u) (Err (end_of_run e)) u u
-show_ends thing left bytes (run.Refused refusal) whole shown input given u = closed_refused refusal (on_view (showing thing) input u) u (sym shown ∙ shown_is thing left bytes whole input given u)
+pub show_ends : (thing : Shown) (left : Option (List ℕ)) (bytes : List ℕ) (e : RunEnd) → IsWhole left bytes → Prints (shown_by thing bytes) (Err e) → (input : List ℕ) → IsGiven left (Some (Showing thing)) input → (u : View) → Closed (on_view (Showing thing) input u) (Err (end_of_run e)) u u
+show_ends thing left bytes (run.Refused refusal) whole shown input given u = closed_refused refusal (on_view (Showing thing) input u) u (sym shown ∙ shown_is thing left bytes whole input given u)
 show_ends thing left bytes run.Fault whole shown input given u = absurd shown
-show_ends thing left bytes run.NoMemory whole shown input given u = stood (on_view (showing thing) input u) unchanged
+show_ends thing left bytes run.NoMemory whole shown input given u = stood (on_view (Showing thing) input u) unchanged
 
 -- and no call of the host failed
 pub no_fault : (thing : Shown) (bytes : List ℕ) (e : RunEnd) (r : Result (Unit {0}) CommandEnd) → Prints (shown_by thing bytes) (Err e) → IsErrAnd r (λ end. end ≡ end_of_run e) → IsErrOf r Fault → ⊥
@@ -59,11 +56,11 @@ no_fault thing bytes e r shown err fault = of_run e shown (let both : Err (end_o
 
 -- ---- what is printed
 
-runs_shown : (thing : Shown) (left : Option (List ℕ)) (bytes text : List ℕ) → IsWhole left bytes → shown_by thing bytes ≡ told text → (u w : View) → Says text u w → RunsOn (showing thing) left u w
+runs_shown : (thing : Shown) (left : Option (List ℕ)) (bytes text : List ℕ) → IsWhole left bytes → shown_by thing bytes ≡ told text → (u w : View) → Says text u w → RunsOn (Showing thing) left u w
 runs_shown thing left bytes text whole shown u w said = record {
   runs = λ input given. subst (λ (a : Answer). Runs a u w) (sym shown ∙ shown_is thing left bytes whole input given u) (telling text said);
-  changes = change_none said.names said.files;
-  untouched = λ why. record { names = said.names; files = said.files };
+  changes = change_untouched said.untouched;
+  untouched = λ why. said.untouched;
 }
 
 closed_said : (text : List ℕ) (a : Answer) (r : Result (Unit {0}) HostEnd) (e : HostEnd) (u w : View) → r ≡ Err e → SaidBy text r u w → Closed a (Err (end_of_run (end_of_host e))) u w
@@ -71,18 +68,18 @@ closed_said text a r host.Fault u w is said = tt
 closed_said text a r host.NoMemory u w is said = let same : w ≡ u = subst (λ (x : Result (Unit {0}) HostEnd). SaidBy text x u w) is said in subst (λ (x : View). Stands a u x) (sym same) (stood a unchanged)
 
 pub goes_shown : {a b : Option Moments} (thing : Shown) (left : Option (List ℕ)) (bytes text : List ℕ) → IsTold a → IsWhole left bytes → shown_by thing bytes ≡ told text
-    → Goes a b (Says text) (SaidBy text (Ok tt)) → Goes a b (RunsOn (showing thing) left) (EndedOn (showing thing) left (Ok tt))
+    → Goes a b (Says text) (SaidBy text (Ok tt)) → Goes a b (RunsOn (Showing thing) left) (EndedOn (Showing thing) left (Ok tt))
 goes_shown thing left bytes text known whole shown goes = begins known goes
     (λ u w t says. runs_shown thing left bytes text whole shown u w says)
     (λ u w t says said input given. subst (λ (a : Answer). Closed a (Ok tt) u w) (sym shown ∙ shown_is thing left bytes whole input given u) (refl, tells text said))
 
 pub goes_not_shown : {a b : Option Moments} (thing : Shown) (left : Option (List ℕ)) (bytes text : List ℕ) (s : Result (Unit {0}) HostEnd) (e : HostEnd) (r : Result (Unit {0}) CommandEnd) → IsTold a → IsWhole left bytes → shown_by thing bytes ≡ told text
-    → s ≡ Err e → Goes a b (Says text) (SaidBy text s) → IsErrAnd r (λ end. end ≡ end_of_run (end_of_host e)) → Goes a b (RunsOn (showing thing) left) (EndedOn (showing thing) left r)
+    → s ≡ Err e → Goes a b (Says text) (SaidBy text s) → IsErrAnd r (λ end. end ≡ end_of_run (end_of_host e)) → Goes a b (RunsOn (Showing thing) left) (EndedOn (Showing thing) left r)
 goes_not_shown {a = a} {b = b} thing left bytes text s e r known whole shown was goes err =
-    subst (λ (x : Result (Unit {0}) CommandEnd). Goes a b (RunsOn (showing thing) left) (EndedOn (showing thing) left x)) (sym (is_end r (end_of_run (end_of_host e)) err))
+    subst (λ (x : Result (Unit {0}) CommandEnd). Goes a b (RunsOn (Showing thing) left) (EndedOn (Showing thing) left x)) (sym (is_end r (end_of_run (end_of_host e)) err))
     (begins known goes
     (λ u w t says. runs_shown thing left bytes text whole shown u w says)
-    (λ u w t says said input given. closed_said text (on_view (showing thing) input u) s e u w was said))
+    (λ u w t says said input given. closed_said text (on_view (Showing thing) input u) s e u w was said))
 
 -- a fault of the command is one of the host
 pub said_fault : (s : Result (Unit {0}) HostEnd) (r : Result (Unit {0}) CommandEnd) (e : HostEnd) → s ≡ Err e → IsErrAnd r (λ end. end ≡ end_of_run (end_of_host e)) → IsErrOf r Fault → IsErrOf s host.Fault

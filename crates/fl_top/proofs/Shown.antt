@@ -1,66 +1,71 @@
 -- What the texts of objects are.
-use Rattle.std.proofs.Common.{◌≡◌, ℕ, ◌<◌, ◌≤◌, List, [], ◌∷◌, ◌++◌, Bool, true, false, leb, length, Option, Some, None, Result, Ok, Err, refl, sym, ◌∙◌, ap, subst}
-use Rattle.std.specs.Prelude.{codes}
+use Rattle.std.proofs.Common.{◌≡◌, ℕ, ◌<◌, ◌≤◌, List, [], ◌∷◌, ◌++◌, Bool, true, false, leb, length, Option, Some, None, Result, Ok, Err, refl, sym, ◌∙◌, ap, subst, rules, arith}
+use Rattle.std.specs.Prelude.{codes, IsSome, ◌&&◌, if◌then◌else◌}
 use Rattle.std.specs.Option.{is_some}
 use Rattle.std.proofs.lemmas.Bool.{false≢true, leb-true, leb-false}
 use Rattle.fp_name.specs.Hex.{hex, is_digest}
 use Rattle.fp_small.specs.declared.refusal.Refusal.{Refusal}
-use Rattle.fp_small.specs.declared.refusal.Refusal.TheVariants.{MalformedObject}
-use Rattle.gv_value.specs.declared.value.GvValue.{GvValue}
-use Rattle.gv_value.specs.Shape.{Shape}
+use Rattle.fp_small.specs.declared.refusal.Refusal.TheVariants.{MalformedObject, MalformedValue}
+use Rattle.gv_value.specs.Shape.{Shape, is_type, max_depth}
 use Rattle.gv_value.specs.Tree.{Tree}
 use Rattle.gv_value.specs.TypeText.{type_of}
-use Rattle.gv_value.specs.Reading.{value_of}
-use Rattle.gv_value.specs.Views.{plain}
+use Rattle.gv_value.specs.Reading.{value_at, value_of}
 use Rattle.gv_value.specs.Spelled.{max_bytes}
-use Rattle.gv_decode.specs.Decoded.{Gives}
+use Rattle.gv_decode.specs.Decoded.{Passes}
 use Rattle.gv_decode.specs.declared.error.DecodeError.{DecodeError}
 use Rattle.gv_decode.specs.declared.error.DecodeError.TheVariants.{TooLong}
+use Rattle.fp_base.specs.declared.object.ObjKind.{ObjKind}
+use Rattle.fp_base.specs.declared.object.ObjKind.TheVariants as kinds
 use Rattle.fp_base.specs.declared.rule.Rule.{Rule}
-use Rattle.fp_base.specs.declared.rule.Rule.TheVariants as rules
+use Rattle.fl_words.specs.PrintedWords.{kind_word}
 use Rattle.ost_model.specs.Contents.{meta_digest}
 use Rattle.ost_model.specs.Fields.{CommitView, TreeView, MetaView}
 use Rattle.ost_model.specs.Readers.{commit_read, tree_read, meta_read}
 use Rattle.fl_top.specs.Answer.{Answer, told, refused, by_read, by_value, by_type, commit_shown, tree_shown, meta_shown, value_shown}
-use Rattle.fl_top.specs.Ends.{Prints}
-use Rattle.fl_top.specs.Objects.{head, parent_text, commit_lines, tree_lines, meta_lines, normal_line, rule_word}
+use Rattle.ost_object.specs.Answers.{Breaks}
+use Rattle.ost_object.specs.declared.error.ObjectError.{ObjectError}
+use Rattle.ost_object.specs.declared.error.ObjectError.TheVariants.{Malformed}
+use Rattle.ost_object.specs.declared.error.ObjectError.TheVariants as object
+use Rattle.fl_top.specs.Ends.{Prints, end_of_object}
+use Rattle.fl_top.specs.Objects.{head, parent_text, commit_lines, tree_lines, meta_lines, normal_line}
 use Rattle.fl_top.specs.declared.end.RunEnd.{RunEnd}
 use Rattle.fl_top.specs.declared.end.RunEnd.TheVariants.{Refused}
 
--- a refusal that was made
-refusing : (a : Answer) (e : RunEnd) (r : Refusal) → e ≡ Refused r → a ≡ refused r → Prints a (Err e)
-refusing a e r is h = subst (λ (x : RunEnd). Prints a (Err x)) (sym is) h
+read_told : {A : Type 0} (digest text : List ℕ) (kind : ObjKind) (lines : A → List ℕ) (read : Result A Rule) (a : A) → read ≡ Ok a → text ≡ head digest (kind_word kind) ++ lines a → by_read digest kind lines read ≡ told text
+read_told digest text kind lines read a is said = ap (by_read digest kind lines) is ∙ ap told (sym said)
 
-read_told : {A : Type 0} (digest digest_is kind text : List ℕ) (lines : A → List ℕ) (read : Result A Rule) (a : A) → digest ≡ digest_is → read ≡ Ok a → text ≡ head digest kind ++ lines a → by_read digest_is kind lines read ≡ told text
-read_told digest digest_is kind text lines read a same is said = ap (by_read digest_is kind lines) is ∙ ap (λ (d : List ℕ). told (head d kind ++ lines a)) (sym same) ∙ ap told (sym said)
+-- what bytes with this digest that don't read end with
+read_bad : {A : Type 0} (digest : List ℕ) (kind : ObjKind) (lines : A → List ℕ) (read : Result A Rule) (error : ObjectError) → Breaks error read → Prints (by_read digest kind lines read) (Err (end_of_object digest kind error))
+read_bad digest kind lines read (Malformed rule) is = ap (by_read digest kind lines) is
+read_bad digest kind lines read object.NoMemory is = tt
 
-read_bad : {A : Type 0} (digest digest_is kind : List ℕ) (lines : A → List ℕ) (read : Result A Rule) (rule : Rule) (e : RunEnd) → digest ≡ digest_is → read ≡ Err rule → e ≡ Refused (MalformedObject digest kind (rule_word rule)) → Prints (by_read digest_is kind lines read) (Err e)
-read_bad digest digest_is kind lines read rule e same is end =
-    refusing (by_read digest_is kind lines read) e (MalformedObject digest kind (rule_word rule)) end (ap (by_read digest_is kind lines) is ∙ ap (λ (d : List ℕ). refused (MalformedObject d kind (rule_word rule))) (sym same))
+-- what is shown ends so
+pub ending : (a : Answer) {e end : RunEnd} → Prints a (Err e) → e ≡ end → Prints a (Err end)
+ending a prints is = subst (λ (x : RunEnd). Prints a (Err x)) is prints
 
-pub commit_told : (bytes digest text : List ℕ) (v : CommitView) → digest ≡ meta_digest bytes → commit_read bytes ≡ Ok v → text ≡ head digest (codes "commit") ++ commit_lines v → commit_shown bytes ≡ told text
+pub commit_told : (bytes text : List ℕ) (v : CommitView) → commit_read bytes ≡ Ok v → text ≡ head (meta_digest bytes) (codes "commit") ++ commit_lines v → commit_shown bytes ≡ told text
 unfolding commit_shown
-commit_told bytes digest text v same is said = read_told digest (meta_digest bytes) (codes "commit") text commit_lines (commit_read bytes) v same is said
+commit_told bytes text v is said = read_told (meta_digest bytes) text kinds.Commit commit_lines (commit_read bytes) v is said
 
-pub commit_bad : (bytes digest : List ℕ) (rule : Rule) (e : RunEnd) → digest ≡ meta_digest bytes → commit_read bytes ≡ Err rule → e ≡ Refused (MalformedObject digest (codes "commit") (rule_word rule)) → Prints (commit_shown bytes) (Err e)
+pub commit_bad : (bytes : List ℕ) (error : ObjectError) → Breaks error (commit_read bytes) → Prints (commit_shown bytes) (Err (end_of_object (meta_digest bytes) kinds.Commit error))
 unfolding commit_shown
-commit_bad bytes digest rule e same is end = read_bad digest (meta_digest bytes) (codes "commit") commit_lines (commit_read bytes) rule e same is end
+commit_bad bytes error is = read_bad (meta_digest bytes) kinds.Commit commit_lines (commit_read bytes) error is
 
-pub tree_told : (bytes digest text : List ℕ) (v : TreeView) → digest ≡ meta_digest bytes → tree_read bytes ≡ Ok v → text ≡ head digest (codes "dirtree") ++ tree_lines v → tree_shown bytes ≡ told text
+pub tree_told : (bytes text : List ℕ) (v : TreeView) → tree_read bytes ≡ Ok v → text ≡ head (meta_digest bytes) (codes "dirtree") ++ tree_lines v → tree_shown bytes ≡ told text
 unfolding tree_shown
-tree_told bytes digest text v same is said = read_told digest (meta_digest bytes) (codes "dirtree") text tree_lines (tree_read bytes) v same is said
+tree_told bytes text v is said = read_told (meta_digest bytes) text kinds.DirTree tree_lines (tree_read bytes) v is said
 
-pub tree_bad : (bytes digest : List ℕ) (rule : Rule) (e : RunEnd) → digest ≡ meta_digest bytes → tree_read bytes ≡ Err rule → e ≡ Refused (MalformedObject digest (codes "dirtree") (rule_word rule)) → Prints (tree_shown bytes) (Err e)
+pub tree_bad : (bytes : List ℕ) (error : ObjectError) → Breaks error (tree_read bytes) → Prints (tree_shown bytes) (Err (end_of_object (meta_digest bytes) kinds.DirTree error))
 unfolding tree_shown
-tree_bad bytes digest rule e same is end = read_bad digest (meta_digest bytes) (codes "dirtree") tree_lines (tree_read bytes) rule e same is end
+tree_bad bytes error is = read_bad (meta_digest bytes) kinds.DirTree tree_lines (tree_read bytes) error is
 
-pub meta_told : (bytes digest text : List ℕ) (v : MetaView) → digest ≡ meta_digest bytes → meta_read bytes ≡ Ok v → text ≡ head digest (codes "dirmeta") ++ meta_lines v → meta_shown bytes ≡ told text
+pub meta_told : (bytes text : List ℕ) (v : MetaView) → meta_read bytes ≡ Ok v → text ≡ head (meta_digest bytes) (codes "dirmeta") ++ meta_lines v → meta_shown bytes ≡ told text
 unfolding meta_shown
-meta_told bytes digest text v same is said = read_told digest (meta_digest bytes) (codes "dirmeta") text meta_lines (meta_read bytes) v same is said
+meta_told bytes text v is said = read_told (meta_digest bytes) text kinds.DirMeta meta_lines (meta_read bytes) v is said
 
-pub meta_bad : (bytes digest : List ℕ) (rule : Rule) (e : RunEnd) → digest ≡ meta_digest bytes → meta_read bytes ≡ Err rule → e ≡ Refused (MalformedObject digest (codes "dirmeta") (rule_word rule)) → Prints (meta_shown bytes) (Err e)
+pub meta_bad : (bytes : List ℕ) (error : ObjectError) → Breaks error (meta_read bytes) → Prints (meta_shown bytes) (Err (end_of_object (meta_digest bytes) kinds.DirMeta error))
 unfolding meta_shown
-meta_bad bytes digest rule e same is end = read_bad digest (meta_digest bytes) (codes "dirmeta") meta_lines (meta_read bytes) rule e same is end
+meta_bad bytes error is = read_bad (meta_digest bytes) kinds.DirMeta meta_lines (meta_read bytes) error is
 
 -- ---- values
 
@@ -68,7 +73,7 @@ some_value : (o : Option Tree) (bytes : List ℕ) → is_some o ≡ true → by_
 some_value None bytes h = absurd (false≢true h)
 some_value (Some value) bytes h = refl
 
-no_value : (o : Option Tree) (bytes : List ℕ) → is_some o ≡ false → by_value bytes o ≡ refused (MalformedObject (meta_digest bytes) (codes "value") (codes "value"))
+no_value : (o : Option Tree) (bytes : List ℕ) → is_some o ≡ false → by_value bytes o ≡ refused (MalformedValue (meta_digest bytes))
 no_value None bytes h = refl
 no_value (Some value) bytes h = absurd (false≢true (sym h))
 
@@ -76,19 +81,42 @@ pub value_told : (type bytes text : List ℕ) (of : Shape) → type_of type ≡ 
 unfolding value_shown
 value_told type bytes text of is normal said = ap (λ (o : Option Shape). by_type o bytes) is ∙ some_value (value_of of bytes) bytes normal ∙ ap told (sym said)
 
-pub value_bad : (type bytes digest : List ℕ) (of : Shape) (e : RunEnd) → type_of type ≡ Some of → is_some (value_of of bytes) ≡ false → digest ≡ meta_digest bytes → e ≡ Refused (MalformedObject digest (codes "value") (rule_word rules.Value)) → Prints (value_shown type bytes) (Err e)
+pub value_bad : (type bytes : List ℕ) (of : Shape) → type_of type ≡ Some of → is_some (value_of of bytes) ≡ false → value_shown type bytes ≡ refused (MalformedValue (meta_digest bytes))
 unfolding value_shown
-value_bad type bytes digest of e is normal same end =
-    refusing (by_type (type_of type) bytes) e (MalformedObject digest (codes "value") (codes "value")) end
-    (ap (λ (o : Option Shape). by_type o bytes) is ∙ no_value (value_of of bytes) bytes normal ∙ ap (λ (d : List ℕ). refused (MalformedObject d (codes "value") (codes "value"))) (sym same))
+value_bad type bytes of is normal = ap (λ (o : Option Shape). by_type o bytes) is ∙ no_value (value_of of bytes) bytes normal
 
--- what was decoded is a value
-pub some_decoded : (of : Shape) (bytes : List ℕ) (value : GvValue) (r : Result GvValue DecodeError) → r ≡ Ok value → (max_bytes < length bytes → r ≡ Err TooLong) → (length bytes ≤ max_bytes → Gives plain r (value_of of bytes)) → true ≡ is_some (value_of of bytes)
-some_decoded of bytes value r is long gives = go (leb (length bytes) max_bytes) refl
+none_if_not : {A : Type 0} (a b : Bool) (r : Option A) → b ≡ false → if a && b then r else None ≡ None
+none_if_not true b r is = ap (λ (t : Bool). if t then r else None) is
+none_if_not false b r is = refl
+
+-- bytes that are too long are no value
+pub long_is_none : (t : Shape) (bytes : List ℕ) → max_bytes < length bytes → value_of t bytes ≡ None
+long_is_none t bytes long = none_if_not (is_type t) (leb (length bytes) max_bytes) (value_at max_depth t bytes) (go (leb (length bytes) max_bytes) refl)
+  where
+    go : (b : Bool) → leb (length bytes) max_bytes ≡ b → leb (length bytes) max_bytes ≡ false
+    go false is = is
+    go true is = absurd (omega (arith, leb-true (length bytes) max_bytes is, long))
+
+-- nor are those of which it is known where they aren't
+pub short_is_none : (t : Shape) (bytes : List ℕ) → (length bytes ≤ max_bytes → value_of t bytes ≡ None) → value_of t bytes ≡ None
+short_is_none t bytes short = go (leb (length bytes) max_bytes) refl
+  where
+    go : (b : Bool) → leb (length bytes) max_bytes ≡ b → value_of t bytes ≡ None
+    go false is = none_if_not (is_type t) (leb (length bytes) max_bytes) (value_at max_depth t bytes) is
+    go true is = short (leb-true (length bytes) max_bytes is)
+
+-- where something is read there is a value
+is_there : (o : Option Tree) → IsSome o → true ≡ is_some o
+is_there None some = absurd (search rules)
+is_there (Some value) some = refl
+
+-- what was checked is a value
+pub some_checked : (of : Shape) (bytes : List ℕ) (r : Result (Unit {0}) DecodeError) → r ≡ Ok tt → (max_bytes < length bytes → r ≡ Err TooLong) → (length bytes ≤ max_bytes → Passes r (value_of of bytes)) → true ≡ is_some (value_of of bytes)
+some_checked of bytes r is long passes = go (leb (length bytes) max_bytes) refl
   where
     go : (b : Bool) → leb (length bytes) max_bytes ≡ b → true ≡ is_some (value_of of bytes)
-    go true few = sym (ap is_some (subst (λ (x : Result GvValue DecodeError). Gives plain x (value_of of bytes)) is (gives (leb-true (length bytes) max_bytes few))))
-    go false many = absurd (let both : Ok value ≡ Err TooLong = sym is ∙ long (leb-false (length bytes) max_bytes many) in cc both)
+    go true few = is_there (value_of of bytes) (subst (λ (x : Result (Unit {0}) DecodeError). Passes x (value_of of bytes)) is (passes (leb-true (length bytes) max_bytes few)))
+    go false many = absurd (let both : Ok tt ≡ Err TooLong = sym is ∙ long (leb-false (length bytes) max_bytes many) in cc both)
 
 -- ---- a parent
 

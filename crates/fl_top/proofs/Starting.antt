@@ -1,5 +1,5 @@
 -- What a run is before anything is done, and what it is once the installation was opened.
-use Rattle.std.proofs.Common.{◌≡◌, inl, inr, ℕ, List, [], ◌∷◌, ◌++◌, Ok, Err, refl, sym, ◌∙◌, ap, subst}
+use Rattle.std.proofs.Common.{◌≡◌, inl, inr, ℕ, List, [], ◌∷◌, ◌++◌, Result, Ok, Err, refl, sym, ◌∙◌, ap, subst}
 use Rattle.std.proofs.lemmas.List.{append-nil}
 use Rattle.fp_host.specs.Paths.{Elements}
 use Rattle.fp_host.specs.View.{View}
@@ -16,7 +16,7 @@ use Rattle.dep_states.specs.Names.{config, remotes_conf, pins_file}
 use Rattle.dep_states.specs.Shown.{Shows, seen}
 use Rattle.dep_states.specs.Sound.{IsSound}
 use Rattle.dep_states.specs.After.{after_all}
-use Rattle.dep_open.specs.Open.{NotShown, NoName, IsOpened, Opened}
+use Rattle.dep_open.specs.Open.{NotShown, NoName, IsOpened, Opened, StaysUnread}
 use Rattle.dep_open.specs.Tidy.{IsTidy}
 use Rattle.dep_open.specs.declared.open_end.OpenEnd.{OpenEnd}
 use Rattle.dep_open.specs.declared.open_end.OpenEnd.TheVariants as open_end
@@ -26,7 +26,8 @@ use Rattle.fl_top.specs.Runs.{ShowsAfter, IsPrefix, IsJust, Printed, Runs, Stand
 use Rattle.fl_top.specs.Performs.{Performs, IsDone, IsHalted, Performed, over_view, RunsOver, Completes, Ended, EndedOver}
 use Rattle.fl_top.specs.declared.end.RunEnd.{RunEnd}
 use Rattle.fl_top.specs.declared.end.RunEnd.TheVariants.{Refused, Fault, NoMemory}
-use Rattle.fl_top.proofs.Changing.{change_on, change_none, tidied_on, tidied_none}
+use Rattle.fl_top.specs.Changes.{IsUntouched, HasText}
+use Rattle.fl_top.proofs.Changing.{change_on, change_none, tidied_on, tidied_none, same_untouched}
 use Rattle.fl_top.proofs.Same.{unmoved, same_shown, same_sound, now_left, one_state, not_shown}
 
 -- ---- nothing is printed and nothing shown changes
@@ -57,20 +58,25 @@ shows_before follows sound disk left =
 prefix_none : (a : Answer) {u : View} {disk : Disk} → IsJust [] u disk → IsPrefix a [] u disk
 prefix_none a just = record { done = []; undone = ops_of a; prefix = refl; more = []; holds = refl; shown = just.shown; sound = just.sound }
 
-pub begun : (a : Answer) {u w : View} → Keeping u w → Runs a u w
-begun a keeping = record {
+pub begun : (a : Answer) {u w : View} → Keeping u w → (IsAtOnce a.refusal → IsUntouched u w) → Runs a u w
+begun a keeping untouched = record {
   only_tidied = λ none. tidied_none keeping.names;
   said = [];
   so_far = none_yet a keeping.printed;
   prefix = λ sound disk left. prefix_none a (shows_before keeping.follows sound disk left);
-  untouched = λ why. record { names = keeping.names; files = keeping.files };
+  untouched = untouched;
 }
 
-pub begun_over : (f : State → Answer) {u w : View} → Keeping u w → RunsOver f u w
-begun_over f {u = u} keeping = record {
-  runs = begun (over_view f u) keeping;
+-- a refusal of the state isn't one of the words or of the input
+over_late : (f : State → Answer) → ((s : State) → IsAtOnce (f s).refusal → ⊥) → (seen_there : Result State Elements) → IsAtOnce (over f seen_there).refusal → ⊥
+over_late f late (Err path) at_once = at_once
+over_late f late (Ok s) at_once = late s at_once
+
+pub begun_over : (f : State → Answer) → ((s : State) → IsAtOnce (f s).refusal → ⊥) → {u w : View} → Keeping u w → StaysUnread u w → RunsOver f u w
+begun_over f late {u = u} keeping unread = record {
+  runs = begun (over_view f u) keeping (λ at_once. absurd (over_late f late (seen (shows u)) at_once));
   changes = change_none keeping.names keeping.files;
-  untouched = λ none. record { names = keeping.names; files = keeping.files };
+  untouched = λ none. same_untouched (unread none);
 }
 
 pub stood : (a : Answer) {u w : View} → Keeping u w → Stands a u w
@@ -137,6 +143,9 @@ completes a s {u = u} {w = w} opened keeping is = record {
       let same : s ≡ t = one_state (shows u) s t opened.shown at in
       subst (λ (x : State). Shows (shows w) (after_all x (ops_of a))) same ((is.opens (opened.opens sound)).shown (shows w) (now_left w));
   tidied = λ sound why. is.tidied (opened.opens sound) (elim why [ inl tidy ↦ inl (same_tidy keeping.names tidy) | inr some ↦ inr some ]);
+  text = λ some t at.
+      let same : s ≡ t = one_state (shows u) s t opened.shown at in
+      subst (λ (x : State). HasText (after_all x (ops_of a)) w) same (is.text some);
 }
 
 stands : (a : Answer) (s : State) {u v w : View} → IsOpened s u v → Keeping u v → IsHalted a s v w → Stands a u w
@@ -167,6 +176,7 @@ damaged path {u = u} keeping none = record {
   just = shows_before keeping.follows;
   shown = λ sound s at. absurd (none s at);
   tidied = λ sound why. elim why [ inl tidy ↦ same_tidy keeping.names tidy | inr some ↦ absurd (some refl) ];
+  text = λ some s at. absurd (some refl);
 }
 
 pub ended_open : (f : State → Answer) (e : OpenEnd) {u w : View} → Keeping u w → Opened (Err e) u w → EndedOver f (Err (end_of_open e)) u w
@@ -186,4 +196,5 @@ refused_at_once refusal u = record {
   just = shows_before follows_refl;
   shown = λ sound s at. at;
   tidied = λ sound why. elim why [ inl tidy ↦ tidy | inr some ↦ absurd (some refl) ];
+  text = λ some s at. absurd (some refl);
 }

@@ -12,9 +12,7 @@ use Rattle.fp_small.specs.declared.refusal.Refusal.TheVariants.{PinExists, NoSuc
 use Rattle.fp_base.specs.declared.what.What.TheVariants.{Pins, Remotes}
 use Rattle.fp_small.specs.declared.state.Layout.TheVariants.{Two}
 use Rattle.dep_states.specs.After.{after, May, Allows, layout_for}
-use Rattle.fl_words.specs.declared.command.Command.{Command}
-use Rattle.fl_words.specs.declared.command.Command.TheVariants.{Pin, Unpin, RemoteAdd, RemoteModify, RemoteDelete, ListPins, ListRemotes, Batch, ShowCommit, ShowDirTree, ShowDirMeta, ShowValue}
-use Rattle.fl_top.specs.Answer.{refusal_of, op_of, is_pinned, add_pin_refusal, drop_pin_refusal, add_remote_refusal}
+use Rattle.fl_top.specs.Answer.{refusal_of, is_pinned, add_pin_refusal, drop_pin_refusal, add_remote_refusal}
 use Rattle.fl_top.specs.Status.{IsOp}
 
 -- ---- from the code's tests to the refusals
@@ -80,23 +78,6 @@ pub may : (s : State) (op : Op) → s.layout ≡ layout_for op → IsOp op → r
 may s op layout good none = record { layout = layout; allows = allows s op good none }
 
 -- ---- what is done in layout 2
-
-pub for_two : (o : Option Op) (op : Op) → ((command : Command) × (o ≡ op_of command)) → o ≡ Some op → layout_for op ≡ Two
-for_two o op asked is = of_command asked.0 op (sym asked.1 ∙ is)
-  where
-    of_command : (command : Command) (op : Op) → op_of command ≡ Some op → layout_for op ≡ Two
-    of_command (Pin pin) op is = let same : AddPin pin ≡ op = cc is in subst (λ (x : Op). layout_for x ≡ Two) same refl
-    of_command (Unpin pin) op is = let same : DropPin pin ≡ op = cc is in subst (λ (x : Op). layout_for x ≡ Two) same refl
-    of_command (RemoteAdd row) op is = let same : AddRemote row ≡ op = cc is in subst (λ (x : Op). layout_for x ≡ Two) same refl
-    of_command (RemoteModify row) op is = let same : ModifyRemote row ≡ op = cc is in subst (λ (x : Op). layout_for x ≡ Two) same refl
-    of_command (RemoteDelete name) op is = let same : DropRemote name ≡ op = cc is in subst (λ (x : Op). layout_for x ≡ Two) same refl
-    of_command ListPins op is = absurd (cc is)
-    of_command ListRemotes op is = absurd (cc is)
-    of_command Batch op is = absurd (cc is)
-    of_command ShowCommit op is = absurd (cc is)
-    of_command ShowDirTree op is = absurd (cc is)
-    of_command ShowDirMeta op is = absurd (cc is)
-    of_command (ShowValue of) op is = absurd (cc is)
 
 -- and stays so
 pub after_two : (s : State) (op : Op) → May s op → (after s op).layout ≡ Two

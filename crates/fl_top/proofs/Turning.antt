@@ -1,4 +1,4 @@
--- One answer behind another, and commands in turn.
+-- One answer behind another, and changes in turn.
 use Rattle.std.proofs.Common.{◌≡◌, ◌≢◌, ◌⊎◌, inl, inr, ℕ, List, [], ◌∷◌, ◌++◌, append_assoc, Option, Some, None, Result, Ok, Err, refl, sym, ◌∙◌, ap, subst}
 use Rattle.std.proofs.lemmas.List.{append-nil}
 use Rattle.std.proofs.lemmas.Grind.{flat_map-append}
@@ -11,10 +11,11 @@ use Rattle.fp_small.specs.declared.refusal.Refusal.{Refusal}
 use Rattle.dep_states.specs.Shown.{Shows}
 use Rattle.dep_states.specs.Sound.{Opens}
 use Rattle.dep_states.specs.After.{after, after_all}
-use Rattle.fl_words.specs.declared.command.Command.{Command}
+use Rattle.fl_words.specs.declared.command.Change.{Change}
 use Rattle.fl_top.specs.Answer.{Answer, Piece, lines_of, last_of, joined, ops_in, ops_of, nothing, behind, followed, change_over, in_turn}
 use Rattle.fl_top.specs.Runs.{Printed}
-use Rattle.fl_top.proofs.Changing.{change_on, change_not, tidied_on, tidied_not}
+use Rattle.fl_top.specs.Changes.{HasText}
+use Rattle.fl_top.proofs.Changing.{change_on, change_not, tidied_on, tidied_not, text_tidied}
 use Rattle.fl_top.specs.Performs.{IsSome, Performs, IsDone, Performed}
 use Rattle.fl_top.specs.declared.end.RunEnd.{RunEnd}
 use Rattle.fl_top.specs.declared.end.RunEnd.TheVariants.{Refused, Fault, NoMemory}
@@ -133,6 +134,7 @@ done_onto pieces b s t {v = v} {w = w} {x = x} is done next = record {
   only_tidied = λ none. let none_of = sym (ops-append pieces b.pieces) ∙ none in tidied_on (done.only_tidied (first_none (ops_in pieces) (ops_in b.pieces) none_of)) (next.only_tidied (second_none (ops_in pieces) (ops_in b.pieces) none_of));
   printed = next.printed ∙ ap (λ (p : List ℕ). p ++ joined b.pieces) done.printed ∙ append_assoc v.printed (joined pieces) (joined b.pieces) ∙ ap (λ (p : List ℕ). v.printed ++ p) (sym (joined-append pieces b.pieces));
   opens = λ opens. subst (λ (z : State). Opens z x) (after_both ∙ ap (after_all s) (sym (ops-append pieces b.pieces))) (next.opens (at opens));
+  text = λ some. subst (λ (z : State). HasText z x) (after_both ∙ ap (after_all s) (sym (ops-append pieces b.pieces))) (text_of (ops_of b) refl some);
   tidied = λ opens why. next.tidied (at opens) (elim why [
     | inl tidy ↦ inl (done.tidied opens (inl tidy))
     | inr made ↦ elim (one_made (ops_in pieces) (ops_of b) (λ none. made (ops-append pieces b.pieces ∙ none))) [
@@ -144,6 +146,15 @@ done_onto pieces b s t {v = v} {w = w} {x = x} is done next = record {
   where
     at : Opens s v → Opens t w
     at opens = subst (λ (z : State). Opens z w) (sym is) (done.opens opens)
+
+    from : HasText (after_all s (ops_in pieces)) w → HasText t w
+    from text = subst (λ (z : State). HasText z w) (sym is) text
+
+    text_of : (ops : List Op) → ops_of b ≡ ops → ops_of (behind pieces None b) ≢ [] → HasText (after_all t (ops_of b)) x
+    text_of (op ∷ ops) ops_are some = next.text (λ none. let both : op ∷ ops ≡ [] = sym ops_are ∙ none in cc both)
+    text_of [] ops_are some =
+        let first : ops_in pieces ≢ [] = λ none. some (ops-append pieces b.pieces ∙ ap (λ (l : List Op). l ++ ops_of b) none ∙ ops_are) in
+        subst (λ (l : List Op). HasText (after_all t l) x) (sym ops_are) (text_tidied (next.only_tidied ops_are) next.changes.files (from (done.text first)))
 
     after_both : after_all t (ops_of b) ≡ after_all s (ops_in pieces ++ ops_of b)
     after_both = sym (after_pieces s t pieces (ops_of b) is)
@@ -172,7 +183,7 @@ then_is : (a b : Answer) → a.refusal ≡ None → behind a.pieces None b ≡ f
 then_is a b none = ap (λ (o : Option Refusal). behind a.pieces o b) (sym none)
 
 done_plain : (a : Answer) (s : State) {v w : View} → a.refusal ≡ None → IsDone a s v w → IsDone (plain a.pieces) s v w
-done_plain a s none done = record { changes = done.changes; only_tidied = done.only_tidied; printed = done.printed; opens = done.opens; tidied = done.tidied }
+done_plain a s none done = record { changes = done.changes; only_tidied = done.only_tidied; printed = done.printed; opens = done.opens; tidied = done.tidied; text = done.text }
 
 pub performs_second : (a b : Answer) (s t : State) {v w x : View} → Performed a s (Ok t) v w → Performs b t w x → Performs (followed a b) s v x
 performs_second a b s t {v = v} {x = x} done performs = subst (λ (z : Answer). Performs z s v x) (then_is a b done.0) (performs_onto a.pieces b s t done.1 (done_plain a s done.0 done.2) performs)
@@ -180,28 +191,28 @@ performs_second a b s t {v = v} {x = x} done performs = subst (λ (z : Answer). 
 pub performed_second : (a b : Answer) (s t : State) (r : Result State RunEnd) (v w x : View) → Performed a s (Ok t) v w → Performed b t r w x → Performed (followed a b) s r v x
 performed_second a b s t r v w x done next = subst (λ (z : Answer). Performed z s r v x) (then_is a b done.0) (performed_onto a.pieces b s t r v w x done.1 (done_plain a s done.0 done.2) next)
 
--- ---- commands in turn
+-- ---- changes in turn
 
--- So many of the commands are done: these pieces were said, and the others lead on from the state t.
-pub record Stage (commands left : List Command) (s t : State) (v w : View) : Type 0 where
+-- So many of the changes are done: these pieces were said, and the others lead on from the state t.
+pub record Stage (changes left : List Change) (s t : State) (v w : View) : Type 0 where
   pub pieces : List Piece
-  pub same : in_turn commands s ≡ behind pieces None (in_turn left t)
+  pub same : in_turn changes s ≡ behind pieces None (in_turn left t)
   pub after : t ≡ after_all s (ops_in pieces)
   pub done : IsDone (plain pieces) s v w
 
 -- none is done
-pub first_stage : (commands : List Command) (s : State) (v : View) → Stage commands commands s s v v
-first_stage commands s v = record {
+pub first_stage : (changes : List Change) (s : State) (v : View) → Stage changes changes s s v v
+first_stage changes s v = record {
   pieces = [];
   same = refl;
   after = refl;
-  done = record { changes = change_not; only_tidied = λ none. tidied_not; printed = sym (append-nil v.printed); opens = λ opens. opens; tidied = λ opens why. elim why [ inl tidy ↦ tidy | inr some ↦ absurd (some refl) ] };
+  done = record { changes = change_not; only_tidied = λ none. tidied_not; printed = sym (append-nil v.printed); opens = λ opens. opens; tidied = λ opens why. elim why [ inl tidy ↦ tidy | inr some ↦ absurd (some refl) ]; text = λ some. absurd (some refl) };
 }
 
 -- one more
-pub next_stage : (commands : List Command) (command : Command) (left : List Command) (s t t' : State) {v w x : View} → Stage commands (command ∷ left) s t v w → Performed (change_over command t) t (Ok t') w x → Stage commands left s t' v x
-next_stage commands command left s t t' stage done =
-    let a = change_over command t in
+pub next_stage : (changes : List Change) (change : Change) (left : List Change) (s t t' : State) {v w x : View} → Stage changes (change ∷ left) s t v w → Performed (change_over change t) t (Ok t') w x → Stage changes left s t' v x
+next_stage changes change left s t t' stage done =
+    let a = change_over change t in
     record {
       pieces = stage.pieces ++ a.pieces;
       same = stage.same ∙ ap (behind stage.pieces None) (sym (then_is a _ done.0)) ∙ both stage.pieces a.pieces (in_turn left (after_all t (ops_of a))) ∙ ap (λ (z : State). behind (stage.pieces ++ a.pieces) None (in_turn left z)) (sym done.1);
@@ -213,20 +224,20 @@ next_stage commands command left s t t' stage done =
     both xs ys b = ap (λ (l : List Piece). record { pieces = l; refusal = b.refusal }) (sym (append_assoc xs ys b.pieces))
 
 -- at every moment of the next
-pub stage_performs : (commands : List Command) (command : Command) (left : List Command) (s t : State) {v w x : View} → Stage commands (command ∷ left) s t v w → Performs (change_over command t) t w x → Performs (in_turn commands s) s v x
-stage_performs commands command left s t {v = v} {x = x} stage performs =
-    subst (λ (z : Answer). Performs z s v x) (sym stage.same) (performs_onto stage.pieces (in_turn (command ∷ left) t) s t stage.after stage.done (performs_first (change_over command t) (in_turn left (after_all t (ops_of (change_over command t)))) t performs))
+pub stage_performs : (changes : List Change) (change : Change) (left : List Change) (s t : State) {v w x : View} → Stage changes (change ∷ left) s t v w → Performs (change_over change t) t w x → Performs (in_turn changes s) s v x
+stage_performs changes change left s t {v = v} {x = x} stage performs =
+    subst (λ (z : Answer). Performs z s v x) (sym stage.same) (performs_onto stage.pieces (in_turn (change ∷ left) t) s t stage.after stage.done (performs_first (change_over change t) (in_turn left (after_all t (ops_of (change_over change t)))) t performs))
 
 -- where the next fails
-pub stage_failed : (commands : List Command) (command : Command) (left : List Command) (s t : State) (e : RunEnd) (v w x : View) → Stage commands (command ∷ left) s t v w → Performed (change_over command t) t (Err e) w x → Performed (in_turn commands s) s (Err e) v x
-stage_failed commands command left s t e v w x stage failed =
-    subst (λ (z : Answer). Performed z s (Err e) v x) (sym stage.same) (performed_onto stage.pieces (in_turn (command ∷ left) t) s t (Err e) v w x stage.after stage.done (failed_first (change_over command t) (in_turn left (after_all t (ops_of (change_over command t)))) t e w x failed))
+pub stage_failed : (changes : List Change) (change : Change) (left : List Change) (s t : State) (e : RunEnd) (v w x : View) → Stage changes (change ∷ left) s t v w → Performed (change_over change t) t (Err e) w x → Performed (in_turn changes s) s (Err e) v x
+stage_failed changes change left s t e v w x stage failed =
+    subst (λ (z : Answer). Performed z s (Err e) v x) (sym stage.same) (performed_onto stage.pieces (in_turn (change ∷ left) t) s t (Err e) v w x stage.after stage.done (failed_first (change_over change t) (in_turn left (after_all t (ops_of (change_over change t)))) t e w x failed))
 
 -- all are done
-pub last_stage : (commands : List Command) (s t : State) {v w : View} → Stage commands [] s t v w → Performed (in_turn commands s) s (Ok t) v w
-last_stage commands s t {v = v} {w = w} stage =
-    subst (λ (z : Answer). Performed z s (Ok t) v w) (sym stage.same) (performed_onto stage.pieces nothing s t (Ok t) v w w stage.after stage.done (refl, refl, record { changes = change_not; only_tidied = λ none. tidied_not; printed = sym (append-nil w.printed); opens = λ opens. opens; tidied = λ opens why. elim why [ inl tidy ↦ tidy | inr some ↦ absurd (some refl) ] }))
+pub last_stage : (changes : List Change) (s t : State) {v w : View} → Stage changes [] s t v w → Performed (in_turn changes s) s (Ok t) v w
+last_stage changes s t {v = v} {w = w} stage =
+    subst (λ (z : Answer). Performed z s (Ok t) v w) (sym stage.same) (performed_onto stage.pieces nothing s t (Ok t) v w w stage.after stage.done (refl, refl, record { changes = change_not; only_tidied = λ none. tidied_not; printed = sym (append-nil w.printed); opens = λ opens. opens; tidied = λ opens why. elim why [ inl tidy ↦ tidy | inr some ↦ absurd (some refl) ]; text = λ some. absurd (some refl) }))
 
 -- every stop leaves the state that was reached
-pub stage_opens : {commands left : List Command} {s t : State} {v w : View} → Stage commands left s t v w → Opens s v → Opens t w
+pub stage_opens : {changes left : List Change} {s t : State} {v w : View} → Stage changes left s t v w → Opens s v → Opens t w
 stage_opens {w = w} stage opens = subst (λ (z : State). Opens z w) (sym stage.after) (stage.done.opens opens)

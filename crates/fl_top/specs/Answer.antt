@@ -1,5 +1,5 @@
 -- What a run answers: what it prints, and the operations that this acknowledges.
-use Rattle.std.specs.Prelude.{ℕ, ◌+◌, List, [], ◌∷◌, ◌++◌, Bool, length, nat_le, Option, Some, None, Result, Ok, Err, codes, flat_map, filter_map, if◌then◌else◌}
+use Rattle.std.specs.Prelude.{ℕ, ◌+◌, List, [], ◌∷◌, ◌++◌, Bool, length, nat_le, Option, Some, None, Result, Ok, Err, flat_map, filter_map, if◌then◌else◌}
 use Rattle.std.specs.List.{list_any}
 use Rattle.std.specs.Str.{bytes_eq}
 use Rattle.fp_host.specs.Paths.{Elements}
@@ -11,15 +11,24 @@ use Rattle.fp_small.specs.declared.state.RemoteRow.{RemoteRow}
 use Rattle.fp_small.specs.declared.op.Op.{Op}
 use Rattle.fp_small.specs.declared.op.Op.TheVariants.{AddPin, DropPin, AddRemote, ModifyRemote, DropRemote, Migrate}
 use Rattle.fp_small.specs.declared.refusal.Refusal.{Refusal}
-use Rattle.fp_small.specs.declared.refusal.Refusal.TheVariants.{BadWords, NoSuchRemote, RemoteExists, MalformedObject, PinExists, NoSuchPin, Limit, BadRecord, Damaged}
+use Rattle.fp_small.specs.declared.refusal.Refusal.TheVariants.{BadWords, NoSuchRemote, RemoteExists, MalformedObject, MalformedValue, PinExists, NoSuchPin, Limit, BadRecord, Damaged}
+use Rattle.fp_base.specs.declared.object.ObjKind.{ObjKind}
+use Rattle.fp_base.specs.declared.object.ObjKind.TheVariants as kinds
+use Rattle.fp_base.specs.declared.rule.Rule.{Rule}
 use Rattle.fp_base.specs.declared.what.What.TheVariants.{Pins, Remotes, Input}
 use Rattle.fp_small.specs.Config.{name_of}
 use Rattle.fp_small.specs.Order.{has_name}
 use Rattle.dep_states.specs.Shown.{seen}
 use Rattle.dep_states.specs.After.{after_all}
 use Rattle.fl_words.specs.declared.command.Command.{Command}
-use Rattle.fl_words.specs.declared.command.Command.TheVariants.{Pin, Unpin, RemoteAdd, RemoteModify, RemoteDelete, ListPins, ListRemotes, Batch, ShowCommit, ShowDirTree, ShowDirMeta, ShowValue}
-use Rattle.fl_words.specs.Words.{command_of, bad_index}
+use Rattle.fl_words.specs.declared.command.Command.TheVariants.{Change as Changing, List as Listed, Show as Showing, Batch}
+use Rattle.fl_words.specs.declared.command.Change.{Change}
+use Rattle.fl_words.specs.declared.command.Change.TheVariants.{Pin, Unpin, RemoteAdd, RemoteModify, RemoteDelete}
+use Rattle.fl_words.specs.declared.command.Listing.{Listing}
+use Rattle.fl_words.specs.declared.command.Listing.TheVariants as listings
+use Rattle.fl_words.specs.declared.command.Shown.{Shown}
+use Rattle.fl_words.specs.declared.command.Shown.TheVariants as things
+use Rattle.fl_words.specs.Forms.{command_of, bad_index}
 use Rattle.fl_words.specs.Batch.{batch_of}
 use Rattle.fl_top.specs.Input.{input_most}
 use Rattle.fl_words.specs.Lines.{op_text, pins_text, remotes_text, refusal_text}
@@ -27,12 +36,10 @@ use Rattle.gv_value.specs.Shape.{Shape}
 use Rattle.gv_value.specs.Tree.{Tree}
 use Rattle.gv_value.specs.TypeText.{type_of}
 use Rattle.gv_value.specs.Reading.{value_of}
-use Rattle.fp_base.specs.declared.rule.Rule.{Rule}
 use Rattle.ost_model.specs.Contents.{meta_digest}
 use Rattle.ost_model.specs.Readers.{commit_read, tree_read, meta_read}
-use Rattle.fl_top.specs.declared.showing.Shown.{Shown}
-use Rattle.fl_top.specs.declared.showing.Shown.TheVariants as things
-use Rattle.fl_top.specs.Objects.{head, commit_lines, tree_lines, meta_lines, normal_line, rule_word}
+use Rattle.fl_words.specs.PrintedWords.{kind_word}
+use Rattle.fl_top.specs.Objects.{head, commit_lines, tree_lines, meta_lines, normal_line}
 
 -- what is printed at once, with the operation that it acknowledges, if it does
 pub record Piece : Type 0 where
@@ -84,7 +91,7 @@ abbrev pub behind : List Piece → Option Refusal → Answer → Answer
 behind pieces None next = record { pieces = pieces ++ next.pieces; refusal = next.refusal }
 behind pieces (Some refusal) next = record { pieces = pieces; refusal = Some refusal }
 
--- the one answer, and the next behind it, unless the one is a refusal
+-- the one answer, and the next after it, unless the one is a refusal
 abbrev pub followed : Answer → Answer → Answer
 followed a next = behind a.pieces a.refusal next
 
@@ -124,68 +131,58 @@ unless (Some refusal) a = refused refusal
 abbrev pub act : Op → State → Answer
 act op s = unless (refusal_of s op) (did op)
 
--- the operation that a command asks for
-abbrev pub op_of : Command → Option Op
-op_of (Pin pin) = Some (AddPin pin)
-op_of (Unpin pin) = Some (DropPin pin)
-op_of (RemoteAdd row) = Some (AddRemote row)
-op_of (RemoteModify row) = Some (ModifyRemote row)
-op_of (RemoteDelete name) = Some (DropRemote name)
-op_of ListPins = None
-op_of ListRemotes = None
-op_of Batch = None
-op_of ShowCommit = None
-op_of ShowDirTree = None
-op_of ShowDirMeta = None
-op_of (ShowValue of) = None
+-- the operation of a change
+abbrev pub op_of : Change → Op
+op_of (Pin pin) = AddPin pin
+op_of (Unpin pin) = DropPin pin
+op_of (RemoteAdd row) = AddRemote row
+op_of (RemoteModify row) = ModifyRemote row
+op_of (RemoteDelete name) = DropRemote name
 
-abbrev pub act_on : Option Op → State → Answer
-act_on None s = nothing
-act_on (Some op) s = act op s
+abbrev pub change_over : Change → State → Answer
+change_over change s = act (op_of change) s
 
-abbrev pub change_over : Command → State → Answer
-change_over command s = act_on (op_of command) s
-
--- commands one after another, up to the first refusal
-abbrev pub in_turn : List Command → State → Answer
+-- changes one after another, up to the first refusal
+abbrev pub in_turn : List Change → State → Answer
 in_turn [] s = nothing
-in_turn (command ∷ commands) s = followed (change_over command s) (in_turn commands (after_all s (ops_of (change_over command s))))
+in_turn (change ∷ changes) s = followed (change_over change s) (in_turn changes (after_all s (ops_of (change_over change s))))
 
 -- an installation of layout 1 is migrated before anything else is done with it
 abbrev pub migrating : Layout → Answer
 migrating One = did Migrate
 migrating Two = nothing
 
-abbrev pub changing : List Command → State → Answer
-changing commands s = followed (migrating s.layout) (in_turn commands (after_all s (ops_of (migrating s.layout))))
+abbrev pub changing : List Change → State → Answer
+changing changes s = followed (migrating s.layout) (in_turn changes (after_all s (ops_of (migrating s.layout))))
 
--- ---- what a command prints of a state
+-- ---- what is listed of a state
 
-abbrev pub told_pins : State → Answer
-told_pins s = told (pins_text s.pins)
+abbrev pub listed_text : Listing → State → List ℕ
+listed_text listings.Pins s = pins_text s.pins
+listed_text listings.Remotes s = remotes_text s.remotes
 
-abbrev pub told_remotes : State → Answer
-told_remotes s = told (remotes_text s.remotes)
+abbrev pub listed : Listing → State → Answer
+listed listing s = told (listed_text listing s)
 
 -- ---- what is shown of an input
 
 -- what an object of this kind and digest says, or the first rule that it breaks
-abbrev pub by_read : {A : Type 0} → List ℕ → List ℕ → (A → List ℕ) → Result A Rule → Answer
-by_read digest kind lines (Ok a) = told (head digest kind ++ lines a)
-by_read digest kind lines (Err rule) = refused (MalformedObject digest kind (rule_word rule))
+abbrev pub by_read : {A : Type 0} → List ℕ → ObjKind → (A → List ℕ) → Result A Rule → Answer
+by_read digest kind lines (Ok a) = told (head digest (kind_word kind) ++ lines a)
+by_read digest kind lines (Err rule) = refused (MalformedObject digest kind rule)
 
 unfoldable pub commit_shown : List ℕ → Answer
-commit_shown bytes = by_read (meta_digest bytes) (codes "commit") commit_lines (commit_read bytes)
+commit_shown bytes = by_read (meta_digest bytes) kinds.Commit commit_lines (commit_read bytes)
 
 unfoldable pub tree_shown : List ℕ → Answer
-tree_shown bytes = by_read (meta_digest bytes) (codes "dirtree") tree_lines (tree_read bytes)
+tree_shown bytes = by_read (meta_digest bytes) kinds.DirTree tree_lines (tree_read bytes)
 
 unfoldable pub meta_shown : List ℕ → Answer
-meta_shown bytes = by_read (meta_digest bytes) (codes "dirmeta") meta_lines (meta_read bytes)
+meta_shown bytes = by_read (meta_digest bytes) kinds.DirMeta meta_lines (meta_read bytes)
 
 -- how many bytes a value's normal form has
 abbrev pub by_value : List ℕ → Option Tree → Answer
-by_value bytes None = refused (MalformedObject (meta_digest bytes) (codes "value") (codes "value"))
+by_value bytes None = refused (MalformedValue (meta_digest bytes))
 by_value bytes (Some value) = told (normal_line (length bytes))
 
 abbrev pub by_type : Option Shape → List ℕ → Answer
@@ -202,56 +199,36 @@ shown_by things.DirTree bytes = tree_shown bytes
 shown_by things.DirMeta bytes = meta_shown bytes
 shown_by (things.Value of) bytes = value_shown of bytes
 
--- the command that shows it
-abbrev pub showing : Shown → Command
-showing things.Commit = ShowCommit
-showing things.DirTree = ShowDirTree
-showing things.DirMeta = ShowDirMeta
-showing (things.Value of) = ShowValue of
-
 -- ---- what words answer over an input and an image
 
 -- a refusal of the words or of the input, whatever the image
 abbrev pub IsAtOnce : Option Refusal → Type 0
 IsAtOnce None = ⊥
 IsAtOnce (Some (BadWords index)) = Unit {0}
-IsAtOnce (Some (NoSuchRemote remote)) = ⊥
-IsAtOnce (Some (RemoteExists remote)) = ⊥
 IsAtOnce (Some (MalformedObject digest kind rule)) = Unit {0}
-IsAtOnce (Some (PinExists pin)) = ⊥
-IsAtOnce (Some (NoSuchPin pin)) = ⊥
-IsAtOnce (Some (Limit Pins number)) = ⊥
-IsAtOnce (Some (Limit Remotes number)) = ⊥
+IsAtOnce (Some (MalformedValue digest)) = Unit {0}
 IsAtOnce (Some (Limit Input number)) = Unit {0}
 IsAtOnce (Some (BadRecord line)) = Unit {0}
-IsAtOnce (Some (Damaged path)) = ⊥
+IsAtOnce (Some _) = ⊥
 
 -- by what the image shows: a state, or the first path that doesn't read
 abbrev pub over : (State → Answer) → Result State Elements → Answer
 over f (Err path) = refused (Damaged path)
 over f (Ok s) = f s
 
-abbrev pub of_batch : Result (List Command) ℕ → Result State Elements → Answer
+abbrev pub of_batch : Result (List Change) ℕ → Result State Elements → Answer
 of_batch (Err line) shown = refused (BadRecord line)
-of_batch (Ok commands) shown = over (changing commands) shown
+of_batch (Ok changes) shown = over (changing changes) shown
 
 -- the whole input is read before anything is done
 abbrev pub over_input : (List ℕ → Answer) → List ℕ → Answer
 over_input f input = if nat_le (length input) input_most then f input else refused (Limit Input (input_most + 1))
 
 abbrev pub answer_over : Command → List ℕ → Result State Elements → Answer
-answer_over (Pin pin) input shown = over (changing (Pin pin ∷ [])) shown
-answer_over (Unpin pin) input shown = over (changing (Unpin pin ∷ [])) shown
-answer_over (RemoteAdd row) input shown = over (changing (RemoteAdd row ∷ [])) shown
-answer_over (RemoteModify row) input shown = over (changing (RemoteModify row ∷ [])) shown
-answer_over (RemoteDelete name) input shown = over (changing (RemoteDelete name ∷ [])) shown
-answer_over ListPins input shown = over told_pins shown
-answer_over ListRemotes input shown = over told_remotes shown
+answer_over (Changing change) input shown = over (changing (change ∷ [])) shown
+answer_over (Listed listing) input shown = over (listed listing) shown
+answer_over (Showing thing) input shown = over_input (shown_by thing) input
 answer_over Batch input shown = over_input (λ bytes. of_batch (batch_of bytes) shown) input
-answer_over ShowCommit input shown = over_input commit_shown input
-answer_over ShowDirTree input shown = over_input tree_shown input
-answer_over ShowDirMeta input shown = over_input meta_shown input
-answer_over (ShowValue of) input shown = over_input (value_shown of) input
 
 abbrev pub answer_to : List (List ℕ) → Option Command → List ℕ → Result State Elements → Answer
 answer_to words None input shown = refused (BadWords (bad_index words))

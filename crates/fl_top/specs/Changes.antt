@@ -1,11 +1,14 @@
 -- Which names a run may change, and to what, and which files.
-use Rattle.std.specs.Prelude.{◌≡◌, ◌⊎◌}
-use Rattle.fp_host.specs.Paths.{Elements, Slot, absent, dir, IsAbove}
+use Rattle.std.specs.Prelude.{◌≡◌, ◌⊎◌, ℕ, Some}
+use Rattle.fp_host.specs.Paths.{Elements, Slot, absent, dir, file, IsAbove}
 use Rattle.fp_host.specs.View.{View}
 use Rattle.fp_host.specs.Calls.{IsFile}
 use Rattle.fp_small.specs.Places.{repo, tmp}
 use Rattle.fp_small.specs.Files.{KeepsFiles}
+use Rattle.fp_small.specs.Config.{config_text}
+use Rattle.fp_small.specs.declared.state.State.{State}
 use Rattle.dep_states.specs.Names.{config}
+use Rattle.dep_states.specs.Shown.{settings_of}
 use Rattle.dep_states.specs.Sound.{IsOld}
 use Rattle.dep_open.specs.Tidy.{TakenAway}
 
@@ -27,7 +30,15 @@ pub record Changes (u w : View) : Type 0 where
 pub record OnlyTidied (u w : View) : Type 0 where
   pub names : (q : Elements) → (w.names q ≡ u.names q) ⊎ (TakenAway u q × (w.names q ≡ absent))
 
--- no name changes, and no file
+-- Nothing changes but what is printed: no name, nothing that a stop may bring back at one, and no file; none is new.
 pub record IsUntouched (u w : View) : Type 0 where
   pub names : (q : Elements) → w.names q ≡ u.names q
-  pub files : KeepsFiles u w
+  pub earlier : (q : Elements) → w.earlier q ≡ u.earlier q
+  pub files : (id : ℕ) → w.files id ≡ u.files id
+  pub dirty : (id : ℕ) → w.dirty id ≡ u.dirty id
+
+-- `config` is a file with exactly the text of this state, and the permission bits 0644
+pub record HasText (s : State) (v : View) : Type 0 where
+  pub id : ℕ
+  pub name : v.names config ≡ file id
+  pub row : v.files id ≡ Some (record { mode = 420; bytes = config_text (settings_of s) })

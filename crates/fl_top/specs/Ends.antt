@@ -5,7 +5,10 @@ use Rattle.fp_host.specs.declared.host.HostEnd.TheVariants as host
 use Rattle.dep_open.specs.declared.open_end.OpenEnd.{OpenEnd}
 use Rattle.dep_open.specs.declared.open_end.OpenEnd.TheVariants as open_end
 use Rattle.fp_small.specs.declared.refusal.Refusal.{Refusal}
-use Rattle.fp_small.specs.declared.refusal.Refusal.TheVariants.{Damaged, BadRecord, Limit}
+use Rattle.fp_small.specs.declared.refusal.Refusal.TheVariants.{Damaged, BadRecord, Limit, MalformedObject}
+use Rattle.fp_base.specs.declared.object.ObjKind.{ObjKind}
+use Rattle.ost_object.specs.declared.error.ObjectError.{ObjectError}
+use Rattle.ost_object.specs.declared.error.ObjectError.TheVariants as object
 use Rattle.fp_base.specs.declared.what.What.TheVariants.{Input}
 use Rattle.fl_words.specs.declared.batch.BatchError.{BatchError}
 use Rattle.fl_words.specs.declared.batch.BatchError.TheVariants as batch
@@ -26,6 +29,11 @@ abbrev pub end_of_open : OpenEnd → RunEnd
 end_of_open (open_end.Damaged path) = Refused (Damaged path)
 end_of_open open_end.Fault = Fault
 end_of_open open_end.NoMemory = NoMemory
+
+-- bytes with this digest are no object of this kind
+abbrev pub end_of_object : List ℕ → ObjKind → ObjectError → RunEnd
+end_of_object digest kind (object.Malformed rule) = Refused (MalformedObject digest kind rule)
+end_of_object digest kind object.NoMemory = NoMemory
 
 -- ---- as ends of a command
 

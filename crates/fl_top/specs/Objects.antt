@@ -1,10 +1,8 @@
 -- What `show` prints of objects, field by field.
-use Rattle.std.specs.Prelude.{ℕ, ◌/◌, ◌%◌, List, [], ◌∷◌, ◌++◌, codes, decimal, flat_map}
+use Rattle.std.specs.Prelude.{ℕ, List, [], ◌∷◌, ◌++◌, codes, decimal, flat_map}
 use Rattle.fp_name.specs.Hex.{hex}
-use Rattle.fp_base.specs.declared.rule.Rule.{Rule}
-use Rattle.fp_base.specs.declared.rule.Rule.TheVariants as rules
 use Rattle.ost_model.specs.Fields.{CommitView, FileRow, DirRow, TreeView, MetaView}
-use Rattle.fl_words.specs.Lines.{line, escaped}
+use Rattle.fl_words.specs.Lines.{line, escaped, octal}
 
 -- the digest and the kind
 abbrev pub head : List ℕ → List ℕ → List ℕ
@@ -42,29 +40,9 @@ dirs_text dirs = flat_map dir_line dirs
 abbrev pub tree_lines : TreeView → List ℕ
 tree_lines t = files_text t.files ++ dirs_text t.dirs
 
--- the six lowest octal digits, the highest of them first
-abbrev pub octal : ℕ → List ℕ
-octal mode =
-    decimal (mode / 32768 % 8) ++ (decimal (mode / 4096 % 8) ++ (decimal (mode / 512 % 8) ++
-    (decimal (mode / 64 % 8) ++ (decimal (mode / 8 % 8) ++ decimal (mode % 8)))))
-
 abbrev pub meta_lines : MetaView → List ℕ
 meta_lines m = line (codes "mode " ++ octal m.mode)
 
 -- of a value whose normal form has so many bytes
 abbrev pub normal_line : ℕ → List ℕ
 normal_line size = line (codes "normal " ++ decimal size)
-
--- the word for a rule
-abbrev pub rule_word : Rule → List ℕ
-rule_word rules.Value = codes "value"
-rule_word rules.Parent = codes "parent"
-rule_word rules.Tree = codes "tree"
-rule_word rules.Meta = codes "meta"
-rule_word rules.Digest = codes "digest"
-rule_word rules.Name = codes "name"
-rule_word rules.Order = codes "order"
-rule_word rules.Both = codes "both"
-rule_word rules.Owner = codes "owner"
-rule_word rules.Xattrs = codes "xattrs"
-rule_word rules.Kind = codes "kind"

@@ -13,7 +13,7 @@ use Rattle.dep_open.specs.Tidy.{IsTidy}
 use Rattle.fl_words.specs.declared.command.Command.{Command}
 use Rattle.fl_top.specs.Answer.{Answer, Piece, joined, ops_in, ops_of, over, answer_over, did}
 use Rattle.fl_top.specs.Runs.{Printed, Runs, Ran, Stands, IsJust, IsGiven}
-use Rattle.fl_top.specs.Changes.{Changes, OnlyTidied, IsUntouched}
+use Rattle.fl_top.specs.Changes.{Changes, OnlyTidied, IsUntouched, HasText}
 use Rattle.fl_top.specs.Input.{IsDrained}
 use Rattle.fl_top.specs.Status.{only_looks, reads_input}
 use Rattle.fl_top.specs.declared.end.RunEnd.{RunEnd}
@@ -47,6 +47,7 @@ pub record IsDone (a : Answer) (s : State) (v w : View) : Type 0 where
   pub only_tidied : ops_of a ≡ [] → OnlyTidied v w
   pub opens : Opens s v → Opens (after_all s (ops_of a)) w
   pub tidied : Opens s v → IsTidy v ⊎ (ops_of a ≢ []) → IsTidy w
+  pub text : ops_of a ≢ [] → HasText (after_all s (ops_of a)) w
 
 -- every stop leaves the state after the acknowledged operations
 pub record IsHalted (a : Answer) (s : State) (v w : View) : Type 0 where
@@ -62,7 +63,7 @@ Performed a s (Err NoMemory) v w = IsHalted a s v w
 
 -- An operation is done and its line printed; it isn't tidied behind it.
 abbrev pub WasDone : Op → State → Result State RunEnd → View → View → Type 0
-WasDone op s (Ok t) v w = (w.printed ≡ v.printed ++ op_text op) × (Opens s v → Opens (after s op) w) × Changes v w
+WasDone op s (Ok t) v w = (w.printed ≡ v.printed ++ op_text op) × (Opens s v → Opens (after s op) w) × Changes v w × HasText (after s op) w
 WasDone op s (Err e) v w = Performed (did op) s (Err e) v w
 
 -- ---- the same for a run that opens the installation
@@ -88,6 +89,7 @@ pub record Completes (a : Answer) (u w : View) : Type 0 where
   pub just : IsSound u → (disk : Disk) → Leaves w disk → IsJust (ops_of a) u disk
   pub shown : IsSound u → (s : State) → Shows (shows u) s → Shows (shows w) (after_all s (ops_of a))
   pub tidied : IsSound u → IsTidy u ⊎ (ops_of a ≢ []) → IsTidy w
+  pub text : ops_of a ≢ [] → (s : State) → Shows (shows u) s → HasText (after_all s (ops_of a)) w
 
 abbrev pub Ended : Answer → Result (Unit {0}) RunEnd → View → View → Type 0
 Ended a (Ok t) u w = (a.refusal ≡ None) × Completes a u w

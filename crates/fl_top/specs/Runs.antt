@@ -10,10 +10,10 @@ use Rattle.dep_states.specs.After.{after_all}
 use Rattle.dep_open.specs.Open.{NotShown}
 use Rattle.dep_open.specs.Tidy.{IsTidy}
 use Rattle.fl_words.specs.declared.command.Command.{Command}
-use Rattle.fl_words.specs.Words.{command_of}
+use Rattle.fl_words.specs.Forms.{command_of}
 use Rattle.fl_top.specs.Answer.{Answer, Piece, lines_of, joined, ops_in, ops_of, answer, IsAtOnce}
 use Rattle.fl_top.specs.Input.{IsDrained}
-use Rattle.fl_top.specs.Changes.{Changes, OnlyTidied, IsUntouched}
+use Rattle.fl_top.specs.Changes.{Changes, OnlyTidied, IsUntouched, HasText}
 use Rattle.fl_top.specs.Status.{status_at, IsAnswered, only_looks, reads_input}
 
 -- The image shows what these operations make of the state that stood at the start; where there are none, a state that a stop
@@ -60,14 +60,15 @@ pub record Stands (a : Answer) (u w : View) : Type 0 where
   pub just : IsSound u → (disk : Disk) → Leaves w disk → IsJust (ops_in said) u disk
 
 -- The whole answer was printed; what stands now is the state after its operations. Where one was done, or all was tidy before,
--- all is tidy.
+-- all is tidy. Where one was done `config` has exactly its text, and the permission bits 0644.
 pub record Answers (a : Answer) (status : ℕ) (u w : View) : Type 0 where
   pub status_is : status ≡ status_at a
   pub printed : w.printed ≡ u.printed ++ joined (lines_of a)
   pub shown : IsSound u → (s : State) → Shows (shows u) s → Shows (shows w) (after_all s (ops_of a))
   pub tidied : IsSound u → IsTidy u ⊎ (ops_of a ≢ []) → IsTidy w
+  pub text : ops_of a ≢ [] → (s : State) → Shows (shows u) s → HasText (after_all s (ops_of a)) w
 
--- At the return. 3 says that the host failed, 5 that the input did, and 6 that memory was wanting.
+-- At the return. 3 says that the host failed, 5 that the input did, and 6 that there was no memory.
 pub record Ran (a : Answer) (status : ℕ) (u w : View) : Type 0 where
   pub answers : IsAnswered status → Answers a status u w
   pub stands : (status ≡ 3 → ⊥) → Stands a u w

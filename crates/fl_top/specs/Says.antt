@@ -3,7 +3,7 @@ use Rattle.std.specs.Prelude.{◌≡◌, ◌⊎◌, ◌++◌, ℕ, List, Result,
 use Rattle.fp_host.specs.Paths.{Elements}
 use Rattle.fp_host.specs.View.{View}
 use Rattle.fp_host.specs.Outcome.{Follows, Nothing, shows}
-use Rattle.fp_small.specs.Files.{KeepsFiles}
+use Rattle.fl_top.specs.Changes.{IsUntouched}
 use Rattle.fp_host.specs.declared.host.HostEnd.{HostEnd}
 use Rattle.fp_host.specs.declared.host.HostEnd.TheVariants.{Fault, NoMemory}
 
@@ -11,16 +11,14 @@ use Rattle.fp_host.specs.declared.host.HostEnd.TheVariants.{Fault, NoMemory}
 pub record Says (text : List ℕ) (v w : View) : Type 0 where
   pub printed : (w.printed ≡ v.printed) ⊎ (w.printed ≡ v.printed ++ text)
   pub follows : Follows Nothing v w
-  pub names : (q : Elements) → w.names q ≡ v.names q
-  pub files : KeepsFiles v w
+  pub untouched : IsUntouched v w
   pub shown : (q : Elements) → shows w q ≡ shows v q
 
 -- the text was printed
 pub record WasSaid (text : List ℕ) (v w : View) : Type 0 where
   pub printed : w.printed ≡ v.printed ++ text
   pub follows : Follows Nothing v w
-  pub names : (q : Elements) → w.names q ≡ v.names q
-  pub files : KeepsFiles v w
+  pub untouched : IsUntouched v w
   pub shown : (q : Elements) → shows w q ≡ shows v q
 
 abbrev pub SaidBy : List ℕ → Result (Unit {0}) HostEnd → View → View → Type 0

@@ -6,9 +6,9 @@ use Rattle.fp_small.specs.Config.{is_row}
 use Rattle.fp_small.specs.declared.op.Op.{Op}
 use Rattle.fp_small.specs.declared.op.Op.TheVariants.{AddPin, DropPin, AddRemote, ModifyRemote, DropRemote, Migrate}
 use Rattle.fp_small.specs.declared.refusal.Refusal.{Refusal}
-use Rattle.fp_small.specs.declared.refusal.Refusal.TheVariants.{BadWords, NoSuchRemote, RemoteExists, MalformedObject, PinExists, NoSuchPin, Limit, BadRecord, Damaged}
+use Rattle.fp_small.specs.declared.refusal.Refusal.TheVariants.{BadWords}
 use Rattle.fl_words.specs.declared.command.Command.{Command}
-use Rattle.fl_words.specs.declared.command.Command.TheVariants.{Pin, Unpin, RemoteAdd, RemoteModify, RemoteDelete, ListPins, ListRemotes, Batch, ShowCommit, ShowDirTree, ShowDirMeta, ShowValue}
+use Rattle.fl_words.specs.declared.command.Command.TheVariants.{Change as Changing, List as Listed, Show as Showing, Batch}
 use Rattle.fl_top.specs.Answer.{Answer}
 
 -- 0 done, 1 refused, 2 no command, 3 a fault of the host, 5 a fault of the input, 6 want of memory
@@ -21,43 +21,21 @@ IsAnswered n = (n ≡ 0) ⊎ ((n ≡ 1) ⊎ (n ≡ 2))
 
 -- it prints what is there, and changes nothing
 abbrev pub only_looks : Command → Bool
-only_looks (Pin pin) = false
-only_looks (Unpin pin) = false
-only_looks (RemoteAdd row) = false
-only_looks (RemoteModify row) = false
-only_looks (RemoteDelete name) = false
-only_looks ListPins = true
-only_looks ListRemotes = true
+only_looks (Changing change) = false
+only_looks (Listed listing) = true
+only_looks (Showing thing) = true
 only_looks Batch = false
-only_looks ShowCommit = true
-only_looks ShowDirTree = true
-only_looks ShowDirMeta = true
-only_looks (ShowValue of) = true
 
 abbrev pub reads_input : Command → Bool
-reads_input (Pin pin) = false
-reads_input (Unpin pin) = false
-reads_input (RemoteAdd row) = false
-reads_input (RemoteModify row) = false
-reads_input (RemoteDelete name) = false
-reads_input ListPins = false
-reads_input ListRemotes = false
+reads_input (Changing change) = false
+reads_input (Listed listing) = false
+reads_input (Showing thing) = true
 reads_input Batch = true
-reads_input ShowCommit = true
-reads_input ShowDirTree = true
-reads_input ShowDirMeta = true
-reads_input (ShowValue of) = true
 
+-- 2 for words that are no command, 1 for every other refusal
 abbrev pub status_of : Refusal → ℕ
 status_of (BadWords index) = 2
-status_of (NoSuchRemote remote) = 1
-status_of (RemoteExists remote) = 1
-status_of (MalformedObject digest kind rule) = 1
-status_of (PinExists pin) = 1
-status_of (NoSuchPin pin) = 1
-status_of (Limit what number) = 1
-status_of (BadRecord line) = 1
-status_of (Damaged path) = 1
+status_of _ = 1
 
 abbrev pub status_by : Option Refusal → ℕ
 status_by None = 0
@@ -84,8 +62,3 @@ IsOp (AddRemote row) = is_row row ≡ true
 IsOp (ModifyRemote row) = is_row row ≡ true
 IsOp (DropRemote name) = is_remote_name name ≡ true
 IsOp Migrate = Unit {0}
-
--- so is the operation that was asked for
-abbrev pub IsOpAsked : Option Op → Type 0
-IsOpAsked None = Unit {0}
-IsOpAsked (Some op) = IsOp op

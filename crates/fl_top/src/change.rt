@@ -1,4 +1,4 @@
-// Commands that change the installation.
+//! What changes the installation.
 ghost use Rattle.std.specs.Prelude.{◌≡◌, OnOk, IfOk, IfErr, IsErrOf};
 ghost use Rattle.fp_host.specs.Causes.{IsCaused};
 ghost use Rattle.fp_host.specs.Moments.{Goes};
@@ -10,48 +10,49 @@ ghost use Rattle.fl_top.specs.Answer.{op_of as op_asked, act, did, migrating, ch
 ghost use Rattle.fl_top.specs.Ends.{IsTried};
 ghost use Rattle.fl_top.specs.Performs.{Performs, Performed, WasDone, RunsOver, EndedOver};
 ghost use Rattle.fl_top.specs.Runs.{IsReady};
-ghost use Rattle.fl_top.specs.Status.{IsOp, IsOpAsked};
+ghost use Rattle.fl_top.specs.Status.{IsOp};
 
 use crate::end::RunEnd;
 use dep_open::{open, tidy};
 use dep_states::Opened;
-use fl_words::{Command, op_line};
+use fl_words::{Change, op_line};
+use fp_base::What;
 use fp_host::Host;
 use fp_name::{PinPattern, RemoteName};
 use fp_small::{
-    Layout, MOST_PINS, MOST_REMOTES, Op, Refusal, RemoteRow, State, What, has_pin, has_remote,
+    Layout, MOST_PINS, MOST_REMOTES, Op, Refusal, RemoteRow, State, has_pin, has_remote,
 };
 use op_change::apply;
 use std::alloc::{AllocError, Global};
 
-/// Opens the installation and does the commands on it, one after another up to the first refusal.
-pub(crate) fn change<H: Host>(
+/// Opens the installation and makes the changes, one after another up to the first refusal.
+pub(crate) fn change_all<H: Host>(
     alloc: Global,
     host: &mut H,
-    commands: &[Command],
+    changes: &[Change],
 ) -> Result<(), RunEnd>
-    ensures moments { Goes (H.moments host.old) (H.moments host.new) (RunsOver (changing commands.now)) (EndedOver (changing commands.now) result) }
+    ensures moments { Goes (H.moments host.old) (H.moments host.new) (RunsOver (changing changes.now)) (EndedOver (changing changes.now) result) }
     ensures cause { IsCaused (IsErrOf result RunEnd.Fault) (H.moments host.old) IsReady (H.faults host.old) (H.faults host.new) }
 {
     let opened = open(alloc, host)?;
-    do_all(alloc, host, opened, commands)?;
+    do_all(alloc, host, opened, changes)?;
     Ok(())
 }
 
-/// Does the commands on an opened installation. It is tidied and migrated before.
+/// Makes the changes on an opened installation. It is tidied and migrated before.
 fn do_all<H: Host>(
     alloc: Global,
     host: &mut H,
     opened: Opened,
-    commands: &[Command],
+    changes: &[Change],
 ) -> Result<Opened, RunEnd>
     requires good { IsGood opened }
-    ensures moments { Goes (H.moments host.old) (H.moments host.new) (Performs (changing commands.now opened) opened) (Performed (changing commands.now opened) opened result) }
+    ensures moments { Goes (H.moments host.old) (H.moments host.new) (Performs (changing changes.now opened) opened) (Performed (changing changes.now opened) opened result) }
     ensures cause { IsCaused (IsErrOf result RunEnd.Fault) (H.moments host.old) (Opens opened) (H.faults host.old) (H.faults host.new) }
 {
     let tidied = tidy(alloc, host, opened)?;
     let current = migrate(alloc, host, tidied)?;
-    do_each(alloc, host, current, commands)
+    do_each(alloc, host, current, changes)
 }
 
 /// Migrates an installation of layout 1.
@@ -68,59 +69,55 @@ fn migrate<H: Host>(alloc: Global, host: &mut H, opened: Opened) -> Result<Opene
     }
 }
 
-/// Does the commands one after another, up to the first refusal.
+/// Makes the changes one after another, up to the first refusal.
 fn do_each<H: Host>(
     alloc: Global,
     host: &mut H,
     opened: Opened,
-    commands: &[Command],
+    changes: &[Change],
 ) -> Result<Opened, RunEnd>
     requires good { IsGood opened }
     requires layout { opened.layout ≡ Two }
-    ensures moments { Goes (H.moments host.old) (H.moments host.new) (Performs (in_turn commands.now opened) opened) (Performed (in_turn commands.now opened) opened result) }
+    ensures moments { Goes (H.moments host.old) (H.moments host.new) (Performs (in_turn changes.now opened) opened) (Performed (in_turn changes.now opened) opened result) }
     ensures cause { IsCaused (IsErrOf result RunEnd.Fault) (H.moments host.old) (Opens opened) (H.faults host.old) (H.faults host.new) }
 {
     let mut current = opened;
-    for command in commands {
-        current = do_command(alloc, host, current, command)?;
+    for change in changes {
+        current = do_change(alloc, host, current, change)?;
     }
     Ok(current)
 }
 
-/// Does one command, where nothing speaks against it.
-fn do_command<H: Host>(
+/// Makes one change, where nothing speaks against it.
+fn do_change<H: Host>(
     alloc: Global,
     host: &mut H,
     opened: Opened,
-    command: &Command,
+    change: &Change,
 ) -> Result<Opened, RunEnd>
     requires good { IsGood opened }
     requires layout { opened.layout ≡ Two }
     ensures good { IfOk result IsGood }
     ensures layout { IfOk result (λ o. o.layout ≡ Two) }
-    ensures moments { Goes (H.moments host.old) (H.moments host.new) (Performs (change_over command.now opened) opened) (Performed (change_over command.now opened) opened result) }
+    ensures moments { Goes (H.moments host.old) (H.moments host.new) (Performs (change_over change.now opened) opened) (Performed (change_over change.now opened) opened result) }
     ensures cause { IsCaused (IsErrOf result RunEnd.Fault) (H.moments host.old) (Opens opened) (H.faults host.old) (H.faults host.new) }
 {
-    match op_of(command)? {
-        Some(op) => try_and_do(alloc, host, opened, &op),
-        None => Ok(opened),
-    }
+    let op = op_of(change)?;
+    try_and_do(alloc, host, opened, &op)
 }
 
-/// The operation that a command asks for.
-fn op_of(command: &Command) -> Result<Option<Op>, AllocError>
-    ensures is { IfOk result (λ asked. asked ≡ op_asked command.now) }
-    ensures good { IfOk result IsOpAsked }
+/// The operation of a change.
+fn op_of(change: &Change) -> Result<Op, AllocError>
+    ensures is { IfOk result (λ op. op ≡ op_asked change.now) }
+    ensures good { IfOk result IsOp }
+    ensures layout { IfOk result (λ op. layout_for op ≡ Two) }
 {
-    Ok(match command {
-        Command::Pin(pin) => Some(Op::AddPin(pin.copy()?)),
-        Command::Unpin(pin) => Some(Op::DropPin(pin.copy()?)),
-        Command::RemoteAdd(row) => Some(Op::AddRemote(row.copy()?)),
-        Command::RemoteModify(row) => Some(Op::ModifyRemote(row.copy()?)),
-        Command::RemoteDelete(name) => Some(Op::DropRemote(name.copy()?)),
-        Command::ListPins | Command::ListRemotes | Command::Batch => None,
-        Command::ShowCommit | Command::ShowDirTree | Command::ShowDirMeta => None,
-        Command::ShowValue(_) => None,
+    Ok(match change {
+        Change::Pin(pin) => Op::AddPin(pin.copy()?),
+        Change::Unpin(pin) => Op::DropPin(pin.copy()?),
+        Change::RemoteAdd(row) => Op::AddRemote(row.copy()?),
+        Change::RemoteModify(row) => Op::ModifyRemote(row.copy()?),
+        Change::RemoteDelete(name) => Op::DropRemote(name.copy()?),
     })
 }
 
@@ -143,7 +140,7 @@ fn try_and_do<H: Host>(
     do_op(alloc, host, opened, op)
 }
 
-/// Does one operation, says its line once it is done, and tidies behind it. The line is made before.
+/// Does one operation, says its line once it is done, and tidies after it. The line is made before.
 fn do_op<H: Host>(alloc: Global, host: &mut H, opened: Opened, op: &Op) -> Result<Opened, RunEnd>
     requires may { May opened op.now }
     requires good { IsGood opened }

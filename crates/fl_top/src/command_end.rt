@@ -4,8 +4,9 @@ ghost use Rattle.std.specs.Prelude.{◌≡◌};
 use crate::end::RunEnd;
 use crate::input::InputEnd;
 use fl_words::BatchError;
+use fp_base::What;
 use fp_host::HostEnd;
-use fp_small::{Refusal, What};
+use fp_small::Refusal;
 
 /// How a command ends where it isn't done.
 #[derive(Drop)]

@@ -1,34 +1,37 @@
-// The run of a command.
-ghost use Rattle.std.specs.Prelude.{◌≡◌, ◌≢◌, ◌≤◌, ◌⊎◌, true, Some, map, string_bytes, IsErrOf};
+//! The run of a command.
+ghost use Rattle.std.specs.Prelude.{◌≡◌, ◌≢◌, ◌≤◌, ◌⊎◌, true, Some, map, string_bytes, IfOk, IsErrOf};
 ghost use Rattle.fp_host.specs.Causes.{IsCaused};
 ghost use Rattle.fp_host.specs.Frame.{Ends, Still};
 ghost use Rattle.fp_host.specs.Moments.{Goes, Rose};
+ghost use Rattle.fp_small.specs.declared.refusal.Refusal.TheVariants.{BadWords};
 ghost use Rattle.fl_words.specs.Lines.{refusal_text};
-ghost use Rattle.fl_words.specs.Words.{command_of};
-ghost use Rattle.fl_words.specs.declared.command.Command.TheVariants.{Batch};
-ghost use Rattle.fl_top.specs.Answer.{told_pins, told_remotes, showing};
+ghost use Rattle.fl_words.specs.Forms.{command_of};
+ghost use Rattle.fl_words.specs.declared.command.Command.TheVariants.{Show as Showing, Batch};
+ghost use Rattle.fl_top.specs.Answer.{listed, listed_text as text_listed};
 ghost use Rattle.fl_top.specs.Performs.{LooksOver, EndedOver, RunsOn, EndedOn, RanOn, Takes, TakenBy};
 ghost use Rattle.fl_top.specs.Runs.{RunsBy, RanBy, WasTaken, IsReady, Serves};
 ghost use Rattle.fl_top.specs.Says.{Says, SaidBy, Refuses};
 ghost use Rattle.fl_top.specs.Status.{IsStatus, IsOfWords, IsOfCommand, reads_input};
 
-use crate::change::change;
+use crate::change::change_all;
 use crate::command_end::CommandEnd;
 use crate::end::RunEnd;
 use crate::input::read_input;
-use crate::showing::{Shown, shown_text};
+use crate::showing::shown_text;
 use dep_open::read_state;
 use fl_words::{
-    Command, WordsError, pins_text, read_batch, read_words, refusal_line, remotes_text,
+    Command, Listing, Shown, WordsError, pins_text, read_batch, read_words, refusal_line,
+    remotes_text,
 };
+use fp_base::Text;
 use fp_host::{Host, HostEnd, Remotes, Source};
-use fp_small::Refusal;
-use std::alloc::Global;
+use fp_small::{Refusal, State};
+use std::alloc::{AllocError, Global};
 use std::thread::Threads;
 
 /// Runs the command of these words on the installation in the host, and prints what it answers there. The status is 0 where
 /// it was done, 1 where it was refused, 2 where the words are no command, 3 where the host failed, 5 where the input failed,
-/// 6 where memory was wanting.
+/// 6 where there was no memory.
 pub fn run<H: Host, R: Remotes, I: Source>(
     _rt: &(impl Threads + Sync),
     alloc: Global,
@@ -48,13 +51,13 @@ pub fn run<H: Host, R: Remotes, I: Source>(
     // The input is read before anything is done.
     ensures input { result ≡ 5 → Rose (I.faults input.old) (I.faults input.new) × Still (H.moments host.old) (H.moments host.new) }
     ensures taken { WasTaken (command_of (map string_bytes words.now)) result (I.left input.old) (I.left input.new) }
-    ensures later { (I.faults input.old ≤ I.faults input.new) × (R.faults remotes.old ≤ R.faults remotes.new) }
+    ensures later { I.faults input.old ≤ I.faults input.new }
+    // No command asks the remotes.
+    ensures remotes { R.faults remotes.new ≡ R.faults remotes.old }
 {
     match read_words(alloc, words) {
         Ok(command) => run_command(alloc, input, host, command),
-        Err(WordsError::BadWords { index }) => {
-            refuse(alloc, host, &Refusal::BadWords { index }, 2)
-        }
+        Err(WordsError::BadWords { index }) => refuse_words(alloc, host, index),
         Err(WordsError::NoMemory) => 6,
     }
 }
@@ -75,7 +78,7 @@ fn run_command<H: Host, I: Source>(
 {
     match perform(alloc, input, host, command) {
         Ok(()) => 0,
-        Err(CommandEnd::Refused(refusal)) => refuse(alloc, host, &refusal, 1),
+        Err(CommandEnd::Refused(refusal)) => refuse(alloc, host, refusal, 1),
         Err(CommandEnd::Fault) => 3,
         Err(CommandEnd::InputFault) => 5,
         Err(CommandEnd::NoMemory) => 6,
@@ -96,14 +99,10 @@ fn perform<H: Host, I: Source>(
     ensures later { I.faults input.old ≤ I.faults input.new }
 {
     match command {
-        Command::ListPins => Ok(list_pins(alloc, host)?),
-        Command::ListRemotes => Ok(list_remotes(alloc, host)?),
+        Command::Change(change) => Ok(change_all(alloc, host, &[change])?),
+        Command::List(listing) => Ok(list(alloc, host, listing)?),
+        Command::Show(thing) => show(alloc, input, host, &thing),
         Command::Batch => batch(alloc, input, host),
-        Command::ShowCommit => show(alloc, input, host, &Shown::Commit),
-        Command::ShowDirTree => show(alloc, input, host, &Shown::DirTree),
-        Command::ShowDirMeta => show(alloc, input, host, &Shown::DirMeta),
-        Command::ShowValue(of) => show(alloc, input, host, &Shown::Value(of)),
-        command => Ok(change(alloc, host, &[command])?),
     }
 }
 
@@ -114,7 +113,7 @@ fn show<H: Host, I: Source>(
     host: &mut H,
     thing: &Shown,
 ) -> Result<(), CommandEnd>
-    ensures moments { Goes (H.moments host.old) (H.moments host.new) (RunsOn (showing thing.now) (I.left input.old)) (EndedOn (showing thing.now) (I.left input.old) result) }
+    ensures moments { Goes (H.moments host.old) (H.moments host.new) (RunsOn (Showing thing.now) (I.left input.old)) (EndedOn (Showing thing.now) (I.left input.old) result) }
     ensures cause { IsCaused (IsErrOf result CommandEnd.Fault) (H.moments host.old) (λ v. Unit {0}) (H.faults host.old) (H.faults host.new) }
     ensures input { IsErrOf result CommandEnd.InputFault → Rose (I.faults input.old) (I.faults input.new) × Still (H.moments host.old) (H.moments host.new) }
     ensures taken { TakenBy result (I.left input.old) (I.left input.new) }
@@ -125,7 +124,7 @@ fn show<H: Host, I: Source>(
     Ok(say(host, text.as_str().as_bytes())?)
 }
 
-/// Reads the commands of the input, and does them one after another.
+/// Reads the changes that the input asks for, and makes them one after another.
 fn batch<H: Host, I: Source>(alloc: Global, input: &mut I, host: &mut H) -> Result<(), CommandEnd>
     ensures moments { Goes (H.moments host.old) (H.moments host.new) (RunsOn Batch (I.left input.old)) (EndedOn Batch (I.left input.old) result) }
     ensures cause { IsCaused (IsErrOf result CommandEnd.Fault) (H.moments host.old) IsReady (H.faults host.old) (H.faults host.new) }
@@ -134,37 +133,45 @@ fn batch<H: Host, I: Source>(alloc: Global, input: &mut I, host: &mut H) -> Resu
     ensures later { I.faults input.old ≤ I.faults input.new }
 {
     let bytes = read_input(alloc, input)?;
-    let commands = read_batch(alloc, bytes.as_slice())?;
-    Ok(change(alloc, host, commands.as_slice())?)
+    let changes = read_batch(alloc, bytes.as_slice())?;
+    Ok(change_all(alloc, host, changes.as_slice())?)
 }
 
-/// Prints each pin on a line.
-fn list_pins<H: Host>(alloc: Global, host: &mut H) -> Result<(), RunEnd>
-    ensures moments { Goes (H.moments host.old) (H.moments host.new) (LooksOver told_pins) (EndedOver told_pins result) }
+/// Prints what is listed.
+fn list<H: Host>(alloc: Global, host: &mut H, listing: Listing) -> Result<(), RunEnd>
+    ensures moments { Goes (H.moments host.old) (H.moments host.new) (LooksOver (listed listing)) (EndedOver (listed listing) result) }
     ensures cause { IsCaused (IsErrOf result RunEnd.Fault) (H.moments host.old) (λ v. Unit {0}) (H.faults host.old) (H.faults host.new) }
 {
     let state = read_state(alloc, host)?;
-    let text = pins_text(alloc, state.pins.as_slice())?;
+    let text = listed_text(alloc, listing, &state)?;
     host.say(text.as_str().as_bytes())?;
     Ok(())
 }
 
-/// Prints each remote on a line.
-fn list_remotes<H: Host>(alloc: Global, host: &mut H) -> Result<(), RunEnd>
-    ensures moments { Goes (H.moments host.old) (H.moments host.new) (LooksOver told_remotes) (EndedOver told_remotes result) }
-    ensures cause { IsCaused (IsErrOf result RunEnd.Fault) (H.moments host.old) (λ v. Unit {0}) (H.faults host.old) (H.faults host.new) }
+/// What is listed of a state.
+fn listed_text(alloc: Global, listing: Listing, state: &State) -> Result<Text, AllocError>
+    ensures { IfOk result (λ t. t ≡ text_listed listing state.now) }
 {
-    let state = read_state(alloc, host)?;
-    let text = remotes_text(alloc, state.remotes.as_slice())?;
-    host.say(text.as_str().as_bytes())?;
-    Ok(())
+    match listing {
+        Listing::Pins => pins_text(alloc, state.pins.as_slice()),
+        Listing::Remotes => remotes_text(alloc, state.remotes.as_slice()),
+    }
+}
+
+/// Prints the line of words that are no command.
+fn refuse_words<H: Host>(alloc: Global, host: &mut H, index: u64) -> u8
+    ensures status { (result ≡ 2) ⊎ ((result ≡ 3) ⊎ (result ≡ 6)) }
+    ensures moments { Goes (H.moments host.old) (H.moments host.new) (Says (refusal_text (BadWords index))) (Refuses (refusal_text (BadWords index)) 2 result) }
+    ensures cause { IsCaused (result ≡ 3) (H.moments host.old) (λ v. Unit {0}) (H.faults host.old) (H.faults host.new) }
+{
+    refuse(alloc, host, Refusal::BadWords { index }, 2)
 }
 
 /// Prints the line of a refusal. The status is the one that goes with it.
-fn refuse<H: Host>(alloc: Global, host: &mut H, refusal: &Refusal, status: u8) -> u8
+fn refuse<H: Host>(alloc: Global, host: &mut H, refusal: Refusal, status: u8) -> u8
     requires { status ≢ 3 }
     ensures status { (result ≡ status) ⊎ ((result ≡ 3) ⊎ (result ≡ 6)) }
-    ensures moments { Goes (H.moments host.old) (H.moments host.new) (Says (refusal_text refusal.now)) (Refuses (refusal_text refusal.now) status result) }
+    ensures moments { Goes (H.moments host.old) (H.moments host.new) (Says (refusal_text refusal)) (Refuses (refusal_text refusal) status result) }
     ensures cause { IsCaused (result ≡ 3) (H.moments host.old) (λ v. Unit {0}) (H.faults host.old) (H.faults host.new) }
 {
     match say_refusal(alloc, host, refusal) {
@@ -175,13 +182,20 @@ fn refuse<H: Host>(alloc: Global, host: &mut H, refusal: &Refusal, status: u8) -
 }
 
 /// Prints the line of a refusal.
-fn say_refusal<H: Host>(alloc: Global, host: &mut H, refusal: &Refusal) -> Result<(), HostEnd>
-    ensures moments { Goes (H.moments host.old) (H.moments host.new) (Says (refusal_text refusal.now)) (SaidBy (refusal_text refusal.now) result) }
+fn say_refusal<H: Host>(alloc: Global, host: &mut H, refusal: Refusal) -> Result<(), HostEnd>
+    ensures moments { Goes (H.moments host.old) (H.moments host.new) (Says (refusal_text refusal)) (SaidBy (refusal_text refusal) result) }
     ensures cause { IsCaused (IsErrOf result HostEnd.Fault) (H.moments host.old) (λ v. Unit {0}) (H.faults host.old) (H.faults host.new) }
 {
-    let line = refusal_line(alloc, refusal)?;
+    let line = last_line(alloc, refusal)?;
     host.say(line.as_str().as_bytes())?;
     Ok(())
+}
+
+/// The line of a refusal.
+fn last_line(alloc: Global, refusal: Refusal) -> Result<Text, AllocError>
+    ensures { IfOk result (λ t. t ≡ refusal_text refusal) }
+{
+    refusal_line(alloc, &refusal)
 }
 
 /// Prints a text.

@@ -1,21 +1,21 @@
-// What `show` prints of its input.
+//! What `show` prints of its input.
 ghost use Rattle.std.specs.Prelude.{◌≡◌, ◌++◌, IfOk, OnOk, map, string_bytes, codes};
-ghost use Rattle.fp_small.specs.declared.refusal.Refusal.TheVariants.{MalformedObject};
+ghost use Rattle.ost_model.specs.Contents.{meta_digest};
 ghost use Rattle.std.specs.Option.{is_some};
 ghost use Rattle.gv_value.specs.Reading.{value_of};
 ghost use Rattle.gv_value.specs.Views.{shape_of};
 ghost use Rattle.ost_object.specs.Views.{commit_view, file_row, dir_row, tree_view, meta_view, parent_bytes};
+ghost use Rattle.fl_words.specs.Lines.{line, octal};
 ghost use Rattle.fl_top.specs.Answer.{commit_shown, tree_shown, meta_shown, value_shown, shown_by};
-ghost use Rattle.fl_top.specs.Ends.{Prints};
-ghost use Rattle.fl_top.specs.Objects.{head, root_lines, commit_lines, tree_lines, meta_lines, file_line, dir_line, files_text, dirs_text, parent_text, octal, rule_word};
-ghost use Rattle.fl_top.specs.declared.end.RunEnd.TheVariants.{Refused};
+ghost use Rattle.fl_top.specs.Ends.{Prints, end_of_object};
+ghost use Rattle.fl_top.specs.Objects.{head, root_lines, commit_lines, tree_lines, meta_lines, file_line, dir_line, files_text, dirs_text, parent_text};
 
 use crate::end::RunEnd;
-use fp_base::{Rule, Text};
-use fl_words::{ValueType, digits_of, escape};
+use fl_words::{Shown, ValueType, digits_of, escape, octal_of};
+use fp_base::{ObjKind, Text};
 use fp_name::Digest;
 use fp_small::Refusal;
-use gv_decode::{DecodeError, decode};
+use gv_decode::{DecodeError, check_normal};
 use gv_value::GvType;
 use ost_content::meta_digest;
 use ost_object::{
@@ -23,15 +23,6 @@ use ost_object::{
     read_dirtree,
 };
 use std::alloc::{AllocError, Global};
-
-/// What the input is shown as: an object of a kind, or a value of a type.
-#[derive(Drop)]
-pub(crate) enum Shown {
-    Commit,
-    DirTree,
-    DirMeta,
-    Value(ValueType),
-}
 
 /// What is printed of bytes that are shown as this.
 pub(crate) fn shown_text(alloc: Global, thing: &Shown, bytes: &[u8]) -> Result<Text, RunEnd>
@@ -49,11 +40,9 @@ pub(crate) fn shown_text(alloc: Global, thing: &Shown, bytes: &[u8]) -> Result<T
 fn commit_text(alloc: Global, bytes: &[u8]) -> Result<Text, RunEnd>
     ensures { Prints (commit_shown bytes.now) result }
 {
-    let digest = meta_digest(bytes);
     match read_commit(alloc, bytes) {
-        Ok(commit) => Ok(said_of_commit(alloc, &digest, &commit)?),
-        Err(ObjectError::Malformed(rule)) => Err(malformed(alloc, digest, "commit", rule)?),
-        Err(ObjectError::NoMemory) => Err(RunEnd::NoMemory),
+        Ok(commit) => Ok(said_of_commit(alloc, bytes, &commit)?),
+        Err(error) => Err(malformed(bytes, ObjKind::Commit, error)),
     }
 }
 
@@ -61,11 +50,9 @@ fn commit_text(alloc: Global, bytes: &[u8]) -> Result<Text, RunEnd>
 fn tree_text(alloc: Global, bytes: &[u8]) -> Result<Text, RunEnd>
     ensures { Prints (tree_shown bytes.now) result }
 {
-    let digest = meta_digest(bytes);
     match read_dirtree(alloc, bytes) {
-        Ok(tree) => Ok(said_of_tree(alloc, &digest, &tree)?),
-        Err(ObjectError::Malformed(rule)) => Err(malformed(alloc, digest, "dirtree", rule)?),
-        Err(ObjectError::NoMemory) => Err(RunEnd::NoMemory),
+        Ok(tree) => Ok(said_of_tree(alloc, bytes, &tree)?),
+        Err(error) => Err(malformed(bytes, ObjKind::DirTree, error)),
     }
 }
 
@@ -73,11 +60,9 @@ fn tree_text(alloc: Global, bytes: &[u8]) -> Result<Text, RunEnd>
 fn meta_text(alloc: Global, bytes: &[u8]) -> Result<Text, RunEnd>
     ensures { Prints (meta_shown bytes.now) result }
 {
-    let digest = meta_digest(bytes);
     match read_dirmeta(alloc, bytes) {
-        Ok(meta) => Ok(said_of_meta(alloc, &digest, meta)?),
-        Err(ObjectError::Malformed(rule)) => Err(malformed(alloc, digest, "dirmeta", rule)?),
-        Err(ObjectError::NoMemory) => Err(RunEnd::NoMemory),
+        Ok(meta) => Ok(said_of_meta(alloc, bytes, meta)?),
+        Err(error) => Err(malformed(bytes, ObjKind::DirMeta, error)),
     }
 }
 
@@ -90,57 +75,40 @@ fn value_text(alloc: Global, of: &ValueType, bytes: &[u8]) -> Result<Text, RunEn
         let text = format!(in alloc; "normal {size}\n")?;
         return Ok(Text::from_string(text));
     }
-    Err(malformed(alloc, meta_digest(bytes), "value", Rule::Value)?)
+    let digest = meta_digest(bytes);
+    Err(RunEnd::Refused(Refusal::MalformedValue { digest }))
 }
 
 /// Whether bytes are the normal form of a value of a type.
 fn is_normal(alloc: Global, of: &GvType, bytes: &[u8]) -> Result<bool, AllocError>
     ensures { IfOk result (λ normal. normal ≡ is_some (value_of (shape_of of.now) bytes.now)) }
 {
-    match decode(alloc, of, bytes) {
-        Ok(value) => {
-            drop(value);
-            Ok(true)
-        }
+    match check_normal(alloc, of, bytes) {
+        Ok(()) => Ok(true),
         Err(DecodeError::TooLong) => Ok(false),
         Err(DecodeError::NotNormal) => Ok(false),
         Err(DecodeError::NoMemory) => Err(AllocError),
     }
 }
 
-/// The refusal of bytes that are no object of a kind.
-fn malformed(alloc: Global, digest: Digest, kind: &str, rule: Rule) -> Result<RunEnd, AllocError>
-    ensures { IfOk result (λ end. end ≡ Refused (MalformedObject digest kind.now (rule_word rule))) }
+/// How bytes end that aren't read as an object of a kind.
+fn malformed(bytes: &[u8], kind: ObjKind, error: ObjectError) -> RunEnd
+    ensures { result ≡ end_of_object (meta_digest bytes.now) kind error }
 {
-    let kind = Text::from_string(kind.to_string(alloc)?);
-    let rule = Text::from_string(word_of(rule).to_string(alloc)?);
-    Ok(RunEnd::Refused(Refusal::MalformedObject { digest, kind, rule }))
-}
-
-// The word for a rule.
-fn word_of(rule: Rule) -> &'static str
-    ensures { result.now ≡ rule_word rule }
-{
-    match rule {
-        Rule::Value => "value",
-        Rule::Parent => "parent",
-        Rule::Tree => "tree",
-        Rule::Meta => "meta",
-        Rule::Digest => "digest",
-        Rule::Name => "name",
-        Rule::Order => "order",
-        Rule::Both => "both",
-        Rule::Owner => "owner",
-        Rule::Xattrs => "xattrs",
-        Rule::Kind => "kind",
+    match error {
+        ObjectError::Malformed(rule) => {
+            let digest = meta_digest(bytes);
+            RunEnd::Refused(Refusal::MalformedObject { digest, kind, rule })
+        }
+        ObjectError::NoMemory => RunEnd::NoMemory,
     }
 }
 
 /// A commit's digest and its fields, a line each.
-fn said_of_commit(alloc: Global, digest: &Digest, commit: &Commit) -> Result<Text, AllocError>
-    ensures { IfOk result (λ t. t ≡ head digest.now (codes "commit") ++ commit_lines (commit_view commit.now)) }
+fn said_of_commit(alloc: Global, bytes: &[u8], commit: &Commit) -> Result<Text, AllocError>
+    ensures { IfOk result (λ t. t ≡ head (meta_digest bytes.now) (codes "commit") ++ commit_lines (commit_view commit.now)) }
 {
-    let digest = digits_of(alloc, digest)?;
+    let digest = digits_of(alloc, &meta_digest(bytes))?;
     let fields = fields_of(alloc, commit)?;
     let text = format!(in alloc; "{digest} commit\n{fields}")?;
     Ok(Text::from_string(text))
@@ -178,10 +146,10 @@ fn parent_of(alloc: Global, parent: &Option<Digest>) -> Result<String, AllocErro
 }
 
 /// A dirtree's digest and its names, a line each.
-fn said_of_tree(alloc: Global, digest: &Digest, tree: &DirTree) -> Result<Text, AllocError>
-    ensures { IfOk result (λ t. t ≡ head digest.now (codes "dirtree") ++ tree_lines (tree_view tree.now)) }
+fn said_of_tree(alloc: Global, bytes: &[u8], tree: &DirTree) -> Result<Text, AllocError>
+    ensures { IfOk result (λ t. t ≡ head (meta_digest bytes.now) (codes "dirtree") ++ tree_lines (tree_view tree.now)) }
 {
-    let digest = digits_of(alloc, digest)?;
+    let digest = digits_of(alloc, &meta_digest(bytes))?;
     let files = files_in(alloc, tree.files.as_slice())?;
     let dirs = dirs_in(alloc, tree.dirs.as_slice())?;
     let text = format!(in alloc; "{digest} dirtree\n{files}{dirs}")?;
@@ -228,24 +196,19 @@ fn push_dir(alloc: Global, out: &mut String, dir: &DirEntry) -> Result<(), Alloc
 }
 
 /// A dirmeta's digest and its mode.
-fn said_of_meta(alloc: Global, digest: &Digest, meta: DirMeta) -> Result<Text, AllocError>
-    ensures { IfOk result (λ t. t ≡ head digest.now (codes "dirmeta") ++ meta_lines (meta_view meta)) }
+fn said_of_meta(alloc: Global, bytes: &[u8], meta: DirMeta) -> Result<Text, AllocError>
+    ensures { IfOk result (λ t. t ≡ head (meta_digest bytes.now) (codes "dirmeta") ++ meta_lines (meta_view meta)) }
 {
-    let digest = digits_of(alloc, digest)?;
-    let mode = octal_of(alloc, meta.mode)?;
-    let text = format!(in alloc; "{digest} dirmeta\nmode {mode}\n")?;
+    let digest = digits_of(alloc, &meta_digest(bytes))?;
+    let mode = mode_line(alloc, meta.mode)?;
+    let text = format!(in alloc; "{digest} dirmeta\n{mode}")?;
     Ok(Text::from_string(text))
 }
 
-/// The six lowest octal digits of a mode.
-fn octal_of(alloc: Global, mode: u32) -> Result<String, AllocError>
-    ensures { IfOk result (λ t. string_bytes t ≡ octal mode) }
+/// The line of a mode.
+fn mode_line(alloc: Global, mode: u32) -> Result<String, AllocError>
+    ensures { IfOk result (λ t. string_bytes t ≡ line (codes "mode " ++ octal mode)) }
 {
-    let type_high = mode / 32768 % 8;
-    let type_low = mode / 4096 % 8;
-    let special = mode / 512 % 8;
-    let user = mode / 64 % 8;
-    let group = mode / 8 % 8;
-    let others = mode % 8;
-    format!(in alloc; "{type_high}{type_low}{special}{user}{group}{others}")
+    let mode = octal_of(alloc, mode)?;
+    format!(in alloc; "mode {mode}\n")
 }

@@ -1,8 +1,8 @@
 pub mod Batches
 pub mod Beginnings
 pub mod Escapes
-pub mod Extra
 pub mod LineWords
+pub mod Reaching
 pub mod ReadBack
 pub mod Rows
 pub mod TypeTexts

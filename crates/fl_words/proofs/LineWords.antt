@@ -1,9 +1,12 @@
 -- The words of a line, one after another.
-use Rattle.std.proofs.Common.{subst, Result, Ok, Err, IsErrAnd, IfErr, ◌≡◌, ℕ, ◌+◌, suc, Bool, true, false, eqb, ◌&&◌, List, [], ◌∷◌, ◌++◌, length, take, drop, Option, Some, None, refl, ap, sym, ◌∙◌, inl, inr, arith}
-use Rattle.std.specs.List.{position, list_all, onto_first}
+use Rattle.std.proofs.Common.{subst, Result, Ok, Err, IsErrAnd, IfErr, ◌≡◌, ℕ, ◌+◌, ◌≤◌, suc, Bool, true, false, eqb, ◌&&◌, List, [], ◌∷◌, ◌++◌, length, take, drop, Option, Some, None, refl, ap, sym, ◌∙◌, inl, inr, arith}
+use Rattle.std.specs.List.{position, list_all, onto_first, find}
+use Rattle.std.specs.Option.{option_map}
+use Rattle.std.proofs.lemmas.List.{length-append}
+use Rattle.std.proofs.lemmas.Slice.Eq.{bytes_eq-Decides}
 use Rattle.std.specs.Prelude.{codes, option_and_then}
 use Rattle.std.specs.Str.{is_utf8, IsUtf8}
-use Rattle.std.proofs.lemmas.Bool.{cases_Bool, false≢true, and_parts}
+use Rattle.std.proofs.lemmas.Bool.{cases_Bool, false≢true, and_parts, false_from_ne_true}
 use Rattle.std.proofs.lemmas.Str.{IsUtf8-from_is_utf8, is_utf8-from_IsUtf8}
 use Rattle.fp_name.specs.Bytes.{is_dotted}
 use Rattle.fp_name.specs.Grammar.{is_remote_name, is_url}
@@ -11,22 +14,17 @@ use Rattle.fp_name.specs.Pins.{is_pin}
 use Rattle.fp_name.proofs.Bytes.{Utf8-from_dotted, no_text_no_remote_name, no_text_no_url}
 use Rattle.fp_name.proofs.Pins.{no_text_no_pin}
 use Rattle.fp_keyfile.proofs.FirstPlace.{at_place, at_none}
-use Rattle.fp_small.specs.declared.state.RemoteRow.{RemoteRow}
-use Rattle.fl_words.specs.declared.verb.Verb.{Verb}
-use Rattle.fl_words.specs.declared.verb.Verb.TheVariants as verbs
-use Rattle.fl_words.specs.declared.verb.Shown.{Shown}
-use Rattle.fl_words.specs.declared.verb.Shown.TheVariants as things
 use Rattle.fl_words.specs.declared.command.Command.{Command}
-use Rattle.fl_words.specs.declared.command.Command.TheVariants.{Pin, Unpin, RemoteAdd, RemoteModify, RemoteDelete, ListRemotes, ListPins, Batch, ShowCommit, ShowDirTree, ShowDirMeta, ShowValue}
-use Rattle.fl_words.proofs.TypeTexts.{no_text_no_type}
-use Rattle.fl_words.specs.Types.{is_type_text}
-use Rattle.fl_words.specs.Verbs.{verb_of, shown_of}
-use Rattle.fl_words.specs.Words.{shown_by, behind, command_of, words_of, is_command}
 use Rattle.fl_words.specs.declared.command.WordsError.{WordsError}
 use Rattle.fl_words.specs.declared.command.WordsError.TheVariants.{BadWords, NoMemory}
-use Rattle.fl_words.specs.Behind.{IsNoCommand}
-use Rattle.fl_words.specs.Batch.{words_in, allowed, batch_command, IsNoText, IsNoWords, IsNoRecord}
-use Rattle.fl_words.proofs.ReadBack.{read_back}
+use Rattle.fl_words.specs.declared.forms.Form.{Form}
+use Rattle.fl_words.specs.declared.forms.Form.TheVariants.{Pin, Unpin, RemoteAdd, RemoteModify, RemoteDelete, ListRemotes, ListPins, Batch, ShowCommit, ShowDirTree, ShowDirMeta, ShowValue}
+use Rattle.fl_words.proofs.TypeTexts.{no_text_no_type}
+use Rattle.fl_words.specs.Types.{is_type_text}
+use Rattle.fl_words.specs.Forms.{Place, literal, pattern, remote, url, type_string, fits, forms, slots_of, made, reads, command_of}
+use Rattle.fl_words.specs.Reading.{IsNoCommand}
+use Rattle.fl_words.specs.Batch.{words_in, change_of, batch_change, IsNoText, IsNoWords, IsNoRecord}
+use Rattle.fl_words.proofs.Reaching.{AllFit, reads_fit, fit_length}
 
 -- ---- where the first space stands
 
@@ -63,32 +61,39 @@ words_in_cons (b ∷ bytes) =
 -- ---- words that are no command
 
 -- more than three
-shown_crowded : (o : Option Shown) (b c : List ℕ) (more : List (List ℕ)) → (option_and_then (λ s. shown_by s (b ∷ c ∷ more)) o) ≡ None
-shown_crowded None b c more = refl
-shown_crowded (Some things.Commit) b c more = refl
-shown_crowded (Some things.DirTree) b c more = refl
-shown_crowded (Some things.DirMeta) b c more = refl
-shown_crowded (Some things.Value) b c more = refl
+few_places : (form : Form) → length (slots_of form) ≤ 3
+few_places Pin = omega arith
+few_places Unpin = omega arith
+few_places RemoteAdd = omega arith
+few_places RemoteModify = omega arith
+few_places RemoteDelete = omega arith
+few_places ListRemotes = omega arith
+few_places ListPins = omega arith
+few_places Batch = omega arith
+few_places ShowCommit = omega arith
+few_places ShowDirTree = omega arith
+few_places ShowDirMeta = omega arith
+few_places ShowValue = omega arith
 
-crowded : (o : Option Verb) (a b c : List ℕ) (more : List (List ℕ)) → (option_and_then (λ v. behind v (a ∷ b ∷ c ∷ more)) o) ≡ None
-crowded None a b c more = refl
-crowded (Some verbs.Pin) a b c more = refl
-crowded (Some verbs.Unpin) a b c more = refl
-crowded (Some verbs.RemoteAdd) a b c more = refl
-crowded (Some verbs.RemoteModify) a b c more = refl
-crowded (Some verbs.RemoteDelete) a b c more = refl
-crowded (Some verbs.List) a b c more = refl
-crowded (Some verbs.Batch) a b c more = refl
-crowded (Some verbs.Show) a b c more = shown_crowded (shown_of a) b c more
+-- no form is found where none reads
+find_none : (words : List (List ℕ)) (fs : List Form) → ((form : Form) → reads words form ≡ true → ⊥) → find (reads words) fs ≡ None
+find_none words [] none = refl
+find_none words (f ∷ fs) none = rw (false_from_ne_true (reads words f) (none f)) (find_none words fs none)
+
+pub no_command_where : (words : List (List ℕ)) → ((form : Form) → AllFit (slots_of form) words → ⊥) → command_of words ≡ None
+no_command_where words none = ap (option_map (λ form. made form words)) (find_none words forms (λ form h. none form (reads_fit words form h)))
 
 pub too_many : (words : List (List ℕ)) (word : List ℕ) (more : List (List ℕ)) → length words ≡ 3 → command_of (words ++ word ∷ more) ≡ None
-too_many [] word more h = absurd cc
-too_many (a ∷ []) word more h = absurd (omega arith)
-too_many (a ∷ b ∷ []) word more h = absurd (omega arith)
-too_many (a ∷ b ∷ c ∷ []) word more h = crowded (verb_of a) b c word more
-too_many (a ∷ b ∷ c ∷ d ∷ words) word more h = absurd (omega arith)
+too_many words word more h = no_command_where (words ++ word ∷ more) (λ form fit.
+    let same = fit_length (slots_of form) (words ++ word ∷ more) fit in
+    omega (arith, h, few_places form, same, length-append words (word ∷ more)))
 
 -- and those of which one isn't text
+
+-- a text of letters, digits, `-` and such
+ascii : (text : List ℕ) → list_all is_dotted text ≡ true → is_utf8 text ≡ true
+ascii text h = is_utf8-from_IsUtf8 text (Utf8-from_dotted text h)
+
 text_where : (passes : List ℕ → Bool) → ((text : List ℕ) → (IsUtf8 text → ⊥) → passes text ≡ false) → (text : List ℕ) → passes text ≡ true → is_utf8 text ≡ true
 text_where passes none text h =
     elim (cases_Bool (is_utf8 text)) [
@@ -96,48 +101,50 @@ text_where passes none text h =
       | inr no' ↦ absurd (false≢true (sym (none text (λ u. false≢true (sym no' ∙ is_utf8-from_IsUtf8 text u))) ∙ h))
     ]
 
-row_texts : (row : RemoteRow) → (is_remote_name row.name && is_url row.url) ≡ true → (is_utf8 row.name ≡ true) × (is_utf8 row.url ≡ true)
-row_texts row h =
-    let parts = and_parts (is_remote_name row.name) (is_url row.url) h in
-    (text_where is_remote_name no_text_no_remote_name row.name parts.0, text_where is_url no_text_no_url row.url parts.1)
+-- the words of the forms are such
+abbrev is_plain : Place → Bool
+is_plain (literal w) = list_all is_dotted w
+is_plain pattern = true
+is_plain remote = true
+is_plain url = true
+is_plain type_string = true
 
--- a text of letters, digits, `-` and such
-ascii : (text : List ℕ) → list_all is_dotted text ≡ true → is_utf8 text ≡ true
-ascii text h = is_utf8-from_IsUtf8 text (Utf8-from_dotted text h)
+plain_places : (form : Form) → list_all is_plain (slots_of form) ≡ true
+plain_places Pin = refl
+plain_places Unpin = refl
+plain_places RemoteAdd = refl
+plain_places RemoteModify = refl
+plain_places RemoteDelete = refl
+plain_places ListRemotes = refl
+plain_places ListPins = refl
+plain_places Batch = refl
+plain_places ShowCommit = refl
+plain_places ShowDirTree = refl
+plain_places ShowDirMeta = refl
+plain_places ShowValue = refl
 
-one_word : (verb word : List ℕ) → list_all is_dotted verb ≡ true → is_utf8 word ≡ true → list_all is_utf8 (verb ∷ word ∷ []) ≡ true
-one_word verb word h g = rw (ascii verb h, g) refl
+fit_text : (place : Place) (text : List ℕ) → is_plain place ≡ true → fits place text ≡ true → is_utf8 text ≡ true
+fit_text (literal w) text plain fit = ap is_utf8 ((bytes_eq-Decides text w).0 fit) ∙ ascii w plain
+fit_text pattern text plain fit = text_where is_pin no_text_no_pin text fit
+fit_text remote text plain fit = text_where is_remote_name no_text_no_remote_name text fit
+fit_text url text plain fit = text_where is_url no_text_no_url text fit
+fit_text type_string text plain fit = text_where is_type_text no_text_no_type text fit
 
-two_words : (verb name url : List ℕ) → list_all is_dotted verb ≡ true → is_utf8 name ≡ true → is_utf8 url ≡ true → list_all is_utf8 (verb ∷ name ∷ url ∷ []) ≡ true
-two_words verb name url h g k = rw (ascii verb h, g, k) refl
-
-all_texts : (c : Command) → is_command c ≡ true → list_all is_utf8 (words_of c) ≡ true
-all_texts (Pin p) h = one_word (codes "pin") p refl (text_where is_pin no_text_no_pin p h)
-all_texts (Unpin p) h = one_word (codes "unpin") p refl (text_where is_pin no_text_no_pin p h)
-all_texts (RemoteAdd row) h = let t = row_texts row h in two_words (codes "remote-add") row.name row.url refl t.0 t.1
-all_texts (RemoteModify row) h = let t = row_texts row h in two_words (codes "remote-modify") row.name row.url refl t.0 t.1
-all_texts (RemoteDelete name) h = one_word (codes "remote-delete") name refl (text_where is_remote_name no_text_no_remote_name name h)
-all_texts ListRemotes h = one_word (codes "list") (codes "--remotes") refl (ascii (codes "--remotes") refl)
-all_texts ListPins h = one_word (codes "list") (codes "--pins") refl (ascii (codes "--pins") refl)
-all_texts Batch h = rw (ascii (codes "batch") refl) refl
-all_texts ShowCommit h = one_word (codes "show") (codes "commit") refl (ascii (codes "commit") refl)
-all_texts ShowDirTree h = one_word (codes "show") (codes "dirtree") refl (ascii (codes "dirtree") refl)
-all_texts ShowDirMeta h = one_word (codes "show") (codes "dirmeta") refl (ascii (codes "dirmeta") refl)
-all_texts (ShowValue of) h = two_words (codes "show") (codes "value") of refl (ascii (codes "value") refl) (text_where is_type_text no_text_no_type of h)
+fit_texts : (places : List Place) (words : List (List ℕ)) → list_all is_plain places ≡ true → AllFit places words → list_all is_utf8 words ≡ true
+fit_texts [] [] plain fit = refl
+fit_texts [] (text ∷ words) plain fit = absurd fit
+fit_texts (place ∷ places) [] plain fit = absurd fit
+fit_texts (place ∷ places) (text ∷ words) plain fit =
+    let parts = and_parts (is_plain place) (list_all is_plain places) plain in
+    rw (fit_text place text parts.0 fit.0) (fit_texts places words parts.1 fit.1)
 
 one_of : (words : List (List ℕ)) (word : List ℕ) (more : List (List ℕ)) → list_all is_utf8 (words ++ word ∷ more) ≡ true → is_utf8 word ≡ true
 one_of [] word more h = (and_parts (is_utf8 word) (list_all is_utf8 more) h).0
 one_of (first ∷ words) word more h = one_of words word more (and_parts (is_utf8 first) (list_all is_utf8 (words ++ word ∷ more)) h).1
 
-no_text_by : (o : Option Command) (words : List (List ℕ)) (word : List ℕ) (more : List (List ℕ)) → command_of (words ++ word ∷ more) ≡ o → (IsUtf8 word → ⊥) → o ≡ None
-no_text_by None words word more h bad = refl
-no_text_by (Some c) words word more h bad =
-    let back = read_back (words ++ word ∷ more) c h in
-    let texts : list_all is_utf8 (words ++ word ∷ more) ≡ true = ap (list_all is_utf8) back.0 ∙ all_texts c back.1 in
-    absurd (bad (IsUtf8-from_is_utf8 word (one_of words word more texts)))
-
 pub no_text : (words : List (List ℕ)) (word : List ℕ) (more : List (List ℕ)) → (IsUtf8 word → ⊥) → command_of (words ++ word ∷ more) ≡ None
-no_text words word more bad = no_text_by (command_of (words ++ word ∷ more)) words word more refl bad
+no_text words word more bad = no_command_where (words ++ word ∷ more) (λ form fit.
+    bad (IsUtf8-from_is_utf8 word (one_of words word more (fit_texts (slots_of form) (words ++ word ∷ more) (plain_places form) fit))))
 
 -- ---- the errors of the words of a line
 
@@ -158,15 +165,15 @@ passed_on (Err x) e line is h = subst (IsNoWords line) (sym is) h
 -- ---- the errors of a line
 
 pub no_record : (line : List ℕ) (e : WordsError) → IsNoWords line e → IsNoRecord line e
-unfolding batch_command
-no_record line (BadWords index) h = ap allowed h
+unfolding batch_change
+no_record line (BadWords index) h = ap (option_and_then change_of) h
 no_record line NoMemory h = tt
 
 pub no_command : (words : List (List ℕ)) (line : List ℕ) (e : WordsError) → words ≡ words_in line → IsNoCommand words e → IsNoRecord line e
-unfolding batch_command
-no_command words line (BadWords index) is h = ap allowed (ap command_of (sym is) ∙ h.0)
+unfolding batch_change
+no_command words line (BadWords index) is h = ap (option_and_then change_of) (ap command_of (sym is) ∙ h.0)
 no_command words line NoMemory is h = tt
 
-pub is_record : (words : List (List ℕ)) (line : List ℕ) (c : Command) → words ≡ words_in line → command_of words ≡ Some c → batch_command line ≡ allowed (Some c)
-unfolding batch_command
-is_record words line c is h = ap allowed (ap command_of (sym is) ∙ h)
+pub is_record : (words : List (List ℕ)) (line : List ℕ) (c : Command) → words ≡ words_in line → command_of words ≡ Some c → batch_change line ≡ change_of c
+unfolding batch_change
+is_record words line c is h = ap (option_and_then change_of) (ap command_of (sym is) ∙ h)

@@ -7,21 +7,24 @@ use Rattle.fp_name.specs.Pins.{is_pin}
 use Rattle.fp_small.specs.declared.refusal.Refusal.TheVariants.{BadWords, PinExists, NoSuchPin, Limit, BadRecord, Damaged}
 use Rattle.fp_base.specs.declared.what.What.TheVariants.{Pins, Input}
 use Rattle.fp_small.specs.declared.op.Op.TheVariants.{AddPin, DropPin, Migrate}
-use Rattle.fl_words.specs.declared.command.Command.TheVariants.{Pin, Unpin, ListPins, Batch, ShowCommit, ShowDirTree, ShowDirMeta, ShowValue}
+use Rattle.fl_words.specs.declared.command.Command.TheVariants.{Change as Changing, List as Listed, Show as Showing, Batch}
+use Rattle.fl_words.specs.declared.command.Change.TheVariants.{Pin, Unpin}
+use Rattle.fl_words.specs.declared.command.Listing.TheVariants as listings
+use Rattle.fl_words.specs.declared.command.Shown.TheVariants.{Commit, DirTree, DirMeta, Value}
 use Rattle.fl_words.specs.Types.{is_type_text}
-use Rattle.fl_words.specs.Words.{command_of, bad_index}
-use Rattle.fl_words.specs.Batch.{batch_command, batch_of}
+use Rattle.fl_words.specs.Forms.{command_of, bad_index}
+use Rattle.fl_words.specs.Batch.{batch_change, batch_of}
 use Rattle.fl_words.specs.Lines.{refusal_text, op_text}
 
-pub pin_all : command_of (codes "pin" ∷ codes "app/*/*/*" ∷ []) ≡ Some (Pin (codes "app/*/*/*"))
+pub pin_all : command_of (codes "pin" ∷ codes "app/*/*/*" ∷ []) ≡ Some (Changing (Pin (codes "app/*/*/*")))
 unfolding is_pin
 pin_all = refl
 
-pub unpin_one : command_of (codes "unpin" ∷ codes "app/org.x.Y/*/1.0" ∷ []) ≡ Some (Unpin (codes "app/org.x.Y/*/1.0"))
+pub unpin_one : command_of (codes "unpin" ∷ codes "app/org.x.Y/*/1.0" ∷ []) ≡ Some (Changing (Unpin (codes "app/org.x.Y/*/1.0")))
 unfolding is_pin is_id is_branch
 unpin_one = refl
 
-pub list_pins : command_of (codes "list" ∷ codes "--pins" ∷ []) ≡ Some ListPins
+pub list_pins : command_of (codes "list" ∷ codes "--pins" ∷ []) ≡ Some (Listed listings.Pins)
 list_pins = refl
 
 pub no_words : bad_index [] ≡ 0
@@ -97,16 +100,16 @@ batch_alone = refl
 pub batch_and_more : bad_index (codes "batch" ∷ [] ∷ []) ≡ 1
 batch_and_more = refl
 
-pub show_commit : command_of (codes "show" ∷ codes "commit" ∷ []) ≡ Some ShowCommit
+pub show_commit : command_of (codes "show" ∷ codes "commit" ∷ []) ≡ Some (Showing Commit)
 show_commit = refl
 
-pub show_dirtree : command_of (codes "show" ∷ codes "dirtree" ∷ []) ≡ Some ShowDirTree
+pub show_dirtree : command_of (codes "show" ∷ codes "dirtree" ∷ []) ≡ Some (Showing DirTree)
 show_dirtree = refl
 
-pub show_dirmeta : command_of (codes "show" ∷ codes "dirmeta" ∷ []) ≡ Some ShowDirMeta
+pub show_dirmeta : command_of (codes "show" ∷ codes "dirmeta" ∷ []) ≡ Some (Showing DirMeta)
 show_dirmeta = refl
 
-pub show_value : command_of (codes "show" ∷ codes "value" ∷ codes "(si)" ∷ []) ≡ Some (ShowValue (codes "(si)"))
+pub show_value : command_of (codes "show" ∷ codes "value" ∷ codes "(si)" ∷ []) ≡ Some (Showing (Value (codes "(si)")))
 unfolding is_type_text
 show_value = refl
 
@@ -137,25 +140,25 @@ unfolding batch_of
 no_lines = refl
 
 pub one_line : batch_of (codes "pin app/*/*/*") ≡ Ok (Pin (codes "app/*/*/*") ∷ [])
-unfolding batch_of batch_command is_pin
+unfolding batch_of batch_change is_pin
 one_line = refl
 
 pub two_lines : batch_of (codes "pin app/*/*/*\nunpin app/*/*/*\n") ≡ Ok (Pin (codes "app/*/*/*") ∷ Unpin (codes "app/*/*/*") ∷ [])
-unfolding batch_of batch_command is_pin
+unfolding batch_of batch_change is_pin
 two_lines = refl
 
 pub empty_line : batch_of (codes "\n") ≡ Err 1
-unfolding batch_of batch_command
+unfolding batch_of batch_change
 empty_line = refl
 
 pub list_line : batch_of (codes "pin app/*/*/*\nlist --pins\n") ≡ Err 2
-unfolding batch_of batch_command is_pin
+unfolding batch_of batch_change is_pin
 list_line = refl
 
 pub two_spaces : batch_of (codes "pin  app/*/*/*\n") ≡ Err 1
-unfolding batch_of batch_command is_pin
+unfolding batch_of batch_change is_pin
 two_spaces = refl
 
 pub space_behind : batch_of (codes "pin app/*/*/* \n") ≡ Err 1
-unfolding batch_of batch_command is_pin
+unfolding batch_of batch_change is_pin
 space_behind = refl

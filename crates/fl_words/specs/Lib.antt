@@ -1,7 +1,7 @@
 pub mod PrintedWords
-pub mod Verbs
 pub mod Types
+pub mod Forms
 pub mod Words
-pub mod Behind
+pub mod Reading
 pub mod Lines
 pub mod Batch

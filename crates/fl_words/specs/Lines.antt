@@ -49,7 +49,7 @@ abbrev pub bits_text : ℕ → List ℕ
 bits_text mode = decimal (mode / 512 % 8) ++ (decimal (mode / 64 % 8) ++ (decimal (mode / 8 % 8) ++ decimal (mode % 8)))
 
 -- the six lowest octal digits, the highest of them first
-abbrev pub octal : ℕ → List ℕ
+unfoldable pub octal : ℕ → List ℕ
 octal mode = decimal (mode / 32768 % 8) ++ (decimal (mode / 4096 % 8) ++ bits_text mode)
 
 -- the mode of an object: of a file its permission bits alone

@@ -1,10 +1,10 @@
-// Reading a batch.
+//! Reading a batch.
 ghost use Rattle.std.specs.Prelude.{◌≡◌, ◌<◌, ◌∷◌, ◌==◌, Ok, Some, None, IfOk, IfErr, IfSome, OnOk, position, ◌++◌, [], map, length, string_bytes};
-ghost use Rattle.fl_words.specs.Words.{command_of};
-ghost use Rattle.fl_words.specs.Batch.{words_in, words_left, allowed, batch_command, IsNoRecord, IsNoWords, IsNoText, batch_of, IsBadBatch};
+ghost use Rattle.fl_words.specs.Forms.{command_of};
+ghost use Rattle.fl_words.specs.Batch.{words_in, words_left, change_of, batch_change, IsNoRecord, IsNoWords, IsNoText, batch_of, IsBadBatch};
 ghost use Rattle.fl_words.specs.declared.batch.BatchError.TheVariants.{NoMemory};
 
-use crate::command::{Command, WordsError};
+use crate::command::{Change, Command, WordsError};
 use crate::reading::read_words;
 use fp_base::Items;
 use fp_keyfile::first_line;
@@ -15,7 +15,7 @@ use std::{fmt, str};
 /// Why a batch wasn't read.
 #[derive(Clone, Copy, Debug, PartialEq, Eq)]
 pub enum BatchError {
-    /// This line, counted from 1, is the first that holds no command that may stand in a batch.
+    /// This line, counted from 1, is the first that asks for no change.
     BadRecord { line: u64 },
     NoMemory,
 }
@@ -42,12 +42,12 @@ impl From<AllocError> for BatchError {
 /// The most words that a command has.
 const MOST_WORDS: usize = 3;
 
-/// The commands of a batch, one of each line. `BadRecord` comes exactly where a line holds none.
-pub fn read_batch(alloc: Global, bytes: &[u8]) -> Result<Items<Command>, BatchError>
-    ensures ok { IfOk result (λ commands. batch_of bytes.now ≡ Ok commands) }
+/// The changes that a batch asks for, one by each line. `BadRecord` comes exactly where a line asks for none.
+pub fn read_batch(alloc: Global, bytes: &[u8]) -> Result<Items<Change>, BatchError>
+    ensures ok { IfOk result (λ changes. batch_of bytes.now ≡ Ok changes) }
     ensures bad { IfErr result (IsBadBatch bytes.now) }
 {
-    let mut commands = Vec::new(alloc);
+    let mut changes = Vec::new(alloc);
     let mut rest = bytes;
     let mut number = 0u64;
     while !rest.is_empty() {
@@ -55,47 +55,44 @@ pub fn read_batch(alloc: Global, bytes: &[u8]) -> Result<Items<Command>, BatchEr
         number += 1;
         rest = after;
         match read_record(alloc, line) {
-            Ok(command) => add_command(&mut commands, command)?,
+            Ok(change) => add_change(&mut changes, change)?,
             Err(WordsError::BadWords { index: _ }) => {
                 return Err(BatchError::BadRecord { line: number });
             }
             Err(WordsError::NoMemory) => return Err(BatchError::NoMemory),
         }
     }
-    Ok(Items::from_vec(commands))
+    Ok(Items::from_vec(changes))
 }
 
-/// Puts a command behind the others.
-fn add_command(commands: &mut Vec<Command>, command: Command) -> Result<(), AllocError>
-    ensures { OnOk result (commands.new.items ≡ commands.old.items ++ command ∷ []) }
+/// Puts a change after the others.
+fn add_change(changes: &mut Vec<Change>, change: Change) -> Result<(), AllocError>
+    ensures { OnOk result (changes.new.items ≡ changes.old.items ++ change ∷ []) }
 {
-    commands.push(command)?;
+    changes.push(change)?;
     Ok(())
 }
 
-/// The command of a line.
+/// The change that a line asks for.
 #[tactic(auto, using(crate::proofs::LineWords::no_record, crate::proofs::LineWords::no_command, crate::proofs::LineWords::is_record))]
-fn read_record(alloc: Global, line: &[u8]) -> Result<Command, WordsError>
-    ensures ok { IfOk result (λ command. batch_command line.now ≡ Some command) }
+fn read_record(alloc: Global, line: &[u8]) -> Result<Change, WordsError>
+    ensures ok { IfOk result (λ change. batch_change line.now ≡ Some change) }
     ensures bad { IfErr result (IsNoRecord line.now) }
 {
     let words = read_line(alloc, line)?;
-    let command = read_words(alloc, &words)?;
-    match allowed(command) {
-        Some(command) => Ok(command),
+    match change_of(read_words(alloc, &words)?) {
+        Some(change) => Ok(change),
         None => Err(WordsError::BadWords { index: 0 }),
     }
 }
 
-/// The command, where it changes the installation.
-fn allowed(command: Command) -> Option<Command>
-    ensures { result ≡ allowed (Some command) }
+/// The change that a command is, where it is one.
+fn change_of(command: Command) -> Option<Change>
+    ensures { result ≡ change_of command }
 {
     match command {
-        Command::ListRemotes | Command::ListPins | Command::Batch => None,
-        Command::ShowCommit | Command::ShowDirTree | Command::ShowDirMeta => None,
-        Command::ShowValue(_) => None,
-        command => Some(command),
+        Command::Change(change) => Some(change),
+        Command::List(_) | Command::Show(_) | Command::Batch => None,
     }
 }
 
@@ -118,7 +115,7 @@ fn read_line(alloc: Global, line: &[u8]) -> Result<Vec<String>, WordsError>
     Ok(words)
 }
 
-/// Puts a word behind the others, where it is a text.
+/// Puts a word after the others, where it is a text.
 fn add_word(alloc: Global, words: &mut Vec<String>, word: &[u8]) -> Result<(), WordsError>
     ensures ok { OnOk result (map string_bytes words.new.items ≡ map string_bytes words.old.items ++ word.now ∷ []) }
     ensures bad { IfErr result (IsNoText word.now) }
@@ -140,7 +137,7 @@ fn space_place(bytes: &[u8]) -> Option<usize>
     bytes.iter().position(|byte| *byte == b' ')
 }
 
-/// The first word, and what stands behind the space that ends it.
+/// The first word, and what stands after the space that ends it.
 fn first_word(text: &[u8]) -> (&[u8], Option<&[u8]>)
     ensures words { words_in text.now ≡ result.0.now ∷ words_left result.1 }
     ensures shorter { IfSome result.1 (λ rest. length rest.now < length text.now) }

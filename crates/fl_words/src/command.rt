@@ -1,5 +1,6 @@
-// What the words of a command line ask for.
+//! What the words of a command line ask for.
 ghost use Rattle.std.specs.Prelude.{◌≡◌};
+ghost use Rattle.fl_words.specs.Words.{may_change};
 ghost use Rattle.fl_words.specs.declared.command.WordsError.TheVariants.{NoMemory};
 
 use crate::value_type::ValueType;
@@ -9,9 +10,31 @@ use std::alloc::AllocError;
 use std::error::Error;
 use std::fmt;
 
-/// A command.
+/// A command, by its kind.
 #[derive(Debug, Drop)]
 pub enum Command {
+    /// Changes the installation.
+    Change(Change),
+    /// Prints what the installation holds.
+    List(Listing),
+    /// Prints what the input says.
+    Show(Shown),
+    /// `batch`: does the changes that the lines of the input ask for.
+    Batch,
+}
+
+impl Command {
+    /// Whether it may change the installation. What only lists or shows never does.
+    pub fn changes(&self) -> bool
+        ensures { result ≡ may_change self.now }
+    {
+        matches!(self, Command::Change(_) | Command::Batch)
+    }
+}
+
+/// What changes the installation.
+#[derive(Debug, Drop)]
+pub enum Change {
     /// `pin P`: pins what the pattern matches.
     Pin(PinPattern),
     /// `unpin P`: takes the pattern away.
@@ -22,20 +45,28 @@ pub enum Command {
     RemoteModify(RemoteRow),
     /// `remote-delete N`: takes the remote away.
     RemoteDelete(RemoteName),
-    /// `list --remotes`: prints the remotes.
-    ListRemotes,
-    /// `list --pins`: prints the patterns.
-    ListPins,
-    /// `batch`: does the commands that the lines of the input hold.
-    Batch,
-    /// `show commit`: prints what a commit says, which the input is.
-    ShowCommit,
-    /// `show dirtree`: prints the names of a dirtree, which the input is.
-    ShowDirTree,
-    /// `show dirmeta`: prints the mode of a dirmeta, which the input is.
-    ShowDirMeta,
-    /// `show value T`: says whether the input is the normal form of a value of a type.
-    ShowValue(ValueType),
+}
+
+/// What is listed, a line each.
+#[derive(Clone, Copy, Debug, PartialEq, Eq)]
+pub enum Listing {
+    /// `list --remotes`: the remotes.
+    Remotes,
+    /// `list --pins`: the patterns.
+    Pins,
+}
+
+/// What the input is shown as: an object of a kind, or a value of a type.
+#[derive(Debug, Drop)]
+pub enum Shown {
+    /// `show commit`: what a commit says.
+    Commit,
+    /// `show dirtree`: the names of a dirtree.
+    DirTree,
+    /// `show dirmeta`: the mode of a dirmeta.
+    DirMeta,
+    /// `show value T`: whether it is the normal form of a value of a type, and its size.
+    Value(ValueType),
 }
 
 /// Why words weren't read as a command.

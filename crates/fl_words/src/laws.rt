@@ -1,21 +1,17 @@
-// What holds of all words, by their definitions. Nothing is done here: each contract is a law.
-ghost use Rattle.std.specs.Prelude.{◌≡◌, ◌↔◌, ◌<◌, ◌≤◌, ◌+◌, ℕ, List, Some, Ok, true, not, length, take};
+//! What holds of all words, by their definitions. Nothing is done here: each contract is a law.
+ghost use Rattle.std.specs.Prelude.{◌≡◌, ◌<◌, ◌≤◌, ◌+◌, ℕ, List, Some, Ok, true, not, length, take};
 ghost use Rattle.std.specs.List.{list_all};
-ghost use Rattle.fl_words.specs.Batch.{is_allowed, batch_of};
+ghost use Rattle.fl_words.specs.Batch.{batch_of};
+ghost use Rattle.fl_words.specs.Forms.{command_of, bad_index};
 ghost use Rattle.fl_words.specs.Lines.{is_control, escaped};
-ghost use Rattle.fl_words.specs.Words.{command_of, begins, Begins, bad_index, words_of, is_command};
+ghost use Rattle.fl_words.specs.Words.{Begins, words_of, is_change, is_command};
 
-use crate::command::Command;
+use crate::command::{Change, Command};
 
 /// The words of each command read as it, and only they do.
 pub fn words_read_back()
     ensures written { (c : Command) → is_command c ≡ true → command_of (words_of c) ≡ Some c }
     ensures read { (words : List (List ℕ)) (c : Command) → command_of words ≡ Some c → (words ≡ words_of c) × (is_command c ≡ true) }
-{}
-
-/// The test of a beginning passes exactly the words that are a command with some words behind them, or with none.
-pub fn beginnings_go_on()
-    ensures { (words : List (List ℕ)) → (begins words ≡ true) ↔ Begins words }
 {}
 
 /// The bad index is the least i such that the first i + 1 words begin no command, or the number of words where each
@@ -32,8 +28,7 @@ pub fn escapes_tell_texts()
     ensures apart { (a b : List ℕ) → escaped a ≡ escaped b → a ≡ b }
 {}
 
-/// Each command of a batch changes the installation, and its patterns are patterns.
+/// The patterns, names and URLs of each change of a batch are such.
 pub fn batches_hold_changes()
-    ensures allowed { (bytes : List ℕ) (commands : List Command) → batch_of bytes ≡ Ok commands → list_all is_allowed commands ≡ true }
-    ensures good { (bytes : List ℕ) (commands : List Command) → batch_of bytes ≡ Ok commands → list_all is_command commands ≡ true }
+    ensures { (bytes : List ℕ) (changes : List Change) → batch_of bytes ≡ Ok changes → list_all is_change changes ≡ true }
 {}

@@ -4,20 +4,20 @@
 mod batch;
 mod command;
 mod escaping;
+mod forms;
 mod laws;
 mod lines;
 mod printed_words;
 mod reading;
 mod refusals;
 mod value_type;
-mod verb;
+mod values;
 
 pub use batch::{BatchError, read_batch};
-pub use command::{Command, WordsError};
+pub use command::{Change, Command, Listing, Shown, WordsError};
 pub use escaping::escape;
-pub use laws::{
-    bad_index_is_least, batches_hold_changes, beginnings_go_on, escapes_tell_texts, words_read_back,
-};
+pub use forms::{Form, Slot};
+pub use laws::{bad_index_is_least, batches_hold_changes, escapes_tell_texts, words_read_back};
 pub use lines::{digits_of, object_of, op_line, pins_text, remotes_text};
 pub use printed_words::{
     frame_rule_word, key_rule_word, kind_word, meta_rule_word, metadata_rule_word, rule_word,

@@ -170,6 +170,7 @@ fn mode_of(alloc: Global, kind: ObjKind, mode: u32) -> Result<String, AllocError
 }
 
 /// The six lowest octal digits of a mode.
+#[tactic(auto, unfolding(crate::specs::Lines::octal))]
 pub fn octal_of(alloc: Global, mode: u32) -> Result<String, AllocError>
     ensures { IfOk result (λ t. string_bytes t ≡ octal mode) }
 {

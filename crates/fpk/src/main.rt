@@ -38,7 +38,7 @@ fn main(rt: HostRuntime) -> ExitCode {
     ExitCode::from(start(&rt, rt.alloc()))
 }
 
-/// The words behind the program's name are run, but for `--help` and `--version`.
+/// The words after the program's name are run, but for `--help` and `--version`.
 fn start(
     rt: &(impl Env + Files + Print + Eprint + Input + AllocGlobal + Threads + Sync),
     alloc: Global,
@@ -47,7 +47,7 @@ fn start(
         Ok(words) => words,
         Err(error) => {
             return match error.kind() {
-                ErrorKind::OutOfMemory => wanting(rt),
+                ErrorKind::OutOfMemory => out_of_memory(rt),
                 _ => no_text(rt),
             };
         }
@@ -65,19 +65,19 @@ fn start(
         Ok(folder) => run_on(rt, alloc, &folder, words),
         Err(VarError::NotPresent) => run_on(rt, alloc, "installation", words),
         Err(VarError::NotUnicode) => complain(rt, "fpk: FPK_INSTALLATION is no UTF-8", 3),
-        Err(VarError::OutOfMemory) => wanting(rt),
+        Err(VarError::OutOfMemory) => out_of_memory(rt),
     }
 }
 
 /// A word that is no UTF-8 begins no command.
 fn no_text(rt: &(impl Print + Eprint)) -> u8 {
     match print!(rt; "error: words 0\n") {
-        Ok(()) => complain(rt, HELP, 2),
+        Ok(()) => complain(rt, "fpk: a word isn't UTF-8", 2),
         Err(_) => 3,
     }
 }
 
-/// The words behind the program's name.
+/// The words after the program's name.
 fn words_of(rt: &(impl Env + AllocGlobal), alloc: Global) -> io::Result<Vec<String>> {
     let mut words = Vec::new(alloc);
     let mut args = env::args(rt)?;
@@ -96,7 +96,7 @@ fn run_on(
     words: &[String],
 ) -> u8 {
     let Ok(mut host) = HostDir::new(rt, alloc, folder) else {
-        return wanting(rt);
+        return out_of_memory(rt);
     };
     let mut remotes = DirRemotes::new(rt, alloc);
     let mut input = StdinSource::new(rt);
@@ -115,7 +115,7 @@ fn run_on(
             }
             5
         }
-        6 => wanting(rt),
+        6 => out_of_memory(rt),
         _ => status,
     }
 }
@@ -136,6 +136,6 @@ fn complain(rt: &impl Eprint, text: &str, status: u8) -> u8
     status
 }
 
-fn wanting(rt: &impl Eprint) -> u8 {
-    complain(rt, "fpk: memory was wanting", 6)
+fn out_of_memory(rt: &impl Eprint) -> u8 {
+    complain(rt, "fpk: out of memory", 6)
 }

@@ -6,11 +6,11 @@ use Rattle.fp_host.specs.Frame.{Ends}
 use Rattle.fl_top.proofs.Composing.{InTurn}
 use Rattle.fl_top.proofs.change.do_each.Given as goal
 
-abbrev pub invariant-loop-command : goal.invariant-loop-command
-invariant-loop-command g l = record {
+abbrev pub invariant-loop-change : goal.invariant-loop-change
+invariant-loop-change g l = record {
   good : IsGood l.current;
   layout : l.current.layout ≡ Two;
-  turn : InTurn l.commands (drop l.command-index l.commands) l.fn.opened l.current (g.H.Host.moments l.fn.host) (g.H.Host.moments l.host);
+  turn : InTurn l.changes (drop l.change-index l.changes) l.fn.opened l.current (g.H.Host.moments l.fn.host) (g.H.Host.moments l.host);
   opens : Ends (λ u w. Opens l.fn.opened u → Opens l.current w) (g.H.Host.moments l.fn.host) (g.H.Host.moments l.host);
   later : g.H.Host.faults l.fn.host ≤ g.H.Host.faults l.host;
 }

@@ -1,9 +1,10 @@
-use Rattle.std.proofs.Common.{Option, map, string_bytes, sym, subst}
+use Rattle.std.proofs.Common.{Option, map, string_bytes, sym, subst, inl, inr, arith}
+use Rattle.fl_words.specs.Forms.{command_of}
 use Rattle.fp_host.proofs.Ending.{ends_goes, goes_last}
-use Rattle.fl_words.specs.Behind.{IsNoCommand}
+use Rattle.fl_words.specs.Reading.{IsNoCommand}
 use Rattle.fl_words.specs.declared.command.Command.{Command}
 use Rattle.fl_top.specs.Runs.{WasTaken}
-use Rattle.fl_top.proofs.Finishing.{goes_command, goes_no_command, goes_unread}
+use Rattle.fl_top.proofs.Finishing.{goes_command, goes_no_command, goes_unread, took_nothing}
 use Rattle.fl_top.proofs.running.run.Goals as goal
 
 pub returns-in-Ok-clause-moments : goal.returns-in-Ok-clause-moments
@@ -19,7 +20,7 @@ returns-in-Err-BadWords-clause-moments g c =
     let words = map string_bytes c.args.words.now in
     let bad : IsNoCommand words c.in-Err-BadWords.field-0 = c.in-Err-BadWords.ensures.bad in
     let is = subst (IsNoCommand words) c.in-Err-BadWords.field-0-is bad in
-    goes_last (goes_no_command words (g.I.Source.left c.args.input.now) c.in-Err-BadWords.index c.refuse.result (g.met.H.Host.is_tree c.args.host.now) is.0 is.1 c.refuse.ensures.moments)
+    goes_last (goes_no_command words (g.I.Source.left c.args.input.now) c.in-Err-BadWords.index c.refuse_words.result (g.met.H.Host.is_tree c.args.host.now) is.0 is.1 c.refuse_words.ensures.moments)
 
 pub returns-in-Err-BadWords-clause-at_return : goal.returns-in-Err-BadWords-clause-at_return
 returns-in-Err-BadWords-clause-at_return g c =
@@ -27,7 +28,7 @@ returns-in-Err-BadWords-clause-at_return g c =
     let bad : IsNoCommand words c.in-Err-BadWords.field-0 = c.in-Err-BadWords.ensures.bad in
     let is = subst (IsNoCommand words) c.in-Err-BadWords.field-0-is bad in
     let t = g.met.H.Host.is_tree c.args.host.now in
-    ends_goes t (goes_no_command words (g.I.Source.left c.args.input.now) c.in-Err-BadWords.index c.refuse.result t is.0 is.1 c.refuse.ensures.moments)
+    ends_goes t (goes_no_command words (g.I.Source.left c.args.input.now) c.in-Err-BadWords.index c.refuse_words.result t is.0 is.1 c.refuse_words.ensures.moments)
 
 pub returns-in-Err-NoMemory-clause-moments : goal.returns-in-Err-NoMemory-clause-moments
 returns-in-Err-NoMemory-clause-moments g c = goes_last (goes_unread (map string_bytes c.args.words.now) (g.I.Source.left c.args.input.now) (g.met.H.Host.is_tree c.args.host.now))
@@ -37,3 +38,12 @@ returns-in-Err-NoMemory-clause-at_return g c = let t = g.met.H.Host.is_tree c.ar
 
 pub returns-in-Ok-clause-taken : goal.returns-in-Ok-clause-taken
 returns-in-Ok-clause-taken g c = subst (λ (o : Option Command). WasTaken o c.run_command.result (g.I.Source.left c.args.input.now) (g.I.Source.left c.run_command.new.input)) (sym c.in-Ok.ensures.ok) c.run_command.ensures.taken
+
+pub returns-in-Err-BadWords-clause-input : goal.returns-in-Err-BadWords-clause-input
+returns-in-Err-BadWords-clause-input g c = λ five. absurd (elim c.refuse_words.ensures.status [
+  | inl is ↦ omega (arith, five, is)
+  | inr more ↦ elim more [ inl is ↦ omega (arith, five, is) | inr is ↦ omega (arith, five, is) ]
+])
+
+pub returns-in-Err-NoMemory-clause-taken : goal.returns-in-Err-NoMemory-clause-taken
+returns-in-Err-NoMemory-clause-taken g c = took_nothing (command_of (map string_bytes c.args.words.now)) (g.I.Source.left c.args.input.now)

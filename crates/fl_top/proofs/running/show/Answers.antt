@@ -1,5 +1,6 @@
 use Rattle.std.proofs.Common.{◌≡◌, sym, subst, rules, arith, List, ℕ, Ok, Err}
-use Rattle.fl_top.specs.Answer.{shown_by, showing, told}
+use Rattle.fl_top.specs.Answer.{shown_by, told}
+use Rattle.fl_words.specs.declared.command.Command.TheVariants.{Show as Showing}
 use Rattle.fl_top.specs.Ends.{end_of_host, end_of_input, end_of_run, Prints}
 use Rattle.fl_top.proofs.Finishing.{goes_none, input_failed, input_ends, run_input, drained_by, not_taken}
 use Rattle.fl_top.proofs.ShowInput.{show_by, show_input, show_ends, no_fault, goes_shown, goes_not_shown, said_fault}
@@ -8,7 +9,7 @@ use Rattle.fl_top.proofs.running.show.Goals as goal
 pub returns-in_err-given-clause-moments : goal.returns-in_err-given-clause-moments
 returns-in_err-given-clause-moments g c =
     let left = g.I.Source.left c.args.input.now in
-    goes_none (showing c.args.thing.now) left (end_of_input c.in_err-given.field-0.0) c.from_residual.result (g.met.H.Host.is_tree c.args.host.now) c.from_residual.ensures.1 (input_ends (showing c.args.thing.now) (show_by c.args.thing.now) (show_input c.args.thing.now) left (g.I.Source.faults c.args.input.now) (g.I.Source.faults c.read_input.new.input) c.in_err-given.field-0.0 c.in_err-given.ensures.stops)
+    goes_none (Showing c.args.thing.now) left (end_of_input c.in_err-given.field-0.0) c.from_residual.result (g.met.H.Host.is_tree c.args.host.now) c.from_residual.ensures.1 (input_ends (Showing c.args.thing.now) (show_by c.args.thing.now) (show_input c.args.thing.now) left (g.I.Source.faults c.args.input.now) (g.I.Source.faults c.read_input.new.input) c.in_err-given.field-0.0 c.in_err-given.ensures.stops)
 
 pub returns-in_err-given-clause-input : goal.returns-in_err-given-clause-input
 returns-in_err-given-clause-input g c = input_failed (g.I.Source.left c.args.input.now) (g.I.Source.faults c.args.input.now) (g.I.Source.faults c.read_input.new.input) c.in_err-given.field-0.0 c.from_residual.result (g.met.H.Host.is_tree c.args.host.now) c.from_residual.ensures.1 c.in_err-given.ensures.stops
@@ -18,7 +19,7 @@ returns-in_err-text-clause-moments g c =
     let left = g.I.Source.left c.args.input.now in
     let e = c.in_err-text.field-0.0 in
     let shown : Prints (shown_by c.args.thing.now c.in_ok-given.given) (Err e) = subst (λ (b : List ℕ). Prints (shown_by c.args.thing.now b) (Err e)) c.as_slice.ensures c.in_err-text.ensures in
-    goes_none (showing c.args.thing.now) left (end_of_run e) c.from_residual-in_err-text.result (g.met.H.Host.is_tree c.args.host.now) c.from_residual-in_err-text.ensures.1 (show_ends c.args.thing.now left c.in_ok-given.given e c.in_ok-given.ensures.ok shown)
+    goes_none (Showing c.args.thing.now) left (end_of_run e) c.from_residual-in_err-text.result (g.met.H.Host.is_tree c.args.host.now) c.from_residual-in_err-text.ensures.1 (show_ends c.args.thing.now left c.in_ok-given.given e c.in_ok-given.ensures.ok shown)
 
 pub returns-in_err-text-clause-cause : goal.returns-in_err-text-clause-cause
 returns-in_err-text-clause-cause g c =

@@ -1,18 +1,17 @@
 use Rattle.std.proofs.Common.{Err, ap, sym, ◌∙◌, subst}
 use Rattle.std.specs.Option.{is_some}
 use Rattle.gv_value.specs.Reading.{value_of}
-use Rattle.gv_value.specs.Views.{shape_of, plain}
-use Rattle.gv_decode.specs.Decoded.{Gives}
-use Rattle.ost_object.proofs.Shapes.{long_is_none, short_is_none}
-use Rattle.fl_top.proofs.Shown.{some_decoded}
+use Rattle.gv_value.specs.Views.{shape_of}
+use Rattle.gv_decode.specs.Decoded.{Passes}
+use Rattle.fl_top.proofs.Shown.{some_checked, long_is_none, short_is_none}
 use Rattle.fl_top.proofs.showing.is_normal.Goals as goal
 
 pub returns-in-Err-TooLong : goal.returns-in-Err-TooLong
-returns-in-Err-TooLong c = sym (ap is_some (long_is_none (shape_of c.args.of.now) c.args.bytes.now (c.decode.ensures.too_long.0 (c.in-Err-TooLong.is ∙ ap Err c.in-Err-TooLong.field-0-is))))
+returns-in-Err-TooLong c = sym (ap is_some (long_is_none (shape_of c.args.of.now) c.args.bytes.now (c.check_normal.ensures.too_long.0 (c.in-Err-TooLong.is ∙ ap Err c.in-Err-TooLong.field-0-is))))
 
 pub returns-in-Err-NotNormal : goal.returns-in-Err-NotNormal
 returns-in-Err-NotNormal c = sym (ap is_some (short_is_none (shape_of c.args.of.now) c.args.bytes.now (λ short.
-    subst (λ r. Gives plain r (value_of (shape_of c.args.of.now) c.args.bytes.now)) (c.in-Err-NotNormal.is ∙ ap Err c.in-Err-NotNormal.field-0-is) (c.decode.ensures.read short))))
+    subst (λ r. Passes r (value_of (shape_of c.args.of.now) c.args.bytes.now)) (c.in-Err-NotNormal.is ∙ ap Err c.in-Err-NotNormal.field-0-is) (c.check_normal.ensures.read short))))
 
 pub returns-in-Ok : goal.returns-in-Ok
-returns-in-Ok c = some_decoded (shape_of c.args.of.now) c.args.bytes.now c.in-Ok.value c.decode.result c.in-Ok.is c.decode.ensures.too_long.1 c.decode.ensures.read
+returns-in-Ok c = some_checked (shape_of c.args.of.now) c.args.bytes.now c.check_normal.result c.in-Ok.is c.check_normal.ensures.too_long.1 c.check_normal.ensures.read

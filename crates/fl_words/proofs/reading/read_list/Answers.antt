@@ -1,7 +1,0 @@
-use Rattle.std.proofs.Common.{◌∙◌, sym, rules, string_bytes}
-use Rattle.fl_words.proofs.Extra.{extra_list}
-use Rattle.fl_words.proofs.reading.read_list.Goals as goal
-
-pub returns-then-not-is_empty-clause-bad : goal.returns-then-not-is_empty-clause-bad
-returns-then-not-is_empty-clause-bad c =
-    extra_list string_bytes c.args.words.now c.in-Some.rest.now c.in-Some.word.now c.in-Some.ensures.cases.0 (search rules) (sym c.is_empty.ensures ∙ c.if-not-is_empty.true)
