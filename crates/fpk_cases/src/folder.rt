@@ -65,12 +65,12 @@ fn play_over<R: System>(
     let folder = own_folder(rt, alloc)?;
     let remotes = OwnRemotes::new(rt, alloc, folder);
     let host = HostDir::new(capture, alloc, INSTALLATION)?;
-    let mut stage = FolderStage {
+    let mut stage = Stage::Folder(FolderStage {
         alloc,
         capture,
         host,
         remotes,
-    };
+    });
     Ok(play(rt, alloc, &mut stage, case)?)
 }
 
@@ -81,7 +81,7 @@ fn own_folder<R: System>(rt: &R, alloc: Global) -> io::Result<String> {
 }
 
 /// The folder that a case is played on.
-struct FolderStage<'a, 'b, R> {
+pub struct FolderStage<'a, 'b, R> {
     alloc: Global,
     capture: &'b Capture<'a, R>,
     host: HostDir<'b, Capture<'a, R>>,
@@ -99,13 +99,13 @@ impl<R> Drop for FolderStage<'_, '_, R> {
     }
 }
 
-impl<R: Files + AllocGlobal> Stage for FolderStage<'_, '_, R> {
-    fn give(&mut self, given: &Fixture, bytes: &[u8]) -> Result<bool, AllocError> {
+impl<R: Files + AllocGlobal> FolderStage<'_, '_, R> {
+    pub fn give(&mut self, given: &Fixture, bytes: &[u8]) -> Result<bool, AllocError> {
         let answer = give(self.alloc, &mut self.host, given, bytes);
         Ok(unless_fault(answer)?.is_some())
     }
 
-    fn run<T: Threads + Sync>(
+    pub fn run<T: Threads + Sync>(
         &mut self,
         rt: &T,
         command: &Command,
@@ -127,7 +127,7 @@ impl<R: Files + AllocGlobal> Stage for FolderStage<'_, '_, R> {
         })
     }
 
-    fn find(&mut self, path: &str) -> Result<PathState, AllocError> {
+    pub fn find(&mut self, path: &str) -> Result<PathState, AllocError> {
         let answer = find(self.alloc, &mut self.host, path);
         Ok(unless_fault(answer)?.unwrap_or(PathState::Other))
     }

@@ -2,6 +2,7 @@
 use crate::case::{Case, Command, Failure, Fixture};
 use crate::playing::play;
 use crate::stage::{Ending, PathState, Stage, find, give, unless_fault};
+use crate::system::System;
 use crate::wrong::Wrong;
 use fl_top::run;
 use fp_base::Blob;
@@ -10,13 +11,13 @@ use std::alloc::{AllocError, Global};
 use std::thread::Threads;
 
 /// Plays a case in memory.
-pub fn play_in_memory<R: Threads + Sync>(
+pub fn play_in_memory<R: System>(
     rt: &R,
     alloc: Global,
     case: &Case,
 ) -> Result<Option<Wrong>, AllocError> {
     let host = MemHost::new(alloc)?;
-    let mut stage = MemStage { alloc, host };
+    let mut stage: Stage<'_, '_, R> = Stage::Memory(MemStage { alloc, host });
     play(rt, alloc, &mut stage, case)
 }
 
@@ -50,7 +51,7 @@ pub fn run_in_memory<R: Threads + Sync>(
 
 /// The host in memory that a case is played on.
 #[derive(Drop)]
-struct MemStage {
+pub struct MemStage {
     alloc: Global,
     host: MemHost,
 }
@@ -66,13 +67,13 @@ fn let_fail(host: &mut MemHost, failure: Option<Failure>) -> Result<(), AllocErr
     }
 }
 
-impl Stage for MemStage {
-    fn give(&mut self, given: &Fixture, bytes: &[u8]) -> Result<bool, AllocError> {
+impl MemStage {
+    pub fn give(&mut self, given: &Fixture, bytes: &[u8]) -> Result<bool, AllocError> {
         let answer = give(self.alloc, &mut self.host, given, bytes);
         Ok(unless_fault(answer)?.is_some())
     }
 
-    fn run<T: Threads + Sync>(
+    pub fn run<T: Threads + Sync>(
         &mut self,
         rt: &T,
         command: &Command,
@@ -86,7 +87,7 @@ impl Stage for MemStage {
         ran_since(self.alloc, &self.host, status, start, calls)
     }
 
-    fn find(&mut self, path: &str) -> Result<PathState, AllocError> {
+    pub fn find(&mut self, path: &str) -> Result<PathState, AllocError> {
         let answer = find(self.alloc, &mut self.host, path);
         Ok(unless_fault(answer)?.unwrap_or(PathState::Other))
     }

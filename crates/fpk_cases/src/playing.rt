@@ -3,13 +3,14 @@ use crate::case::{Action, Case, Command, Fixture, Step};
 use crate::stage::{Ending, PathState, Stage};
 use crate::wrong::{Wrong, difference, message};
 use std::alloc::{AllocError, Global};
+use std::rt::Files;
 use std::thread::Threads;
 
 /// Plays the steps of a case, and answers the first that isn't as it says.
-pub fn play<T: Threads + Sync, S: Stage>(
+pub fn play<T: Threads + Sync, R: Files + AllocGlobal>(
     rt: &T,
     alloc: Global,
-    stage: &mut S,
+    stage: &mut Stage<'_, '_, R>,
     case: &Case,
 ) -> Result<Option<Wrong>, AllocError> {
     for step in &case.steps {
@@ -22,10 +23,10 @@ pub fn play<T: Threads + Sync, S: Stage>(
 }
 
 /// Plays a step, and answers what isn't as it says.
-fn play_step<T: Threads + Sync, S: Stage>(
+fn play_step<T: Threads + Sync, R: Files + AllocGlobal>(
     rt: &T,
     alloc: Global,
-    stage: &mut S,
+    stage: &mut Stage<'_, '_, R>,
     step: &Step,
 ) -> Result<Option<String>, AllocError> {
     match &step.action {
@@ -39,9 +40,9 @@ fn play_step<T: Threads + Sync, S: Stage>(
     }
 }
 
-fn play_give<S: Stage>(
+fn play_give<R: Files + AllocGlobal>(
     alloc: Global,
-    stage: &mut S,
+    stage: &mut Stage<'_, '_, R>,
     given: &Fixture,
     bytes: &[u8],
 ) -> Result<Option<String>, AllocError> {
@@ -51,9 +52,9 @@ fn play_give<S: Stage>(
     }
 }
 
-fn expect_nothing<S: Stage>(
+fn expect_nothing<R: Files + AllocGlobal>(
     alloc: Global,
-    stage: &mut S,
+    stage: &mut Stage<'_, '_, R>,
     path: &str,
 ) -> Result<Option<String>, AllocError> {
     match stage.find(path)? {
@@ -83,10 +84,10 @@ fn judge_file(
 }
 
 /// Runs a command, first with each call of its input failing where that is asked for.
-fn play_command<T: Threads + Sync, S: Stage>(
+fn play_command<T: Threads + Sync, R: Files + AllocGlobal>(
     rt: &T,
     alloc: Global,
-    stage: &mut S,
+    stage: &mut Stage<'_, '_, R>,
     command: &Command,
     expected: &[u8],
 ) -> Result<Option<String>, AllocError> {

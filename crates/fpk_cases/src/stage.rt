@@ -1,7 +1,10 @@
 //! Where a case is played, and what is asked of any host.
 use crate::case::{Command, Fixture, FixtureKind};
+use crate::folder::FolderStage;
+use crate::memory::MemStage;
 use fp_host::{Host, HostEnd, Path, Stat};
 use std::alloc::{AllocError, Global};
+use std::rt::Files;
 use std::thread::Threads;
 
 /// How a command ended.
@@ -23,20 +26,49 @@ pub enum PathState {
 }
 
 /// Where a case is played.
-pub trait Stage {
+pub enum Stage<'a, 'b, R> {
+    Memory(MemStage),
+    Folder(FolderStage<'a, 'b, R>),
+}
+
+impl<R> Drop for Stage<'_, '_, R> {
+    fn drop(self) {
+        match self {
+            Stage::Memory(_) => {}
+            Stage::Folder(_) => {}
+        }
+    }
+}
+
+impl<R: Files + AllocGlobal> Stage<'_, '_, R> {
     /// Puts something there, with the folders above it. Answers whether that was done.
-    fn give(&mut self, given: &Fixture, bytes: &[u8]) -> Result<bool, AllocError>;
+    pub fn give(&mut self, fixture: &Fixture, bytes: &[u8]) -> Result<bool, AllocError> {
+        match self {
+            Stage::Memory(stage) => stage.give(fixture, bytes),
+            Stage::Folder(stage) => stage.give(fixture, bytes),
+        }
+    }
 
     /// Runs a command. Its input fails at the call with this number, counted from 0.
-    fn run<T: Threads + Sync>(
+    pub fn run<T: Threads + Sync>(
         &mut self,
         rt: &T,
         command: &Command,
         input_fails_at: Option<u64>,
-    ) -> Result<Ending, AllocError>;
+    ) -> Result<Ending, AllocError> {
+        match self {
+            Stage::Memory(stage) => stage.run(rt, command, input_fails_at),
+            Stage::Folder(stage) => stage.run(rt, command, input_fails_at),
+        }
+    }
 
     /// Looks at what stands at a path.
-    fn find(&mut self, path: &str) -> Result<PathState, AllocError>;
+    pub fn find(&mut self, path: &str) -> Result<PathState, AllocError> {
+        match self {
+            Stage::Memory(stage) => stage.find(path),
+            Stage::Folder(stage) => stage.find(path),
+        }
+    }
 }
 
 /// An answer, or nothing where the host failed.
