@@ -8,6 +8,8 @@ mod frame;
 #[cfg(test)]
 mod policy;
 #[cfg(test)]
+mod proxy;
+#[cfg(test)]
 mod rules;
 #[cfg(test)]
 mod stream;
