@@ -81,10 +81,10 @@ fn first_read(alloc: Global, rows: &[(&str, &[u8])]) -> Result<Option<usize>, Fa
 
 /// Two texts of 200 and of 52 letters, with their offset in so many bytes.
 fn two_texts(alloc: Global, width: usize) -> Result<Vec<u8>, Fail> {
-    let mut bytes = vec![in alloc; b'a'; 254]?;
-    bytes[200] = 0;
-    bytes[253] = 0;
-    bytes.push(201)?;
+    let mut bytes = vec![in alloc; b'a'; 200]?;
+    bytes.push(0)?;
+    bytes.extend_from_slice(&vec![in alloc; b'a'; 52]?)?;
+    bytes.extend_from_slice(&[0, 201])?;
     for _ in 1..width {
         bytes.push(0)?;
     }
@@ -105,7 +105,8 @@ fn refuses_all_but_the_normal_form(rt: HostRuntime) -> Result<(), Fail> {
 fn refuses_more_than_16_mib(rt: HostRuntime) -> Result<(), Fail> {
     let alloc = rt.alloc();
     let bytes = vec![in alloc; 0; 0x100_0001]?;
-    assert!(rt; reads_bytes(alloc, &bytes[..0x100_0000])?);
+    let limit = bytes.get(..0x100_0000).unwrap_or(&[]);
+    assert!(rt; limit.len() == 0x100_0000 && reads_bytes(alloc, limit)?);
     assert!(rt; matches!(read_as(alloc, "ay", &bytes)?, Err(DecodeError::TooLong)));
     Ok(())
 }

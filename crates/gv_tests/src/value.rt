@@ -108,8 +108,8 @@ fn first_other_nesting(alloc: Global, rows: &[(usize, u8, bool)]) -> Result<Opti
 
 /// A type string of a tuple of so many bytes.
 fn long_tuple(alloc: Global, count: usize) -> Result<String, Fail> {
-    let mut text = "y".repeat(alloc, count)?;
-    text.insert(0, '(')?;
+    let mut text = String::from_str(alloc, "(")?;
+    text.push_str(&"y".repeat(alloc, count)?)?;
     text.push(')')?;
     Ok(text)
 }
