@@ -16,7 +16,7 @@ use Rattle.fp_base.specs.declared.object.ObjKind.{ObjKind}
 use Rattle.fp_base.specs.declared.object.ObjKind.TheVariants as kinds
 use Rattle.ost_model.specs.declared.object.Object.{Object}
 use Rattle.ost_model.specs.declared.object.Object.TheVariants as objects
-use Rattle.ost_model.specs.Objects.{Have, may_be_link, store, Fault, missing, too_long, corrupt, or_else, unless, content_fault, mode_fault, digest_fault, rule_fault, dir_mode_fault, object_path, object_at, object_fault}
+use Rattle.ost_model.specs.Objects.{Have, may_be_link, store, missing, too_long, corrupt, or_else, unless, content_fault, digest_fault, rule_fault, dir_mode_fault, object_path, object_at, object_fault}
 use Rattle.ost_store.specs.Reads.{got_of, Gets}
 use Rattle.ost_store.specs.declared.reading.Got.{Got}
 use Rattle.ost_store.specs.declared.reading.Got.TheVariants as got

@@ -1,12 +1,10 @@
 -- One path, followed name by name.
-use Rattle.std.proofs.Common.{◌≡◌, ◌+◌, ◌-◌, ◌<◌, ◌≤◌, ℕ, zero, suc, List, [], ◌∷◌, ◌++◌, take, drop, get_or, length, map, Option, Some, None, Bool, true, false, refl, sym, ◌∙◌, ap, subst, arith}
-use Rattle.std.specs.Prelude.{option_map, if◌then◌else◌}
-use Rattle.std.specs.Str.{bytes_eq}
-use Rattle.std.proofs.Math.Seq.{drop-cons}
+use Rattle.std.proofs.Common.{◌≡◌, ◌+◌, ◌-◌, ◌<◌, ◌≤◌, ℕ, zero, suc, List, [], ◌∷◌, ◌++◌, take, drop, length, Option, Some, None, refl, sym, ◌∙◌, ap, subst, arith}
+use Rattle.std.specs.Prelude.{option_map}
 use Rattle.std.proofs.lemmas.List.{take-append-drop, length-drop}
 use Rattle.fp_host.specs.Paths.{Elements}
 use Rattle.fp_base.specs.declared.object.ObjKind.TheVariants as kinds
-use Rattle.ost_model.specs.Fields.{DirRow, FileRow, CommitView, TreeView}
+use Rattle.ost_model.specs.Fields.{DirRow, FileRow, TreeView}
 use Rattle.ost_model.specs.Objects.{Have, Fault, or_else}
 use Rattle.ost_model.specs.Order.{Place, commit_place, tree_place, place_fault, walk_fault, first_of, found_at, tree_at, root_row}
 use Rattle.ost_model.specs.Look.{Found, nothing, directory, file_at, find_dir, find_file, either, entry_in, next, at_root, look, found_places, look_places, look_fault}
@@ -18,7 +16,7 @@ use Rattle.ost_walk.specs.declared.found.Here.{Here}
 use Rattle.ost_walk.specs.declared.found.Here.TheVariants as here
 use Rattle.ost_walk.specs.Dirs.{child}
 use Rattle.ost_walk.specs.Ends.{RefusesBy, IsFaultOf, IsFirst}
-use Rattle.ost_walk.specs.Steps.{IsRoot, IsTree, own_fault, tree_of, root_dir}
+use Rattle.ost_walk.specs.Steps.{IsRoot, IsTree, own_fault, tree_of}
 use Rattle.ost_walk.specs.Looked.{IsDirAt, IsLeafAt, IsHere, file_digest}
 use Rattle.ost_walk.proofs.Checked.{fault_first}
 

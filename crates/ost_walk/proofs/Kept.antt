@@ -1,5 +1,5 @@
 -- Objects by the texts of their paths.
-use Rattle.std.proofs.Common.{◌≡◌, ◌⊎◌, inl, inr, ◌<◌, ◌+◌, ℕ, zero, suc, true, List, [], ◌∷◌, ◌++◌, map, take, drop, get_or, length, Option, Some, None, refl, sym, ◌∙◌, ap, subst, Contains, arith}
+use Rattle.std.proofs.Common.{◌≡◌, ◌⊎◌, inl, inr, ◌<◌, ◌+◌, ℕ, suc, true, List, [], ◌∷◌, ◌++◌, map, take, drop, get_or, length, Option, Some, None, refl, sym, ◌∙◌, ap, subst, Contains, arith}
 use Rattle.std.specs.Prelude.{String, string_bytes, ◌↔◌}
 use Rattle.std.specs.declared.cmp.Ordering.{Ordering}
 use Rattle.std.specs.declared.cmp.Ordering.TheVariants.{Less, Equal, Greater}
@@ -13,21 +13,21 @@ use Rattle.std.specs.Map.{keys_of, values_of}
 use Rattle.std.proofs.Math.Seq.{take-suc, take-length, drop-cons}
 use Rattle.std.proofs.lemmas.Bool.{and_from}
 use Rattle.std.proofs.lemmas.List.{take-append-drop}
-use Rattle.std.proofs.lemmas.List.Elements.{Contains-append_left, Contains-append_cases, Contains-push, Contains-push_cases}
+use Rattle.std.proofs.lemmas.List.Elements.{Contains-append_left, Contains-push, Contains-push_cases}
 use Rattle.std.proofs.lemmas.Map.Text.{is_eq-slice_cmp}
 use Rattle.std.proofs.lemmas.Slice.Eq.{bytes_eq-Decides}
 use Rattle.fp_host.specs.Paths.{elements_of}
 use Rattle.fp_host.specs.Reads.{comes_first, is_ascending}
 use Rattle.fp_base.specs.declared.object.ObjKind.{ObjKind}
-use Rattle.ost_model.specs.Objects.{Have, Fault, or_else}
+use Rattle.ost_model.specs.Objects.{Have, or_else}
 use Rattle.ost_model.specs.Order.{Place, In, order, first_walk_fault}
-use Rattle.ost_model.specs.Used.{IsUsed, ListsUsed, object_text, used_fault}
+use Rattle.ost_model.specs.Used.{object_text, used_fault}
 use Rattle.ost_model.proofs.Stores.{one_name}
 use Rattle.ost_store.proofs.Lists.{in_none, in_cases, in_first, in_rest}
 use Rattle.ost_walk.specs.declared.ends.WalkEnd.{WalkEnd}
 use Rattle.ost_walk.specs.declared.ends.WalkEnd.TheVariants as ends
 use Rattle.ost_walk.specs.Ends.{RefusesBy, IsFirst}
-use Rattle.ost_walk.specs.Steps.{place_name, IsOrder}
+use Rattle.ost_walk.specs.Steps.{place_name}
 use Rattle.ost_walk.specs.UsedList.{IsKeyOf, AreKeyed, Puts, PutsAll, PutsOrder, AreUsed, IsUsedList}
 
 abbrev Object : Type 0

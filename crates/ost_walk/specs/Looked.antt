@@ -1,5 +1,5 @@
 -- What is found at a path, step by step.
-use Rattle.std.specs.Prelude.{◌≡◌, ◌≤◌, ℕ, List, length, Option, Some, None}
+use Rattle.std.specs.Prelude.{◌≡◌, ◌≤◌, ℕ, List, length, Some, None}
 use Rattle.fp_host.specs.Paths.{Elements}
 use Rattle.ost_model.specs.Fields.{DirRow, FileRow, TreeView}
 use Rattle.ost_model.specs.Objects.{Have}

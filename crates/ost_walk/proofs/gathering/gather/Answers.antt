@@ -1,7 +1,7 @@
 use Rattle.std.proofs.Common.{arith}
-use Rattle.ost_walk.proofs.Kept.{none_used, next_used, all_used, next_refused}
+use Rattle.ost_walk.proofs.Kept.{next_used, all_used, next_refused}
 use Rattle.ost_walk.proofs.Quiet.{still_stored}
-use Rattle.fp_host.proofs.Looking.{looks_start, looks_within}
+use Rattle.fp_host.proofs.Looking.{looks_within}
 use Rattle.ost_walk.proofs.gathering.gather.Goals as goal
 
 pub loop-commit-preserved : goal.loop-commit-preserved
