@@ -1,0 +1,5 @@
+pub mod Ends
+pub mod Steps
+pub mod Dirs
+pub mod Looked
+pub mod UsedList

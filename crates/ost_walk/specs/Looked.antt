@@ -1,0 +1,51 @@
+-- What is found at a path, step by step.
+use Rattle.std.specs.Prelude.{◌≡◌, ◌≤◌, ℕ, List, length, Some, None}
+use Rattle.fp_host.specs.Paths.{Elements}
+use Rattle.ost_model.specs.Fields.{DirRow, FileRow, TreeView}
+use Rattle.ost_model.specs.Objects.{Have}
+use Rattle.ost_model.specs.Order.{tree_at}
+use Rattle.ost_model.specs.Look.{nothing, directory, file_at, look, look_fault}
+use Rattle.ost_model.specs.Look.{Found as ModelFound}
+use Rattle.ost_object.specs.Views.{tree_view}
+use Rattle.ost_walk.specs.declared.found.Found.{Found}
+use Rattle.ost_walk.specs.declared.found.Found.TheVariants as found
+use Rattle.ost_walk.specs.declared.found.Here.{Here}
+use Rattle.ost_walk.specs.declared.found.Here.TheVariants as here
+
+abbrev pub file_digest : FileRow → List ℕ
+file_digest f = f.digest
+
+-- what is answered of what Look finds
+abbrev pub found_of : ModelFound → Found
+found_of nothing = found.Nothing
+found_of (directory e) = found.Dir
+found_of (file_at d) = found.File d
+
+-- what stands at the path, on which nothing has a fault
+pub record IsFound (have : Have) (commit : List ℕ) (path : Elements) (f : Found) : Type 0 where
+  pub is : f ≡ found_of (look have commit path)
+  pub clean : look_fault have commit path ≡ None
+
+-- a directory stands at the path, so far below the root, and this is in it
+pub record IsDirAt (have : Have) (commit : List ℕ) (path : Elements) (tree : TreeView) (depth : ℕ) : Type 0 where
+  pub row : DirRow
+  pub is : look have commit path ≡ directory row
+  pub read : tree_at have row.tree ≡ Some tree
+  pub deep : depth ≡ length path
+  pub clean : look_fault have commit path ≡ None
+
+-- this stands there, and it is no directory
+pub record IsLeafAt (have : Have) (commit : List ℕ) (path : Elements) (f : ModelFound) : Type 0 where
+  pub is : look have commit path ≡ f
+  pub clean : look_fault have commit path ≡ None
+
+abbrev pub IsHere : Have → List ℕ → Elements → Here → Type 0
+IsHere have commit path (here.Dir tree depth) = IsDirAt have commit path (tree_view tree) depth
+IsHere have commit path (here.File d) = IsLeafAt have commit path (file_at d)
+IsHere have commit path here.Nothing = IsLeafAt have commit path nothing
+
+-- a directory that was reached is at most 64 below the root
+abbrev pub IsLow : Here → Type 0
+IsLow (here.Dir tree depth) = depth ≤ 64
+IsLow (here.File d) = Unit {0}
+IsLow here.Nothing = Unit {0}

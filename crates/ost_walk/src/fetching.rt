@@ -1,0 +1,60 @@
+//! One metadata object, from the store or from the remote.
+ghost use Rattle.std.specs.Prelude.{◌≡◌, false, Some, IsErrOf};
+ghost use Rattle.fp_host.specs.Remote.{Holdings};
+ghost use Rattle.ost_model.specs.Objects.{Have};
+ghost use Rattle.ost_model.specs.Objects.{may_be_link};
+ghost use Rattle.ost_model.specs.Remotes.{Supplies, remote};
+ghost use Rattle.ost_walk.specs.Ends.{Observes, outside, IsRemotes};
+ghost use Rattle.ost_walk.specs.Steps.{Fetches};
+
+use crate::ends::{ObjectFault, WalkEnd, refused};
+use crate::places::Places;
+use crate::remote::{MOST_BYTES, fetch_remote, named};
+use fp_base::{Blob, ObjKind};
+use fp_host::{Host, Remotes};
+use fp_name::Digest;
+use ost_store::{Got, get};
+use std::alloc::Global;
+
+/// The bytes of a metadata object that its digest names: the store's where the store has it, else the remote's. It is refused
+/// where there is none, where it is too long, and where its digest isn't its name.
+pub fn fetch<H: Host, R: Remotes>(
+    alloc: Global,
+    host: &mut H,
+    remotes: &mut R,
+    places: &Places,
+    digest: &Digest,
+    kind: ObjKind,
+) -> Result<Blob, WalkEnd>
+    requires { may_be_link kind ≡ false }
+    ensures looks { Observes result (outside (H.moments host.old) (H.faults host.old) (R.holds remotes.old) (R.faults remotes.old))
+        (outside (H.moments host.new) (H.faults host.new) (R.holds remotes.new) (R.faults remotes.new)) }
+    ensures tells { (have : Have) → Supplies places.now.root places.now.url (H.moments host.old) (R.holds remotes.old) have
+        → Fetches digest.now kind (have digest.now kind) result }
+{
+    match get(alloc, host, &places.root, digest, kind, MOST_BYTES)? {
+        Got::Meta(bytes) => named(bytes, digest, kind),
+        Got::TooLong(size) => Err(refused(digest, kind, ObjectFault::TooLong(size))),
+        _ => fetch_from(alloc, remotes, places, digest, kind),
+    }
+}
+
+/// The bytes of a metadata object that the remote has.
+fn fetch_from<R: Remotes>(
+    alloc: Global,
+    remotes: &mut R,
+    places: &Places,
+    digest: &Digest,
+    kind: ObjKind,
+) -> Result<Blob, WalkEnd>
+    requires { may_be_link kind ≡ false }
+    ensures same { R.holds remotes.new ≡ R.holds remotes.old }
+    ensures tells { (held : Holdings) → R.holds remotes.old ≡ Some held → Fetches digest.now kind (remote held places.now.url digest.now kind) result }
+    ensures host { IsErrOf result WalkEnd.HostFault → ⊥ }
+    ensures remote { IsRemotes (IsErrOf result WalkEnd.RemoteFault) (R.faults remotes.old) (R.faults remotes.new) }
+{
+    match &places.url {
+        Some(url) => fetch_remote(alloc, remotes, url.as_str(), digest, kind),
+        None => Err(refused(digest, kind, ObjectFault::Missing)),
+    }
+}

@@ -1,0 +1,151 @@
+//! The objects that commits use.
+ghost use Rattle.std.specs.Prelude.{◌≡◌, List, ℕ, None, IfOk, OnOk, IsErrOf};
+ghost use Rattle.std.specs.String.{string_cmp};
+ghost use Rattle.std.specs.BTreeMap.{IsOrdered, values};
+ghost use Rattle.fp_host.specs.Causes.{IsCaused};
+ghost use Rattle.fp_host.specs.Frame.{Still};
+ghost use Rattle.ost_model.specs.Objects.{Have};
+ghost use Rattle.ost_model.specs.Order.{first_walk_fault};
+ghost use Rattle.ost_model.specs.Remotes.{Stores};
+ghost use Rattle.ost_model.specs.Used.{used_fault};
+ghost use Rattle.ost_walk.specs.Ends.{EndsBy, IsFirst};
+ghost use Rattle.ost_walk.specs.UsedList.{Puts, PutsAll, PutsOrder, AreUsed, IsUsedList};
+
+use crate::ends::{ObjectFault, WalkEnd, WalkFault};
+use crate::places::Places;
+use crate::walking::order;
+use fp_base::{Items, ObjKind};
+use fp_host::{Host, NoRemotes, Path};
+use fp_name::Digest;
+use ost_store::path_of;
+use std::alloc::{AllocError, Global};
+use std::collections::BTreeMap;
+
+/// Puts the object among the others, by the text of its path.
+fn put_object(
+    alloc: Global,
+    digest: &Digest,
+    kind: ObjKind,
+    found: &mut BTreeMap<String, (Digest, ObjKind)>,
+) -> Result<(), AllocError>
+    ensures { OnOk result (Puts (digest.now, kind) found.old.entries found.new.entries) }
+{
+    let _bytes = digest.as_bytes();
+    let path = path_of(alloc, &Path::root(alloc), digest, kind)?;
+    let text = String::from_str(alloc, path.text())?;
+    found.insert(text, (*digest, kind))?;
+    Ok(())
+}
+
+/// Puts these objects among the others.
+fn put_objects(
+    alloc: Global,
+    objects: &[(Digest, ObjKind)],
+    found: &mut BTreeMap<String, (Digest, ObjKind)>,
+) -> Result<(), AllocError>
+    ensures { OnOk result (PutsAll objects.now found.old.entries found.new.entries) }
+{
+    for object in objects {
+        put_object(alloc, &object.0, object.1, found)?;
+    }
+    Ok(())
+}
+
+/// Puts what the commit uses among the others.
+fn put_order<H: Host>(
+    alloc: Global,
+    host: &mut H,
+    places: &Places,
+    commit: &Digest,
+    found: &mut BTreeMap<String, (Digest, ObjKind)>,
+) -> Result<(), WalkEnd>
+    requires { places.now.url ≡ None }
+    ensures still { Still (H.moments host.old) (H.moments host.new) }
+    ensures tells { (have : Have) → Stores places.now.root (H.moments host.old) have
+        → EndsBy (λ _. PutsOrder have commit.now found.old.entries found.new.entries) (IsFirst (first_walk_fault have commit.now)) result }
+    ensures cause { IsCaused (IsErrOf result WalkEnd.HostFault) (H.moments host.old) (λ v. Unit {0}) (H.faults host.old) (H.faults host.new) }
+    ensures remote { IsErrOf result WalkEnd.RemoteFault → ⊥ }
+{
+    let mut remotes = NoRemotes;
+    match order(alloc, host, &mut remotes, places, commit) {
+        Ok(objects) => match put_objects(alloc, objects.as_slice(), found) {
+            Ok(()) => Ok(()),
+            Err(AllocError) => Err(WalkEnd::NoMemory),
+        },
+        Err(end) => Err(end),
+    }
+}
+
+/// The objects in the order of the texts.
+fn in_order(
+    alloc: Global,
+    mut found: BTreeMap<String, (Digest, ObjKind)>,
+) -> Result<Vec<(Digest, ObjKind)>, AllocError>
+    ensures objects { IfOk result (λ objects. objects.items ≡ values found) }
+    ensures ordered { IsOrdered string_cmp found }
+{
+    let mut objects = Vec::with_capacity(alloc, found.len())?;
+    while let Some(entry) = found.pop_first() {
+        objects.push(entry.1)?;
+    }
+    Ok(objects)
+}
+
+/// What the commits use, by the texts of the paths.
+fn gather<H: Host>(
+    alloc: Global,
+    host: &mut H,
+    places: &Places,
+    commits: &[Digest],
+) -> Result<BTreeMap<String, (Digest, ObjKind)>, WalkEnd>
+    requires { places.now.url ≡ None }
+    ensures still { Still (H.moments host.old) (H.moments host.new) }
+    ensures tells { (have : Have) → Stores places.now.root (H.moments host.old) have
+        → EndsBy (λ found. AreUsed have commits.now found.entries) (IsFirst (used_fault have commits.now)) result }
+    ensures cause { IsCaused (IsErrOf result WalkEnd.HostFault) (H.moments host.old) (λ v. Unit {0}) (H.faults host.old) (H.faults host.new) }
+    ensures remote { IsErrOf result WalkEnd.RemoteFault → ⊥ }
+{
+    let mut found = BTreeMap::new(alloc);
+    for commit in commits {
+        match put_order(alloc, host, places, commit, &mut found) {
+            Ok(()) => {}
+            Err(end) => return Err(end),
+        }
+    }
+    Ok(found)
+}
+
+/// The store in this folder alone.
+fn store_alone(root: &Path) -> Result<Places, AllocError>
+    ensures { IfOk result (λ places. (places.root ≡ root.now) × (places.url ≡ None)) }
+{
+    Ok(Places {
+        root: root.copy()?,
+        url: None,
+    })
+}
+
+/// The objects that the commits use in the store in this folder, each once, ascending by the text of its path, which is the
+/// order of the names of a store. Each metadata object is checked. It is refused with the first fault of the first commit that
+/// has one.
+pub fn used<H: Host>(
+    alloc: Global,
+    host: &mut H,
+    root: &Path,
+    commits: &[Digest],
+) -> Result<Items<(Digest, ObjKind)>, WalkEnd>
+    ensures still { Still (H.moments host.old) (H.moments host.new) }
+    ensures tells { (have : Have) → Stores root.now (H.moments host.old) have
+        → EndsBy (IsUsedList have commits.now) (IsFirst (used_fault have commits.now)) result }
+    ensures cause { IsCaused (IsErrOf result WalkEnd.HostFault) (H.moments host.old) (λ v. Unit {0}) (H.faults host.old) (H.faults host.new) }
+    ensures remote { IsErrOf result WalkEnd.RemoteFault → ⊥ }
+{
+    let places = store_alone(root)?;
+    match gather(alloc, host, &places, commits) {
+        Ok(found) => match in_order(alloc, found) {
+            Ok(objects) => Ok(Items::from_vec(objects)),
+            Err(AllocError) => Err(WalkEnd::NoMemory),
+        },
+        Err(end) => Err(end),
+    }
+}

@@ -1,0 +1,24 @@
+//! Walks over the objects of a commit, in a store and at a remote: one path, the whole order, and what several commits use.
+#![tactic(auto)]
+
+mod checking;
+mod dirs;
+mod ends;
+mod fetching;
+mod finding;
+mod found;
+mod gathering;
+mod limits;
+mod listing;
+mod looking;
+mod places;
+mod reading;
+mod remote;
+mod walking;
+
+pub use ends::{ObjectFault, WalkEnd, WalkFault};
+pub use found::Found;
+pub use gathering::used;
+pub use looking::look;
+pub use places::Places;
+pub use walking::order;

@@ -1,0 +1,24 @@
+//! The limits of an order.
+ghost use Rattle.std.specs.Prelude.{◌≡◌};
+ghost use Rattle.ost_walk.specs.Steps.{limit_of};
+
+use crate::ends::ObjectFault;
+
+/// The most objects that an order has.
+const MOST_OBJECTS: usize = 200_000;
+
+/// How far a directory is below the root at most.
+const MOST_LEVELS: u32 = 64;
+
+/// The limit that an object passes which has so many before it, in a directory so far below the root.
+pub(crate) fn limit_of(count: usize, depth: u32) -> Option<ObjectFault>
+    ensures { result ≡ limit_of count depth }
+{
+    if count >= MOST_OBJECTS {
+        return Some(ObjectFault::TooMany);
+    }
+    if depth > MOST_LEVELS {
+        return Some(ObjectFault::TooDeep);
+    }
+    None
+}

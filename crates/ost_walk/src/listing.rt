@@ -1,0 +1,83 @@
+//! The objects of one directory, put in order.
+ghost use Rattle.std.specs.Prelude.{◌≡◌, ◌≤◌, ◌+◌, ◌++◌, ◌∷◌, [], map, length, None, OnOk};
+ghost use Rattle.fp_base.specs.declared.object.ObjKind.TheVariants as kinds;
+ghost use Rattle.ost_model.specs.Objects.{Have};
+ghost use Rattle.ost_model.specs.Order.{first_of, walk_fault, file_places};
+ghost use Rattle.ost_object.specs.Views.{file_row, tree_view};
+ghost use Rattle.ost_walk.specs.Ends.{EndsBy, IsFirst, IsLimit, NoFault};
+ghost use Rattle.ost_walk.specs.Steps.{AreListed, IsOpened, IsWalked, heads_of, dir_fault, limit_of};
+
+use crate::dirs::{Dir, add_dirs};
+use crate::ends::{WalkEnd, refused};
+use crate::limits::limit_of;
+use fp_base::ObjKind;
+use fp_name::Digest;
+use ost_object::{DirTree, FileEntry};
+use std::alloc::AllocError;
+
+/// Adds a file of a directory so far below the root.
+#[tactic(auto, using(crate::proofs::Listed::limit_low))]
+fn add_file(digest: &Digest, depth: u32, done: &mut Vec<(Digest, ObjKind)>) -> Result<(), WalkEnd>
+    ensures tells { EndsBy (λ _. limit_of (length done.old.items) depth ≡ None) (λ w. IsLimit digest.now kinds.File (limit_of (length done.old.items) depth) w) result }
+    ensures done { OnOk result (done.new.items ≡ done.old.items ++ (digest.now, kinds.File) ∷ []) }
+    ensures most { OnOk result (length done.new.items ≤ 200000) }
+    ensures faults { NoFault result }
+{
+    if let Some(fault) = limit_of(done.len(), depth) {
+        return Err(refused(digest, ObjKind::File, fault));
+    }
+    done.push((*digest, ObjKind::File))?;
+    Ok(())
+}
+
+/// Adds the files of a directory so far below the root.
+fn add_files(
+    files: &[FileEntry],
+    depth: u32,
+    done: &mut Vec<(Digest, ObjKind)>,
+) -> Result<(), WalkEnd>
+    ensures tells { (have : Have) → EndsBy (λ _. AreListed have depth (map file_row files.now) done.old.items done.new.items)
+        (IsFirst (first_of (walk_fault have) (length done.old.items) (file_places depth (map file_row files.now)))) result }
+    ensures more { OnOk result (length done.old.items ≤ length done.new.items) }
+    ensures most { length done.old.items ≤ 200000 → OnOk result (length done.new.items ≤ 200000) }
+    ensures faults { NoFault result }
+{
+    for file in files {
+        match add_file(&file.digest, depth, done) {
+            Ok(()) => {}
+            Err(end) => return Err(end),
+        }
+    }
+    Ok(())
+}
+
+/// Adds the dirtree and the dirmeta of a directory.
+fn add_heads(dir: &Dir, done: &mut Vec<(Digest, ObjKind)>) -> Result<(), AllocError>
+    ensures { OnOk result (done.new.items ≡ done.old.items ++ heads_of dir.now) }
+{
+    done.push((dir.tree, ObjKind::DirTree))?;
+    done.push((dir.meta, ObjKind::DirMeta))?;
+    Ok(())
+}
+
+/// Adds what is in the directory of this dirtree, once its dirtree and its dirmeta were checked: these two, its files, and to
+/// the work list its directories.
+pub(crate) fn list_dir(
+    tree: &DirTree,
+    dir: &Dir,
+    done: &mut Vec<(Digest, ObjKind)>,
+    left: &mut Vec<Dir>,
+) -> Result<(), WalkEnd>
+    requires { limit_of (length done.old.items + 1) dir.now.depth ≡ None }
+    ensures tells { (have : Have) → IsOpened have (length done.old.items) dir.now (tree_view tree.now)
+        → EndsBy (λ _. IsWalked have dir.now done.old.items done.new.items left.old.items left.new.items) (IsFirst (dir_fault have (length done.old.items) dir.now)) result }
+    ensures more { OnOk result (length done.old.items + 2 ≤ length done.new.items) }
+    ensures most { OnOk result (length done.new.items ≤ 200000) }
+    ensures faults { NoFault result }
+{
+    add_heads(dir, done)?;
+    match add_files(tree.files.as_slice(), dir.depth, done) {
+        Ok(()) => Ok(add_dirs(tree.dirs.as_slice(), dir.depth + 1, left)?),
+        Err(end) => Err(end),
+    }
+}

@@ -1,0 +1,180 @@
+//! One path of a commit, followed name by name.
+ghost use Rattle.std.specs.Prelude.{◌≡◌, ◌≢◌, ◌≤◌, ◌∷◌, [], List, ℕ, drop, IfOk};
+ghost use Rattle.fp_host.specs.Paths.{Elements};
+ghost use Rattle.ost_model.specs.Objects.{Have};
+ghost use Rattle.ost_model.specs.Look.{look_fault};
+ghost use Rattle.ost_model.specs.Remotes.{Supplies};
+ghost use Rattle.ost_object.specs.Views.{tree_view};
+ghost use Rattle.ost_walk.specs.Ends.{EndsBy, IsFirst, Observes, outside};
+ghost use Rattle.ost_walk.specs.Looked.{IsFound, IsDirAt, IsHere, IsLow};
+
+use crate::checking::{fetch_root, open_tree};
+use crate::ends::{ObjectFault, WalkEnd, WalkFault};
+use crate::finding::{find_dir, find_file};
+use crate::found::{Found, Here};
+use crate::places::Places;
+use fp_host::{Host, Path, Remotes};
+use fp_name::Digest;
+use ost_object::DirTree;
+use std::alloc::Global;
+
+/// The root directory of the commit.
+fn start<H: Host, R: Remotes>(
+    alloc: Global,
+    host: &mut H,
+    remotes: &mut R,
+    places: &Places,
+    commit: &Digest,
+) -> Result<Here, WalkEnd>
+    ensures looks { Observes result (outside (H.moments host.old) (H.faults host.old) (R.holds remotes.old) (R.faults remotes.old))
+        (outside (H.moments host.new) (H.faults host.new) (R.holds remotes.new) (R.faults remotes.new)) }
+    ensures low { IfOk result IsLow }
+    ensures tells { (have : Have) → Supplies places.now.root places.now.url (H.moments host.old) (R.holds remotes.old) have
+        → EndsBy (IsHere have commit.now []) (IsFirst (look_fault have commit.now [])) result }
+{
+    match fetch_root(alloc, host, remotes, places, commit) {
+        Ok(root) => match open_tree(alloc, host, remotes, places, &root, 0) {
+            Ok(tree) => Ok(Here::Dir(tree, 0)),
+            Err(end) => Err(end),
+        },
+        Err(end) => Err(end),
+    }
+}
+
+/// What has this name in a directory so far below the root.
+fn enter<H: Host, R: Remotes>(
+    alloc: Global,
+    host: &mut H,
+    remotes: &mut R,
+    places: &Places,
+    tree: &DirTree,
+    depth: u32,
+    name: &str,
+) -> Result<Here, WalkEnd>
+    requires { depth ≤ 64 }
+    ensures looks { Observes result (outside (H.moments host.old) (H.faults host.old) (R.holds remotes.old) (R.faults remotes.old))
+        (outside (H.moments host.new) (H.faults host.new) (R.holds remotes.new) (R.faults remotes.new)) }
+    ensures low { IfOk result IsLow }
+    ensures tells { (have : Have) (commit : List ℕ) (up : Elements) → Supplies places.now.root places.now.url (H.moments host.old) (R.holds remotes.old) have
+        → IsDirAt have commit up (tree_view tree.now) depth → EndsBy (IsHere have commit (name.now ∷ up)) (IsFirst (look_fault have commit (name.now ∷ up))) result }
+{
+    match find_dir(tree.dirs.as_slice(), name, depth + 1) {
+        Some(dir) => match open_tree(alloc, host, remotes, places, &dir, 0) {
+            Ok(tree) => Ok(Here::Dir(tree, depth + 1)),
+            Err(end) => Err(end),
+        },
+        None => match find_file(tree.files.as_slice(), name) {
+            Some(digest) => Ok(Here::File(digest)),
+            None => Ok(Here::Nothing),
+        },
+    }
+}
+
+/// What stands one name further.
+fn advance<H: Host, R: Remotes>(
+    alloc: Global,
+    host: &mut H,
+    remotes: &mut R,
+    places: &Places,
+    here: &Here,
+    name: &str,
+) -> Result<Here, WalkEnd>
+    requires { IsLow here.now }
+    ensures looks { Observes result (outside (H.moments host.old) (H.faults host.old) (R.holds remotes.old) (R.faults remotes.old))
+        (outside (H.moments host.new) (H.faults host.new) (R.holds remotes.new) (R.faults remotes.new)) }
+    ensures low { IfOk result IsLow }
+    ensures tells { (have : Have) (commit : List ℕ) (up : Elements) → Supplies places.now.root places.now.url (H.moments host.old) (R.holds remotes.old) have
+        → IsHere have commit up here.now → EndsBy (IsHere have commit (name.now ∷ up)) (IsFirst (look_fault have commit (name.now ∷ up))) result }
+{
+    match here {
+        Here::Dir(tree, depth) => enter(alloc, host, remotes, places, tree, *depth, name),
+        _ => Ok(Here::Nothing),
+    }
+}
+
+/// What stands at this path above the one that is looked for, from what stands above it.
+fn follow_one<H: Host, R: Remotes>(
+    alloc: Global,
+    host: &mut H,
+    remotes: &mut R,
+    places: &Places,
+    here: &Here,
+    path: &Path,
+) -> Result<Here, WalkEnd>
+    requires some { path.now ≢ [] }
+    requires low { IsLow here.now }
+    ensures looks { Observes result (outside (H.moments host.old) (H.faults host.old) (R.holds remotes.old) (R.faults remotes.old))
+        (outside (H.moments host.new) (H.faults host.new) (R.holds remotes.new) (R.faults remotes.new)) }
+    ensures low { IfOk result IsLow }
+    ensures tells { (have : Have) (commit : List ℕ) → Supplies places.now.root places.now.url (H.moments host.old) (R.holds remotes.old) have
+        → IsHere have commit (drop 1 path.now) here.now → EndsBy (IsHere have commit path.now) (IsFirst (look_fault have commit path.now)) result }
+{
+    match path.name() {
+        Some(name) => advance(alloc, host, remotes, places, here, name),
+        None => unreachable!(),
+    }
+}
+
+/// What stands at the path, from what stands at the root.
+fn follow<H: Host, R: Remotes>(
+    alloc: Global,
+    host: &mut H,
+    remotes: &mut R,
+    places: &Places,
+    root: Here,
+    path: &Path,
+) -> Result<Here, WalkEnd>
+    requires { IsLow root }
+    ensures looks { Observes result (outside (H.moments host.old) (H.faults host.old) (R.holds remotes.old) (R.faults remotes.old))
+        (outside (H.moments host.new) (H.faults host.new) (R.holds remotes.new) (R.faults remotes.new)) }
+    ensures tells { (have : Have) (commit : List ℕ) → Supplies places.now.root places.now.url (H.moments host.old) (R.holds remotes.old) have
+        → IsHere have commit [] root → EndsBy (IsHere have commit path.now) (IsFirst (look_fault have commit path.now)) result }
+{
+    let mut here = root;
+    let mut left = path.len();
+    while left > 0 {
+        left -= 1;
+        let step = path.folder(left)?;
+        match follow_one(alloc, host, remotes, places, &here, &step) {
+            Ok(next) => here = next,
+            Err(end) => return Err(end),
+        }
+    }
+    Ok(here)
+}
+
+/// What is said of what was reached.
+fn found_of(here: &Here) -> Found
+    ensures tells { (have : Have) (commit : List ℕ) (path : Elements) → IsHere have commit path here.now → IsFound have commit path result }
+{
+    match here {
+        Here::Dir(..) => Found::Dir,
+        Here::File(digest) => Found::File(*digest),
+        Here::Nothing => Found::Nothing,
+    }
+}
+
+/// What stands at a path of a commit. The commit is read, and the dirtree of each directory on the path, the last one too;
+/// each is checked. It is refused with the first of them that has a fault, or that is more than 64 below the root.
+pub fn look<H: Host, R: Remotes>(
+    alloc: Global,
+    host: &mut H,
+    remotes: &mut R,
+    places: &Places,
+    commit: &Digest,
+    path: &Path,
+) -> Result<Found, WalkEnd>
+    // Nothing changes, and a fault comes only where the count of that outside rose.
+    ensures looks { Observes result (outside (H.moments host.old) (H.faults host.old) (R.holds remotes.old) (R.faults remotes.old))
+        (outside (H.moments host.new) (H.faults host.new) (R.holds remotes.new) (R.faults remotes.new)) }
+    ensures tells { (have : Have) → Supplies places.now.root places.now.url (H.moments host.old) (R.holds remotes.old) have
+        → EndsBy (IsFound have commit.now path.now) (IsFirst (look_fault have commit.now path.now)) result }
+{
+    match start(alloc, host, remotes, places, commit) {
+        Ok(root) => match follow(alloc, host, remotes, places, root, path) {
+            Ok(here) => Ok(found_of(&here)),
+            Err(end) => Err(end),
+        },
+        Err(end) => Err(end),
+    }
+}
