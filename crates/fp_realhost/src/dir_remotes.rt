@@ -4,9 +4,10 @@ ghost use Rattle.fp_host.specs.Remote.{HasNodeBits};
 ghost use Rattle.fp_realhost.specs.Counts.{RemoteCounts};
 
 use crate::fault::{Call, Faults, SystemError};
-use crate::files::{read_from, read_link};
+use crate::files::read_link;
 use crate::folders::Folders;
 use crate::found::{Kind, look};
+use crate::reader::Reader;
 use fp_host::{Node, Path, RemoteError, Remotes, Text};
 use std::alloc::Global;
 use std::io;
@@ -23,15 +24,30 @@ use std::rt::Files;
 /// The folder that a url names may be a symlink or stand below one. Below it no symlink is followed: a call fails where one
 /// stands in the place of a folder above its path. Each folder is looked at once: a symlink that another program puts in
 /// its place later is followed.
-#[derive(Drop)]
-pub struct DirRemotes<'a, R> {
+pub struct DirRemotes<'a, R: Files> {
     rt: &'a R,
     alloc: Global,
     folders: Folders,
+    reader: Reader<R::File>,
+    // The file that was looked at last, and how long it was.
+    last: Option<(String, u64)>,
     faults: Faults,
 }
 
-impl<'a, R> Model for DirRemotes<'a, R> {
+impl<R: Files> Drop for DirRemotes<'_, R> {
+    fn drop(self) {
+        let DirRemotes {
+            rt: _,
+            alloc: _,
+            folders: _,
+            reader: _,
+            last: _,
+            faults: _,
+        } = self;
+    }
+}
+
+impl<'a, R: Files> Model for DirRemotes<'a, R> {
     ghost use Rattle.std.specs.Prelude.{ℕ};
 
     ghost Value = { ℕ };
@@ -49,12 +65,14 @@ impl<'a, R: Files + AllocGlobal> DirRemotes<'a, R> {
             rt,
             alloc,
             folders: Folders::none(alloc),
+            reader: Reader::nothing(),
+            last: None,
             faults: Faults::none(),
         }
     }
 }
 
-impl<'a, R> DirRemotes<'a, R> {
+impl<'a, R: Files> DirRemotes<'a, R> {
     /// How often a call has failed; the count stands still at 2^64 - 1.
     pub fn faults(&self) -> u64
         ensures { result ≡ self.now }
@@ -150,7 +168,11 @@ impl<R: Files + AllocGlobal> DirRemotes<'_, R> {
         ensures same { self.new ≡ self.old }
     {
         let at = self.reach(url, path)?;
-        node_at(self.rt, alloc, &at)
+        let node = node_at(self.rt, alloc, &at)?;
+        if let Node::File { mode: _, size } = node {
+            self.last = Some((at, size));
+        }
+        Ok(node)
     }
 
     fn read_piece(
@@ -164,7 +186,29 @@ impl<R: Files + AllocGlobal> DirRemotes<'_, R> {
         ensures same { self.new ≡ self.old }
     {
         let at = self.reach(url, path)?;
-        read_at(self.rt, &at, from, into)
+        self.read_path(&at, from, into)
+    }
+
+    // What is no file has no bytes.
+    fn read_path(&mut self, at: &str, from: u64, into: &mut [u8]) -> io::Result<usize>
+        ensures bound { IfOk result (λ n. n ≤ length into.old) }
+        ensures same { self.new ≡ self.old }
+    {
+        if !self.reader.is_at(at) {
+            match self.size_at(at)? {
+                Some(size) => self.reader.open(self.rt, self.alloc, at, size)?,
+                None => return Ok(0),
+            }
+        }
+        self.reader.read(at, from, into)
+    }
+
+    // How long the file is.
+    fn size_at(&self, at: &str) -> io::Result<Option<u64>> {
+        match &self.last {
+            Some((path, size)) if path.as_str() == at => Ok(Some(*size)),
+            _ => file_size(self.rt, at),
+        }
     }
 }
 
@@ -193,14 +237,9 @@ fn node_at<R: Files>(rt: &R, alloc: Global, at: &str) -> io::Result<Node>
     }
 }
 
-// What is no file has no bytes.
-fn read_at<R: Files>(rt: &R, at: &str, from: u64, into: &mut [u8]) -> io::Result<usize>
-    ensures { IfOk result (λ n. n ≤ length into.old) }
-{
+fn file_size<R: Files>(rt: &R, at: &str) -> io::Result<Option<u64>> {
     match look(rt, at)? {
-        Some(found) if found.kind == Kind::File && from < found.size => {
-            read_from(rt, at, from, into)
-        }
-        _ => Ok(0),
+        Some(found) if found.kind == Kind::File => Ok(Some(found.size)),
+        _ => Ok(None),
     }
 }

@@ -8,7 +8,7 @@ use std::marker::Model;
 use std::{fmt, io};
 
 /// What an adapter asked of the system.
-#[derive(Clone, Copy, Debug, PartialEq, Eq)]
+#[derive(Clone, Copy, PartialEq, Eq)]
 pub enum Call {
     Stat,
     List,
@@ -36,7 +36,13 @@ pub enum Call {
 
 impl fmt::Display for Call {
     fn fmt<W: fmt::Write>(&self, f: &mut fmt::Formatter<W>) -> fmt::Result {
-        let words = match self {
+        f.write_str(self.words())
+    }
+}
+
+impl Call {
+    fn words(self) -> &'static str {
+        match self {
             Call::Stat => "look at",
             Call::List => "list",
             Call::Read => "read",
@@ -54,13 +60,12 @@ impl fmt::Display for Call {
             Call::Say => "print",
             Call::Locate => "find the remote",
             Call::Take => "read the standard input",
-        };
-        f.write_str(words)
+        }
     }
 }
 
 /// What the system refused, as in `cannot sync installation/config: No space left on device (os error 28)`.
-#[derive(Debug, Drop)]
+#[derive(Drop)]
 pub struct SystemError {
     pub call: Call,
     /// The path, where the call has one and there was memory to keep it.

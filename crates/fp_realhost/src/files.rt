@@ -5,10 +5,13 @@ use crate::found::find_file;
 use fp_host::Text;
 use std::alloc::Global;
 use std::fs::{DirBuilder, OpenOptions, Permissions};
-use std::io::{ErrorKind, Read, Seek, SeekFrom, Write};
+use std::io::{ErrorKind, Read, Seek, SeekFrom};
 use std::os::unix::fs::{DirBuilderExt, OpenOptionsExt, PermissionsExt};
 use std::rt::Files;
 use std::{fs, io};
+
+// The permission bits of a folder.
+const FOLDER_BITS: u32 = 0o755;
 
 // Reads the file at the path from a place on, until the buffer is full or the file ends.
 pub fn read_at<R: Files>(rt: &R, at: &str, from: u64, into: &mut [u8]) -> io::Result<usize>
@@ -33,7 +36,7 @@ pub fn read_from<R: Files>(rt: &R, at: &str, from: u64, into: &mut [u8]) -> io::
     }
 }
 
-fn fill<F: Read>(file: &mut F, into: &mut [u8]) -> io::Result<usize>
+pub fn fill<F: Read>(file: &mut F, into: &mut [u8]) -> io::Result<usize>
     ensures { IfOk result (λ n. n ≤ length into.old) }
 {
     let mut filled = 0;
@@ -96,12 +99,8 @@ pub fn create_new<R: Files>(rt: &R, at: &str, mode: u32) -> io::Result<R::File> 
         .open(rt, at)
 }
 
-// Writes at the end of a file of ours.
-pub fn append<R: Files>(rt: &R, at: &str, bytes: &[u8]) -> io::Result<()> {
-    open_own(rt, OpenOptions::new().append(true), at)?.write_all(bytes)
-}
-
-// Makes a folder that all may read and its owner may change, as far as the umask lets them.
+// Makes a folder that all may read and its owner may change, whatever the umask.
 pub fn make_folder<R: Files>(rt: &R, at: &str) -> io::Result<()> {
-    DirBuilder::new().mode(0o755).create(rt, at)
+    DirBuilder::new().mode(FOLDER_BITS).create(rt, at)?;
+    set_bits(rt, at, FOLDER_BITS)
 }

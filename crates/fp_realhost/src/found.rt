@@ -132,7 +132,7 @@ pub fn find_file<R: Files>(rt: &R, at: &str) -> io::Result<Found> {
 }
 
 // The file or symlink at the path.
-pub fn find_leaf<R: Files>(rt: &R, at: &str) -> io::Result<Found> {
+fn find_leaf<R: Files>(rt: &R, at: &str) -> io::Result<Found> {
     let found = find(rt, at)?;
     if found.is_leaf() {
         Ok(found)
@@ -151,17 +151,16 @@ pub fn has_folder<R: Files>(rt: &R, at: &str) -> io::Result<bool> {
     }
 }
 
-// Whether the first may be moved to the second: a file or symlink, to nothing or in the place of another one.
-pub fn check_rename<R: Files>(rt: &R, from: &str, to: &str) -> io::Result<()> {
+// What the first is, which may be moved to the second: a file or symlink, to nothing or in the place of another one.
+pub fn check_rename<R: Files>(rt: &R, from: &str, to: &str) -> io::Result<Kind> {
     let moved = find_leaf(rt, from)?;
-    let Some(there) = look(rt, to)? else {
-        return Ok(());
-    };
-    if !there.is_leaf() {
-        return Err(io::Error::other("what stands there is no file or symlink"));
+    match look(rt, to)? {
+        Some(there) if !there.is_leaf() => {
+            Err(io::Error::other("what stands there is no file or symlink"))
+        }
+        Some(there) if moved.is_one_with(&there) => {
+            Err(io::Error::other("both names are of one file"))
+        }
+        _ => Ok(moved.kind),
     }
-    if moved.is_one_with(&there) {
-        return Err(io::Error::other("both names are of one file"));
-    }
-    Ok(())
 }

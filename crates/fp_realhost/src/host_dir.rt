@@ -7,6 +7,7 @@ ghost use Rattle.fp_realhost.specs.Counts.{Counts, one_more, many_more};
 
 use crate::fault::{Call, Faults, SystemError};
 use crate::output::Output;
+use crate::system::{Access, System};
 use crate::tree::Tree;
 use fp_host::{Host, HostError, Items, Path, Stat, Text};
 use std::alloc::{AllocError, Global};
@@ -14,6 +15,7 @@ use std::io;
 use std::io::ErrorKind;
 use std::marker::Model;
 use std::rt::Files;
+use std::thread::Threads;
 
 /// A folder of the system as a host, whose output is the standard output.
 ///
@@ -33,13 +35,13 @@ use std::rt::Files;
 /// its top, and `repo/tmp`, where new files are staged. After a sync of a file or folder that failed no later one succeeds.
 ///
 /// Contracts see how often it failed, whether nothing waits for a sync, and how many bytes were printed.
-pub struct HostDir<'a, R> {
+pub struct HostDir<'a, R: Files> {
     tree: Tree<'a, R>,
     output: Output<'a, R>,
     faults: Faults,
 }
 
-impl<'a, R> Model for HostDir<'a, R> {
+impl<'a, R: Files> Model for HostDir<'a, R> {
     ghost use Rattle.fp_realhost.specs.Seen.{Seen};
 
     ghost Value = { Seen };
@@ -47,7 +49,7 @@ impl<'a, R> Model for HostDir<'a, R> {
     ghost view = { λ h. record { faults = h.faults; is_settled = h.tree; printed = h.output } };
 }
 
-impl<R> Drop for HostDir<'_, R> {
+impl<R: Files> Drop for HostDir<'_, R> {
     fn drop(self) {
         let HostDir {
             tree: _,
@@ -57,21 +59,21 @@ impl<R> Drop for HostDir<'_, R> {
     }
 }
 
-impl<'a, R: Files + Print + AllocGlobal> HostDir<'a, R> {
+impl<'a, R: System + Threads> HostDir<'a, R> {
     /// The host over the folder of this name; the empty name is the current folder. It asks nothing of the system yet.
-    pub fn new(rt: &'a R, alloc: Global, root: &str) -> Result<Self, AllocError>
+    pub fn new(rt: &'a R, alloc: Global, root: &str, access: Access) -> Result<Self, AllocError>
         ensures untold { IfOk result (λ h. ⟦<HostDir<'a, R> as Host>⟧.moments h ≡ None) }
         ensures faults { IfOk result (λ h. ⟦<HostDir<'a, R> as Host>⟧.faults h ≡ 0) }
     {
         Ok(HostDir {
-            tree: Tree::new(rt, alloc, root)?,
+            tree: Tree::new(rt, alloc, root, access)?,
             output: Output::new(rt),
             faults: Faults::none(),
         })
     }
 }
 
-impl<'a, R> HostDir<'a, R> {
+impl<'a, R: Files> HostDir<'a, R> {
     /// How often a call has failed; the count stands still at 2^64 - 1.
     pub fn faults(&self) -> u64
         ensures { result ≡ self.now.faults }
@@ -129,7 +131,7 @@ impl<'a, R> HostDir<'a, R> {
     }
 }
 
-impl<R: Files + Print + AllocGlobal> Host for HostDir<'_, R> {
+impl<R: System + Threads> Host for HostDir<'_, R> {
     ghost use Rattle.std.specs.Prelude.{None};
     ghost use Rattle.std.proofs.lemmas.Option.{none-some};
 
@@ -252,7 +254,7 @@ impl<R: Files + Print + AllocGlobal> Host for HostDir<'_, R> {
         ensures memory { NeedsNoMemory result }
         ensures printed { OnOk result (self.new.printed ≡ many_more self.old.printed (length piece.now)) }
     {
-        match self.output.print(piece) {
+        match self.output.print(self.tree.alloc, piece) {
             Ok(()) => Ok(()),
             Err(error) => Err(self.fail(SystemError {
                 call: Call::Say,

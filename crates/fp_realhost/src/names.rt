@@ -12,15 +12,17 @@ use std::fs::DirEntry;
 use std::rt::Files;
 use std::{fs, io};
 
-// The names in the folder, ascending by their bytes. A name that no path may have is an error.
+// The names in the folder but the hidden one, ascending by their bytes. A name that no path may have is an error.
 pub fn list_names<R: Files + AllocGlobal>(
     rt: &R,
     alloc: Global,
     at: &str,
+    hidden: &str,
 ) -> io::Result<Items<Text>>
     ensures { IfOk result AreNames }
 {
     let mut names = read_names(rt, alloc, at)?;
+    names.retain(|name| name.as_str() != hidden);
     names.sort_unstable_by(|a, b| a.as_str().cmp(b.as_str()));
     if are_names(&names) {
         Ok(Items::from_vec(names))

@@ -3,9 +3,11 @@
 ghost use Rattle.std.specs.Prelude.{◌≤◌, length, IfOk};
 ghost use Rattle.fp_host.specs.Reads.{AreNames, HasBits};
 
-use crate::files;
-use crate::found::look;
+use crate::files::{read_at, read_link};
+use crate::found::{find_file, look};
+use crate::hold::LOCK_NAME;
 use crate::names::list_names;
+use crate::system::System;
 use crate::tree::Tree;
 use fp_host::{Items, Path, Stat, Text};
 use std::alloc::Global;
@@ -13,7 +15,7 @@ use std::io;
 use std::io::ErrorKind;
 use std::rt::Files;
 
-impl<R: Files + AllocGlobal> Tree<'_, R> {
+impl<R: System> Tree<'_, R> {
     pub fn stat(&mut self, path: &Path) -> io::Result<Stat>
         ensures { IfOk result HasBits }
     {
@@ -37,8 +39,8 @@ impl<R: Files + AllocGlobal> Tree<'_, R> {
     fn list_root(&mut self, alloc: Global, at: &str) -> io::Result<Items<Text>>
         ensures { IfOk result AreNames }
     {
-        if self.has_root()? {
-            list_names(self.rt, alloc, at)
+        if self.gate.has_root(self.rt)? {
+            list_names(self.rt, alloc, at, LOCK_NAME)
         } else {
             Ok(Items::from_vec(Vec::new(alloc)))
         }
@@ -48,7 +50,7 @@ impl<R: Files + AllocGlobal> Tree<'_, R> {
         ensures { IfOk result AreNames }
     {
         if self.folders.is_folder(self.rt, at)? {
-            list_names(self.rt, alloc, at)
+            list_names(self.rt, alloc, at, "")
         } else {
             Err(io::Error::from(ErrorKind::NotADirectory))
         }
@@ -58,12 +60,26 @@ impl<R: Files + AllocGlobal> Tree<'_, R> {
         ensures { IfOk result (λ n. n ≤ length into.old) }
     {
         let at = self.reach(path)?;
-        files::read_at(self.rt, &at, from, into)
+        self.read_path(&at, from, into)
+    }
+
+    // A file that was created since the last sync may still grow, so it is opened each time.
+    fn read_path(&mut self, at: &str, from: u64, into: &mut [u8]) -> io::Result<usize>
+        ensures { IfOk result (λ n. n ≤ length into.old) }
+    {
+        if self.touched.has_file(at) {
+            return read_at(self.rt, at, from, into);
+        }
+        if !self.reader.is_at(at) {
+            let size = find_file(self.rt, at)?.size;
+            self.reader.open(self.rt, self.alloc, at, size)?;
+        }
+        self.reader.read(at, from, into)
     }
 
     pub fn read_link(&mut self, alloc: Global, path: &Path) -> io::Result<Text> {
         let at = self.reach(path)?;
-        files::read_link(self.rt, alloc, &at)
+        read_link(self.rt, alloc, &at)
     }
 }
 

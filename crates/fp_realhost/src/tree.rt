@@ -3,38 +3,31 @@ ghost use Rattle.std.specs.Prelude.{◌≡◌, true, OnOk};
 
 use crate::fault::{Call, SystemError};
 use crate::folders::Folders;
-use crate::found::has_folder;
-use crate::leftover::left_below;
-use crate::roots::{folder_of, make_root};
+use crate::gate::Gate;
+use crate::leftover::left_before;
+use crate::reader::Reader;
+use crate::system::{Access, System};
 use crate::touched::Touched;
+use crate::writer::Writer;
 use fp_host::{Path, Text};
 use std::alloc::{AllocError, Global};
 use std::io;
 use std::marker::Model;
 use std::rt::Files;
-
-// What is known of the root folder.
-#[derive(Clone, Copy, PartialEq, Eq)]
-enum Root {
-    // It was not looked at, or is none.
-    Unknown,
-    Absent,
-    There,
-}
+use std::thread::Threads;
 
 // The calls of a host over a folder of the system. Contracts see whether nothing waits for a sync.
-pub struct Tree<'a, R> {
+pub struct Tree<'a, R: Files> {
     pub rt: &'a R,
     pub alloc: Global,
-    root: String,
-    state: Root,
+    pub gate: Gate<R::File>,
     pub folders: Folders,
+    pub reader: Reader<R::File>,
+    pub writer: Writer<R::File>,
     pub touched: Touched,
-    // Whether what an earlier run left was made to last.
-    is_caught_up: bool,
 }
 
-impl<'a, R> Model for Tree<'a, R> {
+impl<'a, R: Files> Model for Tree<'a, R> {
     ghost use Rattle.std.specs.Prelude.{Bool};
 
     ghost Value = { Bool };
@@ -42,126 +35,105 @@ impl<'a, R> Model for Tree<'a, R> {
     ghost view = { λ t. t.touched };
 }
 
-impl<R> Drop for Tree<'_, R> {
+impl<R: Files> Drop for Tree<'_, R> {
     fn drop(self) {
         let Tree {
             rt: _,
             alloc: _,
-            root: _,
-            state: _,
+            gate: _,
             folders: _,
+            reader: _,
+            writer: _,
             touched: _,
-            is_caught_up: _,
         } = self;
     }
 }
 
-impl<'a, R> Tree<'a, R> {
-    // The empty name is the current folder.
-    pub fn new(rt: &'a R, alloc: Global, root: &str) -> Result<Self, AllocError> {
-        let root = if root.is_empty() { "." } else { root };
+impl<'a, R: Files> Tree<'a, R> {
+    pub fn new(rt: &'a R, alloc: Global, root: &str, access: Access) -> Result<Self, AllocError> {
         Ok(Tree {
             rt,
             alloc,
-            root: root.to_string(alloc)?,
-            state: Root::Unknown,
+            gate: Gate::new(alloc, root, access)?,
             folders: Folders::none(alloc),
+            reader: Reader::nothing(),
+            writer: Writer::nothing(alloc),
             touched: Touched::nothing(alloc),
-            is_caught_up: false,
         })
     }
 
-    // What a call on the path met. Before there is a root, or none, no call comes further.
+    // What a call on the path met. Before the root is known no call comes further.
     pub fn refusal(&self, call: Call, path: &Path, error: io::Error) -> SystemError {
-        if self.state == Root::Unknown {
-            return SystemError::on(self.alloc, Call::Enter, &self.root, error);
+        if !self.gate.is_known() {
+            return SystemError::on(self.alloc, Call::Enter, self.gate.root(), error);
         }
         SystemError {
             call,
-            path: self.system_path(path).ok().map(Text::from_string),
+            path: self.gate.system_path(path).ok().map(Text::from_string),
             error,
         }
     }
-
-    // The path for the system: the root, a slash and the elements.
-    fn system_path(&self, path: &Path) -> Result<String, AllocError> {
-        let root = &self.root;
-        let below = path.text();
-        format!(in self.alloc; "{root}/{below}")
-    }
-
-    // The names of the folder that the path stands in have changed.
-    pub fn touch_folder_of(&mut self, at: &str) -> io::Result<()> {
-        Ok(self.touched.add_folder(folder_of(at))?)
-    }
 }
 
-impl<R: Files> Tree<'_, R> {
-    // Whether the root folder is there. Once it is, it is not looked at again.
-    pub fn has_root(&mut self) -> io::Result<bool> {
-        if self.state != Root::There {
-            self.state = Root::Unknown;
-            self.state = match has_folder(self.rt, &self.root)? {
-                true => Root::There,
-                false => Root::Absent,
-            };
-        }
-        Ok(self.state == Root::There)
-    }
-
-    // Makes the root folder and those above it where they are absent.
-    fn need_root(&mut self) -> io::Result<()> {
-        if !self.has_root()? {
-            self.state = Root::Unknown;
-            make_root(self.rt, &mut self.touched, &self.root)?;
-            self.state = Root::There;
-        }
-        Ok(())
-    }
-
+impl<R: System> Tree<'_, R> {
     // The path for the system. No symlink stands above it.
     pub fn reach(&mut self, path: &Path) -> io::Result<String> {
-        self.has_root()?;
-        let at = self.system_path(path)?;
-        let below = self.root.len().saturating_add(1);
+        self.gate.enter(self.rt, &mut self.touched)?;
+        let at = self.gate.system_path(path)?;
+        let below = self.gate.root().len().saturating_add(1);
         match self.folders.look_above(self.rt, &at, below) {
             Ok(()) => Ok(at),
             Err(e) => Err(e),
         }
     }
 
-    // The same for a change, with the root folder made.
+    // The same for a change, which waits for a sync.
     pub fn reach_to_change(&mut self, path: &Path) -> io::Result<String> {
-        self.need_root()?;
-        self.reach(path)
+        let at = self.reach(path)?;
+        match self.gate.mark() {
+            Ok(()) => Ok(at),
+            Err(e) => Err(e),
+        }
+    }
+
+    // Ends a sync.
+    fn clear_mark(&mut self) -> Result<(), SystemError>
+        ensures same { self.new ≡ self.old }
+    {
+        match self.gate.clear() {
+            Ok(()) => Ok(()),
+            Err(e) => Err(self.refusal_of_root(e)),
+        }
+    }
+
+    fn refusal_of_root(&self, error: io::Error) -> SystemError {
+        SystemError::on(self.alloc, Call::Enter, self.gate.root(), error)
     }
 }
 
-impl<R: Files + AllocGlobal> Tree<'_, R> {
+impl<R: System + Threads> Tree<'_, R> {
     // Makes all changes last, the first time also what an earlier run may have left.
     pub fn sync(&mut self) -> Result<(), SystemError>
         ensures settled { OnOk result (self.new ≡ true) }
     {
-        if !self.is_caught_up {
-            self.catch_up()?;
-            self.is_caught_up = true;
+        self.writer.close();
+        if let Err(e) = self.gate.enter(self.rt, &mut self.touched) {
+            return Err(self.refusal_of_root(e));
         }
-        self.touched.sync(self.rt)
+        self.catch_up()?;
+        self.touched.sync(self.rt)?;
+        self.clear_mark()
     }
 
     fn catch_up(&mut self) -> Result<(), SystemError> {
-        match self.left_before() {
-            Ok(Some(mut left)) => self.touched.sync_before(self.rt, &mut left),
-            Ok(None) => Ok(()),
-            Err(e) => Err(SystemError::on(self.alloc, Call::List, &self.root, e)),
+        let has_left = self.gate.has_left();
+        let is_needed = has_left || !self.touched.is_settled();
+        if self.touched.is_caught_up() || !is_needed {
+            return Ok(());
         }
-    }
-
-    // What an earlier run left, where there is a root.
-    fn left_before(&mut self) -> io::Result<Option<Touched>> {
-        if !self.has_root()? {
-            return Ok(None);
+        match left_before(self.rt, self.alloc, self.gate.root(), has_left) {
+            Ok(left) => self.touched.sync_before(self.rt, left),
+            Err(e) => Err(self.refusal_of_root(e)),
         }
-        Ok(Some(left_below(self.rt, self.alloc, &self.root)?))
     }
 }

@@ -4,12 +4,12 @@
 ghost use Rattle.std.specs.Prelude.{◌≡◌};
 
 use fl_top::run;
-use fp_realhost::{DirRemotes, HostDir, StdinSource};
+use fp_realhost::{Access, DirRemotes, HostDir, StdinSource, System};
 use std::alloc::Global;
 use std::env::{self, VarError};
 use std::io::{self, ErrorKind, Input};
 use std::process::ExitCode;
-use std::rt::{Env, Files};
+use std::rt::Env;
 use std::thread::Threads;
 
 /// What fpk takes.
@@ -39,10 +39,7 @@ fn main(rt: HostRuntime) -> ExitCode {
 }
 
 /// The words behind the program's name are run, but for `--help` and `--version`.
-fn start(
-    rt: &(impl Env + Files + Print + Eprint + Input + AllocGlobal + Threads + Sync),
-    alloc: Global,
-) -> u8 {
+fn start(rt: &(impl System + Env + Input + Threads), alloc: Global) -> u8 {
     let words = match words_of(rt, alloc) {
         Ok(words) => words,
         Err(error) => {
@@ -88,14 +85,22 @@ fn words_of(rt: &(impl Env + AllocGlobal), alloc: Global) -> io::Result<Vec<Stri
     Ok(words)
 }
 
+/// What the words open the installation for. Those that only print leave it to other readers.
+fn access_of(words: &[String]) -> Access {
+    match words.first().map(|word| word.as_str()) {
+        Some("list" | "show") => Access::Look,
+        _ => Access::Change,
+    }
+}
+
 /// Runs the words on this folder.
 fn run_on(
-    rt: &(impl Files + Print + Eprint + Input + AllocGlobal + Threads + Sync),
+    rt: &(impl System + Input + Threads),
     alloc: Global,
     folder: &str,
     words: &[String],
 ) -> u8 {
-    let Ok(mut host) = HostDir::new(rt, alloc, folder) else {
+    let Ok(mut host) = HostDir::new(rt, alloc, folder, access_of(words)) else {
         return wanting(rt);
     };
     let mut remotes = DirRemotes::new(rt, alloc);

@@ -1,0 +1,17 @@
+//! Tests of the adapters, over real folders and over a system that notes what it is asked.
+#![tactic(auto)]
+
+#[cfg(test)]
+mod calls;
+#[cfg(test)]
+mod fixture;
+#[cfg(test)]
+mod links;
+#[cfg(test)]
+mod log;
+#[cfg(test)]
+mod order;
+#[cfg(test)]
+mod remotes;
+#[cfg(test)]
+mod stored;
