@@ -2,6 +2,7 @@ pub mod Batches
 pub mod Beginnings
 pub mod Escapes
 pub mod LineWords
+pub mod Nearest
 pub mod Reaching
 pub mod ReadBack
 pub mod Rows

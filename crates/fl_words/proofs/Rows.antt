@@ -13,6 +13,7 @@ use Rattle.fl_words.specs.declared.command.Listing.TheVariants as listings
 use Rattle.fl_words.specs.declared.command.Shown.TheVariants.{Commit, DirTree, DirMeta, Value}
 use Rattle.fl_words.specs.Types.{is_type_text}
 use Rattle.fl_words.specs.Forms.{command_of, bad_index}
+use Rattle.fl_words.specs.Reasons.{reason_text}
 use Rattle.fl_words.specs.Batch.{batch_change, batch_of}
 use Rattle.fl_words.specs.Lines.{refusal_text, op_text}
 
@@ -162,3 +163,15 @@ two_spaces = refl
 pub space_behind : batch_of (codes "pin app/*/*/* \n") ≡ Err 1
 unfolding batch_of batch_change is_pin
 space_behind = refl
+
+-- ---- reasons
+
+pub bad_pattern : reason_text (codes "pin" ∷ codes "app/*/*" ∷ []) ≡ codes "fpk: 'app/*/*' is no pattern: KIND/ID/ARCH/BRANCH\nusage: fpk pin PATTERN\n"
+unfolding is_pin
+bad_pattern = refl
+
+pub none_listed : reason_text (codes "list" ∷ []) ≡ codes "fpk: a word is missing\nusage: fpk list --remotes\nusage: fpk list --pins\n"
+none_listed = refl
+
+pub one_more_word : reason_text (codes "batch" ∷ codes "x" ∷ []) ≡ codes "fpk: 'x' is one word too many\nusage: fpk batch\n"
+one_more_word = refl

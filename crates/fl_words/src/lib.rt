@@ -9,6 +9,7 @@ mod laws;
 mod lines;
 mod printed_words;
 mod reading;
+mod reasons;
 mod refusals;
 mod value_type;
 mod values;
@@ -24,5 +25,6 @@ pub use printed_words::{
     side_word, what_word,
 };
 pub use reading::read_words;
+pub use reasons::reason;
 pub use refusals::{octal_of, refusal_line};
 pub use value_type::ValueType;

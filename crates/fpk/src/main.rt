@@ -4,6 +4,7 @@
 ghost use Rattle.std.specs.Prelude.{◌≡◌};
 
 use fl_top::run;
+use fl_words::reason;
 use fp_realhost::{DirRemotes, HostDir, StdinSource};
 use std::alloc::Global;
 use std::env::{self, VarError};
@@ -102,7 +103,7 @@ fn run_on(
     let mut input = StdinSource::new(rt);
     let status = run(rt, alloc, words, &mut input, &mut host, &mut remotes);
     match status {
-        2 => complain(rt, HELP, 2),
+        2 => explain(rt, alloc, words),
         3 => {
             if let Some(error) = host.last_error() {
                 let _said = eprintln!(rt; "fpk: {error}");
@@ -118,6 +119,17 @@ fn run_on(
         6 => out_of_memory(rt),
         _ => status,
     }
+}
+
+/// Says on standard error why words are no command, and the usage of the commands that begin so.
+fn explain(rt: &impl Eprint, alloc: Global, words: &[String]) -> u8
+    ensures { result ≡ 2 }
+{
+    if let Ok(text) = reason(alloc, words) {
+        let text = text.as_str();
+        let _said = eprint!(rt; "{text}");
+    }
+    2
 }
 
 /// Prints what was asked for.
