@@ -52,7 +52,7 @@ const CASES: [Case; 3] = [
 ];
 
 /// What is sent, in pieces of at most this many bytes.
-fn recording(alloc: Global, case: &Case, most: usize) -> Result<Recording, Fail> {
+fn pieces(alloc: Global, case: &Case, most: usize) -> Result<Vec<(Side, Blob)>, Fail> {
     let mut pieces = Vec::new(alloc);
     for (side, digits) in case.sent {
         let bytes = hex::decode(alloc, digits)?;
@@ -60,11 +60,7 @@ fn recording(alloc: Global, case: &Case, most: usize) -> Result<Recording, Fail>
             pieces.push((*side, Blob::from_slice(alloc, piece)?))?;
         }
     }
-    Ok(Recording {
-        client: None,
-        owners: Items::new(alloc),
-        pieces: Items::from_vec(pieces),
-    })
+    Ok(pieces)
 }
 
 /// Whether a message is this one, to this side.
@@ -87,7 +83,11 @@ fn are_wanted(alloc: Global, out: &[Out], case: &Case) -> Result<bool, Fail> {
 fn is_filtered(alloc: Global, case: &Case, most: usize) -> Result<bool, Fail> {
     let mut policy = Policy::new(alloc);
     policy.add(alloc, "org.bar", case.level)?;
-    let recording = recording(alloc, case, most)?;
+    let recording = Recording {
+        client: None,
+        owners: Items::new(alloc),
+        pieces: Items::from_vec(pieces(alloc, case, most)?),
+    };
     let filtered = filter(alloc, policy, &recording)?;
     Ok(filtered.bad.is_none() && are_wanted(alloc, filtered.out.as_slice(), case)?)
 }

@@ -36,18 +36,27 @@ const ASKED: [(Step, &str); 19] = [
     (Step::Sync, ""),
 ];
 
-// The first call for which the system is asked something else.
-fn first_other<R: Files + AllocGlobal>(rt: &R) -> Result<Option<usize>, Fail> {
-    let log = Log::new(rt, "order.log", "");
-    let system = Logged { log: &log };
-    let mut host = HostDir::new(&system, rt.alloc(), "order/root")?;
+// The first of the calls for which the system is asked something else.
+fn first_call_asked_otherwise<H: Host, R: Files + AllocGlobal>(
+    rt: &R,
+    log: &Log<'_, R>,
+    host: &mut H,
+) -> Result<Option<usize>, Fail> {
     for (i, (step, want)) in (&ASKED).iter().enumerate() {
-        change(&mut host, rt.alloc(), *step)?;
+        change(host, rt.alloc(), *step)?;
         if log.lines()?.as_str() != *want {
             return Ok(Some(i));
         }
     }
     Ok(None)
+}
+
+// The same over a folder whose system notes what it is asked.
+fn first_other<R: Files + AllocGlobal>(rt: &R) -> Result<Option<usize>, Fail> {
+    let log = Log::new(rt, "order.log", "");
+    let system = Logged { log: &log };
+    let mut host = HostDir::new(&system, rt.alloc(), "order/root")?;
+    first_call_asked_otherwise(rt, &log, &mut host)
 }
 
 #[test]
