@@ -237,18 +237,16 @@ fn is_malformed(alloc: Global) -> Result<bool, Fail> {
     )?)
 }
 
-/// Whether a pin that is there is told so, and one that isn't.
-fn are_pins(alloc: Global) -> Result<bool, Fail> {
-    let exists = Refusal::PinExists {
-        pin: pattern(alloc, "app/*/*/*")?,
-    };
-    let unknown = Refusal::NoSuchPin {
-        pin: pattern(alloc, "runtime/org.x.Y/*/1.0")?,
-    };
-    Ok(
-        is_line(alloc, &exists, "error: pin exists app/*/*/*\n")?
-            && is_line(alloc, &unknown, "error: no pin runtime/org.x.Y/*/1.0\n")?,
-    )
+/// Whether a pin that is there is told so.
+fn is_pin_there(alloc: Global, text: &str, want: &str) -> Result<bool, Fail> {
+    let pin = pattern(alloc, text)?;
+    Ok(is_line(alloc, &Refusal::PinExists { pin }, want)?)
+}
+
+/// Whether a pin that isn't there is told so.
+fn is_pin_missing(alloc: Global, text: &str, want: &str) -> Result<bool, Fail> {
+    let pin = pattern(alloc, text)?;
+    Ok(is_line(alloc, &Refusal::NoSuchPin { pin }, want)?)
 }
 
 /// Paths, and the lines that say that they are damaged.
@@ -314,7 +312,15 @@ fn refusals(rt: HostRuntime) -> Result<(), Fail> {
             )?
             && is_line(alloc, &Refusal::BadRecord { line: 2 }, "error: record 2\n")?
     );
-    assert!(rt; is_malformed(alloc)? && are_pins(alloc)?);
+    assert!(rt; is_malformed(alloc)?);
+    assert!(rt; is_pin_there(alloc, "app/*/*/*", "error: pin exists app/*/*/*\n")?);
+    assert!(rt;
+        is_pin_missing(
+            alloc,
+            "runtime/org.x.Y/*/1.0",
+            "error: no pin runtime/org.x.Y/*/1.0\n"
+        )?
+    );
     assert_eq!(rt; first_other_path(alloc, &DAMAGED)?, None);
     assert!(rt; long_is_damaged(alloc)? && long_is_escaped(alloc)?);
     Ok(())
