@@ -1,4 +1,14 @@
 pub mod Law
+pub mod Single
+pub mod Empty
+pub mod Images
+pub mod Listed
 pub mod Rows
-pub mod Good
 pub mod Worked
+pub mod Deployed
+pub mod Changes
+pub mod Switch
+pub mod Switching
+pub mod FirstPath
+pub mod Usual
+pub mod Total

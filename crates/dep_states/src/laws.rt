@@ -1,54 +1,92 @@
 //! Laws of what images show. Each is the contract of a function that does nothing.
-ghost use Rattle.std.specs.Prelude.{◌≡◌, ◌∷◌, [], codes};
+ghost use Rattle.std.specs.Prelude.{◌≡◌, ◌++◌, ℕ, List, true, Some, None, Result, Err};
+ghost use Rattle.fp_host.specs.Paths.{Elements};
 ghost use Rattle.fp_host.specs.View.{View, IsTree};
-ghost use Rattle.fp_host.specs.Outcome.{Disk, Follows, Nothing, IsSettled, gone, shows};
+ghost use Rattle.fp_host.specs.Outcome.{Disk, Follows, IsSettled, gone, shows};
+ghost use Rattle.fp_name.specs.Refs.{Ref, is_ref};
+ghost use Rattle.fp_small.specs.Places.{repo, tmp};
 ghost use Rattle.fp_small.specs.declared.state.State.{State};
-ghost use Rattle.fp_small.specs.declared.state.Layout.TheVariants.{Two};
-ghost use Rattle.dep_states.specs.Names.{config, remotes_conf, pins_file};
-ghost use Rattle.dep_states.specs.Shown.{Shows, state_of, empty_settings};
-ghost use Rattle.dep_states.specs.Sound.{Opens, Sound, IsSound, Spares, Spared, HasConfig, OldGone};
-ghost use Rattle.dep_states.specs.After.{IsGood};
-ghost use Rattle.std.specs.Prelude.{◌≤◌, List, ℕ, length};
-ghost use Rattle.fp_host.specs.Paths.{Elements, absent};
-ghost use Rattle.fp_host.specs.Outcome.{folder};
-ghost use Rattle.fp_small.specs.Config.{IsSettings, config_text};
-ghost use Rattle.fp_small.specs.declared.config.Settings.{Settings};
-ghost use Rattle.dep_states.specs.Shown.{config_most};
-ghost use Rattle.dep_states.specs.Worked.{empty_image, bare_image, image_with_config};
-ghost use Rattle.dep_states.specs.Zones.{Allowed, IsFileOrGone, IsFolderOrGone, anything, outward, zone};
+ghost use Rattle.fp_small.specs.declared.state.RefRow.{RefRow};
+ghost use Rattle.fp_small.specs.declared.state.Previous.{Previous};
+ghost use Rattle.ost_model.specs.Order.{In};
+ghost use Rattle.ost_model.specs.Stores.{IsStore};
+ghost use Rattle.fp_small.specs.declared.op.Op.TheVariants.{Install, Update, Uninstall, Rollback};
+ghost use Rattle.dep_states.specs.After.{HasOrder, row_at, after_op};
+ghost use Rattle.dep_states.specs.Switch.{IsWith, SwitchesAt, Stages, OpensEither};
+ghost use Rattle.dep_states.specs.Names.{active, config, remotes_conf, pins_file};
+ghost use Rattle.dep_states.specs.Shown.{Shows, IsShown};
+ghost use Rattle.dep_states.specs.Zones.{IsFileOrGone, IsFolderOrGone};
+ghost use Rattle.dep_states.specs.Damaged.{Damages, Gives};
+ghost use Rattle.dep_states.specs.Sound.{Sound, Opens, IsSound, Spares, Spared, InTmp, OldGone, HasConfig};
+ghost use Rattle.dep_states.specs.Settled.{Settled};
+ghost use Rattle.dep_states.specs.Deployed.{deployed_disk, deployed_state};
+ghost use Rattle.dep_states.specs.Samples.{empty_disk, empty_state, worked_disk, worked_state, damaged_disk, dashed_ref};
 
-/// At most one state is shown.
-pub fn one_state_is_shown()
-    ensures { (disk : Disk) (s t : State) → Shows disk s → Shows disk t → s ≡ t }
+/// An image gives at most one state, or one first path that doesn't read, and not both.
+pub fn one_result_is_given()
+    ensures { (disk : Disk) (a b : Result State Elements) → Gives disk a → Gives disk b → a ≡ b }
 {}
 
-/// What is shown can be written: good names, URLs and patterns, ascending and within the limits.
-pub fn what_is_shown_can_be_written()
-    ensures { (disk : Disk) (s : State) → Shows disk s → IsGood s }
+/// An image of finitely many names shows a state where nothing in it is damaged.
+pub fn undamaged_images_show_a_state()
+    ensures { (disk : Disk) (names : List Elements) → ((p : Elements) → (disk p ≡ gone → ⊥) → In names p) → ((p : Elements) → Damages disk p → ⊥) → IsShown disk }
 {}
 
-/// An image without `config` and the files of layout 1 shows the empty state, in layout 2.
-pub fn the_empty_state_is_shown()
-    ensures { (disk : Disk) → disk config ≡ gone → disk remotes_conf ≡ gone → disk pins_file ≡ gone → Shows disk (state_of Two empty_settings) }
+/// The empty image shows the empty state of layout 2, is sound, and is settled.
+pub fn the_empty_image_is_sound()
+    ensures shown { Shows empty_disk empty_state }
+    ensures sound { Sound empty_disk }
+    ensures settled { Settled empty_disk }
 {}
 
-/// A step that gives nothing to any path leaves what was shown before, and leaves it sound.
-pub fn steps_that_give_nothing()
-    ensures opens { (old new : View) (s : State) → Follows Nothing old new → Opens s old → Opens s new }
-    ensures sound { (old new : View) → Follows Nothing old new → IsSound old → IsSound new }
+/// An image with a `config`, two refs, one of them with a previous commit, and an override shows its state.
+pub fn the_worked_image_shows_its_state()
+    ensures { Shows worked_disk worked_state }
 {}
 
-/// A step that gives nothing to a fixed path, and elsewhere only what may stand there, leaves what was shown before, and
-/// leaves it sound. `config` stays, too.
+/// A step that gives nothing to a fixed path, and elsewhere only what may stand there, leaves what was shown before, and leaves
+/// it sound.
 pub fn steps_that_spare()
     ensures opens { (old new : View) (s : State) → Follows (Spared old) old new → Opens s old → Opens s new }
     ensures sound { (old new : View) → Follows (Spared old) old new → IsSound old → IsSound new }
-    ensures config { (old new : View) → Follows (Spared old) old new → HasConfig old → HasConfig new }
 {}
 
-/// Where no stop leaves the installation without `config`, the files of layout 1 may go.
-pub fn old_files_may_go()
-    ensures { (v : View) → HasConfig v → Spares v OldGone }
+/// An image with one deployed ref, its objects and its ref file shows it, and is sound.
+pub fn the_deployed_image_is_sound()
+    ensures shown { Shows deployed_disk deployed_state }
+    ensures sound { Sound deployed_disk }
+{}
+
+/// The rename of a link from `repo/tmp` onto `active`: where its commit stands beside the state, each outcome shows the state of
+/// before or the one with the new row, and is sound.
+pub fn a_switch_is_old_or_new()
+    ensures { (u w : View) (s t : State) (name : Ref) (row : RefRow) (rest : Elements) → is_ref name ≡ true → IsWith s name (Some row) t
+        → Follows (SwitchesAt name row (rest ++ tmp)) u w → Stages s name row u → OpensEither s t w }
+{}
+
+/// What the operations on refs make of a state: the row of that ref changes, and no other.
+pub fn operations_change_one_row()
+    ensures install { (s : State) (name : Ref) (remote commit : List ℕ) (time : ℕ) → HasOrder s → row_at s name ≡ None
+        → IsWith s name (Some (record { name = name; origin = remote; commit = commit; timestamp = time; previous = None })) (after_op s time (Install name remote commit)) }
+    ensures update { (s : State) (name : Ref) (remote commit : List ℕ) (time : ℕ) (row : RefRow) → HasOrder s → row_at s name ≡ Some row
+        → IsWith s name (Some (record { name = name; origin = remote; commit = commit; timestamp = time; previous = Some (record { commit = row.commit; timestamp = row.timestamp }) })) (after_op s time (Update name remote commit)) }
+    ensures uninstall { (s : State) (name : Ref) (time : ℕ) → HasOrder s → IsWith s name None (after_op s time (Uninstall name)) }
+    ensures rollback { (s : State) (commit : List ℕ) (time : ℕ) (row : RefRow) (p : Previous) → HasOrder s → row_at s row.name ≡ Some row → row.previous ≡ Some p
+        → IsWith s row.name (Some (record { name = row.name; origin = row.origin; commit = p.commit; timestamp = p.timestamp; previous = Some (record { commit = row.commit; timestamp = row.timestamp }) })) (after_op s time (Rollback row.name commit)) }
+{}
+
+/// Of two refs that don't read, one since its `deploy` is that of another commit, the path is given that comes first by its bytes: that of `org.x.A-b`, though `org.x.A` is the
+/// first of the IDs.
+pub fn the_first_path_is_by_bytes()
+    ensures { Gives damaged_disk (Err (active dashed_ref)) }
+{}
+
+/// Anything below `repo/tmp` may come and go; and where no stop leaves the installation without `config`, the files of layout 1
+/// may go.
+pub fn what_the_usual_steps_spare()
+    ensures work { (v : View) → Spares v InTmp }
+    ensures old { (v : View) → HasConfig v → Spares v OldGone }
+    ensures config { (u w : View) → Follows (Spared u) u w → HasConfig u → HasConfig w }
 {}
 
 /// Where all is settled and `config` stands, no stop leaves the installation without it.
@@ -56,36 +94,13 @@ pub fn settled_config_stays()
     ensures { (v : View) → IsTree v → IsSettled v → (shows v config ≡ gone → ⊥) → HasConfig v }
 {}
 
-/// Where every outcome shows one state, every outcome shows a state.
-pub fn opened_is_sound()
-    ensures { (s : State) (v : View) → Opens s v → IsSound v }
-{}
-
-/// In a sound image `config` and the files of layout 1 are absent or files, and `repo` and `repo/tmp` are absent or folders.
+/// In a sound image `config` and the files of layout 1 are absent or files, `repo` and `repo/tmp` are absent or folders, and the
+/// objects are what their names say.
 pub fn what_a_sound_image_holds()
     ensures config { (disk : Disk) → Sound disk → IsFileOrGone (disk config) }
     ensures remotes { (disk : Disk) → Sound disk → IsFileOrGone (disk remotes_conf) }
     ensures pins { (disk : Disk) → Sound disk → IsFileOrGone (disk pins_file) }
-    ensures repo { (disk : Disk) → Sound disk → IsFolderOrGone (disk (codes "repo" ∷ [])) }
-    ensures tmp { (disk : Disk) → Sound disk → IsFolderOrGone (disk (codes "tmp" ∷ codes "repo" ∷ [])) }
-{}
-
-/// Sound images: the empty one; the root alone, which shows the empty state of layout 2; and the root with a `config` as it is
-/// written, which shows its settings.
-pub fn sound_images()
-    ensures nothing { Sound empty_image }
-    ensures root { Sound bare_image × Shows bare_image (state_of Two empty_settings) }
-    ensures written { (s : Settings) → IsSettings s → length (config_text s) ≤ config_most
-        → Sound (image_with_config (config_text s)) × Shows (image_with_config (config_text s)) (state_of Two s) }
-{}
-
-/// A view in which the root stands alone is sound where every stop leaves what stands.
-pub fn a_bare_view_is_sound()
-    ensures { (v : View) → IsTree v → IsSettled v → ((x : List ℕ) (up : Elements) → v.names (x ∷ up) ≡ absent) → IsSound v }
-{}
-
-/// A path of 128 elements that is for nothing else may be a folder, and one of 129 may not.
-pub fn paths_have_a_longest()
-    ensures longest { (p : Elements) → length p ≡ 128 → zone (outward p) ≡ anything → Allowed p folder }
-    ensures too_long { (p : Elements) → length p ≡ 129 → Allowed p folder → ⊥ }
+    ensures repo { (disk : Disk) → Sound disk → IsFolderOrGone (disk repo) }
+    ensures tmp { (disk : Disk) → Sound disk → IsFolderOrGone (disk tmp) }
+    ensures store { (disk : Disk) → Sound disk → IsStore repo disk }
 {}

@@ -1,5 +1,0 @@
-use Rattle.dep_states.proofs.Law.{old_go}
-use Rattle.dep_states.proofs.laws.old_files_may_go.Goals as goal
-
-pub returns : goal.returns
-returns c = old_go
