@@ -29,7 +29,8 @@ pub fn one_result_is_given()
 
 /// An image of finitely many names shows a state where nothing in it is damaged.
 pub fn undamaged_images_show_a_state()
-    ensures { (disk : Disk) (names : List Elements) → ((p : Elements) → (disk p ≡ gone → ⊥) → In names p) → ((p : Elements) → Damages disk p → ⊥) → IsShown disk }
+    ensures { (disk : Disk) (names : List Elements) → ((p : Elements) → (disk p ≡ gone → ⊥) → In
+        names p) → ((p : Elements) → Damages disk p → ⊥) → IsShown disk }
 {}
 
 /// The empty image shows the empty state of layout 2, is sound, and is settled.
@@ -47,7 +48,8 @@ pub fn the_worked_image_shows_its_state()
 /// A step that gives nothing to a fixed path, and elsewhere only what may stand there, leaves what was shown before, and leaves
 /// it sound.
 pub fn steps_that_spare()
-    ensures opens { (old new : View) (s : State) → Follows (Spared old) old new → Opens s old → Opens s new }
+    ensures opens { (old new : View) (s : State) → Follows (Spared old) old new → Opens s old →
+        Opens s new }
     ensures sound { (old new : View) → Follows (Spared old) old new → IsSound old → IsSound new }
 {}
 
@@ -60,18 +62,23 @@ pub fn the_deployed_image_is_sound()
 /// The rename of a link from `repo/tmp` onto `active`: where its commit stands beside the state, each outcome shows the state of
 /// before or the one with the new row, and is sound.
 pub fn a_switch_is_old_or_new()
-    ensures { (u w : View) (s t : State) (name : Ref) (row : RefRow) (rest : Elements) → is_ref name ≡ true → IsWith s name (Some row) t
+    ensures { (u w : View) (s t : State) (name : Ref) (row : RefRow) (rest : Elements) → is_ref
+        name ≡ true → IsWith s name (Some row) t
         → Follows (SwitchesAt name row (rest ++ tmp)) u w → Stages s name row u → OpensEither s t w }
 {}
 
 /// What the operations on refs make of a state: the row of that ref changes, and no other.
 pub fn operations_change_one_row()
-    ensures install { (s : State) (name : Ref) (remote commit : List ℕ) (time : ℕ) → HasOrder s → row_at s name ≡ None
+    ensures install { (s : State) (name : Ref) (remote commit : List ℕ) (time : ℕ) → HasOrder s →
+        row_at s name ≡ None
         → IsWith s name (Some (record { name = name; origin = remote; commit = commit; timestamp = time; previous = None })) (after_op s time (Install name remote commit)) }
-    ensures update { (s : State) (name : Ref) (remote commit : List ℕ) (time : ℕ) (row : RefRow) → HasOrder s → row_at s name ≡ Some row
+    ensures update { (s : State) (name : Ref) (remote commit : List ℕ) (time : ℕ) (row : RefRow) →
+        HasOrder s → row_at s name ≡ Some row
         → IsWith s name (Some (record { name = name; origin = remote; commit = commit; timestamp = time; previous = Some (record { commit = row.commit; timestamp = row.timestamp }) })) (after_op s time (Update name remote commit)) }
-    ensures uninstall { (s : State) (name : Ref) (time : ℕ) → HasOrder s → IsWith s name None (after_op s time (Uninstall name)) }
-    ensures rollback { (s : State) (commit : List ℕ) (time : ℕ) (row : RefRow) (p : Previous) → HasOrder s → row_at s row.name ≡ Some row → row.previous ≡ Some p
+    ensures uninstall { (s : State) (name : Ref) (time : ℕ) → HasOrder s → IsWith s name None
+        (after_op s time (Uninstall name)) }
+    ensures rollback { (s : State) (commit : List ℕ) (time : ℕ) (row : RefRow) (p : Previous) →
+        HasOrder s → row_at s row.name ≡ Some row → row.previous ≡ Some p
         → IsWith s row.name (Some (record { name = row.name; origin = row.origin; commit = p.commit; timestamp = p.timestamp; previous = Some (record { commit = row.commit; timestamp = row.timestamp }) })) (after_op s time (Rollback row.name commit)) }
 {}
 
