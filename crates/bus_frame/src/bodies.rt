@@ -51,14 +51,16 @@ fn text_at_start<'m>(header: &Header, message: &'m [u8]) -> Option<&'m str>
 /// stands there. It takes no memory.
 pub fn first_string<'m>(header: &Header, message: &'m [u8]) -> Option<&'m str>
     ensures exact { Gives (λ t. t.now) result (first_text header.now message.now) }
-    ensures text { (text : List ℕ) → (option_map (λ t. t.now) result ≡ Some text) ↔ BeginsWithText header.now message.now text }
+    ensures text { (text : List ℕ) → (option_map (λ t. t.now) result ≡ Some text) ↔ BeginsWithText
+        header.now message.now text }
 {
     text_at_start(header, message)
 }
 
 #[tactic(auto, unfolding(crate::specs::Bodies::three_texts_at))]
 fn three<'m>(little: bool, place: Cursor<'m>) -> Option<(&'m str, &'m str, &'m str)>
-    ensures { Gives (λ t. (t.0.now, t.1.now, t.2.now)) result (three_texts_at little (place_of place.entry)) }
+    ensures { Gives (λ t. (t.0.now, t.1.now, t.2.now)) result
+        (three_texts_at little (place_of place.entry)) }
 {
     let (first, behind) = place.long_text(little)?;
     let (second, behind) = behind.long_text(little)?;
@@ -82,8 +84,10 @@ fn texts_of_three<'m>(header: &Header, message: &'m [u8]) -> Option<(&'m str, &'
 /// The three texts of the body. There are none exactly where the signature isn't `sss`, or the body isn't exactly
 /// three texts. It takes no memory.
 pub fn three_strings<'m>(header: &Header, message: &'m [u8]) -> Option<(&'m str, &'m str, &'m str)>
-    ensures exact { Gives (λ t. (t.0.now, t.1.now, t.2.now)) result (three_texts header.now message.now) }
-    ensures texts { (a b c : List ℕ) → (option_map {U = List ℕ × List ℕ × List ℕ} (λ t. (t.0.now, t.1.now, t.2.now)) result ≡ Some (a, b, c))
+    ensures exact { Gives (λ t. (t.0.now, t.1.now, t.2.now)) result
+        (three_texts header.now message.now) }
+    ensures texts { (a b c : List ℕ) → (option_map {U = List ℕ × List ℕ × List ℕ}
+        (λ t. (t.0.now, t.1.now, t.2.now)) result ≡ Some (a, b, c))
         ↔ AreThreeTexts header.now message.now a b c }
 {
     texts_of_three(header, message)
@@ -112,7 +116,8 @@ fn names<'m>(header: &Header, message: &'m [u8]) -> Option<Cursor<'m>>
 }
 
 fn are_texts(little: bool, place: Cursor<'_>) -> bool
-    ensures { result ≡ is_some (texts_at little (length place.entry.rest.now) (place_of place.entry)) }
+    ensures { result ≡ is_some (texts_at little (length place.entry.rest.now)
+        (place_of place.entry)) }
 {
     let mut next = place;
     for _ in 0..place.rest.len() {
@@ -128,7 +133,8 @@ fn are_texts(little: bool, place: Cursor<'_>) -> bool
 }
 
 fn texts(alloc: Global, little: bool, place: Cursor<'_>) -> Result<Option<Vec<Text>>, AllocError>
-    ensures { IfOk result (λ found. Gives (λ v. v.items) found (texts_at little (length place.entry.rest.now) (place_of place.entry))) }
+    ensures { IfOk result (λ found. Gives (λ v. v.items) found
+        (texts_at little (length place.entry.rest.now) (place_of place.entry))) }
 {
     let mut texts = Vec::new(alloc);
     let mut next = place;
@@ -161,7 +167,8 @@ fn has_names(header: &Header, message: &[u8]) -> bool
 /// Whether the signature is `as` and the body is exactly one such array. It takes no memory.
 pub fn is_names(header: &Header, message: &[u8]) -> bool
     ensures exact { result ≡ is_some (names_in header.now message.now) }
-    ensures names { IsTrue result ↔ ((names : List (List ℕ)) × AreNames header.now message.now names) }
+    ensures names { IsTrue result ↔ ((names : List (List ℕ)) × AreNames header.now message.now
+        names) }
 {
     has_names(header, message)
 }
@@ -190,7 +197,8 @@ pub fn names_body(
     message: &[u8],
 ) -> Result<Option<Items<Text>>, AllocError>
     ensures exact { IfOk result (λ found. found ≡ names_in header.now message.now) }
-    ensures names { IfOk result (λ found. (names : List (List ℕ)) → (found ≡ Some names) ↔ AreNames header.now message.now names) }
+    ensures names { IfOk result (λ found. (names : List (List ℕ)) → (found ≡ Some names) ↔ AreNames
+        header.now message.now names) }
 {
     names_of(alloc, header, message)
 }

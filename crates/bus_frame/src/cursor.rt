@@ -55,7 +55,8 @@ impl<'a> Cursor<'a> {
 
     /// So many bytes, and the place after them.
     pub fn bytes(self, count: usize) -> Option<(&'a [u8], Cursor<'a>)>
-        ensures { Gives (λ x. (x.0.now, place_of x.1)) result (bytes_at count (place_of self.entry)) }
+        ensures { Gives (λ x. (x.0.now, place_of x.1)) result
+            (bytes_at count (place_of self.entry)) }
     {
         if self.rest.len() < count {
             return None;
@@ -106,7 +107,8 @@ impl<'a> Cursor<'a> {
     /// A text of so many bytes, and a zero byte.
     #[tactic(auto, unfolding(crate::specs::Places::text_at))]
     pub fn text(self, count: usize) -> Option<(&'a str, Cursor<'a>)>
-        ensures { Gives (λ x. (x.0.now, place_of x.1)) result (text_at count (place_of self.entry)) }
+        ensures { Gives (λ x. (x.0.now, place_of x.1)) result
+            (text_at count (place_of self.entry)) }
     {
         let (bytes, behind) = self.bytes(count)?;
         let (end, behind) = behind.byte()?;
@@ -120,7 +122,8 @@ impl<'a> Cursor<'a> {
     /// A text after a number of 32 bits.
     #[tactic(auto, unfolding(crate::specs::Places::long_text_at))]
     pub fn long_text(self, little: bool) -> Option<(&'a str, Cursor<'a>)>
-        ensures { Gives (λ x. (x.0.now, place_of x.1)) result (long_text_at little (place_of self.entry)) }
+        ensures { Gives (λ x. (x.0.now, place_of x.1)) result
+            (long_text_at little (place_of self.entry)) }
     {
         let (count, behind) = self.number(little)?;
         behind.text(count as usize)
@@ -129,7 +132,8 @@ impl<'a> Cursor<'a> {
     /// A text after a byte.
     #[tactic(auto, unfolding(crate::specs::Places::short_text_at))]
     pub fn short_text(self) -> Option<(&'a str, Cursor<'a>)>
-        ensures { Gives (λ x. (x.0.now, place_of x.1)) result (short_text_at (place_of self.entry)) }
+        ensures { Gives (λ x. (x.0.now, place_of x.1)) result
+            (short_text_at (place_of self.entry)) }
     {
         let (count, behind) = self.byte()?;
         behind.text(usize::from(count))

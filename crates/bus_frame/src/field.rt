@@ -33,7 +33,8 @@ fn content<'a>(
     types: &[u8],
     place: Cursor<'a>,
 ) -> Option<(RawContent<'a>, Cursor<'a>)>
-    ensures { Gives (λ x. (content_of x.0, place_of x.1)) result (content_at little types.now (place_of place.entry)) }
+    ensures { Gives (λ x. (content_of x.0, place_of x.1)) result
+        (content_at little types.now (place_of place.entry)) }
 {
     let (code, _) = first_byte(types)?;
     match code {
@@ -64,7 +65,8 @@ fn content<'a>(
 /// The field that stands at the next multiple of 8, and the place after it.
 #[tactic(auto, unfolding(crate::specs::Fields::field_at))]
 pub fn field<'a>(little: bool, place: Cursor<'a>) -> Option<(RawField<'a>, Cursor<'a>)>
-    ensures { Gives (λ x. (field_of x.0, place_of x.1)) result (field_at little (place_of place.entry)) }
+    ensures { Gives (λ x. (field_of x.0, place_of x.1)) result
+        (field_at little (place_of place.entry)) }
 {
     let (code, behind) = place.aligned(8)?.byte()?;
     let (types, behind) = variant_type(behind)?;

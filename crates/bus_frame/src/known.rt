@@ -131,7 +131,8 @@ impl<'a> RawKnown<'a> {
 
 /// The known fields of the array that stands at a place, or the first rule that is broken.
 pub fn known_fields<'a>(little: bool, place: Cursor<'a>) -> Result<RawKnown<'a>, FrameRule>
-    ensures { Reads known_of result (fields_at little (length place.entry.rest.now) none_known (place_of place.entry)) }
+    ensures { Reads known_of result (fields_at little (length place.entry.rest.now) none_known
+        (place_of place.entry)) }
 {
     let mut known = RawKnown::NONE;
     let mut next = place;

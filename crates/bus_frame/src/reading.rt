@@ -169,13 +169,16 @@ pub fn read_frame(alloc: Global, bytes: &[u8]) -> Result<ReadFrame, FrameError>
     ensures exact { AnswersFrame result (frame_of bytes.now) }
 
     // What is read is a message with its header, and a message is read, whatever follows it.
-    ensures message { IfFrame result (λ header len. (len ≤ length bytes.now) × Frame (take len bytes.now) header) }
-    ensures every_message { (message rest : List ℕ) (header : Header) → bytes.now ≡ message ++ rest → Frame message header
+    ensures message { IfFrame result (λ header len. (len ≤ length bytes.now) × Frame
+        (take len bytes.now) header) }
+    ensures every_message { (message rest : List ℕ) (header : Header) → bytes.now ≡ message ++ rest
+        → Frame message header
         → AnswersFrame result (whole header (length message)) }
 
     // The rule is the first one that is broken, and each broken rule is named.
     ensures broken { IfBad result (BeginsBroken bytes.now) }
-    ensures every_broken { (message rest : List ℕ) (rule : FrameRule) → bytes.now ≡ message ++ rest → Breaks message rule
+    ensures every_broken { (message rest : List ℕ) (rule : FrameRule) → bytes.now ≡ message ++ rest
+        → Breaks message rule
         → AnswersFrame result (bad rule) }
 
     // So many bytes lack, exactly where some do.

@@ -63,7 +63,8 @@ pub fn with_names(
 ) -> Result<Blob, AllocError>
     requires frame { frame_of message.now ≡ whole header.now (length message.now) }
     requires listed { IsSome (names_in header.now message.now) }
-    requires room { length (names_bytes header.now.little header.now.body_at names.now) ≤ header.now.body_len }
+    requires room { length (names_bytes header.now.little header.now.body_at names.now) ≤
+        header.now.body_len }
     ensures bytes { IfOk result (λ b. b ≡ with_names_bytes header.now message.now names.now) }
 {
     let first = header.body_at as usize + 4;

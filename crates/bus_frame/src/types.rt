@@ -20,7 +20,8 @@ fn is_basic_type(code: u8) -> bool
 #[cycle(types)]
 #[tactic(auto, using(crate::proofs::TypeSteps::step))]
 pub fn behind_type(room: Room, types: &[u8]) -> Option<&[u8]>
-    ensures { Gives (λ rest. rest.now) result (type_after room.containers room.arrays room.structs types.now) }
+    ensures { Gives (λ rest. rest.now) result (type_after room.containers room.arrays room.structs
+        types.now) }
 {
     let (code, rest) = first_byte(types)?;
     match code {
@@ -34,7 +35,8 @@ pub fn behind_type(room: Room, types: &[u8]) -> Option<&[u8]>
 /// What follows the type of an array's elements, which may be dictionary entries.
 #[cycle(types)]
 pub fn behind_element(room: Room, types: &[u8]) -> Option<&[u8]>
-    ensures { Gives (λ rest. rest.now) result (element_after (type_after room.containers room.arrays room.structs) types.now) }
+    ensures { Gives (λ rest. rest.now) result (element_after
+        (type_after room.containers room.arrays room.structs) types.now) }
 {
     let (code, rest) = first_byte(types)?;
     if code != b'{' {
@@ -49,7 +51,8 @@ pub fn behind_element(room: Room, types: &[u8]) -> Option<&[u8]>
 
 #[cycle(types)]
 fn behind_members(room: Room, types: &[u8]) -> Option<&[u8]>
-    ensures { Gives (λ rest. rest.now) result (members_after (type_after room.containers room.arrays room.structs) (length types.now) types.now) }
+    ensures { Gives (λ rest. rest.now) result (members_after
+        (type_after room.containers room.arrays room.structs) (length types.now) types.now) }
 {
     let mut rest = types;
     for _ in 0..types.len() {

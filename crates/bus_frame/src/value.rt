@@ -84,7 +84,8 @@ fn basic(little: bool, code: u8, place: Cursor<'_>) -> Option<Cursor<'_>>
 /// How many bytes the elements of an array have, and the place of the first.
 #[tactic(auto, unfolding(crate::specs::Values::array_head_at))]
 pub fn array_head<'m>(little: bool, types: &[u8], place: Cursor<'m>) -> Option<(usize, Cursor<'m>)>
-    ensures { Gives (λ x. (x.0, place_of x.1)) result (array_head_at little types.now (place_of place.entry)) }
+    ensures { Gives (λ x. (x.0, place_of x.1)) result (array_head_at little types.now
+        (place_of place.entry)) }
 {
     let (count, behind) = place.number(little)?;
     let (code, _) = first_byte(types)?;

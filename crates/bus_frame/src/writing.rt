@@ -87,7 +87,8 @@ fn error_array(
     requires name_len { length name.now ≤ 255 }
     requires to_len { ForSome to (λ t. length t.now ≤ 255) }
     ensures bound { IfOk result (λ v. vec_len v < 2 ^ 32) }
-    ensures fields { IfOk result (λ v. v.items ≡ fields_bytes little 16 (error_fields name.now reply (option_map (λ t. t.now) to.entry))) }
+    ensures fields { IfOk result (λ v. v.items ≡ fields_bytes little 16
+        (error_fields name.now reply (option_map (λ t. t.now) to.entry))) }
 {
     let mut fields = Vec::new(alloc);
     put_word(&mut fields, little, 4, name)?;
@@ -108,7 +109,8 @@ fn put_fixed(
     serial: u32,
     array_len: u32,
 ) -> Result<(), AllocError>
-    ensures { OnOk result (out.new.items ≡ out.old.items ++ fixed_bytes little kind flags 0 serial array_len) }
+    ensures { OnOk result (out.new.items ≡ out.old.items ++ fixed_bytes little kind flags 0 serial
+        array_len) }
 {
     let order = if little { b'l' } else { b'B' };
     out.extend_from_slice(&[order, kind.code(), flags.bits, 1])?;
@@ -130,7 +132,8 @@ pub fn error_frame(
 ) -> Result<Blob, AllocError>
     requires name_len { length name.now ≤ 255 }
     requires to_len { ForSome to (λ t. length t.now ≤ 255) }
-    ensures bytes { IfOk result (λ b. b ≡ error_bytes little name.now reply (option_map (λ t. t.now) to.entry)) }
+    ensures bytes { IfOk result (λ b. b ≡ error_bytes little name.now reply
+        (option_map (λ t. t.now) to.entry)) }
 {
     let fields = error_array(alloc, little, name, reply, to)?;
     let mut out = Vec::new(alloc);

@@ -11,7 +11,8 @@ ghost use Rattle.bus_policy.specs.Rows.{HoldsNames, call_header, call, reply, ve
 pub fn calls_of_the_bus()
     ensures no_interface { handler_of (call_header None (codes "ListNames"))
         ≡ handler.FilterNameListReply }
-    ensures ping { handler_of (call_header (Some (codes "org.freedesktop.DBus.Peer")) (codes "Ping"))
+    ensures ping { handler_of (call_header (Some (codes "org.freedesktop.DBus.Peer"))
+        (codes "Ping"))
         ≡ handler.Pass }
     ensures no_ping { handler_of (call_header (Some driver) (codes "Ping")) ≡ handler.Deny }
     ensures other_interface { handler_of (call_header (Some (codes "org.a.I")) (codes "Hello"))
@@ -35,7 +36,8 @@ pub fn one_call_of_several_lists_names()
 pub fn one_reply()
     ensures first { verdict_on (call (codes "GetId") ∷ call (codes "Hello") ∷ [])
         (reply message_type.Error []) ≡ verdict.Pass }
-    ensures second { verdict_on (reply message_type.Error [] ∷ call (codes "GetId") ∷ call (codes "Hello") ∷ [])
+    ensures second { verdict_on (reply message_type.Error [] ∷ call (codes "GetId") ∷ call
+        (codes "Hello") ∷ [])
         (reply message_type.Error []) ≡ verdict.Drop }
     ensures unasked { verdict_on [] (reply message_type.Error []) ≡ verdict.Drop }
 {}

@@ -128,7 +128,7 @@ impl Policy {
         ensures ok { OnOk result
             (self.new ≡ self.old ++ record { pattern = pattern.now; grant = grant } ∷ []) }
         ensures err { OnErr result (self.new ≡ self.old) }
-        ensures memory { IsOkUnless result PolicyError.NoMemory }
+        ensures needs_no_memory { IsOkUnless result PolicyError.NoMemory }
     {
         let pattern = Text::from_str(alloc, pattern)?;
         self.rules.push(PolicyRule { pattern, grant })?;

@@ -17,7 +17,8 @@ pub fn pieces_dont_matter()
 /// A call is an event where its last byte comes, in whatever pieces; before that the stream is cut.
 pub fn events_of_a_call()
     ensures whole { events ((side.Client, call_bytes) ∷ []) ≡ call ∷ [] }
-    ensures in_two { events ((side.Client, drop 20 call_bytes) ∷ (side.Client, take 20 call_bytes) ∷ [])
+    ensures in_two { events ((side.Client, drop 20 call_bytes) ∷ (side.Client, take 20 call_bytes)
+        ∷ [])
         ≡ call ∷ [] }
     ensures not_yet { events ((side.Client, take 63 call_bytes) ∷ []) ≡ [] }
     ensures clean { end_of ((side.Client, call_bytes) ∷ []) ≡ None }

@@ -134,7 +134,7 @@ impl<S: BuildHasher + Copy> Filter<S> {
         ensures at { (s : Setting) (fed : Pieces) (taken : List Event) (given : List TheOut)
             → FilterAt self.now s fed taken given
             → AllTaken fed taken → AnswersEnd result (end_of fed) }
-        ensures memory { IsErrOf result FilterError.NoMemory → ⊥ }
+        ensures needs_no_memory { IsErrOf result FilterError.NoMemory → ⊥ }
     {
         match self.streams.rest() {
             Some((side, index)) => Err(FilterError::Bad(side, index, FrameRule::Cut)),

@@ -42,7 +42,8 @@ fn at_last_dot(text: &str) -> Option<(&str, &str)>
 }
 
 fn members(text: &str) -> Option<RawMembers<'_>>
-    ensures { MatchOption result ((m : TheMembers) → NamesMembers m text.now → ⊥) (λ raw. NamesMembers (members_of raw) text.now) }
+    ensures { MatchOption result ((m : TheMembers) → NamesMembers m text.now → ⊥)
+        (λ raw. NamesMembers (members_of raw) text.now) }
 {
     if text == "*" {
         return Some(RawMembers::All);
@@ -61,7 +62,8 @@ fn members(text: &str) -> Option<RawMembers<'_>>
 }
 
 fn objects(text: &str) -> Option<RawObjects<'_>>
-    ensures { MatchOption result ((o : TheObjects) → NamesObjects o text.now → ⊥) (λ raw. NamesObjects (objects_of raw) text.now) }
+    ensures { MatchOption result ((o : TheObjects) → NamesObjects o text.now → ⊥)
+        (λ raw. NamesObjects (objects_of raw) text.now) }
 {
     let Some(path) = text.strip_suffix("/*") else {
         if !is_object_path(text.as_bytes()) {

@@ -72,7 +72,8 @@ impl Cutter {
         // What was given stays given, and a broken rule stays broken.
         ensures at { (fed : List ℕ) (given : List Message) → CutterAt self.old fed given
             → OnOk result (CutterAt self.new (fed ++ piece.now) given) }
-        ensures broken { (rule : FrameRule) → BeginsBroken self.old rule → BeginsBroken self.new rule }
+        ensures broken { (rule : FrameRule) → BeginsBroken self.old rule → BeginsBroken self.new
+            rule }
     {
         self.bytes.extend_from_slice(piece)
     }
@@ -83,13 +84,15 @@ impl Cutter {
     pub fn next(&mut self) -> Result<Cut, FrameError>
         ensures exact { AnswersCut result self.old self.new }
         ensures not_yet { IsNotYet result ↔ NothingYet self.old }
-        ensures broken { (rule : FrameRule) → IsErrOf result (FrameError.Bad rule) ↔ BeginsBroken self.old rule }
+        ensures broken { (rule : FrameRule) → IsErrOf result (FrameError.Bad rule) ↔ BeginsBroken
+            self.old rule }
         ensures err { OnErr result (self.new ≡ self.old) }
 
         // The messages given are whole messages of what was fed, and in the end all of them, however it was fed.
         ensures at { (fed : List ℕ) (given : List Message) → CutterAt self.old fed given
             → CutterAt self.new fed (with_given result given) }
-        ensures all { (fed : List ℕ) (given : List Message) → CutterAt self.old fed given → AreAll result fed given }
+        ensures all { (fed : List ℕ) (given : List Message) → CutterAt self.old fed given → AreAll
+            result fed given }
     {
         self.take_message()
     }

@@ -79,7 +79,8 @@ impl Draft {
 
     fn push_owner(&mut self, alloc: Global, name: &str, owner: &str) -> Result<(), AllocError>
         requires knows { Knows self.old }
-        ensures said { OnOk result (said self.new ≡ push_names (said self.old) (name.now, owner.now)) }
+        ensures said { OnOk result (said self.new ≡ push_names (said self.old)
+            (name.now, owner.now)) }
         ensures knows { OnOk result (Knows self.new) }
     {
         self.owned.insert(String::from_str(alloc, name)?)?;
@@ -109,7 +110,8 @@ impl Draft {
     #[tactic(auto, unfolding(crate::specs::Recordings::with_piece))]
     fn add_piece(&mut self, alloc: Global, side: Side, text: &[u8]) -> Result<bool, AllocError>
         requires knows { Knows self.old }
-        ensures { IfOk result (λ good. Took good self.new (with_piece side (said self.old) text.now)) }
+        ensures { IfOk result (λ good. Took good self.new (with_piece side (said self.old)
+            text.now)) }
     {
         let Some(bytes) = decoded(alloc, text)? else {
             return Ok(false);

@@ -251,6 +251,6 @@ pub const CHANGED: &str = "\
 4204000100000000000000010000003601016f00000000022f610000000000000201730000000003612e62000000000003017300000000014d000000000000000801670000000000 xxxxxx.........x.xxx.?xxx.????.????.x???...............x.....?xxx.????.????xxx??x.xxxx.xxxxxxxx.xxxx.xxxx.xxxx.xxxxxxxxxxxxxxxxxxx.xxxx.xxxx.xxxx.xxxx.xxxx.xxxxxxxxxx.xxxxxxxx.xxxx.xxxx.xxxx.xxxxxxxxxxxxxxxxxxxxxxxx.xxxx.xxxx.xxxx.xxxx.xxxxxxxxxx.xxxxxxxx.xxxx.xxxx.xxxx.xxxxx.xxxxxxxx.xxxx.xxxx.xxxx.xxxx.xxxx.xxxx.xxxxxx...x.xxxxxxxx.xxxx.xxxx.xxxx.xxxx.xxxx
 6c020001000000000100000042000000050175000300000006017300040000003a312e31000000000701730003000000612e6200000000004d05617b73767d000a00000000000000010000006b0001790006000000000000 xxxxxxx........x.xxx.x???.????.????.?xxxx...................xxx??.????.????.?xxxxxxxxx.xxxxxxxx.xxxxx...................xx...x.xxxxxxxx.xxxxxxxxx.xxxx.xxxx.xxxxxxxxxxxxxxxxxxxxxxxx.xxxx.xxxx.xxxx.xxxxxx...x.xxxxxxxx.xxxxxxxxx.xxxx.xxxx.xxxxxxxxxxxxxxxxxxx.xxxx.xxxx.xxxx.xxxx.xxxxxx...xxxxxxxxxxxxxxxxxxxxxxxxxxxxxx.xxxxxxxxx.xxxx.xxxx.xxxx.xxxx.xxxx.xxxx.xxxxx.xxx.xxxx.xxxx.xxxxx..xx.xxxxx.xxxxxxxx.xxxx......xxxx.xxxx.xxxx.xxxx.xxxx.xxxx";
 
-/// What the daemon is sent behind each.
+/// What the daemon is sent after each.
 pub const PING: &str = "\
 6c01000100000000630000006500000001016f00010000002f0000000000000002017300190000006f72672e667265656465736b746f702e444275732e5065657200000000000000030173000400000050696e670000000006017300140000006f72672e667265656465736b746f702e4442757300000000";

@@ -1,4 +1,4 @@
--- An installation behind a sync.
+-- An installation after a sync.
 use Rattle.std.proofs.Common.{◌≡◌, Ok, Err, IsErr, IsErrAnd, refl, sym, ◌∙◌, ap, subst, Result}
 use Rattle.fp_host.specs.Paths.{Elements}
 use Rattle.fp_host.specs.View.{View, IsTree}
@@ -23,7 +23,7 @@ use Rattle.fp_host.specs.declared.host.HostEnd.TheVariants as host
 pub synced : (v : View) → IsSettled (done syncs v)
 synced v = record { earlier = λ q. refl; dirty = λ id. refl }
 
--- what every stop leaves behind a sync is what stood before it
+-- what every stop leaves after a sync is what stood before it
 stands : (v : View) → IsTree v → (disk : Disk) → Leaves (done syncs v) disk → (q : Elements) → disk q ≡ shows v q
 stands v tree disk left q = settled_disk (done syncs v) (tree_sync v tree) (synced v) disk left q ∙ ap (spot_of v.files) (sym (at_tree v tree q))
 

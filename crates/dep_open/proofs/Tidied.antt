@@ -130,7 +130,7 @@ tidies_keeps spares taken first keeps = record {
 pub tidies_sync : {s : State} {r : Result (Unit {0}) HostError} {u w : View} → IsTree u → Step syncs r u w → Tidies s u w
 tidies_sync {u = u} tree step = tidies_keeps {G = Nothing} {W = NoName} (spares_nothing u) (λ q e put. absurd put) tidies_start (keeps_call tree (λ q spot h. absurd h) (λ q e h. absurd h) (λ x i h. absurd h) tt tt (called step))
 
--- behind it, and while work is taken away: where `config` is there, every stop leaves it
+-- after it, and while work is taken away: where `config` is there, every stop leaves it
 pub record Firm (s : State) (u w : View) : Type 0 where
   pub tidies : Tidies s u w
   pub has : w.names config ≢ absent → HasConfig w

@@ -1,4 +1,4 @@
--- An opened installation before it is changed: work that was left is taken away, and so are the files of layout 1 behind a
+-- An opened installation before it is changed: work that was left is taken away, and so are the files of layout 1 after a
 -- migration.
 use Rattle.std.specs.Prelude.{◌≡◌, ◌≢◌, ◌⊎◌}
 use Rattle.fp_host.specs.Paths.{Elements, Slot, absent, IsAbove}

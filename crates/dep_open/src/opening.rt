@@ -1,8 +1,8 @@
 // Opening an installation.
 ghost use Rattle.std.specs.Prelude.{◌≡◌, IfOk, IsErrOf};
-ghost use Rattle.fp_host.specs.Causes.{IsCaused};
-ghost use Rattle.fp_host.specs.Frame.{Ends, Frame, NoPath};
-ghost use Rattle.fp_host.specs.Moments.{Goes};
+ghost use Rattle.fp_host.specs.Causes.{IsCounted};
+ghost use Rattle.fp_host.specs.Frame.{AtEnd, Frame, NoPath};
+ghost use Rattle.fp_host.specs.Moments.{Always};
 ghost use Rattle.fp_host.specs.Outcome.{Nothing};
 ghost use Rattle.dep_states.specs.After.{IsGood};
 ghost use Rattle.dep_open.specs.Open.{Opened as HasOpened, NoName, StaysUnread};
@@ -18,9 +18,10 @@ use std::alloc::Global;
 pub fn open<H: Host>(alloc: Global, host: &mut H) -> Result<Opened, OpenEnd>
     ensures frame { Frame Nothing NoName NoPath (H.moments host.old) (H.moments host.new) }
     ensures good { IfOk result IsGood }
-    ensures tells { Ends (HasOpened result) (H.moments host.old) (H.moments host.new) }
-    ensures unread { Goes (H.moments host.old) (H.moments host.new) StaysUnread StaysUnread }
-    ensures cause { IsCaused (IsErrOf result OpenEnd.Fault) (H.moments host.old) (λ v. Unit {0}) (H.faults host.old) (H.faults host.new) }
+    ensures tells { AtEnd (HasOpened result) (H.moments host.old) (H.moments host.new) }
+    ensures unread { Always StaysUnread (H.moments host.old) (H.moments host.new) }
+    ensures fault_has_cause { IsCounted (IsErrOf result OpenEnd.Fault)
+        (H.moments host.old) (H.faults host.old) (H.faults host.new) }
 {
     let state = read_state(alloc, host)?;
     host.sync()?;

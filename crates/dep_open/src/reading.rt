@@ -1,7 +1,7 @@
 // What an installation shows.
 ghost use Rattle.std.specs.Prelude.{◌≡◌, IfOk, IsErrOf};
-ghost use Rattle.fp_host.specs.Causes.{IsCaused};
-ghost use Rattle.fp_host.specs.Frame.{Ends, Still};
+ghost use Rattle.fp_host.specs.Causes.{IsCounted};
+ghost use Rattle.fp_host.specs.Frame.{AtEnd, Unchanged};
 ghost use Rattle.dep_states.specs.Names.{config, remotes_conf, pins_file};
 ghost use Rattle.dep_states.specs.After.{IsGood};
 ghost use Rattle.dep_open.specs.Open.{Reads, ReadsOld};
@@ -21,10 +21,11 @@ const OLD_MOST: u64 = 1024 * 1024;
 /// Reads the state that the present view shows, and changes nothing. `Damaged` comes exactly where it shows none, with the
 /// first path that doesn't read.
 pub fn read_state<H: Host>(alloc: Global, host: &mut H) -> Result<State, OpenEnd>
-    ensures still { Still (H.moments host.old) (H.moments host.new) }
+    ensures unchanged { Unchanged (H.moments host.old) (H.moments host.new) }
     ensures good { IfOk result IsGood }
-    ensures tells { Ends (λ u w. Reads u result) (H.moments host.old) (H.moments host.new) }
-    ensures cause { IsCaused (IsErrOf result OpenEnd.Fault) (H.moments host.old) (λ v. Unit {0}) (H.faults host.old) (H.faults host.new) }
+    ensures tells { AtEnd (λ u w. Reads u result) (H.moments host.old) (H.moments host.new) }
+    ensures fault_has_cause { IsCounted (IsErrOf result OpenEnd.Fault)
+        (H.moments host.old) (H.faults host.old) (H.faults host.new) }
 {
     let path = config_path(alloc)?;
     let loaded = load(alloc, host, &path, CONFIG_MOST)?;
@@ -36,10 +37,11 @@ pub fn read_state<H: Host>(alloc: Global, host: &mut H) -> Result<State, OpenEnd
 
 /// Reads the state where there is no `config`, and changes nothing.
 fn load_old<H: Host>(alloc: Global, host: &mut H) -> Result<State, OpenEnd>
-    ensures still { Still (H.moments host.old) (H.moments host.new) }
+    ensures unchanged { Unchanged (H.moments host.old) (H.moments host.new) }
     ensures good { IfOk result IsGood }
-    ensures tells { Ends (λ u w. ReadsOld u result) (H.moments host.old) (H.moments host.new) }
-    ensures cause { IsCaused (IsErrOf result OpenEnd.Fault) (H.moments host.old) (λ v. Unit {0}) (H.faults host.old) (H.faults host.new) }
+    ensures tells { AtEnd (λ u w. ReadsOld u result) (H.moments host.old) (H.moments host.new) }
+    ensures fault_has_cause { IsCounted (IsErrOf result OpenEnd.Fault)
+        (H.moments host.old) (H.faults host.old) (H.faults host.new) }
 {
     let pins_path = pins_path(alloc)?;
     let remotes_path = remotes_path(alloc)?;

@@ -1,8 +1,8 @@
 // An opened installation before it is changed.
 ghost use Rattle.std.specs.Prelude.{◌≡◌, IfOk, OnOk, IsErrOf};
 ghost use Rattle.fp_host.specs.Causes.{IsCaused};
-ghost use Rattle.fp_host.specs.Frame.{Frame, Ends, NoPath};
-ghost use Rattle.fp_host.specs.Moments.{Goes};
+ghost use Rattle.fp_host.specs.Frame.{Frame, AtEnd, NoPath};
+ghost use Rattle.fp_host.specs.Moments.{Always};
 ghost use Rattle.fp_small.specs.Places.{tmp};
 ghost use Rattle.fp_small.specs.Clear.{GoneBelow, AbsentBelow, IsEmptied, CanEmpty};
 ghost use Rattle.dep_states.specs.Sound.{Opens};
@@ -18,9 +18,11 @@ use std::alloc::Global;
 /// stop leaves the state that was opened.
 pub fn tidy<H: Host>(alloc: Global, host: &mut H, opened: Opened) -> Result<Opened, HostEnd>
     ensures state { IfOk result (λ o. o ≡ opened) }
-    ensures moments { Goes (H.moments host.old) (H.moments host.new) (Tidies opened) (Tidies opened) }
-    ensures done { OnOk result (Ends (λ u w. IsTidy w) (H.moments host.old) (H.moments host.new)) }
-    ensures cause { IsCaused (IsErrOf result HostEnd.Fault) (H.moments host.old) (Opens opened) (H.faults host.old) (H.faults host.new) }
+    ensures any_moment { Always (Tidies opened) (H.moments host.old) (H.moments host.new) }
+    ensures on_success { OnOk result (AtEnd (λ u w. IsTidy w)
+        (H.moments host.old) (H.moments host.new)) }
+    ensures fault_has_cause { IsCaused (IsErrOf result HostEnd.Fault) (H.moments host.old)
+        (Opens opened) (H.faults host.old) (H.faults host.new) }
 {
     host.sync()?;
     empty_work(alloc, host)?;
@@ -30,9 +32,12 @@ pub fn tidy<H: Host>(alloc: Global, host: &mut H, opened: Opened) -> Result<Open
 
 /// Takes away what is in `repo/tmp`.
 fn empty_work<H: Host>(alloc: Global, host: &mut H) -> Result<(), HostEnd>
-    ensures frame { Frame (GoneBelow tmp) (AbsentBelow tmp) NoPath (H.moments host.old) (H.moments host.new) }
-    ensures done { OnOk result (Ends (λ u w. IsEmptied tmp w) (H.moments host.old) (H.moments host.new)) }
-    ensures cause { IsCaused (IsErrOf result HostEnd.Fault) (H.moments host.old) (CanEmpty tmp) (H.faults host.old) (H.faults host.new) }
+    ensures frame { Frame (GoneBelow tmp) (AbsentBelow tmp) NoPath
+        (H.moments host.old) (H.moments host.new) }
+    ensures on_success { OnOk result (AtEnd (λ u w. IsEmptied tmp w)
+        (H.moments host.old) (H.moments host.new)) }
+    ensures fault_has_cause { IsCaused (IsErrOf result HostEnd.Fault) (H.moments host.old)
+        (CanEmpty tmp) (H.faults host.old) (H.faults host.new) }
 {
     let work = Path::root(alloc).child("repo")?.child("tmp")?;
     clear_below(alloc, host, &work)
@@ -40,9 +45,11 @@ fn empty_work<H: Host>(alloc: Global, host: &mut H) -> Result<(), HostEnd>
 
 /// Where `config` is there, takes the files of layout 1 away.
 fn take_old_files<H: Host>(alloc: Global, host: &mut H) -> Result<(), HostEnd>
-    ensures moments { Goes (H.moments host.old) (H.moments host.new) TakesOld TakesOld }
-    ensures done { OnOk result (Ends (λ u w. HasNoOld w) (H.moments host.old) (H.moments host.new)) }
-    ensures cause { IsCaused (IsErrOf result HostEnd.Fault) (H.moments host.old) CanTakeOld (H.faults host.old) (H.faults host.new) }
+    ensures any_moment { Always TakesOld (H.moments host.old) (H.moments host.new) }
+    ensures on_success { OnOk result (AtEnd (λ u w. HasNoOld w)
+        (H.moments host.old) (H.moments host.new)) }
+    ensures fault_has_cause { IsCaused (IsErrOf result HostEnd.Fault) (H.moments host.old)
+        CanTakeOld (H.faults host.old) (H.faults host.new) }
 {
     let config = config_path(alloc)?;
     let remotes = remotes_path(alloc)?;

@@ -29,21 +29,25 @@ pub fn what_is_shown_can_be_written()
 
 /// An image without `config` and the files of layout 1 shows the empty state, in layout 2.
 pub fn the_empty_state_is_shown()
-    ensures { (disk : Disk) → disk config ≡ gone → disk remotes_conf ≡ gone → disk pins_file ≡ gone → Shows disk (state_of Two empty_settings) }
+    ensures { (disk : Disk) → disk config ≡ gone → disk remotes_conf ≡ gone → disk pins_file ≡ gone
+        → Shows disk (state_of Two empty_settings) }
 {}
 
 /// A step that gives nothing to any path leaves what was shown before, and leaves it sound.
 pub fn steps_that_give_nothing()
-    ensures opens { (old new : View) (s : State) → Follows Nothing old new → Opens s old → Opens s new }
+    ensures opens { (old new : View) (s : State) → Follows Nothing old new → Opens s old → Opens s
+        new }
     ensures sound { (old new : View) → Follows Nothing old new → IsSound old → IsSound new }
 {}
 
 /// A step that gives nothing to a fixed path, and elsewhere only what may stand there, leaves what was shown before, and
 /// leaves it sound. `config` stays, too.
 pub fn steps_that_spare()
-    ensures opens { (old new : View) (s : State) → Follows (Spared old) old new → Opens s old → Opens s new }
+    ensures opens { (old new : View) (s : State) → Follows (Spared old) old new → Opens s old →
+        Opens s new }
     ensures sound { (old new : View) → Follows (Spared old) old new → IsSound old → IsSound new }
-    ensures config { (old new : View) → Follows (Spared old) old new → HasConfig old → HasConfig new }
+    ensures config { (old new : View) → Follows (Spared old) old new → HasConfig old → HasConfig
+        new }
 {}
 
 /// Where no stop leaves the installation without `config`, the files of layout 1 may go.
@@ -67,7 +71,8 @@ pub fn what_a_sound_image_holds()
     ensures remotes { (disk : Disk) → Sound disk → IsFileOrGone (disk remotes_conf) }
     ensures pins { (disk : Disk) → Sound disk → IsFileOrGone (disk pins_file) }
     ensures repo { (disk : Disk) → Sound disk → IsFolderOrGone (disk (codes "repo" ∷ [])) }
-    ensures tmp { (disk : Disk) → Sound disk → IsFolderOrGone (disk (codes "tmp" ∷ codes "repo" ∷ [])) }
+    ensures tmp { (disk : Disk) → Sound disk → IsFolderOrGone
+        (disk (codes "tmp" ∷ codes "repo" ∷ [])) }
 {}
 
 /// Sound images: the empty one; the root alone, which shows the empty state of layout 2; and the root with a `config` as it is
@@ -81,11 +86,13 @@ pub fn sound_images()
 
 /// A view in which the root stands alone is sound where every stop leaves what stands.
 pub fn a_bare_view_is_sound()
-    ensures { (v : View) → IsTree v → IsSettled v → ((x : List ℕ) (up : Elements) → v.names (x ∷ up) ≡ absent) → IsSound v }
+    ensures { (v : View) → IsTree v → IsSettled v → ((x : List ℕ) (up : Elements) → v.names
+        (x ∷ up) ≡ absent) → IsSound v }
 {}
 
 /// A path of 128 elements that is for nothing else may be a folder, and one of 129 may not.
 pub fn paths_have_a_longest()
-    ensures longest { (p : Elements) → length p ≡ 128 → zone (outward p) ≡ anything → Allowed p folder }
+    ensures longest { (p : Elements) → length p ≡ 128 → zone (outward p) ≡ anything → Allowed p
+        folder }
     ensures too_long { (p : Elements) → length p ≡ 129 → Allowed p folder → ⊥ }
 {}

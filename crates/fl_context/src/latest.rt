@@ -16,7 +16,8 @@ pub(crate) fn take_mention<'a>(
     latest: &mut Latest<'a>,
     mention: &'a Mention,
 ) -> Result<(), AllocError>
-    ensures { OnOk result (mentions_of latest.new ≡ with_mention (mentions_of latest.old) mention.now) }
+    ensures { OnOk result (mentions_of latest.new ≡ with_mention (mentions_of latest.old)
+        mention.now) }
 {
     latest.insert(&mention.permission, &mention.value)?;
     Ok(())
@@ -25,7 +26,8 @@ pub(crate) fn take_mention<'a>(
 /// Takes in the next layer.
 #[tactic(auto, unfolding(crate::specs::Latest::merged_onto))]
 pub(crate) fn take_layer<'a>(latest: &mut Latest<'a>, layer: &'a Layer) -> Result<(), AllocError>
-    ensures { OnOk result (mentions_of latest.new ≡ merged_onto (mentions_of latest.old) layer.now) }
+    ensures { OnOk result (mentions_of latest.new ≡ merged_onto (mentions_of latest.old)
+        layer.now) }
 {
     for mention in layer.as_slice() {
         take_mention(latest, mention)?;

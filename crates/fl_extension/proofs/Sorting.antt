@@ -97,7 +97,7 @@ rest_ascends name x xs h = (and_parts (comes_first (name x) (map name xs)) (is_a
 not_both : (x y : List ℕ) → comes_before x y ≡ true → comes_before y x ≡ true → ⊥
 not_both x y a b = both_ways (comes_before x x) (not_before_itself x) (before_on x y x a b)
 
--- what the one has behind its first, the other has behind its first
+-- what the one has after its first, the other has after its first
 rest_has : {A : Type 0} (name : A → List ℕ) (x y : A) (xs ys : List A) (z : A) → x ≡ y → is_ascending (map name (x ∷ xs)) ≡ true → Contains xs z → Contains (y ∷ ys) z → Contains ys z
 rest_has {A} name x y xs ys z same up has both =
     ⊎_elim

@@ -19,7 +19,8 @@ fn push_candidate(
 ) -> Result<(), AllocError>
     requires name { grammar.is_id name.now ≡ true }
     requires arch { grammar.is_arch arch.now ≡ true }
-    ensures { OnOk result (out.new.items ≡ out.old.items ++ spec.candidate_of name.now arch.now version.now) }
+    ensures { OnOk result (out.new.items ≡ out.old.items ++ spec.candidate_of name.now arch.now
+        version.now) }
 {
     match RefName::new(*out.allocator(), RefKind::Runtime, name, arch, version) {
         Ok(candidate) => {
@@ -40,7 +41,8 @@ fn push_entries(
 ) -> Result<(), AllocError>
     requires name { grammar.is_id name.now ≡ true }
     requires arch { grammar.is_arch arch.now ≡ true }
-    ensures { OnOk result (out.new.items ≡ out.old.items ++ flat_map (spec.candidate_of name.now arch.now) (slice_split is_semicolon versions.now)) }
+    ensures { OnOk result (out.new.items ≡ out.old.items ++ flat_map
+        (spec.candidate_of name.now arch.now) (slice_split is_semicolon versions.now)) }
 {
     for entry in versions.split(';') {
         push_candidate(out, name, arch, entry)?;

@@ -12,8 +12,11 @@ ghost use Rattle.fl_extension.specs.declared.point.Point.{Point};
 
 /// The points of a key file are those of its groups, and ascend by their names. No other list is so.
 pub fn points_ascend()
-    ensures ascending { (file : List Group) (r : Ref) → IsTrue (is_good file) → is_ascending (map name_of (points_of file r)) ≡ true }
-    ensures each { (file : List Group) (r : Ref) (p : Point) → Contains (points_of file r) p ↔ Contains (flat_map (point_of r) file) p }
-    ensures alone { (file : List Group) (r : Ref) (points : List Point) → IsTrue (is_good file) → is_ascending (map name_of points) ≡ true
+    ensures ascending { (file : List Group) (r : Ref) → IsTrue (is_good file) → is_ascending
+        (map name_of (points_of file r)) ≡ true }
+    ensures each { (file : List Group) (r : Ref) (p : Point) → Contains (points_of file r) p ↔
+        Contains (flat_map (point_of r) file) p }
+    ensures alone { (file : List Group) (r : Ref) (points : List Point) → IsTrue (is_good file) →
+        is_ascending (map name_of points) ≡ true
         → ((p : Point) → Contains points p ↔ Contains (flat_map (point_of r) file) p) → points ≡ points_of file r }
 {}

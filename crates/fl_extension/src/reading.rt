@@ -25,7 +25,8 @@ fn point_with(
     directory: &str,
 ) -> Result<Point, AllocError>
     requires { grammar.is_id name.now ≡ true }
-    ensures { IfOk result (λ point. point ≡ spec.point_with group.now of.now name.now directory.now) }
+    ensures { IfOk result (λ point. point ≡ spec.point_with group.now of.now name.now
+        directory.now) }
 {
     Ok(Point {
         name: AppId::of_id(alloc, name)?,
@@ -42,7 +43,8 @@ fn push_named(
     of: &RefName,
     name: &str,
 ) -> Result<(), AllocError>
-    ensures { OnOk result (out.new.items ≡ out.old.items ++ spec.point_named group.now of.now name.now) }
+    ensures { OnOk result (out.new.items ≡ out.old.items ++ spec.point_named group.now of.now
+        name.now) }
 {
     if !is_id(name) || is_on(group, "subdirectories") {
         return Ok(());

@@ -7,7 +7,7 @@ use Rattle.fl_meta.specs.Entries.{is_colon, is_empty, is_ending, are_endings, wi
 use Rattle.fl_meta.specs.Cuts.{HasNoEnding}
 use Rattle.fl_meta.proofs.Endings.{Parts, Parts-split, onto_first-append, is_empty-cons, without_endings-none}
 
--- ---- a text with endings behind it
+-- ---- a text with endings after it
 
 split-join : (p : ℕ → Bool) (xs : List ℕ) (y : ℕ) (ys : List ℕ) → p y ≡ true → slice_split p (xs ++ y ∷ ys) ≡ slice_split p xs ++ slice_split p ys
 split-join p [] y ys e = rw e refl
@@ -68,7 +68,7 @@ IsFront-without_endings (b ∷ bs) =
 
 -- ---- no ending is left
 
--- a text has an ending only where what is behind its first byte has one, or it is nothing but endings
+-- a text has an ending only where what is after its first byte has one, or it is nothing but endings
 end-by : (b : Bool) (x : ℕ) (first : List ℕ) (others : List (List ℕ)) → is_some (access_behind (last_word (first ∷ others))) ≡ false → is_some (access_behind (last_word (cond b ([] ∷ first ∷ others) (onto_first x (first ∷ others))))) ≡ true → are_endings (cond b ([] ∷ first ∷ others) (onto_first x (first ∷ others))) ≡ true
 end-by true x first [] h k = rw k refl
 end-by true x first (v ∷ others) h k = absurd (false≢true (sym h ∙ k))

@@ -36,7 +36,7 @@ split-by : (b : Bool) (x : ℕ) (ps more : List (List ℕ)) → Parts ps → con
 split-by true x ps more h = refl
 split-by false x ps more h = onto_first-append x ps more h
 
--- the last part stands behind the last mark
+-- the last part stands after the last mark
 pub split_last : (p : ℕ → Bool) (xs : List ℕ) (y : ℕ) (ys : List ℕ) → p y ≡ true → All (λ x. p x ≡ false) ys → slice_split p (xs ++ y ∷ ys) ≡ slice_split p xs ++ ys ∷ []
 split_last p [] y ys holds none = slice_split-cons_yes p y ys holds ∙ ap (λ ps. [] ∷ ps) (slice_split_none p ys none)
 split_last p (x ∷ xs) y ys holds none =
@@ -55,7 +55,7 @@ last_word-append first (v ∷ others) w = ap Some (last_of-append v others w)
 pub last_word-parts : (parts : List (List ℕ)) (w : List ℕ) → Parts parts → last_word (parts ++ w ∷ []) ≡ Some w
 last_word-parts parts w h = rw h.is (last_word-append h.first h.others w)
 
--- what is read behind the last colon
+-- what is read after the last colon
 pub last_word-cut : (front word text : List ℕ) → text ≡ front ++ 58 ∷ word → All (λ b. is_colon b ≡ false) word → last_word (slice_split is_colon text) ≡ Some word
 last_word-cut front word text e none =
     ap (λ t. last_word (slice_split is_colon t)) e ∙ ap last_word (split_last is_colon front 58 word refl none) ∙ last_word-parts (slice_split is_colon front) word (Parts-split is_colon front)
@@ -121,7 +121,7 @@ not_true : (b : Bool) → (b ≡ true → ⊥) → b ≡ false
 not_true true h = absurd (h refl)
 not_true false h = refl
 
--- what is behind the first byte has no ending either
+-- what is after the first byte has no ending either
 tail_word : (b : Bool) (x : ℕ) (first : List ℕ) (others : List (List ℕ)) → is_some (access_behind (last_word (cond b ([] ∷ first ∷ others) (onto_first x (first ∷ others))))) ≡ false → is_some (access_behind (last_word (first ∷ others))) ≡ false
 tail_word true x first [] h = refl
 tail_word true x first (v ∷ others) h = h

@@ -37,7 +37,7 @@ unfoldable pub without_endings : List ℕ → List ℕ
 without_endings [] = []
 without_endings (b ∷ bs) = if are_endings (slice_split is_colon (b ∷ bs)) then [] else b ∷ without_endings bs
 
--- what stands behind the last colon, where there is one
+-- what stands after the last colon, where there is one
 abbrev pub last_of : List ℕ → List (List ℕ) → List ℕ
 last_of last [] = last
 last_of last (next ∷ words) = last_of next words

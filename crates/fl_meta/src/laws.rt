@@ -15,5 +15,6 @@ pub fn permissions_are_equal_by_parts()
 /// What is left of a filesystem's name once its endings are taken off has no ending.
 pub fn no_ending_is_left()
     ensures none { (text : List ℕ) → HasNoEnding (without_endings text) }
-    ensures twice { (text : List ℕ) → without_endings (without_endings text) ≡ without_endings text }
+    ensures twice { (text : List ℕ) → without_endings (without_endings text) ≡ without_endings
+        text }
 {}

@@ -37,7 +37,8 @@ fn list_at(source: Source, key: &str) -> Option<PermList>
 
 /// Adds what a pair of the group `Context` mentions.
 fn push_context(out: &mut Layer, source: Source, pair: &Pair) -> Result<(), AllocError>
-    ensures { OnOk result (out.new ≡ out.old ++ mentions.context_mentions (mentions.list_at source pair.now.key) pair.now.value) }
+    ensures { OnOk result (out.new ≡ out.old ++ mentions.context_mentions
+        (mentions.list_at source pair.now.key) pair.now.value) }
 {
     match list_at(source, pair.key.as_str()) {
         Some(list) => push_list(out, list, pair.value.as_str()),
@@ -85,7 +86,8 @@ fn can_stand(name: &str) -> bool
 
 /// Adds a bus pair whose pattern or level isn't known.
 fn push_odd(out: &mut Layer, unknown: PermList, pair: &Pair) -> Result<(), AllocError>
-    ensures { OnOk result (out.new ≡ out.old ++ mentions.odd_pair unknown (mentions.pair_name pair.now)) }
+    ensures { OnOk result (out.new ≡ out.old ++ mentions.odd_pair unknown
+        (mentions.pair_name pair.now)) }
 {
     let name = pair_name(out.allocator(), pair)?;
     if !can_stand(name.as_str()) {

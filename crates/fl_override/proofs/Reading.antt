@@ -321,7 +321,7 @@ access_kind : (x : List ℕ) → IsAccess (access_at x)
 unfolding access_at
 access_kind x = access_word (last_word (slice_split is_colon x))
 
--- a text with an ending behind it
+-- a text with an ending after it
 pub record IsEnding (word : List ℕ) (v : Value) : Type 0 where
   pub plain : IsPlain word
   pub whole : AllByRecursion (λ b. is_colon b ≡ false) word
@@ -353,7 +353,7 @@ bare_access : (name : List ℕ) → HasNoEnding name → access_at name ≡ valu
 unfolding access_at
 bare_access name h = none_left _ h
 
--- what stands behind a name changes neither its first byte
+-- what stands after a name changes neither its first byte
 first_of : (p : ℕ → Bool) (kept rest x : List ℕ) → is_empty kept ≡ false → x ≡ kept ++ rest → begins_so p x ≡ false → (back : List ℕ) → begins_so p (kept ++ back) ≡ false
 first_of p [] rest x some e h back = absurd (false≢true (sym some))
 first_of p (b ∷ bs) rest x some e h back = sym (ap (begins_so p) e) ∙ h

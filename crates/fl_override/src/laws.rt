@@ -10,5 +10,6 @@ ghost use Rattle.fl_override.specs.Overrides.{AllCanWrite};
 
 /// What an override mentions can be written.
 pub fn what_is_read_can_be_written()
-    ensures { (file : List Group) → IsTrue (is_good file) → AllCanWrite (file_mentions sources.Override file) }
+    ensures { (file : List Group) → IsTrue (is_good file) → AllCanWrite
+        (file_mentions sources.Override file) }
 {}

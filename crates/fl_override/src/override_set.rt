@@ -48,7 +48,8 @@ impl OverrideSet {
 
     /// Reads an override: for each permission, the last mention of the file.
     pub fn from_keyfile(alloc: Global, file: &KeyFile) -> Result<Self, AllocError>
-        ensures { IfOk result (λ set. (p : Permission) → value_in set p ≡ last_mention (file_mentions sources.Override file.now) p) }
+        ensures { IfOk result (λ set. (p : Permission) → value_in set p ≡ last_mention
+            (file_mentions sources.Override file.now) p) }
     {
         let _groups = file.groups();
         let layer = mentions_of(alloc, file, Source::Override)?;
@@ -61,7 +62,8 @@ impl OverrideSet {
     /// of memory changes nothing.
     pub fn change(&mut self, alloc: Global, options: &Layer) -> Result<(), AllocError>
         requires { AllCanWrite options.now }
-        ensures ok { OnOk result ((p : Permission) → value_in self.new p ≡ last_mention (self.old ++ options.now) p) }
+        ensures ok { OnOk result ((p : Permission) → value_in self.new p ≡ last_mention
+            (self.old ++ options.now) p) }
         ensures err { OnErr result (self.new ≡ self.old) }
     {
         let mentions = fold(alloc, &[self.mentions.as_layer(), options])?;
@@ -74,7 +76,8 @@ impl OverrideSet {
     /// was unknown stands in the lists `unknown-LIST`. It reads back as the same set.
     pub fn to_keyfile(&self, alloc: Global) -> Result<KeyFile, AllocError>
         ensures file { IfOk result (λ file. file ≡ file_with self.now) }
-        ensures reads_back { (p : Permission) → last_mention (file_mentions sources.Override (file_with self.now)) p ≡ value_in self.now p }
+        ensures reads_back { (p : Permission) → last_mention
+            (file_mentions sources.Override (file_with self.now)) p ≡ value_in self.now p }
     {
         let groups = groups_of(alloc, self.mentions.as_slice())?;
         Ok(KeyFile::from_groups(groups))

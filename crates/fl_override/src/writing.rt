@@ -48,7 +48,8 @@ fn key_of(list: PermList) -> &'static str
 
 /// Adds an entry of a list, without its end.
 fn push_open_entry(out: &mut String, mention: &Mention) -> Result<(), AllocError>
-    ensures { OnOk result (string_bytes out.new ≡ string_bytes out.old ++ written.entry_text mention.now) }
+    ensures { OnOk result (string_bytes out.new ≡ string_bytes out.old ++ written.entry_text
+        mention.now) }
 {
     let name = mention.permission.name.as_str();
     match &mention.value {
@@ -77,7 +78,8 @@ fn is_in(list: PermList, mention: &Mention) -> bool
 
 /// Adds an entry, where it belongs to the list.
 fn push_entry(out: &mut String, list: PermList, mention: &Mention) -> Result<(), AllocError>
-    ensures { OnOk result (string_bytes out.new ≡ string_bytes out.old ++ written.entry_in list mention.now) }
+    ensures { OnOk result (string_bytes out.new ≡ string_bytes out.old ++ written.entry_in list
+        mention.now) }
 {
     if !is_in(list, mention) {
         return Ok(());
@@ -123,7 +125,8 @@ fn push_lists(
     lists: &[PermList],
     mentions: &[Mention],
 ) -> Result<(), AllocError>
-    ensures { OnOk result (pairs.new ≡ pairs.old ++ flat_map (written.list_pair mentions.now) lists.now) }
+    ensures { OnOk result (pairs.new ≡ pairs.old ++ flat_map (written.list_pair mentions.now)
+        lists.now) }
 {
     for list in lists {
         push_list(pairs, *list, mentions)?;

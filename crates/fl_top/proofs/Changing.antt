@@ -83,7 +83,7 @@ tidied_changes s u w tidies = record {
 
 -- ---- where no operation is done
 
--- what was taken away behind a tidying might have been taken away before
+-- what was taken away after a tidying might have been taken away before
 taken_before : {u v : View} {q : Elements} → OnlyTidied u v → TakenAway v q → TakenAway u q
 taken_before first (left_work above) = left_work above
 taken_before first (old_file there old) = old_file (λ none. elim (first.names config) [ inl same ↦ there (same ∙ none) | inr gone ↦ there gone.1 ]) old

@@ -6,7 +6,7 @@ use Rattle.fp_host.specs.Outcome.{Nothing}
 use Rattle.fp_host.specs.Calls.{says, Step}
 use Rattle.fp_host.specs.Causes.{end_of}
 use Rattle.fp_host.specs.Moments.{Moments, Makes, Goes}
-use Rattle.fp_host.specs.Frame.{Frame, Ends, NoPath}
+use Rattle.fp_host.specs.Frame.{Frame, AtEnd, NoPath}
 use Rattle.fp_host.specs.declared.host.HostError.{HostError}
 use Rattle.fp_host.specs.declared.host.HostError.TheVariants as error
 use Rattle.fp_host.specs.declared.host.HostEnd.{HostEnd}
@@ -55,14 +55,14 @@ at_end {a = a} {b = b} {R = R} F r e is goes = subst (λ (x : Result State RunEn
 abbrev HasApplied : State → Op → View → View → Type 0
 HasApplied s op u w = Applies s op u w × WasApplied s op u w
 
-not_applied : {a b : Option Moments} (op : Op) (s : State) (e : HostEnd) → IsTold a → Goes a b (Applies s op) (Applies s op) → (e ≡ host.NoMemory → Ends (λ u w. w ≡ u) a b) → Goes a b (Performs (did op) s) (WasDone op s (Err (end_of_host e)))
+not_applied : {a b : Option Moments} (op : Op) (s : State) (e : HostEnd) → IsTold a → Goes a b (Applies s op) (Applies s op) → (e ≡ host.NoMemory → AtEnd (λ u w. w ≡ u) a b) → Goes a b (Performs (did op) s) (WasDone op s (Err (end_of_host e)))
 not_applied op s host.Fault known goes memory = begins known goes (λ u w t r. applying op s r) (λ u w t r q. tt)
 not_applied op s host.NoMemory known goes memory = begins known (goes_known goes (memory refl)) (λ u w t r. applying op s r) (λ u w t r q. halted (did op) s q.1)
 
-pub goes_not_applied : {a b : Option Moments} (op : Op) (s : State) (e : HostEnd) (r : Result State RunEnd) → IsTold a → Goes a b (Applies s op) (Applies s op) → (e ≡ host.NoMemory → Ends (λ u w. w ≡ u) a b) → IsErrAnd r (λ end. end ≡ end_of_host e) → Goes a b (Performs (did op) s) (WasDone op s r)
+pub goes_not_applied : {a b : Option Moments} (op : Op) (s : State) (e : HostEnd) (r : Result State RunEnd) → IsTold a → Goes a b (Applies s op) (Applies s op) → (e ≡ host.NoMemory → AtEnd (λ u w. w ≡ u) a b) → IsErrAnd r (λ end. end ≡ end_of_host e) → Goes a b (Performs (did op) s) (WasDone op s r)
 goes_not_applied op s e r known goes memory is = at_end (WasDone op s) r (end_of_host e) is (not_applied op s e known goes memory)
 
-applied : {a b : Option Moments} (op : Op) (s : State) → IsTold a → Goes a b (Applies s op) (Applies s op) → Ends (WasApplied s op) a b → Goes a b (Performs (did op) s) (HasApplied s op)
+applied : {a b : Option Moments} (op : Op) (s : State) → IsTold a → Goes a b (Applies s op) (Applies s op) → AtEnd (WasApplied s op) a b → Goes a b (Performs (did op) s) (HasApplied s op)
 applied op s known goes done = begins known (goes_known goes done) (λ u w t r. applying op s r) (λ u w t r q. q)
 
 says_as : (op : Op) {piece : List ℕ} {r : Result (Unit {0}) HostError} {v w : View} → piece ≡ op_text op → Step (says piece) r v w → Says (op_text op) v w
@@ -74,19 +74,19 @@ not_said op s piece error.Failed u v w step = tt
 not_said op s piece error.Clash u v w step = tt
 not_said op s piece error.NoMemory u v w step = absurd step.how
 
-pub goes_not_said : {a b c : Option Moments} (op : Op) (s : State) (piece : List ℕ) (e : HostError) (r : Result State RunEnd) → IsTold a → IsTold b → Goes a b (Applies s op) (Applies s op) → Ends (WasApplied s op) a b → piece ≡ op_text op
+pub goes_not_said : {a b c : Option Moments} (op : Op) (s : State) (piece : List ℕ) (e : HostError) (r : Result State RunEnd) → IsTold a → IsTold b → Goes a b (Applies s op) (Applies s op) → AtEnd (WasApplied s op) a b → piece ≡ op_text op
     → Makes (Step (says piece) (Err e)) b c → IsErrAnd r (λ end. end ≡ end_of_host (end_of e)) → Goes a c (Performs (did op) s) (WasDone op s r)
 goes_not_said op s piece e r known known_b goes done same call is =
     at_end (WasDone op s) r (end_of_host (end_of e)) is
     (goes_on known_b (applied op s known goes done) (makes_goes call) (λ u v w t p q step. saying op s (applied_changes s op u v q.0) q.0.printed q.1 (says_as op same step)) (λ u v w t p q step last. not_said op s piece e u v w last))
 
-pub goes_said : {a b c : Option Moments} (op : Op) (s t : State) (piece : List ℕ) → IsTold a → IsTold b → Goes a b (Applies s op) (Applies s op) → Ends (WasApplied s op) a b → piece ≡ op_text op
+pub goes_said : {a b c : Option Moments} (op : Op) (s t : State) (piece : List ℕ) → IsTold a → IsTold b → Goes a b (Applies s op) (Applies s op) → AtEnd (WasApplied s op) a b → piece ≡ op_text op
     → Makes (Step (says piece) (Ok tt)) b c → Goes a c (Performs (did op) s) (WasDone op s (Ok t))
 goes_said op s t piece known known_b goes done same call =
     goes_on known_b (applied op s known goes done) (makes_goes call) (λ u v w tree p q step. saying op s (applied_changes s op u v q.0) q.0.printed q.1 (says_as op same step))
     (λ u v w tree p q step last. said_done op s t (applied_changes s op u v q.0) q.0.printed q.1 (was_said (subst (λ (l : List ℕ). Step (says l) (Ok tt) v w) same last)))
 
--- ---- and tidied behind it
+-- ---- and tidied after it
 
 pub goes_not_done : {a b : Option Moments} (op : Op) (s : State) (e : RunEnd) (r : Result State RunEnd) → Goes a b (Performs (did op) s) (WasDone op s (Err e)) → IsErrAnd r (λ end. end ≡ e) → Goes a b (Performs (did op) s) (Performed (did op) s r)
 goes_not_done op s e r goes is = at_end (Performed (did op) s) r e is (ends goes (λ u w q. q))
@@ -96,7 +96,7 @@ goes_untidied op s t e r known goes after tidies is =
     at_end (Performed (did op) s) r (end_of_host e) is
     (goes_on known goes tidies (λ u v w tree p q step. doing.tidying op s t after q step) (λ u v w tree p q step last. doing.untidied op s t (end_of_host e) after (host_end e) q last))
 
-pub goes_tidied : {a b c : Option Moments} (op : Op) (s t t' : State) → IsTold b → Goes a b (Performs (did op) s) (WasDone op s (Ok t)) → t ≡ after s op → t' ≡ t → Goes b c (Tidies t) (Tidies t) → Ends (λ u w. IsTidy w) b c → Goes a c (Performs (did op) s) (Performed (did op) s (Ok t'))
+pub goes_tidied : {a b c : Option Moments} (op : Op) (s t t' : State) → IsTold b → Goes a b (Performs (did op) s) (WasDone op s (Ok t)) → t ≡ after s op → t' ≡ t → Goes b c (Tidies t) (Tidies t) → AtEnd (λ u w. IsTidy w) b c → Goes a c (Performs (did op) s) (Performed (did op) s (Ok t'))
 goes_tidied op s t t' known goes after same tidies tidy =
     goes_on known goes (goes_known tidies tidy) (λ u v w tree p q step. doing.tidying op s t after q step) (λ u v w tree p q step last. doing.tidied op s t t' after same q last.0 last.1)
 
@@ -119,12 +119,12 @@ pub goes_untidied_first : {a b : Option Moments} (x : Answer) (s : State) (e : H
 goes_untidied_first x s e r known tidies is =
     at_end (Performed x s) r (end_of_host e) is (begins known tidies (λ u w t p. doing.tidied_first x s p) (λ u w t p q. doing.untidied_first x s (end_of_host e) (host_end e) q))
 
-pub goes_tidied_first : {a b c : Option Moments} (x : Answer) (s : State) (r : Result State RunEnd) → IsTold a → IsTold b → Goes a b (Tidies s) (Tidies s) → Ends (λ u w. IsTidy w) a b → Goes b c (Performs x s) (Performed x s r) → Goes a c (Performs x s) (Performed x s r)
+pub goes_tidied_first : {a b c : Option Moments} (x : Answer) (s : State) (r : Result State RunEnd) → IsTold a → IsTold b → Goes a b (Tidies s) (Tidies s) → AtEnd (λ u w. IsTidy w) a b → Goes b c (Performs x s) (Performed x s r) → Goes a c (Performs x s) (Performed x s r)
 goes_tidied_first x s r known known_b tidies tidy next =
     goes_on known_b (begins known (goes_known tidies tidy) (λ u w t p. doing.tidied_first x s p) (λ u w t p q. q)) next
     (λ u v w t p q step. doing.performs_tidied x s q.0 step) (λ u v w t p q step last. doing.performed_tidied x s r u v w q.0 q.1 last)
 
--- ---- one answer behind another
+-- ---- one answer after another
 
 pub goes_first : {a b : Option Moments} (x y : Answer) (s : State) (e : RunEnd) (r : Result State RunEnd) → IsTold a → Goes a b (Performs x s) (Performed x s (Err e)) → IsErrAnd r (λ end. end ≡ e) → Goes a b (Performs (followed x y) s) (Performed (followed x y) s r)
 goes_first x y s e r known goes is = at_end (Performed (followed x y) s) r e is (begins known goes (λ u w t p. performs_first x y s p) (λ u w t p q. failed_first x y s e u w q))
@@ -158,22 +158,22 @@ turn_ends changes s t turn = ends turn (λ u w q. last_stage changes s t q)
 
 -- ---- an installation that is opened
 
-opening : {a b : Option Moments} {Q : View → View → Type 0} (f : State → Answer) → ((s : State) → IsAtOnce (f s).refusal → ⊥) → IsTold a → Frame Nothing NoName NoPath a b → Goes a b StaysUnread StaysUnread → Ends Q a b → Goes a b (RunsOver f) (λ u w. Keeping u w × Q u w)
+opening : {a b : Option Moments} {Q : View → View → Type 0} (f : State → Answer) → ((s : State) → IsAtOnce (f s).refusal → ⊥) → IsTold a → Frame Nothing NoName NoPath a b → Goes a b StaysUnread StaysUnread → AtEnd Q a b → Goes a b (RunsOver f) (λ u w. Keeping u w × Q u w)
 opening f late known frame unread tells = begins known (goes_known (goes_both (keeping known frame) unread) tells) (λ u w t r. begun_over f late r.0 r.1) (λ u w t r q. (q.0.0, q.1))
   where
     keeping : {a b : Option Moments} → IsTold a → Frame Nothing NoName NoPath a b → Goes a b Keeping Keeping
     keeping known frame = begins known frame.goes (λ u w t r. kept r) (λ u w t r q. kept q)
 
-pub goes_not_opened : {a b : Option Moments} (f : State → Answer) (e : OpenEnd) (r : Result (Unit {0}) RunEnd) → ((s : State) → IsAtOnce (f s).refusal → ⊥) → IsTold a → Frame Nothing NoName NoPath a b → Goes a b StaysUnread StaysUnread → Ends (Opened (Err e)) a b → IsErrAnd r (λ end. end ≡ end_of_open e) → Goes a b (RunsOver f) (EndedOver f r)
+pub goes_not_opened : {a b : Option Moments} (f : State → Answer) (e : OpenEnd) (r : Result (Unit {0}) RunEnd) → ((s : State) → IsAtOnce (f s).refusal → ⊥) → IsTold a → Frame Nothing NoName NoPath a b → Goes a b StaysUnread StaysUnread → AtEnd (Opened (Err e)) a b → IsErrAnd r (λ end. end ≡ end_of_open e) → Goes a b (RunsOver f) (EndedOver f r)
 goes_not_opened {a = a} {b = b} f e r late known frame unread tells is =
     subst (λ (x : Result (Unit {0}) RunEnd). Goes a b (RunsOver f) (EndedOver f x)) (sym (is_err r (end_of_open e) is))
     (begins known (opening f late known frame unread tells) (λ u w t p. p) (λ u w t p q. ended_open f e q.0 q.1))
 
-pub goes_failed : {a b c : Option Moments} (f : State → Answer) (s : State) (e : RunEnd) (r : Result (Unit {0}) RunEnd) → ((s : State) → IsAtOnce (f s).refusal → ⊥) → IsTold a → IsTold b → Frame Nothing NoName NoPath a b → Goes a b StaysUnread StaysUnread → Ends (IsOpened s) a b → Goes b c (Performs (f s) s) (Performed (f s) s (Err e)) → IsErrAnd r (λ end. end ≡ e) → Goes a c (RunsOver f) (EndedOver f r)
+pub goes_failed : {a b c : Option Moments} (f : State → Answer) (s : State) (e : RunEnd) (r : Result (Unit {0}) RunEnd) → ((s : State) → IsAtOnce (f s).refusal → ⊥) → IsTold a → IsTold b → Frame Nothing NoName NoPath a b → Goes a b StaysUnread StaysUnread → AtEnd (IsOpened s) a b → Goes b c (Performs (f s) s) (Performed (f s) s (Err e)) → IsErrAnd r (λ end. end ≡ e) → Goes a c (RunsOver f) (EndedOver f r)
 goes_failed {a = a} {c = c} f s e r late known known_b frame unread tells goes is =
     subst (λ (x : Result (Unit {0}) RunEnd). Goes a c (RunsOver f) (EndedOver f x)) (sym (is_err r e is))
     (goes_on known_b (opening f late known frame unread tells) goes (λ u v w t p q step. runs_over f s (late s) q.1 q.0 step) (λ u v w t p q step last. failed_over f s e w q.1 q.0 last))
 
-pub goes_opened : {a b c : Option Moments} (f : State → Answer) (s t : State) → ((s : State) → IsAtOnce (f s).refusal → ⊥) → IsTold a → IsTold b → Frame Nothing NoName NoPath a b → Goes a b StaysUnread StaysUnread → Ends (IsOpened s) a b → Goes b c (Performs (f s) s) (Performed (f s) s (Ok t)) → Goes a c (RunsOver f) (EndedOver f (Ok tt))
+pub goes_opened : {a b c : Option Moments} (f : State → Answer) (s t : State) → ((s : State) → IsAtOnce (f s).refusal → ⊥) → IsTold a → IsTold b → Frame Nothing NoName NoPath a b → Goes a b StaysUnread StaysUnread → AtEnd (IsOpened s) a b → Goes b c (Performs (f s) s) (Performed (f s) s (Ok t)) → Goes a c (RunsOver f) (EndedOver f (Ok tt))
 goes_opened f s t late known known_b frame unread tells goes =
     goes_on known_b (opening f late known frame unread tells) goes (λ u v w tree p q step. runs_over f s (late s) q.1 q.0 step) (λ u v w tree p q step last. done_over f s t w q.1 q.0 last)

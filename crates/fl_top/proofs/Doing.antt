@@ -161,7 +161,7 @@ said_done op s t {v = v} {w = w} {x = x} changes same applied said = (said.print
 pub idle : (s : State) (v : View) → Performed nothing s (Ok s) v v
 idle s v = (refl, refl, record { changes = change_not; only_tidied = λ none. tidied_not; printed = sym (append-nil v.printed); opens = λ opens. opens; tidied = λ opens why. elim why [ inl tidy ↦ tidy | inr some ↦ absurd (some refl) ]; text = λ some. absurd (some refl) })
 
--- ---- tidying behind an operation
+-- ---- tidying after an operation
 
 behind_done : (op : Op) (v w x : View) → w.printed ≡ v.printed ++ op_text op → x.printed ≡ w.printed → Printed (did op) (piece_of op ∷ []) v x
 behind_done op v w x more same = record {

@@ -5,7 +5,7 @@ use Rattle.fp_host.specs.View.{View}
 use Rattle.fp_host.specs.Outcome.{shows}
 use Rattle.fp_host.specs.Causes.{IsCaused}
 use Rattle.fp_host.specs.Moments.{Moments, Goes, Rose}
-use Rattle.fp_host.specs.Frame.{Still}
+use Rattle.fp_host.specs.Frame.{Unchanged}
 use Rattle.fp_host.proofs.Framed.{IsTold}
 use Rattle.fp_host.proofs.Goes.{begins, stays, goes_on}
 use Rattle.fp_small.specs.declared.state.State.{State}
@@ -135,10 +135,10 @@ goes_none {a = a} command left e r known err ends =
     subst (λ (x : Result (Unit {0}) CommandEnd). Goes a a (RunsOn command left) (EndedOn command left x)) (sym (is_end r e err)) (stays known (not_begun command left) (λ u t input given. ends input given u))
 
 -- the input failed, before anything is done
-pub input_failed : {a : Option Moments} (left : Option (List ℕ)) (before now : ℕ) (e : InputEnd) (r : Result (Unit {0}) CommandEnd) → IsTold a → IsErrAnd r (λ end. end ≡ end_of_input e) → InputStops left before now e → IsErrOf r InputFault → Rose before now × Still a a
+pub input_failed : {a : Option Moments} (left : Option (List ℕ)) (before now : ℕ) (e : InputEnd) (r : Result (Unit {0}) CommandEnd) → IsTold a → IsErrAnd r (λ end. end ≡ end_of_input e) → InputStops left before now e → IsErrOf r InputFault → Rose before now × Unchanged a a
 input_failed {a = a} left before now e r known err stops is = of_input e stops (let both : Err (end_of_input e) ≡ Err InputFault = sym (is_end r (end_of_input e) err) ∙ is in cc both)
   where
-    of_input : (e : InputEnd) → InputStops left before now e → end_of_input e ≡ InputFault → Rose before now × Still a a
+    of_input : (e : InputEnd) → InputStops left before now e → end_of_input e ≡ InputFault → Rose before now × Unchanged a a
     of_input input.TooLong stops same = absurd (cc same)
     of_input input.Fault stops same = (stops, record { goes = stays known (λ u. refl) (λ u t. (refl, tt)) })
     of_input input.NoMemory stops same = absurd (cc same)

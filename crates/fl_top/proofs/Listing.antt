@@ -5,7 +5,7 @@ use Rattle.fp_host.specs.View.{View}
 use Rattle.fp_host.specs.Calls.{says, Step}
 use Rattle.fp_host.specs.Causes.{end_of}
 use Rattle.fp_host.specs.Moments.{Moments, Makes, Goes}
-use Rattle.fp_host.specs.Frame.{Ends, Still}
+use Rattle.fp_host.specs.Frame.{AtEnd, Unchanged}
 use Rattle.fp_host.specs.declared.host.HostError.{HostError}
 use Rattle.fp_host.specs.declared.host.HostError.TheVariants as error
 use Rattle.fp_host.proofs.Framed.{IsTold}
@@ -71,13 +71,13 @@ keeping {u = u} same = subst (Keeping u) (sym same) unchanged
 looks : (f : State → Answer) {u w : View} → w ≡ u → LooksOver f u w
 looks f {u = u} same = record { runs = begun (over_view f u) (keeping same) (λ why. same_untouched same); untouched = same_untouched same }
 
-pub goes_not_read : {a b : Option Moments} (f : State → Answer) (e : OpenEnd) (r : Result (Unit {0}) RunEnd) → IsTold a → Still a b → Ends (λ u w. Reads u (Err e)) a b → IsErrAnd r (λ end. end ≡ end_of_open e) → Goes a b (LooksOver f) (EndedOver f r)
+pub goes_not_read : {a b : Option Moments} (f : State → Answer) (e : OpenEnd) (r : Result (Unit {0}) RunEnd) → IsTold a → Unchanged a b → AtEnd (λ u w. Reads u (Err e)) a b → IsErrAnd r (λ end. end ≡ end_of_open e) → Goes a b (LooksOver f) (EndedOver f r)
 goes_not_read {a = a} {b = b} f e r known still tell is =
     subst (λ (x : Result (Unit {0}) RunEnd). Goes a b (LooksOver f) (EndedOver f x)) (sym (is_err r (end_of_open e) is))
     (begins known (goes_known still.goes tell) (λ u w t same. looks f same) (λ u w t same q. ended_open f e (keeping same) (reads_opened e u w q.1)))
 
 -- want of memory for what is to be printed
-pub goes_read_halted : {a b : Option Moments} (f : State → Answer) (r : Result (Unit {0}) RunEnd) → IsTold a → Still a b → IsErrAnd r (λ end. end ≡ NoMemory) → Goes a b (LooksOver f) (EndedOver f r)
+pub goes_read_halted : {a b : Option Moments} (f : State → Answer) (r : Result (Unit {0}) RunEnd) → IsTold a → Unchanged a b → IsErrAnd r (λ end. end ≡ NoMemory) → Goes a b (LooksOver f) (EndedOver f r)
 goes_read_halted {a = a} {b = b} f r known still is =
     subst (λ (x : Result (Unit {0}) RunEnd). Goes a b (LooksOver f) (EndedOver f x)) (sym (is_err r NoMemory is))
     (begins known still.goes (λ u w t same. looks f same) (λ u w t same q. stood (over_view f u) (keeping same)))
@@ -87,7 +87,7 @@ goes_read_halted {a = a} {b = b} f r known still is =
 abbrev HasRead : State → View → View → Type 0
 HasRead s u w = ((w ≡ u) × Unit {0}) × Reads u (Ok s)
 
-read : {a b : Option Moments} (f : State → Answer) (s : State) → IsTold a → Still a b → Ends (λ u w. Reads u (Ok s)) a b → Goes a b (LooksOver f) (HasRead s)
+read : {a b : Option Moments} (f : State → Answer) (s : State) → IsTold a → Unchanged a b → AtEnd (λ u w. Reads u (Ok s)) a b → Goes a b (LooksOver f) (HasRead s)
 read f s known still tell = begins known (goes_known still.goes tell) (λ u w t same. looks f same) (λ u w t same q. q)
 
 -- what is told of the state that was read
@@ -105,13 +105,13 @@ not_told f text error.Failed u v w step = tt
 not_told f text error.Clash u v w step = tt
 not_told f text error.NoMemory u v w step = absurd step.how
 
-pub goes_not_told : {a b c : Option Moments} (f : State → Answer) (s : State) (text : List ℕ) (e : HostError) (r : Result (Unit {0}) RunEnd) → IsTold a → IsTold b → Still a b → Ends (λ u w. Reads u (Ok s)) a b → f s ≡ told text
+pub goes_not_told : {a b c : Option Moments} (f : State → Answer) (s : State) (text : List ℕ) (e : HostError) (r : Result (Unit {0}) RunEnd) → IsTold a → IsTold b → Unchanged a b → AtEnd (λ u w. Reads u (Ok s)) a b → f s ≡ told text
     → Makes (Step (says text) (Err e)) b c → IsErrAnd r (λ end. end ≡ end_of_host (end_of e)) → Goes a c (LooksOver f) (EndedOver f r)
 goes_not_told {a = a} {c = c} f s text e r known known_b still tell is call err =
     subst (λ (x : Result (Unit {0}) RunEnd). Goes a c (LooksOver f) (EndedOver f x)) (sym (is_err r (end_of_host (end_of e)) err))
     (goes_on known_b (read f s known still tell) (makes_goes call) (λ u v w t p q step. is_told f s text is q (says_step step)) (λ u v w t p q step last. not_told f text e u v w last))
 
-pub goes_told : {a b c : Option Moments} (f : State → Answer) (s : State) (text : List ℕ) → IsTold a → IsTold b → Still a b → Ends (λ u w. Reads u (Ok s)) a b → f s ≡ told text
+pub goes_told : {a b c : Option Moments} (f : State → Answer) (s : State) (text : List ℕ) → IsTold a → IsTold b → Unchanged a b → AtEnd (λ u w. Reads u (Ok s)) a b → f s ≡ told text
     → Makes (Step (says text) (Ok tt)) b c → Goes a c (LooksOver f) (EndedOver f (Ok tt))
 goes_told f s text known known_b still tell is call =
     goes_on known_b (read f s known still tell) (makes_goes call) (λ u v w t p q step. is_told f s text is q (says_step step)) (λ u v w t p q step last. was_told f s text is q (was_said last))

@@ -1,4 +1,4 @@
--- One answer behind another, and changes in turn.
+-- One answer after another, and changes in turn.
 use Rattle.std.proofs.Common.{◌≡◌, ◌≢◌, ◌⊎◌, inl, inr, ℕ, List, [], ◌∷◌, ◌++◌, append_assoc, Option, Some, None, Result, Ok, Err, refl, sym, ◌∙◌, ap, subst}
 use Rattle.std.proofs.lemmas.List.{append-nil}
 use Rattle.std.proofs.lemmas.Grind.{flat_map-append}
@@ -44,7 +44,7 @@ second_none : (xs ys : List Op) → xs ++ ys ≡ [] → ys ≡ []
 second_none [] ys none = none
 second_none (x ∷ xs) ys none = absurd (cc none)
 
--- the state after the operations of pieces and of what comes behind them
+-- the state after the operations of pieces and of what comes after them
 after_pieces : (s t : State) (pieces : List Piece) (ops : List Op) → t ≡ after_all s (ops_in pieces) → after_all s (ops_in pieces ++ ops) ≡ after_all t ops
 after_pieces s t pieces ops is = after-append (ops_in pieces) ops s ∙ ap (λ (x : State). after_all x ops) (sym is)
 

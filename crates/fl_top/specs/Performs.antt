@@ -61,7 +61,7 @@ Performed a s (Err (Refused refusal)) v w = (a.refusal ≡ Some refusal) × IsDo
 Performed a s (Err Fault) v w = Unit {0}
 Performed a s (Err NoMemory) v w = IsHalted a s v w
 
--- An operation is done and its line printed; it isn't tidied behind it.
+-- An operation is done and its line printed; it isn't tidied after it.
 abbrev pub WasDone : Op → State → Result State RunEnd → View → View → Type 0
 WasDone op s (Ok t) v w = (w.printed ≡ v.printed ++ op_text op) × (Opens s v → Opens (after s op) w) × Changes v w × HasText (after s op) w
 WasDone op s (Err e) v w = Performed (did op) s (Err e) v w

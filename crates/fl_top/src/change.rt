@@ -31,8 +31,10 @@ pub(crate) fn change_all<H: Host>(
     host: &mut H,
     changes: &[Change],
 ) -> Result<(), RunEnd>
-    ensures moments { Goes (H.moments host.old) (H.moments host.new) (RunsOver (changing changes.now)) (EndedOver (changing changes.now) result) }
-    ensures cause { IsCaused (IsErrOf result RunEnd.Fault) (H.moments host.old) IsReady (H.faults host.old) (H.faults host.new) }
+    ensures any_moment { Goes (H.moments host.old) (H.moments host.new)
+        (RunsOver (changing changes.now)) (EndedOver (changing changes.now) result) }
+    ensures fault_has_cause { IsCaused (IsErrOf result RunEnd.Fault) (H.moments host.old) IsReady
+        (H.faults host.old) (H.faults host.new) }
 {
     let opened = open(alloc, host)?;
     do_all(alloc, host, opened, changes)?;
@@ -47,8 +49,11 @@ fn do_all<H: Host>(
     changes: &[Change],
 ) -> Result<Opened, RunEnd>
     requires good { IsGood opened }
-    ensures moments { Goes (H.moments host.old) (H.moments host.new) (Performs (changing changes.now opened) opened) (Performed (changing changes.now opened) opened result) }
-    ensures cause { IsCaused (IsErrOf result RunEnd.Fault) (H.moments host.old) (Opens opened) (H.faults host.old) (H.faults host.new) }
+    ensures any_moment { Goes (H.moments host.old) (H.moments host.new)
+        (Performs (changing changes.now opened) opened) (Performed (changing changes.now opened)
+        opened result) }
+    ensures fault_has_cause { IsCaused (IsErrOf result RunEnd.Fault) (H.moments host.old)
+        (Opens opened) (H.faults host.old) (H.faults host.new) }
 {
     let tidied = tidy(alloc, host, opened)?;
     let current = migrate(alloc, host, tidied)?;
@@ -60,8 +65,11 @@ fn migrate<H: Host>(alloc: Global, host: &mut H, opened: Opened) -> Result<Opene
     requires good { IsGood opened }
     ensures good { IfOk result IsGood }
     ensures layout { IfOk result (λ o. o.layout ≡ Two) }
-    ensures moments { Goes (H.moments host.old) (H.moments host.new) (Performs (migrating opened.layout) opened) (Performed (migrating opened.layout) opened result) }
-    ensures cause { IsCaused (IsErrOf result RunEnd.Fault) (H.moments host.old) (Opens opened) (H.faults host.old) (H.faults host.new) }
+    ensures any_moment { Goes (H.moments host.old) (H.moments host.new)
+        (Performs (migrating opened.layout) opened) (Performed (migrating opened.layout) opened
+        result) }
+    ensures fault_has_cause { IsCaused (IsErrOf result RunEnd.Fault) (H.moments host.old)
+        (Opens opened) (H.faults host.old) (H.faults host.new) }
 {
     match opened.state().layout {
         Layout::One => do_op(alloc, host, opened, &Op::Migrate),
@@ -78,8 +86,11 @@ fn do_each<H: Host>(
 ) -> Result<Opened, RunEnd>
     requires good { IsGood opened }
     requires layout { opened.layout ≡ Two }
-    ensures moments { Goes (H.moments host.old) (H.moments host.new) (Performs (in_turn changes.now opened) opened) (Performed (in_turn changes.now opened) opened result) }
-    ensures cause { IsCaused (IsErrOf result RunEnd.Fault) (H.moments host.old) (Opens opened) (H.faults host.old) (H.faults host.new) }
+    ensures any_moment { Goes (H.moments host.old) (H.moments host.new)
+        (Performs (in_turn changes.now opened) opened) (Performed (in_turn changes.now opened)
+        opened result) }
+    ensures fault_has_cause { IsCaused (IsErrOf result RunEnd.Fault) (H.moments host.old)
+        (Opens opened) (H.faults host.old) (H.faults host.new) }
 {
     let mut current = opened;
     for change in changes {
@@ -99,8 +110,11 @@ fn do_change<H: Host>(
     requires layout { opened.layout ≡ Two }
     ensures good { IfOk result IsGood }
     ensures layout { IfOk result (λ o. o.layout ≡ Two) }
-    ensures moments { Goes (H.moments host.old) (H.moments host.new) (Performs (change_over change.now opened) opened) (Performed (change_over change.now opened) opened result) }
-    ensures cause { IsCaused (IsErrOf result RunEnd.Fault) (H.moments host.old) (Opens opened) (H.faults host.old) (H.faults host.new) }
+    ensures any_moment { Goes (H.moments host.old) (H.moments host.new)
+        (Performs (change_over change.now opened) opened) (Performed
+        (change_over change.now opened) opened result) }
+    ensures fault_has_cause { IsCaused (IsErrOf result RunEnd.Fault) (H.moments host.old)
+        (Opens opened) (H.faults host.old) (H.faults host.new) }
 {
     let op = op_of(change)?;
     try_and_do(alloc, host, opened, &op)
@@ -133,8 +147,10 @@ fn try_and_do<H: Host>(
     requires good { IsGood opened }
     ensures good { IfOk result IsGood }
     ensures layout { IfOk result (λ o. o.layout ≡ Two) }
-    ensures moments { Goes (H.moments host.old) (H.moments host.new) (Performs (act op.now opened) opened) (Performed (act op.now opened) opened result) }
-    ensures cause { IsCaused (IsErrOf result RunEnd.Fault) (H.moments host.old) (Opens opened) (H.faults host.old) (H.faults host.new) }
+    ensures any_moment { Goes (H.moments host.old) (H.moments host.new)
+        (Performs (act op.now opened) opened) (Performed (act op.now opened) opened result) }
+    ensures fault_has_cause { IsCaused (IsErrOf result RunEnd.Fault) (H.moments host.old)
+        (Opens opened) (H.faults host.old) (H.faults host.new) }
 {
     try_op(opened.state(), op)?;
     do_op(alloc, host, opened, op)
@@ -146,8 +162,10 @@ fn do_op<H: Host>(alloc: Global, host: &mut H, opened: Opened, op: &Op) -> Resul
     requires good { IsGood opened }
     ensures good { IfOk result IsGood }
     ensures layout { IfOk result (λ o. o.layout ≡ Two) }
-    ensures moments { Goes (H.moments host.old) (H.moments host.new) (Performs (did op.now) opened) (Performed (did op.now) opened result) }
-    ensures cause { IsCaused (IsErrOf result RunEnd.Fault) (H.moments host.old) (Opens opened) (H.faults host.old) (H.faults host.new) }
+    ensures any_moment { Goes (H.moments host.old) (H.moments host.new)
+        (Performs (did op.now) opened) (Performed (did op.now) opened result) }
+    ensures fault_has_cause { IsCaused (IsErrOf result RunEnd.Fault) (H.moments host.old)
+        (Opens opened) (H.faults host.old) (H.faults host.new) }
 {
     let line = op_line(alloc, op)?;
     let done = do_and_say(alloc, host, opened, op, line.as_str().as_bytes())?;
@@ -167,8 +185,10 @@ fn do_and_say<H: Host>(
     requires line { line.now ≡ op_text op.now }
     ensures state { IfOk result (λ o. o ≡ after opened op.now) }
     ensures good { IfOk result IsGood }
-    ensures moments { Goes (H.moments host.old) (H.moments host.new) (Performs (did op.now) opened) (WasDone op.now opened result) }
-    ensures cause { IsCaused (IsErrOf result RunEnd.Fault) (H.moments host.old) (Opens opened) (H.faults host.old) (H.faults host.new) }
+    ensures any_moment { Goes (H.moments host.old) (H.moments host.new)
+        (Performs (did op.now) opened) (WasDone op.now opened result) }
+    ensures fault_has_cause { IsCaused (IsErrOf result RunEnd.Fault) (H.moments host.old)
+        (Opens opened) (H.faults host.old) (H.faults host.new) }
 {
     let done = apply(alloc, host, opened, op)?;
     host.say(line)?;

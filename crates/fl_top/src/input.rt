@@ -38,7 +38,8 @@ const PIECE: usize = 64 * 1024;
 pub(crate) fn read_input<I: Source>(alloc: Global, input: &mut I) -> Result<Blob, InputEnd>
     ensures ok { IfOk result (IsWhole (I.left input.old)) }
     ensures taken { IfOk result (λ bytes. IsTaken (I.left input.old) (I.left input.new)) }
-    ensures stops { IfErr result (InputStops (I.left input.old) (I.faults input.old) (I.faults input.new)) }
+    ensures stops { IfErr result (InputStops (I.left input.old)
+        (I.faults input.old) (I.faults input.new)) }
     ensures later { I.faults input.old ≤ I.faults input.new }
 {
     let mut buffer = vec![in alloc; 0; PIECE]?;
@@ -53,14 +54,15 @@ pub(crate) fn read_input<I: Source>(alloc: Global, input: &mut I) -> Result<Blob
     }
 }
 
-/// Takes the next bytes behind those that are there, and says whether there were some.
+/// Takes the next bytes after those that are there, and says whether there were some.
 fn take_some<I: Source>(
     input: &mut I,
     buffer: &mut [u8],
     bytes: &mut Vec<u8>,
 ) -> Result<bool, InputEnd>
     requires { 0 < length buffer.old }
-    ensures ok { IfOk result (Adds (I.left input.old) (I.left input.new) bytes.old.items bytes.new.items) }
+    ensures ok { IfOk result (Adds (I.left input.old) (I.left input.new) bytes.old.items
+        bytes.new.items) }
     ensures stops { IfErr result (StepStops (I.faults input.old) (I.faults input.new)) }
     ensures later { I.faults input.old ≤ I.faults input.new }
 {

@@ -11,6 +11,8 @@ ghost use Rattle.fl_top.specs.History.{Stretch, History, IsReached};
 /// every stop at the start would have left a sound installation, every stop at the end does; and what it shows is reached
 /// from a state of the start by a prefix of each run's operations that holds those that the run acknowledged.
 pub fn runs_join()
-    ensures sound { (u w : View) (stretches : List Stretch) → IsSound u → History u stretches w → IsSound w }
-    ensures reached { (u w : View) (stretches : List Stretch) → IsSound u → History u stretches w → (disk : Disk) → Leaves w disk → (t : State) → Shows disk t → IsReached u stretches disk t }
+    ensures sound { (u w : View) (stretches : List Stretch) → IsSound u → History u stretches w →
+        IsSound w }
+    ensures reached { (u w : View) (stretches : List Stretch) → IsSound u → History u stretches w →
+        (disk : Disk) → Leaves w disk → (t : State) → Shows disk t → IsReached u stretches disk t }
 {}

@@ -1,8 +1,8 @@
 //! The run of a command.
 ghost use Rattle.std.specs.Prelude.{◌≡◌, ◌≢◌, ◌≤◌, ◌⊎◌, true, Some, map, string_bytes, IfOk, IsErrOf};
-ghost use Rattle.fp_host.specs.Causes.{IsCaused};
-ghost use Rattle.fp_host.specs.Frame.{Ends, Still};
-ghost use Rattle.fp_host.specs.Moments.{Goes, Rose};
+ghost use Rattle.fp_host.specs.Causes.{IsCaused, IsCounted};
+ghost use Rattle.fp_host.specs.Frame.{AtEnd, Unchanged};
+ghost use Rattle.fp_host.specs.Moments.{Goes, Rose, Always};
 ghost use Rattle.fp_small.specs.declared.refusal.Refusal.TheVariants.{BadWords};
 ghost use Rattle.fl_words.specs.Lines.{refusal_text};
 ghost use Rattle.fl_words.specs.Forms.{command_of};
@@ -44,13 +44,18 @@ pub fn run<H: Host, R: Remotes, I: Source>(
     ensures words { IsOfWords (command_of (map string_bytes words.now)) result }
     // Wherever the host stops: what was printed are the first pieces of the answer, and the installation is the one after a
     // prefix of its operations that holds each acknowledged one.
-    ensures moments { Goes (H.moments host.old) (H.moments host.new) (RunsBy (map string_bytes words.now) (I.left input.old)) (RunsBy (map string_bytes words.now) (I.left input.old)) }
+    ensures any_moment { Always (RunsBy (map string_bytes words.now) (I.left input.old))
+        (H.moments host.old) (H.moments host.new) }
     // What was printed, the status and the state are the answer's; every stop leaves the acknowledged operations.
-    ensures at_return { Ends (RanBy (map string_bytes words.now) (I.left input.old) result) (H.moments host.old) (H.moments host.new) }
-    ensures cause { IsCaused (result ≡ 3) (H.moments host.old) (Serves (command_of (map string_bytes words.now))) (H.faults host.old) (H.faults host.new) }
+    ensures at_return { AtEnd (RanBy (map string_bytes words.now) (I.left input.old) result)
+        (H.moments host.old) (H.moments host.new) }
+    ensures fault_has_cause { IsCaused (result ≡ 3) (H.moments host.old)
+        (Serves (command_of (map string_bytes words.now))) (H.faults host.old) (H.faults host.new) }
     // The input is read before anything is done.
-    ensures input { result ≡ 5 → Rose (I.faults input.old) (I.faults input.new) × Still (H.moments host.old) (H.moments host.new) }
-    ensures taken { WasTaken (command_of (map string_bytes words.now)) result (I.left input.old) (I.left input.new) }
+    ensures input { result ≡ 5 → Rose (I.faults input.old) (I.faults input.new) × Unchanged
+        (H.moments host.old) (H.moments host.new) }
+    ensures taken { WasTaken (command_of (map string_bytes words.now)) result (I.left input.old)
+        (I.left input.new) }
     ensures later { I.faults input.old ≤ I.faults input.new }
     // No command asks the remotes.
     ensures remotes { R.faults remotes.new ≡ R.faults remotes.old }
@@ -70,9 +75,12 @@ fn run_command<H: Host, I: Source>(
     command: Command,
 ) -> u8
     ensures status { IsOfCommand command result }
-    ensures moments { Goes (H.moments host.old) (H.moments host.new) (RunsOn command (I.left input.old)) (RanOn command (I.left input.old) result) }
-    ensures cause { IsCaused (result ≡ 3) (H.moments host.old) (Serves (Some command)) (H.faults host.old) (H.faults host.new) }
-    ensures input { result ≡ 5 → Rose (I.faults input.old) (I.faults input.new) × Still (H.moments host.old) (H.moments host.new) }
+    ensures any_moment { Goes (H.moments host.old) (H.moments host.new)
+        (RunsOn command (I.left input.old)) (RanOn command (I.left input.old) result) }
+    ensures fault_has_cause { IsCaused (result ≡ 3) (H.moments host.old) (Serves (Some command))
+        (H.faults host.old) (H.faults host.new) }
+    ensures input { result ≡ 5 → Rose (I.faults input.old) (I.faults input.new) × Unchanged
+        (H.moments host.old) (H.moments host.new) }
     ensures taken { WasTaken (Some command) result (I.left input.old) (I.left input.new) }
     ensures later { I.faults input.old ≤ I.faults input.new }
 {
@@ -92,9 +100,13 @@ fn perform<H: Host, I: Source>(
     host: &mut H,
     command: Command,
 ) -> Result<(), CommandEnd>
-    ensures moments { Goes (H.moments host.old) (H.moments host.new) (RunsOn command (I.left input.old)) (EndedOn command (I.left input.old) result) }
-    ensures cause { IsCaused (IsErrOf result CommandEnd.Fault) (H.moments host.old) (Serves (Some command)) (H.faults host.old) (H.faults host.new) }
-    ensures input { IsErrOf result CommandEnd.InputFault → (reads_input command ≡ true) × Rose (I.faults input.old) (I.faults input.new) × Still (H.moments host.old) (H.moments host.new) }
+    ensures any_moment { Goes (H.moments host.old) (H.moments host.new)
+        (RunsOn command (I.left input.old)) (EndedOn command (I.left input.old) result) }
+    ensures fault_has_cause { IsCaused (IsErrOf result CommandEnd.Fault) (H.moments host.old)
+        (Serves (Some command)) (H.faults host.old) (H.faults host.new) }
+    ensures input { IsErrOf result CommandEnd.InputFault → (reads_input command ≡ true) × Rose
+        (I.faults input.old) (I.faults input.new) × Unchanged
+        (H.moments host.old) (H.moments host.new) }
     ensures taken { Takes command result (I.left input.old) (I.left input.new) }
     ensures later { I.faults input.old ≤ I.faults input.new }
 {
@@ -113,9 +125,14 @@ fn show<H: Host, I: Source>(
     host: &mut H,
     thing: &Shown,
 ) -> Result<(), CommandEnd>
-    ensures moments { Goes (H.moments host.old) (H.moments host.new) (RunsOn (Showing thing.now) (I.left input.old)) (EndedOn (Showing thing.now) (I.left input.old) result) }
-    ensures cause { IsCaused (IsErrOf result CommandEnd.Fault) (H.moments host.old) (λ v. Unit {0}) (H.faults host.old) (H.faults host.new) }
-    ensures input { IsErrOf result CommandEnd.InputFault → Rose (I.faults input.old) (I.faults input.new) × Still (H.moments host.old) (H.moments host.new) }
+    ensures any_moment { Goes (H.moments host.old) (H.moments host.new)
+        (RunsOn (Showing thing.now) (I.left input.old)) (EndedOn (Showing thing.now)
+        (I.left input.old) result) }
+    ensures fault_has_cause { IsCounted (IsErrOf result CommandEnd.Fault)
+        (H.moments host.old) (H.faults host.old) (H.faults host.new) }
+    ensures input { IsErrOf result CommandEnd.InputFault → Rose
+        (I.faults input.old) (I.faults input.new) × Unchanged
+        (H.moments host.old) (H.moments host.new) }
     ensures taken { TakenBy result (I.left input.old) (I.left input.new) }
     ensures later { I.faults input.old ≤ I.faults input.new }
 {
@@ -126,9 +143,13 @@ fn show<H: Host, I: Source>(
 
 /// Reads the changes that the input asks for, and makes them one after another.
 fn batch<H: Host, I: Source>(alloc: Global, input: &mut I, host: &mut H) -> Result<(), CommandEnd>
-    ensures moments { Goes (H.moments host.old) (H.moments host.new) (RunsOn Batch (I.left input.old)) (EndedOn Batch (I.left input.old) result) }
-    ensures cause { IsCaused (IsErrOf result CommandEnd.Fault) (H.moments host.old) IsReady (H.faults host.old) (H.faults host.new) }
-    ensures input { IsErrOf result CommandEnd.InputFault → Rose (I.faults input.old) (I.faults input.new) × Still (H.moments host.old) (H.moments host.new) }
+    ensures any_moment { Goes (H.moments host.old) (H.moments host.new)
+        (RunsOn Batch (I.left input.old)) (EndedOn Batch (I.left input.old) result) }
+    ensures fault_has_cause { IsCaused (IsErrOf result CommandEnd.Fault) (H.moments host.old)
+        IsReady (H.faults host.old) (H.faults host.new) }
+    ensures input { IsErrOf result CommandEnd.InputFault → Rose
+        (I.faults input.old) (I.faults input.new) × Unchanged
+        (H.moments host.old) (H.moments host.new) }
     ensures taken { TakenBy result (I.left input.old) (I.left input.new) }
     ensures later { I.faults input.old ≤ I.faults input.new }
 {
@@ -139,8 +160,10 @@ fn batch<H: Host, I: Source>(alloc: Global, input: &mut I, host: &mut H) -> Resu
 
 /// Prints what is listed.
 fn list<H: Host>(alloc: Global, host: &mut H, listing: Listing) -> Result<(), RunEnd>
-    ensures moments { Goes (H.moments host.old) (H.moments host.new) (LooksOver (listed listing)) (EndedOver (listed listing) result) }
-    ensures cause { IsCaused (IsErrOf result RunEnd.Fault) (H.moments host.old) (λ v. Unit {0}) (H.faults host.old) (H.faults host.new) }
+    ensures any_moment { Goes (H.moments host.old) (H.moments host.new)
+        (LooksOver (listed listing)) (EndedOver (listed listing) result) }
+    ensures fault_has_cause { IsCounted (IsErrOf result RunEnd.Fault)
+        (H.moments host.old) (H.faults host.old) (H.faults host.new) }
 {
     let state = read_state(alloc, host)?;
     let text = listed_text(alloc, listing, &state)?;
@@ -161,8 +184,10 @@ fn listed_text(alloc: Global, listing: Listing, state: &State) -> Result<Text, A
 /// Prints the line of words that are no command.
 fn refuse_words<H: Host>(alloc: Global, host: &mut H, index: u64) -> u8
     ensures status { (result ≡ 2) ⊎ ((result ≡ 3) ⊎ (result ≡ 6)) }
-    ensures moments { Goes (H.moments host.old) (H.moments host.new) (Says (refusal_text (BadWords index))) (Refuses (refusal_text (BadWords index)) 2 result) }
-    ensures cause { IsCaused (result ≡ 3) (H.moments host.old) (λ v. Unit {0}) (H.faults host.old) (H.faults host.new) }
+    ensures any_moment { Goes (H.moments host.old) (H.moments host.new)
+        (Says (refusal_text (BadWords index))) (Refuses (refusal_text (BadWords index)) 2 result) }
+    ensures fault_has_cause { IsCounted (result ≡ 3) (H.moments host.old) (H.faults host.old)
+        (H.faults host.new) }
 {
     refuse(alloc, host, Refusal::BadWords { index }, 2)
 }
@@ -171,8 +196,10 @@ fn refuse_words<H: Host>(alloc: Global, host: &mut H, index: u64) -> u8
 fn refuse<H: Host>(alloc: Global, host: &mut H, refusal: Refusal, status: u8) -> u8
     requires { status ≢ 3 }
     ensures status { (result ≡ status) ⊎ ((result ≡ 3) ⊎ (result ≡ 6)) }
-    ensures moments { Goes (H.moments host.old) (H.moments host.new) (Says (refusal_text refusal)) (Refuses (refusal_text refusal) status result) }
-    ensures cause { IsCaused (result ≡ 3) (H.moments host.old) (λ v. Unit {0}) (H.faults host.old) (H.faults host.new) }
+    ensures any_moment { Goes (H.moments host.old) (H.moments host.new)
+        (Says (refusal_text refusal)) (Refuses (refusal_text refusal) status result) }
+    ensures fault_has_cause { IsCounted (result ≡ 3) (H.moments host.old) (H.faults host.old)
+        (H.faults host.new) }
 {
     match say_refusal(alloc, host, refusal) {
         Ok(()) => status,
@@ -183,8 +210,10 @@ fn refuse<H: Host>(alloc: Global, host: &mut H, refusal: Refusal, status: u8) ->
 
 /// Prints the line of a refusal.
 fn say_refusal<H: Host>(alloc: Global, host: &mut H, refusal: Refusal) -> Result<(), HostEnd>
-    ensures moments { Goes (H.moments host.old) (H.moments host.new) (Says (refusal_text refusal)) (SaidBy (refusal_text refusal) result) }
-    ensures cause { IsCaused (IsErrOf result HostEnd.Fault) (H.moments host.old) (λ v. Unit {0}) (H.faults host.old) (H.faults host.new) }
+    ensures any_moment { Goes (H.moments host.old) (H.moments host.new)
+        (Says (refusal_text refusal)) (SaidBy (refusal_text refusal) result) }
+    ensures fault_has_cause { IsCounted (IsErrOf result HostEnd.Fault)
+        (H.moments host.old) (H.faults host.old) (H.faults host.new) }
 {
     let line = last_line(alloc, refusal)?;
     host.say(line.as_str().as_bytes())?;
@@ -200,8 +229,10 @@ fn last_line(alloc: Global, refusal: Refusal) -> Result<Text, AllocError>
 
 /// Prints a text.
 fn say<H: Host>(host: &mut H, text: &[u8]) -> Result<(), HostEnd>
-    ensures moments { Goes (H.moments host.old) (H.moments host.new) (Says text.now) (SaidBy text.now result) }
-    ensures cause { IsCaused (IsErrOf result HostEnd.Fault) (H.moments host.old) (λ v. Unit {0}) (H.faults host.old) (H.faults host.new) }
+    ensures any_moment { Goes (H.moments host.old) (H.moments host.new) (Says text.now)
+        (SaidBy text.now result) }
+    ensures fault_has_cause { IsCounted (IsErrOf result HostEnd.Fault)
+        (H.moments host.old) (H.faults host.old) (H.faults host.new) }
 {
     host.say(text)?;
     Ok(())

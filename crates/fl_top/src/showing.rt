@@ -106,7 +106,8 @@ fn malformed(bytes: &[u8], kind: ObjKind, error: ObjectError) -> RunEnd
 
 /// A commit's digest and its fields, a line each.
 fn said_of_commit(alloc: Global, bytes: &[u8], commit: &Commit) -> Result<Text, AllocError>
-    ensures { IfOk result (λ t. t ≡ head (meta_digest bytes.now) (codes "commit") ++ commit_lines (commit_view commit.now)) }
+    ensures { IfOk result (λ t. t ≡ head (meta_digest bytes.now) (codes "commit") ++ commit_lines
+        (commit_view commit.now)) }
 {
     let digest = digits_of(alloc, &meta_digest(bytes))?;
     let fields = fields_of(alloc, commit)?;
@@ -147,7 +148,8 @@ fn parent_of(alloc: Global, parent: &Option<Digest>) -> Result<String, AllocErro
 
 /// A dirtree's digest and its names, a line each.
 fn said_of_tree(alloc: Global, bytes: &[u8], tree: &DirTree) -> Result<Text, AllocError>
-    ensures { IfOk result (λ t. t ≡ head (meta_digest bytes.now) (codes "dirtree") ++ tree_lines (tree_view tree.now)) }
+    ensures { IfOk result (λ t. t ≡ head (meta_digest bytes.now) (codes "dirtree") ++ tree_lines
+        (tree_view tree.now)) }
 {
     let digest = digits_of(alloc, &meta_digest(bytes))?;
     let files = files_in(alloc, tree.files.as_slice())?;
@@ -168,7 +170,8 @@ fn files_in(alloc: Global, files: &[FileEntry]) -> Result<String, AllocError>
 }
 
 fn push_file(alloc: Global, out: &mut String, file: &FileEntry) -> Result<(), AllocError>
-    ensures { OnOk result (string_bytes out.new ≡ string_bytes out.old ++ file_line (file_row file.now)) }
+    ensures { OnOk result (string_bytes out.new ≡ string_bytes out.old ++ file_line
+        (file_row file.now)) }
 {
     let name = escape(alloc, file.name.as_str())?;
     let digest = digits_of(alloc, &file.digest)?;
@@ -187,7 +190,8 @@ fn dirs_in(alloc: Global, dirs: &[DirEntry]) -> Result<String, AllocError>
 }
 
 fn push_dir(alloc: Global, out: &mut String, dir: &DirEntry) -> Result<(), AllocError>
-    ensures { OnOk result (string_bytes out.new ≡ string_bytes out.old ++ dir_line (dir_row dir.now)) }
+    ensures { OnOk result (string_bytes out.new ≡ string_bytes out.old ++ dir_line
+        (dir_row dir.now)) }
 {
     let name = escape(alloc, dir.name.as_str())?;
     let tree = digits_of(alloc, &dir.tree)?;
@@ -197,7 +201,8 @@ fn push_dir(alloc: Global, out: &mut String, dir: &DirEntry) -> Result<(), Alloc
 
 /// A dirmeta's digest and its mode.
 fn said_of_meta(alloc: Global, bytes: &[u8], meta: DirMeta) -> Result<Text, AllocError>
-    ensures { IfOk result (λ t. t ≡ head (meta_digest bytes.now) (codes "dirmeta") ++ meta_lines (meta_view meta)) }
+    ensures { IfOk result (λ t. t ≡ head (meta_digest bytes.now) (codes "dirmeta") ++ meta_lines
+        (meta_view meta)) }
 {
     let digest = digits_of(alloc, &meta_digest(bytes))?;
     let mode = mode_line(alloc, meta.mode)?;

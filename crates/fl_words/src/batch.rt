@@ -117,7 +117,8 @@ fn read_line(alloc: Global, line: &[u8]) -> Result<Vec<String>, WordsError>
 
 /// Puts a word after the others, where it is a text.
 fn add_word(alloc: Global, words: &mut Vec<String>, word: &[u8]) -> Result<(), WordsError>
-    ensures ok { OnOk result (map string_bytes words.new.items ≡ map string_bytes words.old.items ++ word.now ∷ []) }
+    ensures ok { OnOk result (map string_bytes words.new.items ≡ map string_bytes words.old.items
+        ++ word.now ∷ []) }
     ensures bad { IfErr result (IsNoText word.now) }
 {
     let Ok(text) = str::from_utf8(word) else {

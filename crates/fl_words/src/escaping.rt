@@ -23,7 +23,8 @@ fn is_escaped(letter: char) -> bool
 }
 
 fn push_escaped(out: &mut String, letter: char) -> Result<(), AllocError>
-    ensures { OnOk result (string_bytes out.new ≡ string_bytes out.old ++ escaped (encode_utf8 letter)) }
+    ensures { OnOk result (string_bytes out.new ≡ string_bytes out.old ++ escaped
+        (encode_utf8 letter)) }
 {
     if !is_escaped(letter) {
         return out.push(letter);

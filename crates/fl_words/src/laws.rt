@@ -11,14 +11,17 @@ use crate::command::{Change, Command};
 /// The words of each command read as it, and only they do.
 pub fn words_read_back()
     ensures written { (c : Command) → is_command c ≡ true → command_of (words_of c) ≡ Some c }
-    ensures read { (words : List (List ℕ)) (c : Command) → command_of words ≡ Some c → (words ≡ words_of c) × (is_command c ≡ true) }
+    ensures read { (words : List (List ℕ)) (c : Command) → command_of words ≡ Some c →
+        (words ≡ words_of c) × (is_command c ≡ true) }
 {}
 
 /// The bad index is the least i such that the first i + 1 words begin no command, or the number of words where each
 /// beginning of them begins one.
 pub fn bad_index_is_least()
-    ensures before { (words : List (List ℕ)) (i : ℕ) → i < bad_index words → Begins (take (i + 1) words) }
-    ensures there { (words : List (List ℕ)) → bad_index words < length words → ¬ Begins (take (bad_index words + 1) words) }
+    ensures before { (words : List (List ℕ)) (i : ℕ) → i < bad_index words → Begins
+        (take (i + 1) words) }
+    ensures there { (words : List (List ℕ)) → bad_index words < length words → ¬ Begins
+        (take (bad_index words + 1) words) }
     ensures within { (words : List (List ℕ)) → bad_index words ≤ length words }
 {}
 
@@ -30,5 +33,6 @@ pub fn escapes_tell_texts()
 
 /// The patterns, names and URLs of each change of a batch are such.
 pub fn batches_hold_changes()
-    ensures { (bytes : List ℕ) (changes : List Change) → batch_of bytes ≡ Ok changes → list_all is_change changes ≡ true }
+    ensures { (bytes : List ℕ) (changes : List Change) → batch_of bytes ≡ Ok changes → list_all
+        is_change changes ≡ true }
 {}

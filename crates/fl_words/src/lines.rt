@@ -44,7 +44,8 @@ pub(crate) fn line_at(
     number: u64,
     last: &str,
 ) -> Result<Text, AllocError>
-    ensures { IfOk result (λ t. t ≡ line_of (first.now ∷ second.now ∷ decimal number ∷ last.now ∷ [])) }
+    ensures { IfOk result (λ t. t ≡ line_of (first.now ∷ second.now ∷ decimal number ∷ last.now ∷
+        [])) }
 {
     let number = decimal_of(alloc, number)?;
     let mut text = String::from_str(alloc, first)?;

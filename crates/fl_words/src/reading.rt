@@ -31,7 +31,8 @@ pub fn read_words(alloc: Global, words: &[String]) -> Result<Command, WordsError
 
 /// How many words, from the first on, may stand at their places.
 pub(crate) fn reach(alloc: Global, slots: &[Slot], words: &[String]) -> Result<usize, AllocError>
-    ensures { IfOk result (λ count. count ≡ reach_of (map place_of slots.now) (map string_bytes words.now)) }
+    ensures { IfOk result (λ count. count ≡ reach_of (map place_of slots.now)
+        (map string_bytes words.now)) }
 {
     let mut count = 0;
     while count < slots.len() && count < words.len() {

@@ -88,7 +88,8 @@ pub fn refusal_line(alloc: Global, refusal: &Refusal) -> Result<Text, AllocError
 
 /// The line of a remote of another mode.
 fn remote_mode_line(alloc: Global, remote: &str, mode: &str) -> Result<Text, AllocError>
-    ensures { IfOk result (λ t. t ≡ line_of (codes "error: remote mode" ∷ remote.now ∷ escaped mode.now ∷ [])) }
+    ensures { IfOk result (λ t. t ≡ line_of (codes "error: remote mode" ∷ remote.now ∷ escaped
+        mode.now ∷ [])) }
 {
     let mode = escape(alloc, mode)?;
     line_of_three(alloc, "error: remote mode", remote, mode.as_str())
@@ -96,7 +97,8 @@ fn remote_mode_line(alloc: Global, remote: &str, mode: &str) -> Result<Text, All
 
 /// The line of a path that doesn't read.
 fn damaged_line(alloc: Global, path: &Path) -> Result<Text, AllocError>
-    ensures { IfOk result (λ t. t ≡ line_of (codes "error: damaged" ∷ escaped (path_text path.now) ∷ [])) }
+    ensures { IfOk result (λ t. t ≡ line_of (codes "error: damaged" ∷ escaped (path_text path.now)
+        ∷ [])) }
 {
     let path = escape(alloc, path.text())?;
     line_of_two(alloc, "error: damaged", path.as_str())
@@ -123,7 +125,8 @@ fn fault_line(
     kind: ObjKind,
     fault: &str,
 ) -> Result<Text, AllocError>
-    ensures { IfOk result (λ t. t ≡ line_of (words.now ∷ object_text digest.now kind ∷ fault.now ∷ [])) }
+    ensures { IfOk result (λ t. t ≡ line_of (words.now ∷ object_text digest.now kind ∷ fault.now ∷
+        [])) }
 {
     let object = object_of(alloc, digest, kind)?;
     line_of_three(alloc, words, object.as_str(), fault)
@@ -136,7 +139,8 @@ fn corrupt_line(
     kind: ObjKind,
     got: &Digest,
 ) -> Result<Text, AllocError>
-    ensures { IfOk result (λ t. t ≡ line_of (codes "error: corrupt object" ∷ object_text digest.now kind ∷ hex got.now ∷ [])) }
+    ensures { IfOk result (λ t. t ≡ line_of (codes "error: corrupt object" ∷ object_text digest.now
+        kind ∷ hex got.now ∷ [])) }
 {
     let got = digits_of(alloc, got)?;
     fault_line(alloc, "error: corrupt object", digest, kind, got.as_str())
@@ -144,7 +148,8 @@ fn corrupt_line(
 
 /// The line of bytes that are no value of a type.
 fn value_line(alloc: Global, digest: &Digest) -> Result<Text, AllocError>
-    ensures { IfOk result (λ t. t ≡ line_of (codes "error: malformed object" ∷ (hex digest.now ++ codes ".value") ∷ codes "value" ∷ [])) }
+    ensures { IfOk result (λ t. t ≡ line_of (codes "error: malformed object" ∷
+        (hex digest.now ++ codes ".value") ∷ codes "value" ∷ [])) }
 {
     let mut object = digits_of(alloc, digest)?;
     object.push_str(".value")?;
@@ -153,7 +158,8 @@ fn value_line(alloc: Global, digest: &Digest) -> Result<Text, AllocError>
 
 /// The line of an object whose mode isn't taken.
 fn mode_line(alloc: Global, digest: &Digest, kind: ObjKind, mode: u32) -> Result<Text, AllocError>
-    ensures { IfOk result (λ t. t ≡ line_of (codes "error: mode refused" ∷ object_text digest.now kind ∷ text_of_mode kind mode ∷ [])) }
+    ensures { IfOk result (λ t. t ≡ line_of (codes "error: mode refused" ∷ object_text digest.now
+        kind ∷ text_of_mode kind mode ∷ [])) }
 {
     let mode = mode_of(alloc, kind, mode)?;
     fault_line(alloc, "error: mode refused", digest, kind, mode.as_str())
@@ -201,7 +207,8 @@ fn commit_line(alloc: Global, commit: &Digest) -> Result<Text, AllocError>
 
 /// The line of a commit that is older than what is deployed.
 fn older_line(alloc: Global, name: &RefName, have: u64, offered: u64) -> Result<Text, AllocError>
-    ensures { IfOk result (λ t. t ≡ line_of (codes "error: older" ∷ ref_text name.now ∷ decimal have ∷ decimal offered ∷ [])) }
+    ensures { IfOk result (λ t. t ≡ line_of (codes "error: older" ∷ ref_text name.now ∷ decimal
+        have ∷ decimal offered ∷ [])) }
 {
     let offered = decimal_of(alloc, offered)?;
     line_at(alloc, "error: older", name.as_str(), have, offered.as_str())
@@ -209,7 +216,8 @@ fn older_line(alloc: Global, name: &RefName, have: u64, offered: u64) -> Result<
 
 /// The line of a limit.
 fn limit_line(alloc: Global, what: What, number: u64) -> Result<Text, AllocError>
-    ensures { IfOk result (λ t. t ≡ line_of (codes "error: limit" ∷ word_of_what what ∷ decimal number ∷ [])) }
+    ensures { IfOk result (λ t. t ≡ line_of (codes "error: limit" ∷ word_of_what what ∷ decimal
+        number ∷ [])) }
 {
     let number = decimal_of(alloc, number)?;
     line_of_three(alloc, "error: limit", what_word(what), number.as_str())

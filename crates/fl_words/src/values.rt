@@ -34,7 +34,7 @@ fn is_read<T: Drop>(read: Result<T, NameFault>) -> Result<bool, AllocError>
     }
 }
 
-/// The word at a place, or an empty one behind the last.
+/// The word at a place, or an empty one after the last.
 fn word_at(words: &[String], place: usize) -> &str
     ensures { result.now ≡ text_at place (map string_bytes words.now) }
 {
@@ -83,7 +83,8 @@ pub(crate) fn type_at(
     place: usize,
 ) -> Result<ValueType, WordsError>
     ensures ok { IfOk result (λ of. of ≡ text_at place (map string_bytes words.now)) }
-    ensures bad { IfErr result (IsMisplaced type_string (text_at place (map string_bytes words.now))) }
+    ensures bad { IfErr result (IsMisplaced type_string (text_at place
+        (map string_bytes words.now))) }
 {
     placed(ValueType::parse(alloc, word_at(words, place).as_bytes()))
 }

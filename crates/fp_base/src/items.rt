@@ -93,7 +93,8 @@ impl<T: Drop> Items<T> {
     /// The item at this index, to be changed in its place.
     pub fn at_mut(&mut self, at: usize) -> &mut T
         requires { at < length self.old }
-        ensures* writes_back { sem 𝓛 (Lends (the_row T.row) T.row self.entry result (slice_set self.old at)) }
+        ensures* writes_back { sem 𝓛 (Lends (the_row T.row) T.row self.entry result
+            (slice_set self.old at)) }
         ensures value { result.now ≡ slice_index_or self.old at result.now }
     {
         &mut self.inner[at]

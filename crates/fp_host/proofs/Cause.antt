@@ -12,7 +12,7 @@ use Rattle.fp_host.specs.Paths.{Elements}
 use Rattle.fp_host.specs.View.{View, IsTree}
 use Rattle.fp_host.specs.Calls.{Change, Can, CanCreate, Step, StepOf, Creates, CreatesOf}
 use Rattle.fp_host.specs.Moments.{Moments, Makes, Rose, HasCause}
-use Rattle.fp_host.specs.Frame.{Ends}
+use Rattle.fp_host.specs.Frame.{AtEnd}
 use Rattle.fp_host.specs.declared.host.HostError.{HostError}
 use Rattle.fp_host.specs.declared.host.HostError.TheVariants.{Failed, Clash, NoMemory}
 
@@ -37,7 +37,7 @@ clash_create {p = p} {mode = mode} {e = e} {v = v} {w = w} step = create_of p mo
 
 -- A call that the condition at the start allows doesn't clash, so its fault is the host's.
 rose : {T : Type 0} {b c : Option Moments} {Q S : View → View → Type 0} (m : Moments) (C D : View → Type 0) (fa fb fc : ℕ) (e : HostError)
-    → IsTree m.now → fa ≤ fb → Ends Q (Some m) b → Makes S b c → HasCause {T = T} b fb fc (Err e) → end_of e ≡ Fault
+    → IsTree m.now → fa ≤ fb → AtEnd Q (Some m) b → Makes S b c → HasCause {T = T} b fb fc (Err e) → end_of e ≡ Fault
     → ((v w : View) → S v w → e ≡ Clash → D v → ⊥) → ((u v : View) → IsTree u → Q u v → C u → D v) → C m.now → Rose fa fc
 rose m C D fa fb fc Failed tree le first second cause fault clash can cond = Rose-later fa fb fc le (cause.failed refl)
 rose m C D fa fb fc NoMemory tree le first second cause fault clash can cond = absurd (cc fault)
@@ -48,11 +48,11 @@ rose m C D fa fb fc Clash tree le first second cause fault clash can cond =
 
 -- the error of a host's call that becomes the end of this function
 pub caused : {T : Type 0} {a b c : Option Moments} {Q S : View → View → Type 0} (F : Type 0) (C D : View → Type 0) (fa fb fc : ℕ) (e : HostError)
-    → ((m : Moments) → a ≡ Some m → IsTree m.now) → fa ≤ fb → Ends Q a b → Makes S b c → HasCause {T = T} b fb fc (Err e) → (F → end_of e ≡ Fault)
+    → ((m : Moments) → a ≡ Some m → IsTree m.now) → fa ≤ fb → AtEnd Q a b → Makes S b c → HasCause {T = T} b fb fc (Err e) → (F → end_of e ≡ Fault)
     → ((v w : View) → S v w → e ≡ Clash → D v → ⊥) → ((u v : View) → IsTree u → Q u v → C u → D v) → IsCaused F a C fa fc
 caused {T = T} {b = b} {Q = Q} F C D fa fb fc e tree le first second cause faulted clash can = record {
   later = omega (arith, cause.later);
-  fault = λ is m told cond. rose {T = T} m C D fa fb fc e (tree m told) le (subst (λ (o : Option Moments). Ends Q o b) told first) second cause (faulted is) clash can cond;
+  fault = λ is m told cond. rose {T = T} m C D fa fb fc e (tree m told) le (subst (λ (o : Option Moments). AtEnd Q o b) told first) second cause (faulted is) clash can cond;
 }
 
 -- at the exit of a `?`
@@ -66,7 +66,7 @@ clash_reads can told NoMemory reads is ok = cc
 
 -- The fault of a function lower down is passed on, where what is known before it makes its condition hold.
 pub passed_on : {a b : Option Moments} {Q : View → View → Type 0} (F E : Type 0) (C D : View → Type 0) (fa fb fc : ℕ)
-    → ((m : Moments) → a ≡ Some m → IsTree m.now) → fa ≤ fb → Ends Q a b → IsCaused E b D fb fc → (F → E) → ((u v : View) → IsTree u → Q u v → C u → D v) → IsCaused F a C fa fc
+    → ((m : Moments) → a ≡ Some m → IsTree m.now) → fa ≤ fb → AtEnd Q a b → IsCaused E b D fb fc → (F → E) → ((u v : View) → IsTree u → Q u v → C u → D v) → IsCaused F a C fa fc
 passed_on F E C D fa fb fc tree le first call passes can = record {
   later = omega (arith, call.later);
   fault = λ is m told cond.

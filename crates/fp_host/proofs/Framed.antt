@@ -6,7 +6,7 @@ use Rattle.fp_host.specs.Calls.{Change, makes_dir, appends, links, makes_link, r
 use Rattle.fp_host.specs.Outcome.{Spot, folder, gone, holds, points, GivesOf, Gives, Disk, Leaves, spot_of}
 use Rattle.fp_host.specs.Moments.{Moments, Goes, Makes}
 use Rattle.fp_host.specs.Reads.{StatOf, ListOf, ReadOf, LinkOf}
-use Rattle.fp_host.specs.Frame.{Keeps, Frame, Ends, Looks}
+use Rattle.fp_host.specs.Frame.{Keeps, Frame, AtEnd, Observes}
 use Rattle.fp_host.specs.declared.host.HostError.{HostError}
 use Rattle.fp_host.specs.declared.host.Stat.{Stat}
 use Rattle.fp_host.proofs.Follow.{follows_refl, follows_on, follows_to, follows_call, called, called_create}
@@ -104,12 +104,12 @@ module _ {G : Elements → Spot → Type 0} {W : Elements → Slot → Type 0} {
   frame_start told = record { goes = stays told (λ u. keeps_refl) (λ u t. keeps_refl) }
 
   -- any call, where what is known of the view before it makes it fit
-  pub frame_known : {a b c : Option Moments} {S Q : View → View → Type 0} → Makes S b c → Frame G W A a b → Ends Q a b → IsTold b → ((u v w : View) → IsTree v → Q u v → S v w → Keeps G W A v w) → Frame G W A a c
+  pub frame_known : {a b c : Option Moments} {S Q : View → View → Type 0} → Makes S b c → Frame G W A a b → AtEnd Q a b → IsTold b → ((u v w : View) → IsTree v → Q u v → S v w → Keeps G W A v w) → Frame G W A a c
   frame_known {Q = Q} call so_far known told fits = record {
     goes = goes_on told (with_known so_far.goes known) (makes_goes call) (λ u v w t r q s. keeps_on r (fits u v w t q.1 s)) (λ u v w t r q s e. keeps_on r (fits u v w t q.1 e));
   }
     where
-      with_known : {a b : Option Moments} {R T Q : View → View → Type 0} → Goes a b R T → Ends Q a b → Goes a b R (λ u w. T u w × Q u w)
+      with_known : {a b : Option Moments} {R T Q : View → View → Type 0} → Goes a b R T → AtEnd Q a b → Goes a b R (λ u w. T u w × Q u w)
       with_known {Q = Q} first second = record {
         untold = first.untold;
         told = λ m e.
@@ -146,7 +146,7 @@ module _ {G : Elements → Spot → Type 0} {W : Elements → Slot → Type 0} {
 
   -- What stands at the old name, whatever stop comes, may come to the new one; and what the old name holds may too. The new
   -- name is none of A, or the old one is.
-  pub frame_move : {a b c : Option Moments} {Q : View → View → Type 0} {from to : Elements} {r : Result (Unit {0}) HostError} → Makes (Step (renames from to) r) b c → Frame G W A a b → Ends Q a b → IsTold b
+  pub frame_move : {a b c : Option Moments} {Q : View → View → Type 0} {from to : Elements} {r : Result (Unit {0}) HostError} → Makes (Step (renames from to) r) b c → Frame G W A a b → AtEnd Q a b → IsTold b
       → ((u v : View) → Q u v → (disk : Disk) → Leaves v disk → G to (disk from)) → ((u v : View) → Q u v → W to (v.names from)) → G from gone → W from absent → (A to → A from) → Frame G W A a c
   frame_move {Q = Q} {from = from} {to = to} call so_far known told given put given_gone put_absent passes = frame_known call so_far known told (λ u v w t q s.
       keeps_call t
@@ -157,7 +157,7 @@ module _ {G : Elements → Spot → Type 0} {W : Elements → Slot → Type 0} {
       (λ x e h. elim h [ inl g ↦ one W to (v.names from) (put u v q) x e g | inr g ↦ one W from absent put_absent x e g ]) (fills_none A) passes tt (called s))
 
   -- and to a second name
-  pub frame_link : {a b c : Option Moments} {Q : View → View → Type 0} {from to : Elements} {r : Result (Unit {0}) HostError} → Makes (Step (links from to) r) b c → Frame G W A a b → Ends Q a b → IsTold b
+  pub frame_link : {a b c : Option Moments} {Q : View → View → Type 0} {from to : Elements} {r : Result (Unit {0}) HostError} → Makes (Step (links from to) r) b c → Frame G W A a b → AtEnd Q a b → IsTold b
       → ((u v : View) → Q u v → (disk : Disk) → Leaves v disk → G to (disk from)) → ((u v : View) → Q u v → W to (v.names from)) → (A to → A from) → Frame G W A a c
   frame_link {Q = Q} {from = from} {to = to} call so_far known told given put passes = frame_known call so_far known told (λ u v w t q s.
       keeps_call t
@@ -177,7 +177,7 @@ module _ {G : Elements → Spot → Type 0} {W : Elements → Slot → Type 0} {
   frame_read_link call so_far told = frame_call call so_far told (λ v w t s. keeps_same s.same)
 
   -- a function that only looks
-  pub frame_looks : {a b c : Option Moments} {T : View → Type 0} → Looks T b c → Frame G W A a b → IsTold b → Frame G W A a c
+  pub frame_looks : {a b c : Option Moments} {T : View → Type 0} → Observes T b c → Frame G W A a b → IsTold b → Frame G W A a c
   frame_looks inner so_far told = record { goes = goes_on told so_far.goes inner.goes (λ u v w t r q s. keeps_on r (keeps_same s)) (λ u v w t r q s e. keeps_on r (keeps_same e.0)) }
 
   -- a function with a frame within this one

@@ -26,16 +26,16 @@ pub record Frame (G : Elements → Spot → Type 0) (W : Elements → Slot → T
   pub goes : Goes old new (Keeps G W A) (Keeps G W A)
 
 -- What the end tells: where the host tells its content, the present view of new relates so to that of old.
-pub record Ends (Q : View → View → Type 0) (old new : Option Moments) : Type 0 where
+pub record AtEnd (Q : View → View → Type 0) (old new : Option Moments) : Type 0 where
   pub goes : Goes old new (λ u w. Unit {0}) Q
 
 -- Nothing changes at any moment, and the view tells this.
-pub record Looks (T : View → Type 0) (old new : Option Moments) : Type 0 where
+pub record Observes (T : View → Type 0) (old new : Option Moments) : Type 0 where
   pub goes : Goes old new (λ u w. w ≡ u) (λ u w. (w ≡ u) × T u)
 
 -- Nothing changes at any moment.
-abbrev pub Still : Option Moments → Option Moments → Type 0
-Still old new = Looks (λ v. Unit {0}) old new
+abbrev pub Unchanged : Option Moments → Option Moments → Type 0
+Unchanged old new = Observes (λ v. Unit {0}) old new
 
 -- no path
 abbrev pub NoPath : Elements → Type 0

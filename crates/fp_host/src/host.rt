@@ -67,93 +67,115 @@ pub trait Host {
     fn stat(&mut self, path: &Path) -> Result<Stat, HostError>
         ensures step { Makes (StatOf path.now result) (moments self.old) (moments self.new) }
         ensures bits { IfOk result HasBits }
-        ensures cause { HasCause (moments self.old) (faults self.old) (faults self.new) result }
-        ensures memory { NeedsNoMemory result };
+        ensures fault_has_cause { HasCause (moments self.old) (faults self.old) (faults self.new)
+            result }
+        ensures needs_no_memory { NeedsNoMemory result };
 
     /// The names directly in the folder, ascending by their bytes. Each may be joined to the path, on every host. Its
     /// condition is that the path is a folder.
     fn list(&mut self, alloc: Global, path: &Path) -> Result<Items<Text>, HostError>
         ensures step { Makes (ListOf path.now result) (moments self.old) (moments self.new) }
         ensures names { IfOk result AreNames }
-        ensures cause { HasCause (moments self.old) (faults self.old) (faults self.new) result };
+        ensures fault_has_cause { HasCause (moments self.old) (faults self.old) (faults self.new)
+            result };
 
     /// Bytes of the file, from a place on: as many as the buffer has room for, or as are left. Its condition is that the
     /// path is a file.
     fn read_at(&mut self, path: &Path, at: u64, into: &mut [u8]) -> Result<usize, HostError>
         ensures bound { IfOk result (λ n. n ≤ length into.old) }
-        ensures step { Makes (ReadOf path.now at into.new result) (moments self.old) (moments self.new) }
-        ensures cause { HasCause (moments self.old) (faults self.old) (faults self.new) result }
-        ensures memory { NeedsNoMemory result };
+        ensures step { Makes (ReadOf path.now at into.new result) (moments self.old)
+            (moments self.new) }
+        ensures fault_has_cause { HasCause (moments self.old) (faults self.old) (faults self.new)
+            result }
+        ensures needs_no_memory { NeedsNoMemory result };
 
     /// The text of the symlink. Its condition is that the path is one.
     fn read_link(&mut self, alloc: Global, path: &Path) -> Result<Text, HostError>
         ensures step { Makes (LinkOf path.now result) (moments self.old) (moments self.new) }
-        ensures cause { HasCause (moments self.old) (faults self.old) (faults self.new) result };
+        ensures fault_has_cause { HasCause (moments self.old) (faults self.old) (faults self.new)
+            result };
 
     /// Makes the folder. Its condition is that the folder above is there and the path is absent.
     fn make_dir(&mut self, path: &Path) -> Result<(), HostError>
-        ensures step { Makes (Step (makes_dir path.now) result) (moments self.old) (moments self.new) }
-        ensures cause { HasCause (moments self.old) (faults self.old) (faults self.new) result }
-        ensures memory { NeedsNoMemory result };
+        ensures step { Makes (Step (makes_dir path.now) result) (moments self.old)
+            (moments self.new) }
+        ensures fault_has_cause { HasCause (moments self.old) (faults self.old) (faults self.new)
+            result }
+        ensures needs_no_memory { NeedsNoMemory result };
 
     /// Creates an empty file with exactly these permission bits. Its condition is that the folder above is there, the
     /// path is absent and the bits are at most 0o7777.
     fn create(&mut self, path: &Path, mode: u32) -> Result<(), HostError>
         ensures step { Makes (Creates path.now mode result) (moments self.old) (moments self.new) }
-        ensures cause { HasCause (moments self.old) (faults self.old) (faults self.new) result }
-        ensures memory { NeedsNoMemory result };
+        ensures fault_has_cause { HasCause (moments self.old) (faults self.old) (faults self.new)
+            result }
+        ensures needs_no_memory { NeedsNoMemory result };
 
     /// Adds bytes at the end of the file. Its condition is that the path is a file created since the last sync.
     fn append(&mut self, path: &Path, bytes: &[u8]) -> Result<(), HostError>
-        ensures step { Makes (Step (appends path.now bytes.now) result) (moments self.old) (moments self.new) }
-        ensures cause { HasCause (moments self.old) (faults self.old) (faults self.new) result }
-        ensures memory { NeedsNoMemory result };
+        ensures step { Makes (Step (appends path.now bytes.now) result) (moments self.old)
+            (moments self.new) }
+        ensures fault_has_cause { HasCause (moments self.old) (faults self.old) (faults self.new)
+            result }
+        ensures needs_no_memory { NeedsNoMemory result };
 
     /// Gives the file a second name. Its condition is that the first path is a file, the second is absent, and the folder
     /// above that is there.
     fn link(&mut self, from: &Path, to: &Path) -> Result<(), HostError>
-        ensures step { Makes (Step (links from.now to.now) result) (moments self.old) (moments self.new) }
-        ensures cause { HasCause (moments self.old) (faults self.old) (faults self.new) result }
-        ensures memory { NeedsNoMemory result };
+        ensures step { Makes (Step (links from.now to.now) result) (moments self.old)
+            (moments self.new) }
+        ensures fault_has_cause { HasCause (moments self.old) (faults self.old) (faults self.new)
+            result }
+        ensures needs_no_memory { NeedsNoMemory result };
 
     /// Makes a symlink with this text. Its condition is that the text has 1 to 4,095 bytes and no zero byte, the folder
     /// above is there and the path is absent.
     fn symlink(&mut self, text: &str, path: &Path) -> Result<(), HostError>
-        ensures step { Makes (Step (makes_link text.now path.now) result) (moments self.old) (moments self.new) }
-        ensures cause { HasCause (moments self.old) (faults self.old) (faults self.new) result }
-        ensures memory { NeedsNoMemory result };
+        ensures step { Makes (Step (makes_link text.now path.now) result) (moments self.old)
+            (moments self.new) }
+        ensures fault_has_cause { HasCause (moments self.old) (faults self.old) (faults self.new)
+            result }
+        ensures needs_no_memory { NeedsNoMemory result };
 
     /// Moves the file or symlink to the second path, in the place of a file or symlink that is there. Its condition is
     /// that the first path is one, the second is no folder, the folder above that is there, and the two are different
     /// paths and not two hard links of one file.
     fn rename(&mut self, from: &Path, to: &Path) -> Result<(), HostError>
-        ensures step { Makes (Step (renames from.now to.now) result) (moments self.old) (moments self.new) }
-        ensures cause { HasCause (moments self.old) (faults self.old) (faults self.new) result }
-        ensures memory { NeedsNoMemory result };
+        ensures step { Makes (Step (renames from.now to.now) result) (moments self.old)
+            (moments self.new) }
+        ensures fault_has_cause { HasCause (moments self.old) (faults self.old) (faults self.new)
+            result }
+        ensures needs_no_memory { NeedsNoMemory result };
 
     /// Takes the name of a file or symlink away. Its condition is that the path is one.
     fn unlink(&mut self, path: &Path) -> Result<(), HostError>
-        ensures step { Makes (Step (unlinks path.now) result) (moments self.old) (moments self.new) }
-        ensures cause { HasCause (moments self.old) (faults self.old) (faults self.new) result }
-        ensures memory { NeedsNoMemory result };
+        ensures step { Makes (Step (unlinks path.now) result) (moments self.old)
+            (moments self.new) }
+        ensures fault_has_cause { HasCause (moments self.old) (faults self.old) (faults self.new)
+            result }
+        ensures needs_no_memory { NeedsNoMemory result };
 
     /// Takes the folder away. Its condition is that it is a folder, isn't the root and has nothing below it.
     fn remove_dir(&mut self, path: &Path) -> Result<(), HostError>
-        ensures step { Makes (Step (removes_dir path.now) result) (moments self.old) (moments self.new) }
-        ensures cause { HasCause (moments self.old) (faults self.old) (faults self.new) result }
-        ensures memory { NeedsNoMemory result };
+        ensures step { Makes (Step (removes_dir path.now) result) (moments self.old)
+            (moments self.new) }
+        ensures fault_has_cause { HasCause (moments self.old) (faults self.old) (faults self.new)
+            result }
+        ensures needs_no_memory { NeedsNoMemory result };
 
     /// Makes what stands last: after it a stop leaves just that.
     fn sync(&mut self) -> Result<(), HostError>
         ensures step { Makes (Step syncs result) (moments self.old) (moments self.new) }
-        ensures cause { HasCause (moments self.old) (faults self.old) (faults self.new) result }
-        ensures memory { NeedsNoMemory result };
+        ensures fault_has_cause { HasCause (moments self.old) (faults self.old) (faults self.new)
+            result }
+        ensures needs_no_memory { NeedsNoMemory result };
 
     /// Prints the piece.
     fn say(&mut self, piece: &[u8]) -> Result<(), HostError>
         ensures step { Makes (Step (says piece.now) result) (moments self.old) (moments self.new) }
-        ensures cause { HasCause (moments self.old) (faults self.old) (faults self.new) result }
-        ensures memory { NeedsNoMemory result };
+        ensures fault_has_cause { HasCause (moments self.old) (faults self.old) (faults self.new)
+            result }
+        ensures needs_no_memory { NeedsNoMemory result };
 
     /// Every view of a told host is a tree.
     ghost is_tree: { (host : Self) (m : Moments) → moments host ≡ Some m → IsTree m.now };

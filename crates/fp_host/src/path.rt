@@ -66,7 +66,7 @@ fn are_name_bytes(bytes: &[u8]) -> bool
     bytes.iter().all(|b| !(*b == b'/' || *b == 0))
 }
 
-// What stands before the last slash, and behind it.
+// What stands before the last slash, and after it.
 fn around_last(text: &str) -> Option<(&str, &str)>
     ensures around { IfSome result (λ parts. cut text.now ≡ parts.1.now ∷ cut parts.0.now) }
     ensures shorter { IfSome result (λ parts. length parts.0.now < length text.now) }

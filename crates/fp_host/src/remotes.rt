@@ -36,10 +36,12 @@ pub trait Remotes {
     /// What stands at the path, `Absent` where there is nothing.
     fn node(&mut self, alloc: Global, url: &str, path: &Path) -> Result<Node, RemoteError>
         ensures same { holds self.new ≡ holds self.old }
-        ensures tells { (held : Holdings) → holds self.old ≡ Some held → IfOk result (IsNode (held url.now path.now)) }
+        ensures tells { (held : Holdings) → holds self.old ≡ Some held → IfOk result
+            (IsNode (held url.now path.now)) }
         ensures bits { IfOk result HasNodeBits }
         ensures later { faults self.old ≤ faults self.new }
-        ensures failed { IsErrOf result RemoteError.Failed → Rose (faults self.old) (faults self.new) };
+        ensures failed { IsErrOf result RemoteError.Failed → Rose (faults self.old)
+            (faults self.new) };
 
     /// Bytes of the file at the path, from a place on: as many as the buffer has room for, or as are left. What is no
     /// file has none.
@@ -51,11 +53,13 @@ pub trait Remotes {
         into: &mut [u8],
     ) -> Result<usize, RemoteError>
         ensures same { holds self.new ≡ holds self.old }
-        ensures tells { (held : Holdings) → holds self.old ≡ Some held → IfOk result (CameFrom (bytes_of (held url.now path.now)) at into.new) }
+        ensures tells { (held : Holdings) → holds self.old ≡ Some held → IfOk result
+            (CameFrom (bytes_of (held url.now path.now)) at into.new) }
         ensures bound { IfOk result (λ n. n ≤ length into.old) }
         ensures later { faults self.old ≤ faults self.new }
-        ensures failed { IsErrOf result RemoteError.Failed → Rose (faults self.old) (faults self.new) }
-        ensures memory { IsErrOf result RemoteError.NoMemory → ⊥ };
+        ensures failed { IsErrOf result RemoteError.Failed → Rose (faults self.old)
+            (faults self.new) }
+        ensures needs_no_memory { IsErrOf result RemoteError.NoMemory → ⊥ };
 }
 
 /// Remotes that hold nothing and never fail.

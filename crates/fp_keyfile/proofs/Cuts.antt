@@ -45,7 +45,7 @@ lines_of-last (b ∷ c ∷ bytes) pos h =
     let a = at_none (λ x. eqb x 10) b (c ∷ bytes) h in
     ap (byte_before b) (lines_of-last (c ∷ bytes) (omega arith) a.1) ∙ rw a.0 refl
 
--- ---- a group line behind its `[`, and the line of a pair
+-- ---- a group line after its `[`, and the line of a pair
 
 pub header_found : (bs name rest : List ℕ) → split_at 93 bs ≡ Some (name, rest) → is_name name ≡ true → list_all is_blank rest ≡ true → Ok (header name) ≡ header_of bs
 header_found bs name rest cut good blank = sym (ap header_at cut ∙ rw (good, blank) refl)

@@ -78,7 +78,7 @@ Indexes-with_name old new names name at h is after = record {
   at = λ q. after q ∙ rw (h.at q, is, h.at name) (sym (place_of-with_name names name q));
 }
 
--- the place is the first, or one behind it
+-- the place is the first, or one after it
 pub record IsNext (o : Option ℕ) (at : ℕ) : Type 0 where
   pub before : ℕ
   pub is : at ≡ suc before

@@ -116,7 +116,7 @@ lines_of-text (g ∷ file) h =
     ap lines_of regrouped ∙ Written.lines_of-line (Written.header_line g.name) (flat_map pair_text g.pairs ++ more) none
     ∙ ap (λ (ls : List (List ℕ)). Written.header_line g.name ∷ ls) (lines_of-pairs g.pairs more good.pairs ∙ ap (λ (ls : List (List ℕ)). map pair_line g.pairs ++ ls) (lines_of-text file a.1))
 
--- a name that comes behind others without doubles isn't among them
+-- a name that comes after others without doubles isn't among them
 distinct_before : (xs : List (List ℕ)) (y : List ℕ) (ys : List (List ℕ)) → are_distinct (xs ++ (y ∷ ys)) ≡ true → list_any (λ x. bytes_eq x y) xs ≡ false
 distinct_before [] y ys h = refl
 distinct_before (x ∷ xs) y ys h =

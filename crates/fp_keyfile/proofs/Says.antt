@@ -52,7 +52,7 @@ good_header_at bs (Some parts) u h =
     let s = Texts.SplitsAt-split_at 93 bs parts h in
     good_header_with bs parts.0 parts.1 (Texts.utf8_before parts.0 93 parts.1 (omega arith) (subst (λ (w : List ℕ). is_utf8 w ≡ true) s.whole u))
 
--- what stands before and behind the first `=` of a line
+-- what stands before and after the first `=` of a line
 good_entry_with : (before behind : List ℕ) → IsLineText (before ++ (61 ∷ behind)) → SaysGood (entry_with (trimmed_end is_blank before) (trimmed_front is_blank behind))
 good_entry_with before behind t =
     let key = trimmed_end is_blank before in

@@ -71,7 +71,7 @@ trimmed_front_stops p bs n h =
       | inr le ↦ rw (drop_all n bs le) refl
     ]
 
--- xs is kept, and behind it stand bytes that pass p
+-- xs is kept, and after it stand bytes that pass p
 pub record EndsIn (p : ℕ → Bool) (xs kept : List ℕ) : Type 0 where
   pub back : List ℕ
   pub parts : xs ≡ kept ++ back

@@ -137,7 +137,7 @@ pair_text p = p.key ++ (61 ∷ (p.value ++ (10 ∷ [])))
 abbrev pub group_text : Group → List ℕ
 group_text g = 91 ∷ (g.name ++ (93 ∷ 10 ∷ flat_map pair_text g.pairs))
 
--- the text of a file: a line `[NAME]` for each group, and behind it a line `KEY=VALUE` for each of its pairs
+-- the text of a file: a line `[NAME]` for each group, and after it a line `KEY=VALUE` for each of its pairs
 unfoldable pub text_of : List Group → List ℕ
 text_of file = flat_map group_text file
 

@@ -15,7 +15,7 @@ in_front b (line ∷ lines) = (b ∷ line) ∷ lines
 abbrev pub byte_before : ℕ → List (List ℕ) → List (List ℕ)
 byte_before b lines = if b == 10 then [] ∷ lines else in_front b lines
 
--- Each newline ends a line. What stands behind the last newline is a line too, unless it is empty.
+-- Each newline ends a line. What stands after the last newline is a line too, unless it is empty.
 abbrev pub lines_of : List ℕ → List (List ℕ)
 lines_of [] = []
 lines_of (b ∷ bs) = byte_before b (lines_of bs)
@@ -34,7 +34,7 @@ abbrev pub trimmed_end : (ℕ → Bool) → List ℕ → List ℕ
 trimmed_end p [] = []
 trimmed_end p (b ∷ bs) = before_trimmed p b (trimmed_end p bs)
 
--- what stands before the first c and what stands behind it, where there is one
+-- what stands before the first c and what stands after it, where there is one
 abbrev pub with_first : ℕ → Option (List ℕ × List ℕ) → Option (List ℕ × List ℕ)
 with_first b None = None
 with_first b (Some parts) = Some (b ∷ parts.0, parts.1)
@@ -53,7 +53,7 @@ pub data Statement : Type 0 where
 abbrev pub is_text : List ℕ → Bool
 is_text bs = is_utf8 bs && not (list_any (λ b. b == 0) bs)
 
--- behind `[`: the name, `]`, and nothing but spaces and tabs
+-- after `[`: the name, `]`, and nothing but spaces and tabs
 abbrev pub header_at : Option (List ℕ × List ℕ) → Result Statement KeyRule
 header_at None = Err rules.Group
 header_at (Some parts) = if is_name parts.0 && list_all is_blank parts.1 then Ok (header parts.0) else Err rules.Group

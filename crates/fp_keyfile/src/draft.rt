@@ -62,7 +62,8 @@ impl<'a> Draft<'a> {
     /// Goes on with the group of this name, which is added at the end where it isn't there.
     fn begin(&mut self, name: &'a str) -> Result<(), AllocError>
         requires { IsIndexed self.old }
-        ensures reading { OnOk result (reading self.new ≡ record { file = with_group (groups_of self.old) name.now; group = Some name.now }) }
+        ensures reading { OnOk result (reading self.new ≡ record
+            { file = with_group (groups_of self.old) name.now; group = Some name.now }) }
         ensures indexed { OnOk result (IsIndexed self.new) }
     {
         let next = self.tables.len();
@@ -78,7 +79,8 @@ impl<'a> Draft<'a> {
     /// Sets the value at the key, in the group to which pairs belong.
     fn put(&mut self, key: &'a str, value: &str) -> Result<(), LineError>
         requires { IsIndexed self.old }
-        ensures { Takes result self.new (with_entry (reading self.old) (reading self.old).group key.now value.now) }
+        ensures { Takes result self.new (with_entry (reading self.old) (reading self.old).group
+            key.now value.now) }
     {
         let Some(at) = self.current else {
             return Err(LineError::Rule(KeyRule::NoGroup));

@@ -51,7 +51,8 @@ impl Group {
         key: &str,
         value: &str,
     ) -> Result<Self, AllocError>
-        ensures { IfOk result (λ g. g ≡ record { name = name.now; pairs = record { key = key.now; value = value.now } ∷ [] }) }
+        ensures { IfOk result (λ g. g ≡ record { name = name.now; pairs = record
+            { key = key.now; value = value.now } ∷ [] }) }
     {
         let mut pairs = Items::new(alloc);
         pairs.push(Pair::new(alloc, key, value)?)?;
@@ -71,7 +72,8 @@ impl Group {
 
     /// Sets the value at the key, at its place or in a new pair at the end. Want of memory changes nothing.
     pub(crate) fn put(&mut self, key: &str, value: &str) -> Result<(), AllocError>
-        ensures ok { OnOk result (self.new ≡ record self.old { pairs = with_key self.old.pairs key.now value.now }) }
+        ensures ok { OnOk result (self.new ≡ record self.old
+            { pairs = with_key self.old.pairs key.now value.now }) }
         ensures err { OnErr result (self.new ≡ self.old) }
     {
         let alloc = self.pairs.allocator();
@@ -88,7 +90,8 @@ impl Group {
     /// Takes the pair of the key away, and answers its value. Where it isn't there, the group stays as it is.
     pub(crate) fn take(&mut self, key: &str) -> Option<Text>
         ensures value { result ≡ option_map (λ p. p.value) (pair_at self.old.pairs key.now) }
-        ensures found { OnSome result (self.new ≡ record self.old { pairs = without_key self.old.pairs key.now }) }
+        ensures found { OnSome result (self.new ≡ record self.old
+            { pairs = without_key self.old.pairs key.now }) }
         ensures missed { IfNone result (self.new ≡ self.old) }
     {
         let at = pair_place(self.pairs.as_slice(), key)?;

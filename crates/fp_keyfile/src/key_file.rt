@@ -126,7 +126,7 @@ impl KeyFile {
         })
     }
 
-    /// The text of the file: for each group the line `[NAME]`, and behind it the line `KEY=VALUE` of each of its
+    /// The text of the file: for each group the line `[NAME]`, and after it the line `KEY=VALUE` of each of its
     /// pairs, each with a newline. `parse` reads it back as the same file.
     pub fn write(&self) -> Result<Text, AllocError>
         ensures text { IfOk result (λ t. t ≡ text_of self.now) }

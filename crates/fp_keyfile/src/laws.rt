@@ -19,14 +19,17 @@ pub fn read_is_good()
 
 /// Once a value is set, its pair has it, and each other pair has the value that it had.
 pub fn set_gives_the_value()
-    ensures { (file : List Group) (name key value n k : List ℕ) → value_at (with_pair file name key value) n k
+    ensures { (file : List Group) (name key value n k : List ℕ) → value_at
+        (with_pair file name key value) n k
         ≡ (if bytes_eq name n && bytes_eq key k then Some value else value_at file n k) }
 {}
 
 /// Once a value is set, names and keys stand in the order in which they stood. A new one is the last.
 pub fn set_keeps_the_order()
-    ensures names { (file : List Group) (name key value : List ℕ) → names_of (with_pair file name key value) ≡ with_name (names_of file) name }
-    ensures keys { (file : List Group) (name key value n : List ℕ) → keys_at (with_pair file name key value) n
+    ensures names { (file : List Group) (name key value : List ℕ) → names_of
+        (with_pair file name key value) ≡ with_name (names_of file) name }
+    ensures keys { (file : List Group) (name key value n : List ℕ) → keys_at
+        (with_pair file name key value) n
         ≡ (if bytes_eq name n then with_name (keys_at file name) key else keys_at file n) }
 {}
 
@@ -39,11 +42,13 @@ pub fn set_is_good()
 
 /// Once a pair is taken away, it isn't there, and each other pair has the value that it had.
 pub fn remove_takes_the_value()
-    ensures { (file : List Group) (name key n k : List ℕ) → IsTrue (is_good file) → value_at (without_pair file name key) n k
+    ensures { (file : List Group) (name key n k : List ℕ) → IsTrue (is_good file) → value_at
+        (without_pair file name key) n k
         ≡ (if bytes_eq name n && bytes_eq key k then None else value_at file n k) }
 {}
 
 /// Once a pair is taken away, the file can be written.
 pub fn remove_is_good()
-    ensures { (file : List Group) (name key : List ℕ) → IsTrue (is_good file) → IsTrue (is_good (without_pair file name key)) }
+    ensures { (file : List Group) (name key : List ℕ) → IsTrue (is_good file) → IsTrue
+        (is_good (without_pair file name key)) }
 {}

@@ -27,7 +27,7 @@ fn newline_place(bytes: &[u8]) -> Option<usize>
     bytes.iter().position(|byte| *byte == b'\n')
 }
 
-/// The first line of bytes that aren't empty, without its newline, and what stands behind it.
+/// The first line of bytes that aren't empty, without its newline, and what stands after it.
 pub fn first_line(bytes: &[u8]) -> (&[u8], &[u8])
     requires { 0 < length bytes.now }
     ensures lines { lines_of bytes.now ≡ result.0.now ∷ lines_of result.1.now }
@@ -75,7 +75,7 @@ fn trim_end(text: &str) -> &str
     &text[..end]
 }
 
-/// Reads a group line behind its `[`.
+/// Reads a group line after its `[`.
 fn read_header(text: &str) -> Result<Line<'_>, KeyRule>
     ensures { said result ≡ header_of text.now }
 {

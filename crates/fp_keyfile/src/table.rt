@@ -35,7 +35,8 @@ impl<'a> Table<'a> {
     /// Sets the value at the key, at its place or in a new pair at the end.
     pub(crate) fn put(&mut self, key: &'a str, value: &str) -> Result<(), AllocError>
         requires { Indexes self.old.places (keys_of self.old.group.pairs) }
-        ensures group { OnOk result (self.new.group ≡ record self.old.group { pairs = with_key self.old.group.pairs key.now value.now }) }
+        ensures group { OnOk result (self.new.group ≡ record self.old.group
+            { pairs = with_key self.old.group.pairs key.now value.now }) }
         ensures indexed { OnOk result (Indexes self.new.places (keys_of self.new.group.pairs)) }
     {
         let pair = Pair::new(self.group.pairs.allocator(), key, value)?;

@@ -38,7 +38,7 @@ number_cut xs q i x low is = ap (λ (l : List (Elements × ℕ)). number_for l q
 pub bytes_cut : (xs : List (ℕ × List ℕ)) (id : ℕ) (i : ℕ) (x : ℕ × List ℕ) → i < length xs → x ≡ get_or xs i x → bytes_for (drop i xs) id ≡ cond (eqb id x.0) (Some x.1) (bytes_for (drop (i + 1) xs) id)
 bytes_cut xs id i x low is = ap (λ (l : List (ℕ × List ℕ)). bytes_for l id) (cut_at xs i x low is)
 
--- the entry of a number behind 0
+-- the entry of a number after 0
 pub numbered_some : (p : Slot) (l : List Slot) (n : ℕ) → n ≢ 0 → numbered p l n ≡ get_or l (n - 1) absent
 numbered_some p l zero some = absurd (some refl)
 numbered_some p l (suc n) some = let less : n ≡ suc n - 1 = omega arith in ap (λ k. get_or l k absent) less

@@ -119,7 +119,8 @@ fn choose_names(
 
 // The chosen bytes of a file, or its own.
 fn choose_bytes(alloc: Global, file: &Content, chosen: &[(u64, Blob)]) -> Result<Blob, AllocError>
-    ensures { IfOk result (λ b. b ≡ bytes_of file.now.bytes.items (bytes_for chosen.now file.now.id)) }
+    ensures { IfOk result (λ b. b ≡ bytes_of file.now.bytes.items
+        (bytes_for chosen.now file.now.id)) }
 {
     match bytes_for(chosen, file.id) {
         Some(bytes) => bytes.copy(),

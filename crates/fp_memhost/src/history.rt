@@ -100,7 +100,8 @@ impl History {
 
     /// What stood after so many calls.
     pub fn scene_after(&self, calls: u64) -> Result<Scene, AllocError>
-        ensures { IfOk result (λ s. seen s ≡ view_after (opened self.now.start) self.now.log.items calls) }
+        ensures { IfOk result (λ s. seen s ≡ view_after (opened self.now.start) self.now.log.items
+            calls) }
     {
         let mut scene = open_image(self.alloc(), &self.start)?;
         for noted in &self.log {
@@ -112,7 +113,8 @@ impl History {
     }
     /// How many bytes were appended to files that were created below this path.
     pub fn appended(&self, front: &Path) -> u64
-        ensures { result ≡ min (appended_below front.now (seen self.now.scene).files (made_of self.now.log.items)) (2 ^ 64 - 1) }
+        ensures { result ≡ min (appended_below front.now (seen self.now.scene).files
+            (made_of self.now.log.items)) (2 ^ 64 - 1) }
     {
         let mut count: u64 = 0;
         for noted in &self.log {
@@ -123,7 +125,8 @@ impl History {
 
     // The size of the file that the event created below this path.
     fn grown_by(&self, front: &Path, event: &Event) -> u64
-        ensures { result ≡ min (appended_below front.now (seen self.now.scene).files (made_by event.now)) (2 ^ 64 - 1) }
+        ensures { result ≡ min (appended_below front.now (seen self.now.scene).files
+            (made_by event.now)) (2 ^ 64 - 1) }
     {
         match event {
             Event::Create { path, id, .. } if is_below(path, front.text()) => {

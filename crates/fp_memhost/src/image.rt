@@ -59,7 +59,8 @@ fn is_good_entry(files: &[FileRow], entry: Option<&Entry>) -> bool
 impl Image {
     // Whether what counts at the path may stand there.
     fn is_good_at(&self, path: &Path) -> bool
-        ensures { result ≡ is_good_slot (rows_of self.now.files) (slots_of self.now.names path.now) }
+        ensures { result ≡ is_good_slot (rows_of self.now.files)
+            (slots_of self.now.names path.now) }
     {
         if path.is_root() {
             return true;

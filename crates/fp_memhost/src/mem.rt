@@ -42,7 +42,8 @@ fn is_to_be_done(verdict: Option<bool>, event: &Event) -> bool
 impl MemHost {
     /// The empty host: the root alone, nothing printed, and no call made.
     pub fn new(alloc: Global) -> Result<Self, AllocError>
-        ensures { IfOk result (λ m. Begins empty_view (⟦<MemHost as Recorder>⟧.story m) (⟦<MemHost as Host>⟧.moments m) (⟦<MemHost as Host>⟧.faults m)) }
+        ensures { IfOk result (λ m. Begins empty_view (⟦<MemHost as Recorder>⟧.story m)
+            (⟦<MemHost as Host>⟧.moments m) (⟦<MemHost as Host>⟧.faults m)) }
     {
         let start = Image {
             names: Items::from_vec(Vec::new(alloc)),
@@ -61,7 +62,8 @@ impl MemHost {
     /// made, and nothing was printed.
     pub fn from_image(alloc: Global, image: Image) -> Result<Self, AllocError>
         requires { IsImage image }
-        ensures { IfOk result (λ m. Begins (opened image) (⟦<MemHost as Recorder>⟧.story m) (⟦<MemHost as Host>⟧.moments m) (⟦<MemHost as Host>⟧.faults m)) }
+        ensures { IfOk result (λ m. Begins (opened image) (⟦<MemHost as Recorder>⟧.story m)
+            (⟦<MemHost as Host>⟧.moments m) (⟦<MemHost as Host>⟧.faults m)) }
     {
         let scene = open_image(alloc, &image)?;
         let history = History::new(image, scene);
@@ -76,7 +78,8 @@ impl MemHost {
     /// One image that a stop after so many calls may leave: the one that is chosen. There is none exactly where a listed
     /// name has no such entry, a listed file wasn't created since the last sync, or fewer calls were made.
     pub fn image_after(&self, calls: u64, choice: &Choice) -> Result<Option<Image>, AllocError>
-        ensures gives { IfOk result (GivesImage ((⟦<MemHost as Recorder>⟧.story self.now).after calls) choice.now) }
+        ensures gives { IfOk result (GivesImage ((⟦<MemHost as Recorder>⟧.story self.now).after
+            calls) choice.now) }
         ensures good { IfOk result (λ given. IfSome given IsImage) }
     {
         if calls > self.history.calls {
@@ -103,7 +106,8 @@ impl MemHost {
     /// How many bytes were appended to files that were created below this path, which takes no memory; the count stands
     /// still at 2^64 - 1.
     pub fn appended(&self, front: &Path) -> u64
-        ensures { TellsAppended front.now (⟦<MemHost as Host>⟧.moments self.now) (⟦<MemHost as Recorder>⟧.story self.now).made result }
+        ensures { TellsAppended front.now (⟦<MemHost as Host>⟧.moments self.now)
+            (⟦<MemHost as Recorder>⟧.story self.now).made result }
     {
         self.history.appended(front)
     }
@@ -133,9 +137,12 @@ impl MemHost {
     /// asks for is done; a stop may leave either. A failing sync, and a failing call whose condition doesn't hold, changes
     /// nothing. Where a number is listed twice, the first counts. The list takes the place of an earlier one.
     pub fn fail_calls(&mut self, list: &[(u64, bool)]) -> Result<(), AllocError>
-        ensures ok { OnOk result (⟦<MemHost as Recorder>⟧.story self.new ≡ record (⟦<MemHost as Recorder>⟧.story self.old) { fails = fails_at list.now }) }
-        ensures err { OnErr result (⟦<MemHost as Recorder>⟧.story self.new ≡ ⟦<MemHost as Recorder>⟧.story self.old) }
-        ensures moments { ⟦<MemHost as Host>⟧.moments self.new ≡ ⟦<MemHost as Host>⟧.moments self.old }
+        ensures ok { OnOk result (⟦<MemHost as Recorder>⟧.story self.new ≡ record
+            (⟦<MemHost as Recorder>⟧.story self.old) { fails = fails_at list.now }) }
+        ensures err { OnErr result (⟦<MemHost as Recorder>⟧.story self.new ≡
+            ⟦<MemHost as Recorder>⟧.story self.old) }
+        ensures any_moment { ⟦<MemHost as Host>⟧.moments self.new ≡ ⟦<MemHost as Host>⟧.moments
+            self.old }
         ensures faults { ⟦<MemHost as Host>⟧.faults self.new ≡ ⟦<MemHost as Host>⟧.faults self.old }
     {
         self.failing = list.to_vec(self.alloc())?;
@@ -182,7 +189,8 @@ impl MemHost {
 
     // A call that changes something, where its condition holds and there was memory for its note.
     pub(crate) fn play(&mut self, can: bool, event: Option<Event>) -> Result<(), HostError>
-        requires { IsTrue can → IfSome event (λ e. Can (change_of e) (seen self.old.history.scene)) }
+        requires { IsTrue can → IfSome event (λ e. Can (change_of e)
+            (seen self.old.history.scene)) }
         ensures { Played can event self.old self.new result }
     {
         let verdict = self.verdict();

@@ -21,7 +21,8 @@ pub struct Name {
 /// The place of the name with this text, or the place where it would stand.
 pub fn find(names: &[Name], text: &str) -> Result<usize, usize>
     requires { IsAscending names.now }
-    ensures { MatchResult result (IsAt names.now (elements_of text.now)) (IsPlace names.now text.now) }
+    ensures { MatchResult result (IsAt names.now (elements_of text.now))
+        (IsPlace names.now text.now) }
 {
     let mut low = 0;
     let mut high = names.len();

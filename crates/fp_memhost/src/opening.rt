@@ -71,7 +71,8 @@ fn add_name(
 ) -> Result<(), AllocError>
     requires { IsAscending opened.old.items }
     ensures ascending { IsAscending opened.new.items }
-    ensures adds { OnOk result (AddsName counts path.now (slot_of (Some entry.now)) opened.old.items opened.new.items) }
+    ensures adds { OnOk result (AddsName counts path.now (slot_of (Some entry.now))
+        opened.old.items opened.new.items) }
 {
     if !counts {
         return Ok(());

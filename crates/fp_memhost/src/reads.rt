@@ -21,7 +21,8 @@ use std::alloc::Global;
 
 // The file's id, where the entry is one.
 fn file_id(entry: Option<&Entry>) -> Option<u64>
-    ensures { MatchOption result (IsFile (slot_of (option_copied entry.entry)) → ⊥) (λ id. slot_of (option_copied entry.entry) ≡ file id) }
+    ensures { MatchOption result (IsFile (slot_of (option_copied entry.entry)) → ⊥)
+        (λ id. slot_of (option_copied entry.entry) ≡ file id) }
 {
     match entry {
         Some(Entry::File(id)) => Some(*id),
@@ -95,7 +96,8 @@ pub fn read_of(scene: &Scene, path: &Path, at: u64, into: &mut [u8]) -> Result<u
     ensures tells { Reads (IsFile ((seen scene.now).names path.now))
         (λ n. IsRead (seen scene.now) ((seen scene.now).names path.now) at into.new n) result }
     ensures bound { IfOk result (λ n. n ≤ length into.old) }
-    ensures answers { (IsErrOf result HostError.Failed → ⊥) × (IsErrOf result HostError.NoMemory → ⊥) }
+    ensures answers { (IsErrOf result HostError.Failed → ⊥) ×
+        (IsErrOf result HostError.NoMemory → ⊥) }
 {
     let Some(id) = file_id(entry(&scene.names, path.text())) else {
         return Err(HostError::Clash);

@@ -61,7 +61,8 @@ fn is_row(row: &Row, url: &str, path: &Path) -> bool
 
 // The place of the row of this url and path.
 fn find_row(rows: &[Row], url: &str, path: &Path) -> Option<usize>
-    ensures { MatchOption result (row_at rows.now url.now path.now ≡ None) (IsRowAt rows.now url.now path.now) }
+    ensures { MatchOption result (row_at rows.now url.now path.now ≡ None)
+        (IsRowAt rows.now url.now path.now) }
 {
     for (i, row) in rows.iter().enumerate() {
         if is_row(row, url, path) {
@@ -134,8 +135,10 @@ impl MemRemotes {
 
     /// Remotes that hold nothing.
     pub fn new(alloc: Global) -> Result<Self, AllocError>
-        ensures holds { IfOk result (λ r. ⟦<MemRemotes as Remotes>⟧.holds r ≡ Some (λ url path. nothing)) }
-        ensures keeping { IfOk result (λ r. ⟦<MemRemotes as Keeper>⟧.keeping r ≡ record { calls = 0; fails = λ n. false }) }
+        ensures holds { IfOk result (λ r. ⟦<MemRemotes as Remotes>⟧.holds r ≡ Some
+            (λ url path. nothing)) }
+        ensures keeping { IfOk result (λ r. ⟦<MemRemotes as Keeper>⟧.keeping r ≡ record
+            { calls = 0; fails = λ n. false }) }
         ensures faults { IfOk result (λ r. ⟦<MemRemotes as Remotes>⟧.faults r ≡ 0) }
     {
         Ok(MemRemotes {
@@ -167,20 +170,24 @@ impl MemRemotes {
     /// is there.
     pub fn put(&mut self, url: &str, path: &Path, node: MemNode) -> Result<(), AllocError>
         requires { CanPut (holdings_of self.old url.now) path.now node }
-        ensures ok { OnOk result ((u : List ℕ) (q : Elements) → holdings_of self.new u q ≡ put_held (holdings_of self.old) url.now path.now (node_held node) u q) }
+        ensures ok { OnOk result ((u : List ℕ) (q : Elements) → holdings_of self.new u q ≡ put_held
+            (holdings_of self.old) url.now path.now (node_held node) u q) }
         ensures err { OnErr result (holdings_of self.new ≡ holdings_of self.old) }
         ensures keeping { keeping_of self.new ≡ keeping_of self.old }
-        ensures faults { ⟦<MemRemotes as Remotes>⟧.faults self.new ≡ ⟦<MemRemotes as Remotes>⟧.faults self.old }
+        ensures faults { ⟦<MemRemotes as Remotes>⟧.faults self.new ≡
+            ⟦<MemRemotes as Remotes>⟧.faults self.old }
     {
         put_row(&mut self.rows, url, path, node)
     }
 
     /// Makes the calls with these numbers, counted from 0 over all calls, fail. The list takes the place of an earlier one.
     pub fn fail_calls(&mut self, list: &[u64]) -> Result<(), AllocError>
-        ensures ok { OnOk result (keeping_of self.new ≡ record (keeping_of self.old) { fails = λ n. list_any (λ x. eqb x n) list.now }) }
+        ensures ok { OnOk result (keeping_of self.new ≡ record (keeping_of self.old)
+            { fails = λ n. list_any (λ x. eqb x n) list.now }) }
         ensures err { OnErr result (keeping_of self.new ≡ keeping_of self.old) }
         ensures holds { holdings_of self.new ≡ holdings_of self.old }
-        ensures faults { ⟦<MemRemotes as Remotes>⟧.faults self.new ≡ ⟦<MemRemotes as Remotes>⟧.faults self.old }
+        ensures faults { ⟦<MemRemotes as Remotes>⟧.faults self.new ≡
+            ⟦<MemRemotes as Remotes>⟧.faults self.old }
     {
         self.failing = list.to_vec(*self.failing.allocator())?;
         Ok(())
@@ -217,7 +224,7 @@ fn node_of(alloc: Global, row: Option<&Row>, is_folder: bool) -> Result<Node, Re
     requires { IfSome row (λ r. has_bits r.now ≡ true) }
     ensures node { IfOk result (IsNode (held_in (option_copied row.entry) is_folder)) }
     ensures bits { IfOk result HasNodeBits }
-    ensures memory { IsErrOf result RemoteError.Failed → ⊥ }
+    ensures needs_no_memory { IsErrOf result RemoteError.Failed → ⊥ }
 {
     match row {
         Some(row) => match &row.node {
@@ -248,7 +255,8 @@ impl Remotes for MemRemotes {
 
     fn node(&mut self, alloc: Global, url: &str, path: &Path) -> Result<Node, RemoteError>
         ensures same { Some (holdings_of self.new) ≡ Some (holdings_of self.old) }
-        ensures tells { (held : Holdings) → Some (holdings_of self.old) ≡ Some held → IfOk result (IsNode (held url.now path.now)) }
+        ensures tells { (held : Holdings) → Some (holdings_of self.old) ≡ Some held → IfOk result
+            (IsNode (held url.now path.now)) }
         ensures bits { IfOk result HasNodeBits }
         ensures later { self.old.faults ≤ self.new.faults }
         ensures failed { IsErrOf result RemoteError.Failed → Rose self.old.faults self.new.faults }
@@ -269,11 +277,12 @@ impl Remotes for MemRemotes {
         into: &mut [u8],
     ) -> Result<usize, RemoteError>
         ensures same { Some (holdings_of self.new) ≡ Some (holdings_of self.old) }
-        ensures tells { (held : Holdings) → Some (holdings_of self.old) ≡ Some held → IfOk result (CameFrom (bytes_of (held url.now path.now)) at into.new) }
+        ensures tells { (held : Holdings) → Some (holdings_of self.old) ≡ Some held → IfOk result
+            (CameFrom (bytes_of (held url.now path.now)) at into.new) }
         ensures bound { IfOk result (λ n. n ≤ length into.old) }
         ensures later { self.old.faults ≤ self.new.faults }
         ensures failed { IsErrOf result RemoteError.Failed → Rose self.old.faults self.new.faults }
-        ensures memory { IsErrOf result RemoteError.NoMemory → ⊥ }
+        ensures needs_no_memory { IsErrOf result RemoteError.NoMemory → ⊥ }
         ensures numbers { Numbers (keeping_of self.old) (keeping_of self.new) result }
     {
         if self.fails() {

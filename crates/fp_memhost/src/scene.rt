@@ -57,7 +57,8 @@ impl Scene {
 
     // A stop may leave this at the name.
     fn may_put(&mut self, path: &Path, entry: Option<Entry>) -> Result<(), AllocError>
-        ensures ok { OnOk result (seen self.new ≡ may_put path.now (slot_of entry) (seen self.old)) }
+        ensures ok { OnOk result (seen self.new ≡ may_put path.now (slot_of entry)
+            (seen self.old)) }
         ensures err { OnErr result (seen self.new ≡ seen self.old) }
     {
         ready(&mut self.names, path)?;
@@ -67,7 +68,8 @@ impl Scene {
 
     // An empty file more, which the name holds.
     fn create(&mut self, path: &Path, mode: u32, id: u64) -> Result<(), AllocError>
-        ensures ok { OnOk result (seen self.new ≡ put path.now (file id) (with_file id mode (seen self.old))) }
+        ensures ok { OnOk result (seen self.new ≡ put path.now (file id)
+            (with_file id mode (seen self.old))) }
         ensures err { OnErr result (seen self.new ≡ seen self.old) }
     {
         ready(&mut self.names, path)?;
@@ -78,7 +80,8 @@ impl Scene {
 
     // An empty file more, which a stop may leave at the name.
     fn may_create(&mut self, path: &Path, mode: u32, id: u64) -> Result<(), AllocError>
-        ensures ok { OnOk result (seen self.new ≡ may_put path.now (file id) (with_file id mode (seen self.old))) }
+        ensures ok { OnOk result (seen self.new ≡ may_put path.now (file id)
+            (with_file id mode (seen self.old))) }
         ensures err { OnErr result (seen self.new ≡ seen self.old) }
     {
         ready(&mut self.names, path)?;
@@ -89,7 +92,8 @@ impl Scene {
 
     // Bytes more in the file that the name holds.
     fn append(&mut self, path: &Path, bytes: &[u8]) -> Result<(), AllocError>
-        ensures ok { OnOk result (seen self.new ≡ done (appends path.now bytes.now) (seen self.old)) }
+        ensures ok { OnOk result (seen self.new ≡ done (appends path.now bytes.now)
+            (seen self.old)) }
         ensures err { OnErr result (seen self.new ≡ seen self.old) }
     {
         match entry(&self.names, path.text()) {

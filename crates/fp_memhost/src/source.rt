@@ -24,7 +24,8 @@ impl MemSource {
     /// no memory.
     pub fn new(bytes: Blob, step: usize, fail_at: Option<u64>) -> Self
         requires { step ≢ 0 }
-        ensures supply { ⟦<MemSource as Supplier>⟧.supply result ≡ record { left = bytes; step = step; fail_at = fail_at; calls = 0 } }
+        ensures supply { ⟦<MemSource as Supplier>⟧.supply result ≡ record
+            { left = bytes; step = step; fail_at = fail_at; calls = 0 } }
         ensures left { ⟦<MemSource as Source>⟧.left result ≡ Some bytes }
         ensures faults { ⟦<MemSource as Source>⟧.faults result ≡ 0 }
     {
@@ -57,7 +58,8 @@ impl Source for MemSource {
     ghost faults = { λ s. s.faults };
 
     fn take(&mut self, into: &mut [u8]) -> Taken
-        ensures takes { Takes (Some (supply_of self.old).left) (Some (supply_of self.new).left) into.new result }
+        ensures takes { Takes (Some (supply_of self.old).left) (Some (supply_of self.new).left)
+            into.new result }
         ensures within { IsWithin result (length into.old) }
         ensures later { self.old.faults ≤ self.new.faults }
         ensures failed { result ≡ Taken.Failed → Rose self.old.faults self.new.faults }

@@ -20,7 +20,7 @@ pub are_elements-none : (element rest text : List ℕ) → slice_split is_dot te
 are_elements-none element rest text cut bad =
     ap are_elements cut ∙ are_elements-front element (slice_split is_dot rest) (HasFirst-split is_dot rest) ∙ rw bad refl
 
--- behind enough dots the last element decides
+-- after enough dots the last element decides
 pub enough_dots : (dots : ℕ) (rest text : List ℕ) → slice_split is_dot rest ≡ rest ∷ []
     → dots + length (slice_split is_dot rest) ≡ length (slice_split is_dot text)
     → are_elements (slice_split is_dot rest) ≡ are_elements (slice_split is_dot text)

@@ -1,4 +1,4 @@
--- The parts behind a kind, by where the text is cut.
+-- The parts after a kind, by where the text is cut.
 use Rattle.std.proofs.Common.{◌≡◌, ℕ, List, [], ◌∷◌, Option, Some, None, refl, ap, ◌∙◌, option_and_then}
 use Rattle.fp_name.specs.declared.kind.RefKind.{RefKind}
 use Rattle.fp_name.specs.Kinds.{kind_of}
@@ -22,7 +22,7 @@ module _ (kind : RefKind) (parts : List (List ℕ)) where
 pub of_word : (word : List ℕ) (parts behind : List (List ℕ)) → parts ≡ word ∷ behind → of_parts parts ≡ option_and_then (behind_kind behind) (kind_of word)
 of_word word parts behind e = rw e refl
 
--- no part behind the kind
+-- no part after the kind
 behind_none : (o : Option RefKind) → option_and_then (behind_kind []) o ≡ None
 behind_none None = refl
 behind_none (Some kind) = refl

@@ -131,7 +131,7 @@ unfolding ref_of
 parts_of-some text r h =
     option_and_then_some if_ref (parts_of text) r h (λ s read kept. read ∙ ap Some (cond_some (is_ref s) s r kept).1)
 
--- a kind, and ID/ARCH/BRANCH behind it
+-- a kind, and ID/ARCH/BRANCH after it
 pub ref_of_kind : (kind : RefKind) (text : List ℕ) → ref_of (kind_word kind ++ 47 ∷ text) ≡ option_and_then if_ref (behind_kind (slice_split is_slash text) kind)
 unfolding ref_of
 ref_of_kind kind text =

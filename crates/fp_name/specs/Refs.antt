@@ -24,7 +24,7 @@ is_ref r = is_id r.id && (is_arch r.arch && is_branch r.branch)
 abbrev pub ref_text : Ref → List ℕ
 ref_text r = join_with_byte 47 (kind_word r.kind ∷ r.id ∷ r.arch ∷ r.branch ∷ [])
 
--- ID, ARCH and BRANCH behind a kind, whatever stands in them
+-- ID, ARCH and BRANCH after a kind, whatever stands in them
 abbrev pub behind_kind : List (List ℕ) → RefKind → Option Ref
 behind_kind (id ∷ arch ∷ branch ∷ []) kind = Some (ref_with kind id arch branch)
 behind_kind _ kind = None

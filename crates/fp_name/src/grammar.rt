@@ -78,7 +78,8 @@ fn is_end_element(text: &str) -> bool
 
 /// At least three elements, which dots separate.
 fn has_elements(text: &str) -> bool
-    ensures { result ≡ (nat_le 3 (length (slice_split is_dot text.now)) && are_elements (slice_split is_dot text.now)) }
+    ensures { result ≡ (nat_le 3 (length (slice_split is_dot text.now)) && are_elements
+        (slice_split is_dot text.now)) }
 {
     let mut dots: usize = 0;
     let mut rest = text;

@@ -22,13 +22,15 @@ use fp_base::Text;
 /// good ref reads as it.
 pub fn refs_read_back()
     ensures written { (r : Ref) → is_ref r ≡ true → ref_of (ref_text r) ≡ Some r }
-    ensures read { (text : List ℕ) (r : Ref) → ref_of text ≡ Some r → (text ≡ ref_text r) × (is_ref r ≡ true) }
+    ensures read { (text : List ℕ) (r : Ref) → ref_of text ≡ Some r → (text ≡ ref_text r) ×
+        (is_ref r ≡ true) }
 {}
 
 /// The same of digests.
 pub fn digests_read_back()
     ensures written { (d : List ℕ) → is_digest d ≡ true → unhex (hex_text d) ≡ Some d }
-    ensures read { (text d : List ℕ) → unhex text ≡ Some d → (text ≡ hex_text d) × (is_digest d ≡ true) }
+    ensures read { (text d : List ℕ) → unhex text ≡ Some d → (text ≡ hex_text d) ×
+        (is_digest d ≡ true) }
 {}
 
 /// Each part of a ref, the name of a remote and the text of a digest may be the name of a file.
@@ -55,7 +57,8 @@ pub fn names_are_ordered_by_text()
     ensures remotes { (a b : List ℕ) → ⟦<RemoteName as Ord>⟧.cmp a b ≡ slice_cmp nat_cmp a b }
     ensures urls { (a b : List ℕ) → ⟦<RemoteUrl as Ord>⟧.cmp a b ≡ slice_cmp nat_cmp a b }
     ensures patterns { (a b : List ℕ) → ⟦<PinPattern as Ord>⟧.cmp a b ≡ slice_cmp nat_cmp a b }
-    ensures refs { (a b : Ref) → ⟦<RefName as Ord>⟧.cmp a b ≡ slice_cmp nat_cmp (ref_text a) (ref_text b) }
+    ensures refs { (a b : Ref) → ⟦<RefName as Ord>⟧.cmp a b ≡ slice_cmp nat_cmp (ref_text a)
+        (ref_text b) }
 {}
 
 /// Equality, likewise.
@@ -66,5 +69,6 @@ pub fn names_are_equal_by_text()
     ensures remotes { (a b : List ℕ) → ⟦<RemoteName as PartialEq>⟧.eq a b ≡ bytes_eq a b }
     ensures urls { (a b : List ℕ) → ⟦<RemoteUrl as PartialEq>⟧.eq a b ≡ bytes_eq a b }
     ensures patterns { (a b : List ℕ) → ⟦<PinPattern as PartialEq>⟧.eq a b ≡ bytes_eq a b }
-    ensures refs { (a b : Ref) → ⟦<RefName as PartialEq>⟧.eq a b ≡ bytes_eq (ref_text a) (ref_text b) }
+    ensures refs { (a b : Ref) → ⟦<RefName as PartialEq>⟧.eq a b ≡ bytes_eq (ref_text a)
+        (ref_text b) }
 {}

@@ -68,7 +68,7 @@ fn matches_part(pattern: &str, part: &str) -> bool
     pattern == "*" || pattern == part
 }
 
-/// ID/ARCH/BRANCH behind a kind: three parts, which slashes separate.
+/// ID/ARCH/BRANCH after a kind: three parts, which slashes separate.
 pub fn parts_behind(kind: RefKind, text: &str) -> Option<Parts<'_>>
     ensures { option_map ref_in result ≡ behind_kind (slice_split is_slash text.now) kind }
 {

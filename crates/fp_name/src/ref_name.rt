@@ -69,7 +69,8 @@ impl RefName {
     ) -> Result<Self, NameFault>
         ensures ok { IfOk result (λ name. name ≡ ref_with kind id.now arch.now branch.now) }
         ensures good { OnOk result (is_ref (ref_with kind id.now arch.now branch.now) ≡ true) }
-        ensures bad { IsErrOf result NameFault.Bad ↔ (is_ref (ref_with kind id.now arch.now branch.now) ≡ false) }
+        ensures bad { IsErrOf result NameFault.Bad ↔ (is_ref
+            (ref_with kind id.now arch.now branch.now) ≡ false) }
     {
         let parts = Parts {
             kind,
@@ -89,7 +90,8 @@ impl RefName {
     #[tactic(auto, using(crate::proofs::Refs::ref_of_kind, crate::proofs::Refs::made, crate::proofs::Refs::refused))]
     pub fn of_kind(alloc: Global, kind: RefKind, text: &str) -> Result<Self, NameFault>
         ensures ok { IfOk result (λ name. ref_of (kind_word kind ++ 47 ∷ text.now) ≡ Some name) }
-        ensures bad { IsErrOf result NameFault.Bad ↔ (ref_of (kind_word kind ++ 47 ∷ text.now) ≡ None) }
+        ensures bad { IsErrOf result NameFault.Bad ↔ (ref_of (kind_word kind ++ 47 ∷ text.now) ≡
+            None) }
     {
         let Some(parts) = parts_behind(kind, text) else {
             return Err(NameFault::Bad);

@@ -79,7 +79,7 @@ impl<'a, R> DirRemotes<'a, R> {
         done: io::Result<T>,
     ) -> Result<T, RemoteError>
         ensures counts { RemoteCounts self.old self.new result }
-        ensures memory { IsErrOf result RemoteError.NoMemory → ⊥ }
+        ensures needs_no_memory { IsErrOf result RemoteError.NoMemory → ⊥ }
         ensures same { IfOk result (λ t. done ≡ Ok t) }
     {
         match done {
@@ -126,7 +126,7 @@ impl<R: Files + AllocGlobal> Remotes for DirRemotes<'_, R> {
     ) -> Result<usize, RemoteError>
         ensures counts { RemoteCounts self.old self.new result }
         ensures bound { IfOk result (λ n. n ≤ length into.old) }
-        ensures memory { IsErrOf result RemoteError.NoMemory → ⊥ }
+        ensures needs_no_memory { IsErrOf result RemoteError.NoMemory → ⊥ }
     {
         let done = self.read_piece(url, path, at, into);
         self.answer(Call::Read, url, path, done)

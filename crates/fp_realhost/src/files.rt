@@ -22,7 +22,7 @@ pub fn read_at<R: Files>(rt: &R, at: &str, from: u64, into: &mut [u8]) -> io::Re
     }
 }
 
-// The same where the file goes on behind that place.
+// The same where the file goes on after that place.
 pub fn read_from<R: Files>(rt: &R, at: &str, from: u64, into: &mut [u8]) -> io::Result<usize>
     ensures { IfOk result (λ n. n ≤ length into.old) }
 {

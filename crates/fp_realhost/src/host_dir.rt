@@ -100,7 +100,7 @@ impl<'a, R> HostDir<'a, R> {
     // The answer of a call on a path. Each error is a fault.
     fn answer<T>(&mut self, call: Call, path: &Path, done: io::Result<T>) -> Result<T, HostError>
         ensures counts { Counts self.old.faults self.new.faults result }
-        ensures memory { NeedsNoMemory result }
+        ensures needs_no_memory { NeedsNoMemory result }
         ensures same { IfOk result (λ t. done ≡ Ok t) }
     {
         match done {
@@ -141,7 +141,7 @@ impl<R: Files + Print + AllocGlobal> Host for HostDir<'_, R> {
     fn stat(&mut self, path: &Path) -> Result<Stat, HostError>
         ensures counts { Counts self.old.faults self.new.faults result }
         ensures bits { IfOk result HasBits }
-        ensures memory { NeedsNoMemory result }
+        ensures needs_no_memory { NeedsNoMemory result }
     {
         let done = self.tree.stat(path);
         self.answer(Call::Stat, path, done)
@@ -158,7 +158,7 @@ impl<R: Files + Print + AllocGlobal> Host for HostDir<'_, R> {
     fn read_at(&mut self, path: &Path, at: u64, into: &mut [u8]) -> Result<usize, HostError>
         ensures counts { Counts self.old.faults self.new.faults result }
         ensures bound { IfOk result (λ n. n ≤ length into.old) }
-        ensures memory { NeedsNoMemory result }
+        ensures needs_no_memory { NeedsNoMemory result }
     {
         let done = self.tree.read_at(path, at, into);
         self.answer(Call::Read, path, done)
@@ -173,7 +173,7 @@ impl<R: Files + Print + AllocGlobal> Host for HostDir<'_, R> {
 
     fn make_dir(&mut self, path: &Path) -> Result<(), HostError>
         ensures counts { Counts self.old.faults self.new.faults result }
-        ensures memory { NeedsNoMemory result }
+        ensures needs_no_memory { NeedsNoMemory result }
     {
         let done = self.tree.make_dir(path);
         self.answer(Call::MakeDir, path, done)
@@ -182,7 +182,7 @@ impl<R: Files + Print + AllocGlobal> Host for HostDir<'_, R> {
     fn create(&mut self, path: &Path, mode: u32) -> Result<(), HostError>
         ensures counts { Counts self.old.faults self.new.faults result }
         ensures bits { OnOk result (mode ≤ 4095) }
-        ensures memory { NeedsNoMemory result }
+        ensures needs_no_memory { NeedsNoMemory result }
     {
         let done = self.tree.create(path, mode);
         self.answer(Call::Create, path, done)
@@ -190,7 +190,7 @@ impl<R: Files + Print + AllocGlobal> Host for HostDir<'_, R> {
 
     fn append(&mut self, path: &Path, bytes: &[u8]) -> Result<(), HostError>
         ensures counts { Counts self.old.faults self.new.faults result }
-        ensures memory { NeedsNoMemory result }
+        ensures needs_no_memory { NeedsNoMemory result }
     {
         let done = self.tree.append(path, bytes);
         self.answer(Call::Append, path, done)
@@ -198,7 +198,7 @@ impl<R: Files + Print + AllocGlobal> Host for HostDir<'_, R> {
 
     fn link(&mut self, from: &Path, to: &Path) -> Result<(), HostError>
         ensures counts { Counts self.old.faults self.new.faults result }
-        ensures memory { NeedsNoMemory result }
+        ensures needs_no_memory { NeedsNoMemory result }
     {
         let done = self.tree.link(from, to);
         self.answer(Call::Link, to, done)
@@ -206,7 +206,7 @@ impl<R: Files + Print + AllocGlobal> Host for HostDir<'_, R> {
 
     fn symlink(&mut self, text: &str, path: &Path) -> Result<(), HostError>
         ensures counts { Counts self.old.faults self.new.faults result }
-        ensures memory { NeedsNoMemory result }
+        ensures needs_no_memory { NeedsNoMemory result }
     {
         let done = self.tree.symlink(text, path);
         self.answer(Call::Symlink, path, done)
@@ -214,7 +214,7 @@ impl<R: Files + Print + AllocGlobal> Host for HostDir<'_, R> {
 
     fn rename(&mut self, from: &Path, to: &Path) -> Result<(), HostError>
         ensures counts { Counts self.old.faults self.new.faults result }
-        ensures memory { NeedsNoMemory result }
+        ensures needs_no_memory { NeedsNoMemory result }
     {
         let done = self.tree.rename(from, to);
         self.answer(Call::Rename, to, done)
@@ -222,7 +222,7 @@ impl<R: Files + Print + AllocGlobal> Host for HostDir<'_, R> {
 
     fn unlink(&mut self, path: &Path) -> Result<(), HostError>
         ensures counts { Counts self.old.faults self.new.faults result }
-        ensures memory { NeedsNoMemory result }
+        ensures needs_no_memory { NeedsNoMemory result }
     {
         let done = self.tree.unlink(path);
         self.answer(Call::Unlink, path, done)
@@ -231,7 +231,7 @@ impl<R: Files + Print + AllocGlobal> Host for HostDir<'_, R> {
     fn remove_dir(&mut self, path: &Path) -> Result<(), HostError>
         ensures counts { Counts self.old.faults self.new.faults result }
         ensures below { OnOk result (path.now ≢ []) }
-        ensures memory { NeedsNoMemory result }
+        ensures needs_no_memory { NeedsNoMemory result }
     {
         let done = self.tree.remove_dir(path);
         self.answer(Call::RemoveDir, path, done)
@@ -239,7 +239,7 @@ impl<R: Files + Print + AllocGlobal> Host for HostDir<'_, R> {
 
     fn sync(&mut self) -> Result<(), HostError>
         ensures counts { Counts self.old.faults self.new.faults result }
-        ensures memory { NeedsNoMemory result }
+        ensures needs_no_memory { NeedsNoMemory result }
         ensures settled { OnOk result (self.new.is_settled ≡ true) }
     {
         match self.tree.sync() {
@@ -250,8 +250,9 @@ impl<R: Files + Print + AllocGlobal> Host for HostDir<'_, R> {
 
     fn say(&mut self, piece: &[u8]) -> Result<(), HostError>
         ensures counts { Counts self.old.faults self.new.faults result }
-        ensures memory { NeedsNoMemory result }
-        ensures printed { OnOk result (self.new.printed ≡ many_more self.old.printed (length piece.now)) }
+        ensures needs_no_memory { NeedsNoMemory result }
+        ensures printed { OnOk result (self.new.printed ≡ many_more self.old.printed
+            (length piece.now)) }
     {
         match self.output.print(piece) {
             Ok(()) => Ok(()),

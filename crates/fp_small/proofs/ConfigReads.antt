@@ -31,7 +31,7 @@ use Rattle.fp_small.proofs.Ordered.{bytes_eq-itself, bytes_eq-is, list_all-sorte
 
 -- ---- the name in a header
 
--- the last byte, behind the front
+-- the last byte, after the front
 last_byte : (header : List ℕ) → 9 ≤ length header → drop (length header - 9) (drop 8 header) ≡ drop (length header - 1) header
 last_byte header long = drop-drop (length header - 9) 8 header ∙ ap (λ (k : ℕ). drop k header) (omega arith)
 

@@ -3,7 +3,7 @@ use Rattle.std.proofs.Common.{◌≡◌, ℕ, List, Option, refl, sym, subst}
 use Rattle.fp_host.specs.Paths.{Elements}
 use Rattle.fp_host.specs.View.{View}
 use Rattle.fp_host.specs.Moments.{Moments, Goes}
-use Rattle.fp_host.specs.Frame.{Keeps, Frame, Ends, Still, AnyAt, AnyHeld, Only, NoPath}
+use Rattle.fp_host.specs.Frame.{Keeps, Frame, AtEnd, Unchanged, AnyAt, AnyHeld, Only, NoPath}
 use Rattle.fp_host.proofs.Goes.{goes_on, begins}
 use Rattle.fp_host.proofs.Framed.{IsTold}
 use Rattle.fp_host.proofs.Ending.{goes_known}
@@ -33,10 +33,10 @@ pub record Written (p : Elements) (bytes : List ℕ) (place : Elements) (u v : V
   pub can : CanReplace p u → CanMove place p v
 
 module _ (p : Elements) (bytes : List ℕ) where
-  pub looked : {a b : Option Moments} → IsTold a → Still a b → Goes a b (Replaces p bytes) (Replaces p bytes)
+  pub looked : {a b : Option Moments} → IsTold a → Unchanged a b → Goes a b (Replaces p bytes) (Replaces p bytes)
   looked told quiet = begins told quiet.goes (λ u w t s. still p bytes s) (λ u w t s e. still p bytes s)
 
-  pub placed : {a b : Option Moments} {place : Elements} → IsTold a → Still a b → Ends (λ u w. IsStaging u place) a b → Goes a b (Replaces p bytes) (Placed place)
+  pub placed : {a b : Option Moments} {place : Elements} → IsTold a → Unchanged a b → AtEnd (λ u w. IsStaging u place) a b → Goes a b (Replaces p bytes) (Placed place)
   placed told quiet tells = begins told (goes_known quiet.goes tells) (λ u w t s. still p bytes s) (λ u w t s e. record { same = s; staging = e.1 })
 
   -- the folders, done or not
@@ -47,7 +47,7 @@ module _ (p : Elements) (bytes : List ℕ) where
       from_start {folders = folders} {w = w} is q k = with_folders p bytes is (subst (λ (x : View). Keeps (FoldersAt folders) (DirsAt folders) NoPath x w) q.same k)
 
   pub housed : {a b c : Option Moments} {place : Elements} {folders : List Elements} → folders ≡ folders_of p → Goes a b (Replaces p bytes) (Placed place) → IsTold b → Frame (FoldersAt folders) (DirsAt folders) NoPath b c
-      → Ends (λ u w. AreFree folders u → AreDirs folders w) b c → Goes a c (Replaces p bytes) (Housed p bytes place)
+      → AtEnd (λ u w. AreFree folders u → AreDirs folders w) b c → Goes a c (Replaces p bytes) (Housed p bytes place)
   housed is first told frame tells = goes_on told first (goes_known frame.goes tells) (λ u v w t r q s. from_start is q s) (λ u v w t r q s e. record {
     staging = q.staging;
     so_far = from_start is q s;
@@ -68,7 +68,7 @@ module _ (p : Elements) (bytes : List ℕ) where
   pub staging : {a b c : Option Moments} {place : Elements} → Goes a b (Replaces p bytes) (Housed p bytes place) → IsTold b → Frame (AnyAt place) (AnyHeld place) (Only place) b c → Goes a c (Replaces p bytes) (Replaces p bytes)
   staging first told frame = goes_on told first frame.goes (λ u v w t r q s. with_stage p bytes q.staging q.so_far s) (λ u v w t r q s e. with_stage p bytes q.staging q.so_far s)
 
-  pub written : {a b c : Option Moments} {place : Elements} → Goes a b (Replaces p bytes) (Housed p bytes place) → IsTold b → Frame (AnyAt place) (AnyHeld place) (Only place) b c → Ends (WasStaged place bytes) b c → Goes a c (Replaces p bytes) (Written p bytes place)
+  pub written : {a b c : Option Moments} {place : Elements} → Goes a b (Replaces p bytes) (Housed p bytes place) → IsTold b → Frame (AnyAt place) (AnyHeld place) (Only place) b c → AtEnd (WasStaged place bytes) b c → Goes a c (Replaces p bytes) (Written p bytes place)
   written {place = place} first told frame tells = goes_on told first (goes_known frame.goes tells) (λ u v w t r q s. with_stage p bytes q.staging q.so_far s) (λ u v w t r q s e. record {
     staging = q.staging;
     so_far = with_stage p bytes q.staging q.so_far s;

@@ -13,7 +13,7 @@ abbrev pub inserted : {A : Type 0} → (A → List ℕ) → List A → A → Lis
 inserted name [] x = x ∷ []
 inserted name (y ∷ ys) x = if comes_before (name y) (name x) then y ∷ inserted name ys x else x ∷ y ∷ ys
 
--- the elements in the order of their names, behind those of a list that is in order
+-- the elements in the order of their names, after those of a list that is in order
 abbrev pub sorted_onto : {A : Type 0} → (A → List ℕ) → List A → List A → List A
 sorted_onto name ys [] = ys
 sorted_onto name ys (x ∷ xs) = sorted_onto name (inserted name ys x) xs

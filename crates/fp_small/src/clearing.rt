@@ -2,7 +2,7 @@
 ghost use Rattle.std.specs.Prelude.{◌≡◌, OnOk, IsErrOf};
 ghost use Rattle.fp_host.specs.Paths.{dir};
 ghost use Rattle.fp_host.specs.Causes.{IsCaused};
-ghost use Rattle.fp_host.specs.Frame.{Frame, Ends, NoPath};
+ghost use Rattle.fp_host.specs.Frame.{Frame, AtEnd, NoPath};
 ghost use Rattle.fp_small.specs.Clear.{GoneWithin, AbsentWithin, GoneBelow, AbsentBelow, IsCleared, IsEmptied, CanClear, CanEmpty, Reaches, ReachesDown};
 
 use fp_host::{Host, HostEnd, Path, Stat};
@@ -14,9 +14,12 @@ const MOST_ELEMENTS: u32 = 128;
 /// Takes the path away, and all that is below it. Where it is absent, nothing is done. It isn't for the root, nor for paths
 /// of more than 128 elements.
 pub fn clear<H: Host>(alloc: Global, host: &mut H, path: &Path) -> Result<(), HostEnd>
-    ensures frame { Frame (GoneWithin path.now) (AbsentWithin path.now) NoPath (H.moments host.old) (H.moments host.new) }
-    ensures done { OnOk result (Ends (λ u w. IsCleared path.now w) (H.moments host.old) (H.moments host.new)) }
-    ensures cause { IsCaused (IsErrOf result HostEnd.Fault) (H.moments host.old) (CanClear path.now) (H.faults host.old) (H.faults host.new) }
+    ensures frame { Frame (GoneWithin path.now) (AbsentWithin path.now) NoPath
+        (H.moments host.old) (H.moments host.new) }
+    ensures on_success { OnOk result (AtEnd (λ u w. IsCleared path.now w)
+        (H.moments host.old) (H.moments host.new)) }
+    ensures fault_has_cause { IsCaused (IsErrOf result HostEnd.Fault) (H.moments host.old)
+        (CanClear path.now) (H.faults host.old) (H.faults host.new) }
 {
     clear_within(alloc, host, path, MOST_ELEMENTS)
 }
@@ -24,9 +27,12 @@ pub fn clear<H: Host>(alloc: Global, host: &mut H, path: &Path) -> Result<(), Ho
 /// Takes away all that is below the path, and leaves the path itself. Where it is no folder, nothing is done. It isn't for
 /// paths of more than 128 elements.
 pub fn clear_below<H: Host>(alloc: Global, host: &mut H, path: &Path) -> Result<(), HostEnd>
-    ensures frame { Frame (GoneBelow path.now) (AbsentBelow path.now) NoPath (H.moments host.old) (H.moments host.new) }
-    ensures done { OnOk result (Ends (λ u w. IsEmptied path.now w) (H.moments host.old) (H.moments host.new)) }
-    ensures cause { IsCaused (IsErrOf result HostEnd.Fault) (H.moments host.old) (CanEmpty path.now) (H.faults host.old) (H.faults host.new) }
+    ensures frame { Frame (GoneBelow path.now) (AbsentBelow path.now) NoPath
+        (H.moments host.old) (H.moments host.new) }
+    ensures on_success { OnOk result (AtEnd (λ u w. IsEmptied path.now w)
+        (H.moments host.old) (H.moments host.new)) }
+    ensures fault_has_cause { IsCaused (IsErrOf result HostEnd.Fault) (H.moments host.old)
+        (CanEmpty path.now) (H.faults host.old) (H.faults host.new) }
 {
     match host.stat(path)? {
         Stat::Dir => clear_names(alloc, host, path, MOST_ELEMENTS),
@@ -42,9 +48,12 @@ fn clear_within<H: Host>(
     path: &Path,
     depth: u32,
 ) -> Result<(), HostEnd>
-    ensures frame { Frame (GoneWithin path.now) (AbsentWithin path.now) NoPath (H.moments host.old) (H.moments host.new) }
-    ensures done { OnOk result (Ends (λ u w. IsCleared path.now w) (H.moments host.old) (H.moments host.new)) }
-    ensures cause { IsCaused (IsErrOf result HostEnd.Fault) (H.moments host.old) (ReachesDown path.now depth) (H.faults host.old) (H.faults host.new) }
+    ensures frame { Frame (GoneWithin path.now) (AbsentWithin path.now) NoPath
+        (H.moments host.old) (H.moments host.new) }
+    ensures on_success { OnOk result (AtEnd (λ u w. IsCleared path.now w)
+        (H.moments host.old) (H.moments host.new)) }
+    ensures fault_has_cause { IsCaused (IsErrOf result HostEnd.Fault) (H.moments host.old)
+        (ReachesDown path.now depth) (H.faults host.old) (H.faults host.new) }
 {
     match host.stat(path)? {
         Stat::Absent => Ok(()),
@@ -59,9 +68,13 @@ fn clear_within<H: Host>(
 /// Takes away what is in the folder, at most so many folders below it.
 #[cycle(clear)]
 fn clear_names<H: Host>(alloc: Global, host: &mut H, path: &Path, depth: u32) -> Result<(), HostEnd>
-    ensures frame { Frame (GoneBelow path.now) (AbsentBelow path.now) NoPath (H.moments host.old) (H.moments host.new) }
-    ensures done { OnOk result (Ends (λ u w. IsEmptied path.now w) (H.moments host.old) (H.moments host.new)) }
-    ensures cause { IsCaused (IsErrOf result HostEnd.Fault) (H.moments host.old) (λ v. (v.names path.now ≡ dir) × Reaches path.now depth v) (H.faults host.old) (H.faults host.new) }
+    ensures frame { Frame (GoneBelow path.now) (AbsentBelow path.now) NoPath
+        (H.moments host.old) (H.moments host.new) }
+    ensures on_success { OnOk result (AtEnd (λ u w. IsEmptied path.now w)
+        (H.moments host.old) (H.moments host.new)) }
+    ensures fault_has_cause { IsCaused (IsErrOf result HostEnd.Fault) (H.moments host.old)
+        (λ v. (v.names path.now ≡ dir) × Reaches path.now depth v)
+        (H.faults host.old) (H.faults host.new) }
 {
     let names = host.list(alloc, path)?;
     for name in names.as_slice() {

@@ -78,7 +78,8 @@ struct Said<'a> {
 /// What the pairs say of the remote of a name.
 #[tactic(auto, using(crate::proofs::ConfigReads::no_row))]
 fn said_of<'a>(name: &'a [u8], pairs: &'a [Pair]) -> Option<Said<'a>>
-    ensures { option_map (λ s. record { name = s.name.now; url = s.url.now }) result ≡ spec.row_of name.now pairs.now }
+    ensures { option_map (λ s. record { name = s.name.now; url = s.url.now }) result ≡ spec.row_of
+        name.now pairs.now }
 {
     let [pair] = pairs else {
         return None;
@@ -97,7 +98,8 @@ fn said_of<'a>(name: &'a [u8], pairs: &'a [Pair]) -> Option<Said<'a>>
 /// The remote that a group says.
 #[tactic(auto, unfolding(crate::specs::Config::remote_of))]
 fn said_by(group: &Group) -> Option<Said<'_>>
-    ensures { option_map (λ s. record { name = s.name.now; url = s.url.now }) result ≡ spec.remote_of group.now }
+    ensures { option_map (λ s. record { name = s.name.now; url = s.url.now }) result ≡
+        spec.remote_of group.now }
 {
     let name = quoted_name(group.name.as_str().as_bytes())?;
     said_of(name, group.pairs.as_slice())
@@ -167,7 +169,7 @@ fn row_of(alloc: Global, name: &str, url: &str) -> Result<RemoteRow, ConfigFault
     requires name { grammar.is_remote_name name.now ≡ true }
     requires url { grammar.is_url url.now ≡ true }
     ensures ok { IfOk result (λ row. row ≡ record { name = name.now; url = url.now }) }
-    ensures memory { IsErrOf result ConfigFault.Bad → ⊥ }
+    ensures needs_no_memory { IsErrOf result ConfigFault.Bad → ⊥ }
 {
     Ok(RemoteRow {
         name: RemoteName::parse(alloc, name.as_bytes())?,
@@ -178,7 +180,7 @@ fn row_of(alloc: Global, name: &str, url: &str) -> Result<RemoteRow, ConfigFault
 /// The remotes that the groups say, ascending.
 pub(crate) fn remote_rows(alloc: Global, groups: &[Group]) -> Result<Vec<RemoteRow>, ConfigFault>
     ensures ok { IfOk result (λ rows. rows.items ≡ sorted_by spec.name_of (remotes_in groups.now)) }
-    ensures memory { IsErrOf result ConfigFault.Bad → ⊥ }
+    ensures needs_no_memory { IsErrOf result ConfigFault.Bad → ⊥ }
 {
     let mut rows = Vec::new(alloc);
     for group in groups {
@@ -194,7 +196,7 @@ pub(crate) fn remote_rows(alloc: Global, groups: &[Group]) -> Result<Vec<RemoteR
 fn pin_keys(alloc: Global, pairs: &[Pair]) -> Result<Vec<PinPattern>, ConfigFault>
     requires { list_all spec.is_pin_pair pairs.now ≡ true }
     ensures ok { IfOk result (λ pins. pins.items ≡ sorted_by (λ pin. pin) (keys_of pairs.now)) }
-    ensures memory { IsErrOf result ConfigFault.Bad → ⊥ }
+    ensures needs_no_memory { IsErrOf result ConfigFault.Bad → ⊥ }
 {
     let mut pins = Vec::new(alloc);
     for pair in pairs {
@@ -208,7 +210,7 @@ fn pin_keys(alloc: Global, pairs: &[Pair]) -> Result<Vec<PinPattern>, ConfigFaul
 fn pins_of(alloc: Global, groups: &[Group]) -> Result<Vec<PinPattern>, ConfigFault>
     requires { list_all spec.is_part groups.now ≡ true }
     ensures ok { IfOk result (λ pins. pins.items ≡ sorted_by (λ pin. pin) (pins_in groups.now)) }
-    ensures memory { IsErrOf result ConfigFault.Bad → ⊥ }
+    ensures needs_no_memory { IsErrOf result ConfigFault.Bad → ⊥ }
 {
     match pins_group(groups) {
         Some(group) => pin_keys(alloc, group.pairs.as_slice()),

@@ -27,49 +27,61 @@ pub fn read_config_is_good()
 
 /// What the two files of layout 1 say can be written.
 pub fn read_old_files_are_good()
-    ensures remotes { (bytes : List ℕ) (rows : List RemoteRow) → remotes_of bytes ≡ Some rows → AreRows rows }
-    ensures pins { (bytes : List ℕ) (pins : List (List ℕ)) → pins_of bytes ≡ Some pins → ArePatterns pins }
+    ensures remotes { (bytes : List ℕ) (rows : List RemoteRow) → remotes_of bytes ≡ Some rows →
+        AreRows rows }
+    ensures pins { (bytes : List ℕ) (pins : List (List ℕ)) → pins_of bytes ≡ Some pins →
+        ArePatterns pins }
 {}
 
 /// With one more pin the settings can be written, and have this pin besides those that they had.
 pub fn added_pin()
-    ensures good { (s : Settings) (p : List ℕ) → IsSettings s → is_pin p ≡ true → (Contains s.pins p → ⊥) → length s.pins < 1024
+    ensures good { (s : Settings) (p : List ℕ) → IsSettings s → is_pin p ≡ true →
+        (Contains s.pins p → ⊥) → length s.pins < 1024
         → IsSettings (record s { pins = inserted (λ q. q) s.pins p }) }
-    ensures has { (pins : List (List ℕ)) (p q : List ℕ) → Contains (inserted (λ x. x) pins p) q ↔ ((q ≡ p) ⊎ Contains pins q) }
+    ensures has { (pins : List (List ℕ)) (p q : List ℕ) → Contains (inserted (λ x. x) pins p) q ↔
+        ((q ≡ p) ⊎ Contains pins q) }
 {}
 
 /// Without a pin the settings can be written, and have all pins but this.
 pub fn dropped_pin()
-    ensures good { (s : Settings) (p : List ℕ) → IsSettings s → IsSettings (record s { pins = removed (λ q. q) s.pins p }) }
-    ensures has { (pins : List (List ℕ)) (p q : List ℕ) → Contains (removed (λ x. x) pins p) q ↔ (Contains pins q × (q ≢ p)) }
+    ensures good { (s : Settings) (p : List ℕ) → IsSettings s → IsSettings
+        (record s { pins = removed (λ q. q) s.pins p }) }
+    ensures has { (pins : List (List ℕ)) (p q : List ℕ) → Contains (removed (λ x. x) pins p) q ↔
+        (Contains pins q × (q ≢ p)) }
 {}
 
 /// With one more remote the settings can be written.
 pub fn added_remote()
-    ensures { (s : Settings) (row : RemoteRow) → IsSettings s → is_row row ≡ true → has_name name_of s.remotes row.name ≡ false → length s.remotes < 256
+    ensures { (s : Settings) (row : RemoteRow) → IsSettings s → is_row row ≡ true → has_name
+        name_of s.remotes row.name ≡ false → length s.remotes < 256
         → IsSettings (record s { remotes = inserted name_of s.remotes row }) }
 {}
 
 /// With another remote of the same name the settings can be written.
 pub fn modified_remote()
-    ensures { (s : Settings) (row : RemoteRow) → IsSettings s → is_row row ≡ true → has_name name_of s.remotes row.name ≡ true
+    ensures { (s : Settings) (row : RemoteRow) → IsSettings s → is_row row ≡ true → has_name
+        name_of s.remotes row.name ≡ true
         → IsSettings (record s { remotes = replaced name_of s.remotes row }) }
 {}
 
 /// Without a remote the settings can be written.
 pub fn dropped_remote()
-    ensures { (s : Settings) (name : List ℕ) → IsSettings s → IsSettings (record s { remotes = removed name_of s.remotes name }) }
+    ensures { (s : Settings) (name : List ℕ) → IsSettings s → IsSettings
+        (record s { remotes = removed name_of s.remotes name }) }
 {}
 
 /// A list that is put in order by names keeps its elements, each as often as it was there. Where no name comes twice, the names
 /// ascend.
 pub fn sorted_lists<T>()
     ensures keeps { (name : T → List ℕ) (xs : List T) → IsPermutation xs (sorted_by name xs) }
-    ensures ascends { (name : T → List ℕ) (xs : List T) → are_distinct (map name xs) ≡ true → is_ascending (map name (sorted_by name xs)) ≡ true }
+    ensures ascends { (name : T → List ℕ) (xs : List T) → are_distinct (map name xs) ≡ true →
+        is_ascending (map name (sorted_by name xs)) ≡ true }
 {}
 
 /// With one more remote the rows are those of before and this one; without the remotes of a name they are all others, in order.
 pub fn rows_of_remotes()
-    ensures added { (rows : List RemoteRow) (row : RemoteRow) → IsPermutation (row ∷ rows) (inserted name_of rows row) }
-    ensures dropped { (rows : List RemoteRow) (name : List ℕ) → removed name_of rows name ≡ filter (λ row. not (bytes_eq row.name name)) rows }
+    ensures added { (rows : List RemoteRow) (row : RemoteRow) → IsPermutation (row ∷ rows)
+        (inserted name_of rows row) }
+    ensures dropped { (rows : List RemoteRow) (name : List ℕ) → removed name_of rows name ≡ filter
+        (λ row. not (bytes_eq row.name name)) rows }
 {}

@@ -1,7 +1,7 @@
 // A small file that is read.
 ghost use Rattle.std.specs.Prelude.{◌≡◌, ◌≤◌, ℕ, List, IfOk, IsErrOf};
-ghost use Rattle.fp_host.specs.Causes.{IsCaused};
-ghost use Rattle.fp_host.specs.Frame.{Ends, Still};
+ghost use Rattle.fp_host.specs.Causes.{IsCaused, IsCounted};
+ghost use Rattle.fp_host.specs.Frame.{AtEnd, Unchanged};
 ghost use Rattle.fp_small.specs.Load.{Loads, IsWhole};
 ghost use Rattle.fp_host.specs.Calls.{IsFile};
 
@@ -23,9 +23,11 @@ pub enum Loaded {
 
 /// Reads the file of at most so many bytes.
 pub fn load<H: Host>(alloc: Global, host: &mut H, path: &Path, max: u64) -> Result<Loaded, HostEnd>
-    ensures still { Still (H.moments host.old) (H.moments host.new) }
-    ensures tells { IfOk result (λ loaded. Ends (λ u w. Loads path.now max u loaded) (H.moments host.old) (H.moments host.new)) }
-    ensures cause { IsCaused (IsErrOf result HostEnd.Fault) (H.moments host.old) (λ v. Unit {0}) (H.faults host.old) (H.faults host.new) }
+    ensures unchanged { Unchanged (H.moments host.old) (H.moments host.new) }
+    ensures tells { IfOk result (λ loaded. AtEnd (λ u w. Loads path.now max u loaded)
+        (H.moments host.old) (H.moments host.new)) }
+    ensures fault_has_cause { IsCounted (IsErrOf result HostEnd.Fault)
+        (H.moments host.old) (H.faults host.old) (H.faults host.new) }
 {
     match host.stat(path)? {
         Stat::Absent => Ok(Loaded::Absent),
@@ -37,9 +39,11 @@ pub fn load<H: Host>(alloc: Global, host: &mut H, path: &Path, max: u64) -> Resu
 
 /// The bytes of a file of this size.
 fn read_whole<H: Host>(alloc: Global, host: &mut H, path: &Path, size: u64) -> Result<Blob, HostEnd>
-    ensures still { Still (H.moments host.old) (H.moments host.new) }
-    ensures tells { IfOk result (λ bytes. Ends (λ u w. IsWhole path.now size u bytes) (H.moments host.old) (H.moments host.new)) }
-    ensures cause { IsCaused (IsErrOf result HostEnd.Fault) (H.moments host.old) (λ v. IsFile (v.names path.now)) (H.faults host.old) (H.faults host.new) }
+    ensures unchanged { Unchanged (H.moments host.old) (H.moments host.new) }
+    ensures tells { IfOk result (λ bytes. AtEnd (λ u w. IsWhole path.now size u bytes)
+        (H.moments host.old) (H.moments host.new)) }
+    ensures fault_has_cause { IsCaused (IsErrOf result HostEnd.Fault) (H.moments host.old)
+        (λ v. IsFile (v.names path.now)) (H.faults host.old) (H.faults host.new) }
 {
     let mut bytes = vec![in alloc; 0u8; size as usize]?;
     let count = host.read_at(path, 0, &mut bytes)?;

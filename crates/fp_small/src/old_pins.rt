@@ -27,7 +27,8 @@ fn is_ended(bytes: &[u8]) -> bool
 fn patterns_of(alloc: Global, bytes: &[u8]) -> Result<Vec<PinPattern>, ConfigFault>
     ensures ok { IfOk result (λ pins. pins.items ≡ lines_of bytes.now) }
     ensures good { OnOk result (list_all names.is_pin (lines_of bytes.now) ≡ true) }
-    ensures bad { IsErrOf result ConfigFault.Bad → list_all names.is_pin (lines_of bytes.now) ≡ false }
+    ensures bad { IsErrOf result ConfigFault.Bad → list_all names.is_pin (lines_of bytes.now) ≡
+        false }
 {
     let mut pins = Vec::new(alloc);
     let mut rest = bytes;

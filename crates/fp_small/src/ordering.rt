@@ -37,7 +37,8 @@ impl Named for RemoteRow {
 /// Where a name belongs: before the first that doesn't come before it.
 fn place_of<T: Named>(items: &[T], name: &str) -> usize
     ensures within { result ≤ length items.now }
-    ensures before { (item : T) → T.name_of item ≡ name.now → inserted T.name_of items.now item ≡ insert items.now result item }
+    ensures before { (item : T) → T.name_of item ≡ name.now → inserted T.name_of items.now item ≡
+        insert items.now result item }
 {
     for (place, item) in items.iter().enumerate() {
         if item.name() >= name {

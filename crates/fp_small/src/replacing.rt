@@ -3,9 +3,9 @@ ghost use Rattle.std.specs.Prelude.{◌≡◌, ◌↔◌, ◌≢◌, ℕ, List, 
 ghost use Rattle.fp_host.specs.Paths.{Elements, absent, dir, is_element};
 ghost use Rattle.fp_host.specs.View.{View};
 ghost use Rattle.fp_host.specs.Calls.{HasFolder};
-ghost use Rattle.fp_host.specs.Moments.{Goes};
-ghost use Rattle.fp_host.specs.Causes.{IsCaused};
-ghost use Rattle.fp_host.specs.Frame.{Frame, Ends, Still, AnyAt, AnyHeld, Only, NoPath};
+ghost use Rattle.fp_host.specs.Moments.{Always};
+ghost use Rattle.fp_host.specs.Causes.{IsCaused, IsCounted};
+ghost use Rattle.fp_host.specs.Frame.{Frame, AtEnd, Unchanged, AnyAt, AnyHeld, Only, NoPath};
 ghost use Rattle.fp_small.specs.Places.{tmp, new_name};
 ghost use Rattle.fp_small.specs.Unsynced.{MakesNoFile};
 ghost use Rattle.fp_small.specs.Folders.{ancestors, FolderAt, DirAt, FoldersAt, DirsAt, IsFree, AreFree, AreDirs, IsLadder};
@@ -20,11 +20,15 @@ use std::alloc::{AllocError, Global};
 
 /// Makes the folder where it is absent.
 fn make_folder<H: Host>(host: &mut H, path: &Path) -> Result<(), HostEnd>
-    ensures frame { Frame (FolderAt path.now) (DirAt path.now) NoPath (H.moments host.old) (H.moments host.new) }
-    ensures done { OnOk result (Ends (λ u w. IsFree u path.now → w.names path.now ≡ dir) (H.moments host.old) (H.moments host.new)) }
-    ensures unsynced { Ends MakesNoFile (H.moments host.old) (H.moments host.new) }
-    ensures cause { IsCaused (IsErrOf result HostEnd.Fault) (H.moments host.old) (λ v. v.names path.now ≡ absent → HasFolder v path.now) (H.faults host.old) (H.faults host.new) }
-    ensures memory { IsErrOf result HostEnd.NoMemory → ⊥ }
+    ensures frame { Frame (FolderAt path.now) (DirAt path.now) NoPath
+        (H.moments host.old) (H.moments host.new) }
+    ensures on_success { OnOk result (AtEnd (λ u w. IsFree u path.now → w.names path.now ≡ dir)
+        (H.moments host.old) (H.moments host.new)) }
+    ensures unsynced { AtEnd MakesNoFile (H.moments host.old) (H.moments host.new) }
+    ensures fault_has_cause { IsCaused (IsErrOf result HostEnd.Fault) (H.moments host.old)
+        (λ v. v.names path.now ≡ absent → HasFolder v path.now)
+        (H.faults host.old) (H.faults host.new) }
+    ensures needs_no_memory { IsErrOf result HostEnd.NoMemory → ⊥ }
 {
     match host.stat(path)? {
         Stat::Absent => {
@@ -37,11 +41,14 @@ fn make_folder<H: Host>(host: &mut H, path: &Path) -> Result<(), HostEnd>
 
 /// Makes the folders where they are absent, in this order.
 pub(crate) fn make_folders<H: Host>(host: &mut H, paths: &[Path]) -> Result<(), HostEnd>
-    ensures frame { Frame (FoldersAt paths.now) (DirsAt paths.now) NoPath (H.moments host.old) (H.moments host.new) }
-    ensures done { OnOk result (Ends (λ u w. AreFree paths.now u → AreDirs paths.now w) (H.moments host.old) (H.moments host.new)) }
-    ensures unsynced { Ends MakesNoFile (H.moments host.old) (H.moments host.new) }
-    ensures cause { IsCaused (IsErrOf result HostEnd.Fault) (H.moments host.old) (λ v. IsLadder paths.now × AreFree paths.now v) (H.faults host.old) (H.faults host.new) }
-    ensures memory { IsErrOf result HostEnd.NoMemory → ⊥ }
+    ensures frame { Frame (FoldersAt paths.now) (DirsAt paths.now) NoPath
+        (H.moments host.old) (H.moments host.new) }
+    ensures on_success { OnOk result (AtEnd (λ u w. AreFree paths.now u → AreDirs paths.now w)
+        (H.moments host.old) (H.moments host.new)) }
+    ensures unsynced { AtEnd MakesNoFile (H.moments host.old) (H.moments host.new) }
+    ensures fault_has_cause { IsCaused (IsErrOf result HostEnd.Fault) (H.moments host.old)
+        (λ v. IsLadder paths.now × AreFree paths.now v) (H.faults host.old) (H.faults host.new) }
+    ensures needs_no_memory { IsErrOf result HostEnd.NoMemory → ⊥ }
 {
     for path in paths {
         make_folder(host, path)?;
@@ -51,10 +58,13 @@ pub(crate) fn make_folders<H: Host>(host: &mut H, paths: &[Path]) -> Result<(), 
 
 /// Writes a new file with the permission bits 0644, and syncs.
 fn stage<H: Host>(host: &mut H, path: &Path, bytes: &[u8]) -> Result<(), HostEnd>
-    ensures frame { Frame (AnyAt path.now) (AnyHeld path.now) (Only path.now) (H.moments host.old) (H.moments host.new) }
-    ensures done { OnOk result (Ends (WasStaged path.now bytes.now) (H.moments host.old) (H.moments host.new)) }
-    ensures cause { IsCaused (IsErrOf result HostEnd.Fault) (H.moments host.old) (CanStage path.now) (H.faults host.old) (H.faults host.new) }
-    ensures memory { IsErrOf result HostEnd.NoMemory → ⊥ }
+    ensures frame { Frame (AnyAt path.now) (AnyHeld path.now) (Only path.now)
+        (H.moments host.old) (H.moments host.new) }
+    ensures on_success { OnOk result (AtEnd (WasStaged path.now bytes.now)
+        (H.moments host.old) (H.moments host.new)) }
+    ensures fault_has_cause { IsCaused (IsErrOf result HostEnd.Fault) (H.moments host.old)
+        (CanStage path.now) (H.faults host.old) (H.faults host.new) }
+    ensures needs_no_memory { IsErrOf result HostEnd.NoMemory → ⊥ }
 {
     host.create(path, 0o644)?;
     host.append(path, bytes)?;
@@ -63,10 +73,12 @@ fn stage<H: Host>(host: &mut H, path: &Path, bytes: &[u8]) -> Result<(), HostEnd
 
 /// Gives a file that is on the disk its name, and syncs.
 fn move_onto<H: Host>(host: &mut H, from: &Path, to: &Path) -> Result<(), HostEnd>
-    ensures moments { Goes (H.moments host.old) (H.moments host.new) (Moves from.now to.now) (Moves from.now to.now) }
-    ensures done { OnOk result (Ends (WasMoved from.now to.now) (H.moments host.old) (H.moments host.new)) }
-    ensures cause { IsCaused (IsErrOf result HostEnd.Fault) (H.moments host.old) (CanMove from.now to.now) (H.faults host.old) (H.faults host.new) }
-    ensures memory { IsErrOf result HostEnd.NoMemory → ⊥ }
+    ensures any_moment { Always (Moves from.now to.now) (H.moments host.old) (H.moments host.new) }
+    ensures on_success { OnOk result (AtEnd (WasMoved from.now to.now)
+        (H.moments host.old) (H.moments host.new)) }
+    ensures fault_has_cause { IsCaused (IsErrOf result HostEnd.Fault) (H.moments host.old)
+        (CanMove from.now to.now) (H.faults host.old) (H.faults host.new) }
+    ensures needs_no_memory { IsErrOf result HostEnd.NoMemory → ⊥ }
 {
     host.rename(from, to)?;
     host.sync()?;
@@ -105,9 +117,11 @@ fn free_name(alloc: Global, names: &[Text]) -> Result<String, AllocError>
 
 /// The names in the folder; none where it is no folder.
 fn names_in<H: Host>(alloc: Global, host: &mut H, folder: &Path) -> Result<Items<Text>, HostEnd>
-    ensures still { Still (H.moments host.old) (H.moments host.new) }
-    ensures tells { IfOk result (λ names. Ends (λ u w. ListsIn folder.now u names) (H.moments host.old) (H.moments host.new)) }
-    ensures cause { IsCaused (IsErrOf result HostEnd.Fault) (H.moments host.old) (λ v. Unit {0}) (H.faults host.old) (H.faults host.new) }
+    ensures unchanged { Unchanged (H.moments host.old) (H.moments host.new) }
+    ensures tells { IfOk result (λ names. AtEnd (λ u w. ListsIn folder.now u names)
+        (H.moments host.old) (H.moments host.new)) }
+    ensures fault_has_cause { IsCounted (IsErrOf result HostEnd.Fault)
+        (H.moments host.old) (H.faults host.old) (H.faults host.new) }
 {
     match host.stat(folder)? {
         Stat::Dir => Ok(host.list(alloc, folder)?),
@@ -117,9 +131,11 @@ fn names_in<H: Host>(alloc: Global, host: &mut H, folder: &Path) -> Result<Items
 
 /// Where the new file is staged.
 fn staging_place<H: Host>(alloc: Global, host: &mut H) -> Result<Path, HostEnd>
-    ensures still { Still (H.moments host.old) (H.moments host.new) }
-    ensures tells { IfOk result (λ place. Ends (λ u w. IsStaging u place) (H.moments host.old) (H.moments host.new)) }
-    ensures cause { IsCaused (IsErrOf result HostEnd.Fault) (H.moments host.old) (λ v. Unit {0}) (H.faults host.old) (H.faults host.new) }
+    ensures unchanged { Unchanged (H.moments host.old) (H.moments host.new) }
+    ensures tells { IfOk result (λ place. AtEnd (λ u w. IsStaging u place)
+        (H.moments host.old) (H.moments host.new)) }
+    ensures fault_has_cause { IsCounted (IsErrOf result HostEnd.Fault)
+        (H.moments host.old) (H.faults host.old) (H.faults host.new) }
 {
     let folder = tmp_path(alloc)?;
     let names = names_in(alloc, host, &folder)?;
@@ -167,11 +183,15 @@ pub fn replace<H: Host>(
     bytes: &[u8],
 ) -> Result<(), HostEnd>
     // A stop at any moment leaves at the path what some stop before would have left, or the whole new file.
-    ensures moments { Goes (H.moments host.old) (H.moments host.new) (Replaces path.now bytes.now) (Replaces path.now bytes.now) }
+    ensures any_moment { Always (Replaces path.now bytes.now)
+        (H.moments host.old) (H.moments host.new) }
     // Behind it every stop leaves the new file.
-    ensures done { OnOk result (Ends (WasReplaced path.now bytes.now) (H.moments host.old) (H.moments host.new)) }
-    ensures cause { IsCaused (IsErrOf result HostEnd.Fault) (H.moments host.old) (CanReplace path.now) (H.faults host.old) (H.faults host.new) }
-    ensures memory { IsErrOf result HostEnd.NoMemory → Ends (λ u w. w ≡ u) (H.moments host.old) (H.moments host.new) }
+    ensures on_success { OnOk result (AtEnd (WasReplaced path.now bytes.now)
+        (H.moments host.old) (H.moments host.new)) }
+    ensures fault_has_cause { IsCaused (IsErrOf result HostEnd.Fault) (H.moments host.old)
+        (CanReplace path.now) (H.faults host.old) (H.faults host.new) }
+    ensures starved_unchanged { IsErrOf result HostEnd.NoMemory → AtEnd (λ u w. w ≡ u)
+        (H.moments host.old) (H.moments host.new) }
 {
     let folders = folders_of(alloc, path)?;
     let place = staging_place(alloc, host)?;

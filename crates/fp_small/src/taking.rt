@@ -3,17 +3,20 @@ ghost use Rattle.std.specs.Prelude.{◌≡◌, OnOk, IsErrOf};
 ghost use Rattle.fp_host.specs.Paths.{absent};
 ghost use Rattle.fp_host.specs.Calls.{IsNoDir};
 ghost use Rattle.fp_host.specs.Causes.{IsCaused};
-ghost use Rattle.fp_host.specs.Frame.{Frame, Ends, NoPath};
+ghost use Rattle.fp_host.specs.Frame.{Frame, AtEnd, NoPath};
 ghost use Rattle.fp_small.specs.Clear.{GoneAt, AbsentAt};
 
 use fp_host::{Host, HostEnd, Path, Stat};
 
 /// Takes the name away where something stands there. It is for a path that is no folder.
 pub fn take_away<H: Host>(host: &mut H, path: &Path) -> Result<(), HostEnd>
-    ensures frame { Frame (GoneAt path.now) (AbsentAt path.now) NoPath (H.moments host.old) (H.moments host.new) }
-    ensures done { OnOk result (Ends (λ u w. w.names path.now ≡ absent) (H.moments host.old) (H.moments host.new)) }
-    ensures cause { IsCaused (IsErrOf result HostEnd.Fault) (H.moments host.old) (λ v. IsNoDir (v.names path.now)) (H.faults host.old) (H.faults host.new) }
-    ensures memory { IsErrOf result HostEnd.NoMemory → ⊥ }
+    ensures frame { Frame (GoneAt path.now) (AbsentAt path.now) NoPath
+        (H.moments host.old) (H.moments host.new) }
+    ensures on_success { OnOk result (AtEnd (λ u w. w.names path.now ≡ absent)
+        (H.moments host.old) (H.moments host.new)) }
+    ensures fault_has_cause { IsCaused (IsErrOf result HostEnd.Fault) (H.moments host.old)
+        (λ v. IsNoDir (v.names path.now)) (H.faults host.old) (H.faults host.new) }
+    ensures needs_no_memory { IsErrOf result HostEnd.NoMemory → ⊥ }
 {
     match host.stat(path)? {
         Stat::Absent => Ok(()),

@@ -14,7 +14,7 @@ fn fault_if(good: bool) -> Option<NameFault> {
     if good { None } else { Some(NameFault::Bad) }
 }
 
-/// A text of `length` bytes or more: the front, and letters behind it.
+/// A text of `length` bytes or more: the front, and letters after it.
 fn filled(alloc: Global, front: &str, length: usize) -> Result<String, AllocError> {
     let mut text = String::from_str(alloc, front)?;
     for _ in front.len()..length {

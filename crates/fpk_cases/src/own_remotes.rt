@@ -74,7 +74,7 @@ impl<R: Files + AllocGlobal> Remotes for OwnRemotes<'_, R> {
     ) -> Result<usize, RemoteError>
         ensures counts { RemoteCounts self.old.remotes self.new.remotes result }
         ensures bound { IfOk result (λ n. n ≤ length into.old) }
-        ensures memory { IsErrOf result RemoteError.NoMemory → ⊥ }
+        ensures needs_no_memory { IsErrOf result RemoteError.NoMemory → ⊥ }
     {
         // Where there is no memory for it, the empty url is refused, and counted.
         let own = self.own(url).unwrap_or(String::new(self.alloc));

@@ -40,7 +40,7 @@ pub fn status(text: &str) -> Result<u8, Fault> {
     text.parse::<u8>().map_err(|_| Fault::NoNumber)
 }
 
-/// A path, and the permission bits behind it in octal digits, which are 644 where none are said.
+/// A path, and the permission bits after it in octal digits, which are 644 where none are said.
 pub fn path_and_mode(text: &str) -> Result<(&str, u32), Fault> {
     match text.split_once(' ') {
         None => Ok((text, 0o644)),
@@ -51,7 +51,7 @@ pub fn path_and_mode(text: &str) -> Result<(&str, u32), Fault> {
     }
 }
 
-/// A word, and what stands behind the space after it.
+/// A word, and what stands after the space after it.
 pub fn word_and_rest(text: &str) -> Result<(&str, &str), Fault> {
     text.split_once(' ').ok_or(Fault::OneWord)
 }

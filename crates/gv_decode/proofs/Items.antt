@@ -8,7 +8,7 @@ use Rattle.gv_decode.specs.declared.error.DecodeError.{DecodeError}
 use Rattle.gv_decode.specs.Decoded.{Fails}
 use Rattle.gv_decode.proofs.Runs.{SoFar, so_far-fails, so_far-more, so_far-ends, cut-ends, cut-short, cut-no_child, cut-child, fails-more}
 
--- one offset, and those behind it
+-- one offset, and those after it
 numbers-next : (w count i : ℕ) (table : List ℕ) → i < count →
     numbers w (count - i) (drop (i * w) table) ≡ le_value (take w (drop (i * w) table)) ∷ numbers w (count - (i + 1)) (drop ((i + 1) * w) table)
 numbers-next w count i table lt =

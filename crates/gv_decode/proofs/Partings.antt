@@ -17,7 +17,7 @@ parted-other b bytes ne none = ap (parted_behind b bytes) none ∙ by (eqb b 0) 
     by false is = refl
     by true is = absurd (ne (eqb-true b 0 is))
 
--- behind a place there is no zero byte
+-- after a place there is no zero byte
 pub none-more : (bytes : List ℕ) (at : ℕ) → 0 < at → at ≤ length bytes → (get_or bytes (at - 1) 0 ≡ 0 → ⊥) → parted (drop at bytes) ≡ None → parted (drop (at - 1) bytes) ≡ None
 none-more bytes at pos le ne none =
     let i = at - 1 in

@@ -55,7 +55,8 @@ fn check_variant(alloc: Global, bytes: &[u8], room: u32) -> Result<(), DecodeErr
 fn check_maybe(alloc: Global, child: &Plan, bytes: &[u8], room: u32) -> Result<(), DecodeError>
     requires planned { IsTrue (is_plan child.now) }
     requires short { length bytes.now ≤ 2 ^ 24 }
-    ensures { Passes result (maybe_at (value_at room (plan_shape child.now)) (size_of (plan_shape child.now)) bytes.now) }
+    ensures { Passes result (maybe_at (value_at room (plan_shape child.now))
+        (size_of (plan_shape child.now)) bytes.now) }
 {
     if bytes.is_empty() {
         return Ok(());
@@ -89,7 +90,8 @@ fn check_items(
 ) -> Result<(), DecodeError>
     requires planned { IsTrue (is_plan element.now) }
     requires short { AreShort (slices children.now) }
-    ensures { Passes result (read_all (value_at room (plan_shape element.now)) (slices children.now)) }
+    ensures { Passes result (read_all (value_at room (plan_shape element.now))
+        (slices children.now)) }
 {
     for child in children {
         check(alloc, element, child, room)?;
@@ -107,7 +109,8 @@ fn check_members(
     room: u32,
 ) -> Result<(), DecodeError>
     requires planned { IsTrue (are_plans plans.now) }
-    requires extent { IsRun run (greatest_align (plan_shapes plans.now)) (end_of 0 (plan_shapes plans.now)) }
+    requires extent { IsRun run (greatest_align (plan_shapes plans.now))
+        (end_of 0 (plan_shapes plans.now)) }
     requires short { length bytes.now ≤ 2 ^ 24 }
     ensures { Passes result (option_and_then (read_each (value_at room) (plan_shapes plans.now))
         (tuple_children (size_of (tuple (plan_shapes plans.now))) (plan_shapes plans.now) bytes.now)) }
@@ -126,7 +129,8 @@ fn check_each(
 ) -> Result<(), DecodeError>
     requires planned { IsTrue (are_plans plans.now) }
     requires short { AreShort (slices children.now) }
-    ensures { Passes result (read_each (value_at room) (plan_shapes plans.now) (slices children.now)) }
+    ensures { Passes result (read_each (value_at room) (plan_shapes plans.now)
+        (slices children.now)) }
 {
     if plans.len() != children.len() {
         return Err(DecodeError::NotNormal);

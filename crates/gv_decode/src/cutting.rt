@@ -102,7 +102,8 @@ pub fn members<'a>(
     bytes: &'a [u8],
 ) -> Result<Vec<&'a [u8]>, DecodeError>
     requires planned { IsTrue (are_plans plans.now) }
-    requires extent { IsRun run (greatest_align (plan_shapes plans.now)) (end_of 0 (plan_shapes plans.now)) }
+    requires extent { IsRun run (greatest_align (plan_shapes plans.now))
+        (end_of 0 (plan_shapes plans.now)) }
     requires short { length bytes.now ≤ 2 ^ 24 }
     ensures { Gives (λ children. slices children.items) result
         (tuple_children (size_of (tuple (plan_shapes plans.now))) (plan_shapes plans.now) bytes.now) }
@@ -154,7 +155,8 @@ fn framed_members<'a>(
 /// The bytes of a child that is there.
 pub fn inside<'a>(child: &Plan, bytes: &'a [u8]) -> Result<&'a [u8], DecodeError>
     requires { IsTrue (is_plan child.now) }
-    ensures { Gives (λ kept. kept.now) result (child_bytes (size_of (plan_shape child.now)) bytes.now) }
+    ensures { Gives (λ kept. kept.now) result (child_bytes (size_of (plan_shape child.now))
+        bytes.now) }
 {
     match child.extent().size {
         Some(_) => Ok(bytes),

@@ -21,8 +21,10 @@ use std::alloc::Global;
 pub fn decode(alloc: Global, of: &GvType, bytes: &[u8]) -> Result<GvValue, DecodeError>
     ensures too_long { (result ≡ Err DecodeError.TooLong) ↔ (max_bytes < length bytes.now) }
     ensures spelled { IfOk result (λ value. Spelled (shape_of of.now) (plain value) bytes.now) }
-    ensures not_normal { result ≡ Err DecodeError.NotNormal → (v : Tree) → ¬ (Spelled (shape_of of.now) v bytes.now) }
-    ensures read { length bytes.now ≤ max_bytes → Gives plain result (value_of (shape_of of.now) bytes.now) }
+    ensures not_normal { result ≡ Err DecodeError.NotNormal → (v : Tree) → ¬
+        (Spelled (shape_of of.now) v bytes.now) }
+    ensures read { length bytes.now ≤ max_bytes → Gives plain result
+        (value_of (shape_of of.now) bytes.now) }
 {
     if bytes.len() > MAX_BYTES as usize {
         return Err(DecodeError::TooLong);
@@ -39,8 +41,10 @@ pub fn decode(alloc: Global, of: &GvType, bytes: &[u8]) -> Result<GvValue, Decod
 pub fn check_normal(alloc: Global, of: &GvType, bytes: &[u8]) -> Result<(), DecodeError>
     ensures too_long { (result ≡ Err DecodeError.TooLong) ↔ (max_bytes < length bytes.now) }
     ensures normal { IfOk result (λ _. (v : Tree) × Spelled (shape_of of.now) v bytes.now) }
-    ensures not_normal { result ≡ Err DecodeError.NotNormal → (v : Tree) → ¬ (Spelled (shape_of of.now) v bytes.now) }
-    ensures read { length bytes.now ≤ max_bytes → Passes result (value_of (shape_of of.now) bytes.now) }
+    ensures not_normal { result ≡ Err DecodeError.NotNormal → (v : Tree) → ¬
+        (Spelled (shape_of of.now) v bytes.now) }
+    ensures read { length bytes.now ≤ max_bytes → Passes result
+        (value_of (shape_of of.now) bytes.now) }
 {
     if bytes.len() > MAX_BYTES as usize {
         return Err(DecodeError::TooLong);
@@ -78,7 +82,8 @@ fn children_by<'a>(
 ) -> Result<Vec<&'a [u8]>, DecodeError>
     requires planned { IsTrue (is_plan plan.now) }
     requires short { length bytes.now ≤ 2 ^ 24 }
-    ensures { Gives (λ children. slices children.items) result (children_of (plan_shape plan.now) bytes.now) }
+    ensures { Gives (λ children. slices children.items) result
+        (children_of (plan_shape plan.now) bytes.now) }
 {
     match plan {
         Plan::Array(_, element) => elements(alloc, element, bytes),

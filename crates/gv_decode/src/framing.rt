@@ -15,7 +15,8 @@ pub fn child_at(body: &[u8], at: usize, align: u64, end: usize) -> Result<&[u8],
     requires pos { 0 < align }
     requires small { align ≤ 8 }
     requires within { at ≤ length body.now }
-    ensures { Gives (λ child. child.now) result (child_from body.now at (at + padding_of at align) end) }
+    ensures { Gives (λ child. child.now) result (child_from body.now at (at + padding_of at align)
+        end) }
 {
     let start = at + padding(at as u64, align) as usize;
     if start > end || end > body.len() {
@@ -95,7 +96,8 @@ pub fn offset_count(plans: &[Plan]) -> usize
 pub fn offset_at(frame: Frame<'_>, index: usize) -> usize
     requires whole { IsWhole frame }
     requires inside { index < frame.count }
-    ensures { result ≡ le_value (take frame.entry.width (drop (index * frame.entry.width) frame.entry.table.now)) }
+    ensures { result ≡ le_value (take frame.entry.width (drop (index * frame.entry.width)
+        frame.entry.table.now)) }
 {
     let start = index * frame.width;
     number(&frame.table[start..start + frame.width]) as usize

@@ -81,7 +81,8 @@ fn read_variant(alloc: Global, bytes: &[u8], room: u32) -> Result<GvValue, Decod
 fn read_maybe(alloc: Global, child: &Plan, bytes: &[u8], room: u32) -> Result<GvValue, DecodeError>
     requires planned { IsTrue (is_plan child.now) }
     requires short { length bytes.now ≤ 2 ^ 24 }
-    ensures { Gives plain result (maybe_at (value_at room (plan_shape child.now)) (size_of (plan_shape child.now)) bytes.now) }
+    ensures { Gives plain result (maybe_at (value_at room (plan_shape child.now))
+        (size_of (plan_shape child.now)) bytes.now) }
 {
     if bytes.is_empty() {
         return Ok(GvValue::Maybe(None));
@@ -144,7 +145,8 @@ fn read_members(
     room: u32,
 ) -> Result<Vec<GvValue>, DecodeError>
     requires planned { IsTrue (are_plans plans.now) }
-    requires extent { IsRun run (greatest_align (plan_shapes plans.now)) (end_of 0 (plan_shapes plans.now)) }
+    requires extent { IsRun run (greatest_align (plan_shapes plans.now))
+        (end_of 0 (plan_shapes plans.now)) }
     requires short { length bytes.now ≤ 2 ^ 24 }
     ensures { Gives (λ values. plains values.items) result
         (option_and_then (read_each (value_at room) (plan_shapes plans.now))

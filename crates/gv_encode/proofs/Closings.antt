@@ -1,4 +1,4 @@
--- What stands behind a body.
+-- What stands after a body.
 use Rattle.std.proofs.Common.{◌≡◌, ℕ, ◌-◌, ◌*◌, ◌≤◌, List, ◌++◌, length, Option, Some, None, refl, ap, subst, arith, Result, Ok, Err, mul-le-mul_left, length-append}
 use Rattle.gv_value.specs.Capped.{capped}
 use Rattle.gv_value.specs.Bytes.{zeros}

@@ -1,4 +1,4 @@
--- The ends of a tuple's members, and what stands behind them.
+-- The ends of a tuple's members, and what stands after them.
 use Rattle.std.proofs.Common.{◌≡◌, ℕ, ◌+◌, ◌-◌, ◌≤◌, Bool, true, false, List, [], ◌∷◌, ◌++◌, length, reverse, Option, Some, None, Result, refl, sym, ap, ◌∙◌, subst, arith, append_assoc, append-nil, length-append, eqb}
 use Rattle.std.proofs.lemmas.Bool.{eq-eqb, eqb-true}
 use Rattle.gv_value.specs.Bytes.{zeros}
@@ -42,7 +42,7 @@ none-left (p ∷ ps) i n e = by (eqb i n) refl
     by false is = refl
     by true is = absurd (omega (arith, e, eqb-true i n is))
 
--- a tuple whose members are there, and what was added behind them
+-- a tuple whose members are there, and what was added after them
 pub closed : {X : Type 0} (r : Result X EncodeError) (before out after : List ℕ) (o : Option ℕ) (ts : Shapes) (children : List (List ℕ)) (noted : List ℕ) (used : ℕ) →
     IsAdded before out (tuple_body ts children) → noted ≡ written ts (ends [] (parts_of ts children)) → used ≡ length out - length before →
     Adds r out after (closing o used (reverse noted)) → Adds r before after (tuple_bytes o ts children)

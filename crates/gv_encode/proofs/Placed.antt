@@ -1,4 +1,4 @@
--- Children that are placed one behind the other.
+-- Children that are placed one after the other.
 use Rattle.std.proofs.Common.{◌≡◌, ℕ, ◌-◌, ◌≤◌, Bool, true, false, List, [], ◌∷◌, ◌++◌, length, Option, Some, None, refl, sym, ap, ◌∙◌, subst, arith, append_assoc, append-nil, length-append}
 use Rattle.gv_value.specs.Bytes.{zeros}
 use Rattle.gv_value.specs.Framing.{Part, placed, laid, ends, put_offset}

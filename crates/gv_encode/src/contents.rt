@@ -14,7 +14,8 @@ use gv_value::{Basic, Content, Parts};
 fn append_unsigned(out: &mut Vec<u8>, of: Basic, number: u64) -> Result<(), EncodeError>
     requires room { vec_len out.old ≤ 2 ^ 24 }
     requires held { IsHeldContent (form_of of) (Content.Number number) }
-    ensures { Adds result out.old.items out.new.items (content_bytes (form_of of) (content_of (Content.Number number))) }
+    ensures { Adds result out.old.items out.new.items (content_bytes (form_of of)
+        (content_of (Content.Number number))) }
 {
     match of {
         Basic::Byte => append_number(out, number, 1),
@@ -28,7 +29,8 @@ fn append_unsigned(out: &mut Vec<u8>, of: Basic, number: u64) -> Result<(), Enco
 fn append_signed(out: &mut Vec<u8>, of: Basic, number: i64) -> Result<(), EncodeError>
     requires room { vec_len out.old ≤ 2 ^ 24 }
     requires held { IsHeldContent (form_of of) (Content.Integer number) }
-    ensures { Adds result out.old.items out.new.items (content_bytes (form_of of) (content_of (Content.Integer number))) }
+    ensures { Adds result out.old.items out.new.items (content_bytes (form_of of)
+        (content_of (Content.Integer number))) }
 {
     match of {
         Basic::Int16 => append_number(out, u64::from((number as i16).cast_unsigned()), 2),
@@ -51,7 +53,8 @@ pub fn write_basic(out: &mut Vec<u8>, of: Basic, parts: Parts<'_>) -> Result<(),
     requires room { vec_len out.old ≤ 2 ^ 24 }
     requires held { IsHeld parts }
     requires fits { (n : ℕ) × IsTrue (fits_within n (basic of) (part_tree parts)) }
-    ensures { Adds result out.old.items out.new.items (spelling (part_tree parts.entry) (basic of)) }
+    ensures { Adds result out.old.items out.new.items (spelling (part_tree parts.entry)
+        (basic of)) }
 {
     let Parts::Basic(held, content) = parts else {
         return Err(EncodeError::NotOfType);

@@ -15,7 +15,8 @@ use std::alloc::AllocError;
 pub fn append_offsets(out: &mut Vec<u8>, start: usize, offsets: &[usize]) -> Result<(), EncodeError>
     requires room { vec_len out.old ≤ 2 ^ 24 }
     requires inside { start ≤ vec_len out.old }
-    ensures { Adds result out.old.items out.new.items (offset_bytes (vec_len out.old - start) offsets.now) }
+    ensures { Adds result out.old.items out.new.items (offset_bytes (vec_len out.old - start)
+        offsets.now) }
 {
     if offsets.len() > room_behind(out) {
         return Err(EncodeError::TooLong);
@@ -35,7 +36,8 @@ pub fn note_end(
     last: bool,
 ) -> Result<(), AllocError>
     requires { IsTrue (is_plan plan.now) }
-    ensures { OnOk result (ends.new.items ≡ ends.old.items ++ put_offset (size_of (plan_shape plan.now)) last end []) }
+    ensures { OnOk result (ends.new.items ≡ ends.old.items ++ put_offset
+        (size_of (plan_shape plan.now)) last end []) }
 {
     if plan.extent().size.is_none() && !last {
         ends.push(end)?;

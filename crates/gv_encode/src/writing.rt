@@ -32,7 +32,8 @@ pub fn write(
     requires room_left { vec_len out.old ≤ 2 ^ 24 }
     requires planned { IsTrue (is_plan plan.now) }
     requires fits { IsTrue (fits_within room (plan_shape plan.now) (plain value.now)) }
-    ensures { Adds result out.old.items out.new.items (spelling (plain value.now) (plan_shape plan.now)) }
+    ensures { Adds result out.old.items out.new.items (spelling (plain value.now)
+        (plan_shape plan.now)) }
 {
     let parts = value.parts();
     if let Plan::Basic(basic) = plan {
@@ -89,8 +90,10 @@ fn write_array(
     requires room_left { vec_len out.old ≤ 2 ^ 24 }
     requires planned { IsTrue (is_plan element.now) }
     requires held { IsHeld parts }
-    requires fits { IsTrue (fits_within (suc room) (array (plan_shape element.now)) (part_tree parts)) }
-    ensures { Adds result out.old.items out.new.items (spelling (part_tree parts.entry) (array (plan_shape element.now))) }
+    requires fits { IsTrue (fits_within (suc room) (array (plan_shape element.now))
+        (part_tree parts)) }
+    ensures { Adds result out.old.items out.new.items (spelling (part_tree parts.entry)
+        (array (plan_shape element.now))) }
 {
     match parts {
         Parts::Bytes(bytes) => append(out, bytes),
@@ -113,8 +116,10 @@ fn write_row(
 ) -> Result<(), EncodeError>
     requires room_left { vec_len out.old ≤ 2 ^ 24 }
     requires planned { IsTrue (is_plan element.now) }
-    requires fits { IsTrue (all_fit (fits_within room (plan_shape element.now)) (plains items.now)) }
-    ensures { Adds result out.old.items out.new.items (concat (spelling_of_all (plains items.now) (plan_shape element.now))) }
+    requires fits { IsTrue (all_fit (fits_within room (plan_shape element.now))
+        (plains items.now)) }
+    ensures { Adds result out.old.items out.new.items (concat
+        (spelling_of_all (plains items.now) (plan_shape element.now))) }
 {
     for item in items {
         write(alloc, out, element, item, room)?;
@@ -133,7 +138,8 @@ fn write_framed(
 ) -> Result<(), EncodeError>
     requires room_left { vec_len out.old ≤ 2 ^ 24 }
     requires planned { IsTrue (is_plan element.now) }
-    requires fits { IsTrue (all_fit (fits_within room (plan_shape element.now)) (plains items.now)) }
+    requires fits { IsTrue (all_fit (fits_within room (plan_shape element.now))
+        (plains items.now)) }
     ensures { Adds result out.old.items out.new.items
         (array_bytes (align_of (plan_shape element.now)) None (spelling_of_all (plains items.now) (plan_shape element.now))) }
 {
@@ -179,8 +185,10 @@ fn write_maybe(
 ) -> Result<(), EncodeError>
     requires room_left { vec_len out.old ≤ 2 ^ 24 }
     requires planned { IsTrue (is_plan child.now) }
-    requires fits { IsTrue (fits_within (suc room) (maybe (plan_shape child.now)) (part_tree parts)) }
-    ensures { Adds result out.old.items out.new.items (spelling (part_tree parts.entry) (maybe (plan_shape child.now))) }
+    requires fits { IsTrue (fits_within (suc room) (maybe (plan_shape child.now))
+        (part_tree parts)) }
+    ensures { Adds result out.old.items out.new.items (spelling (part_tree parts.entry)
+        (maybe (plan_shape child.now))) }
 {
     match parts {
         Parts::Nothing => Ok(()),
@@ -207,9 +215,12 @@ fn write_tuple(
 ) -> Result<(), EncodeError>
     requires room_left { vec_len out.old ≤ 2 ^ 24 }
     requires planned { IsTrue (are_plans plans.now) }
-    requires extent { IsRun run (greatest_align (plan_shapes plans.now)) (end_of 0 (plan_shapes plans.now)) }
-    requires fits { IsTrue (fits_within (suc room) (tuple (plan_shapes plans.now)) (part_tree parts)) }
-    ensures { Adds result out.old.items out.new.items (spelling (part_tree parts.entry) (tuple (plan_shapes plans.now))) }
+    requires extent { IsRun run (greatest_align (plan_shapes plans.now))
+        (end_of 0 (plan_shapes plans.now)) }
+    requires fits { IsTrue (fits_within (suc room) (tuple (plan_shapes plans.now))
+        (part_tree parts)) }
+    ensures { Adds result out.old.items out.new.items (spelling (part_tree parts.entry)
+        (tuple (plan_shapes plans.now))) }
 {
     let Parts::Tuple(items) = parts else {
         return Err(EncodeError::NotOfType);
@@ -230,7 +241,8 @@ fn write_members(
 ) -> Result<Vec<usize>, EncodeError>
     requires room_left { vec_len out.old ≤ 2 ^ 24 }
     requires planned { IsTrue (are_plans plans.now) }
-    requires fits { IsTrue (each_fits (fits_within room) (plan_shapes plans.now) (plains items.now)) }
+    requires fits { IsTrue (each_fits (fits_within room) (plan_shapes plans.now)
+        (plains items.now)) }
     ensures body { Adds result out.old.items out.new.items
         (tuple_body (plan_shapes plans.now) (spelling_of_each (plains items.now) (plan_shapes plans.now))) }
     ensures noted { IfOk result (λ noted. noted.items ≡ written (plan_shapes plans.now)
@@ -267,9 +279,13 @@ fn write_entry(
     requires room_left { vec_len out.old ≤ 2 ^ 24 }
     requires key_planned { IsTrue (is_plan key_plan.now) }
     requires value_planned { IsTrue (is_plan value_plan.now) }
-    requires extent { IsRun run (greatest_align (two_shapes (plan_shape key_plan.now) (plan_shape value_plan.now))) (end_of 0 (two_shapes (plan_shape key_plan.now) (plan_shape value_plan.now))) }
-    requires fits { IsTrue (fits_within (suc room) (entry (plan_shape key_plan.now) (plan_shape value_plan.now)) (part_tree parts)) }
-    ensures { Adds result out.old.items out.new.items (spelling (part_tree parts.entry) (entry (plan_shape key_plan.now) (plan_shape value_plan.now))) }
+    requires extent { IsRun run (greatest_align (two_shapes (plan_shape key_plan.now)
+        (plan_shape value_plan.now))) (end_of 0 (two_shapes (plan_shape key_plan.now)
+        (plan_shape value_plan.now))) }
+    requires fits { IsTrue (fits_within (suc room) (entry (plan_shape key_plan.now)
+        (plan_shape value_plan.now)) (part_tree parts)) }
+    ensures { Adds result out.old.items out.new.items (spelling (part_tree parts.entry)
+        (entry (plan_shape key_plan.now) (plan_shape value_plan.now))) }
 {
     let Parts::Entry(key, value) = parts else {
         return Err(EncodeError::NotOfType);

@@ -40,9 +40,9 @@ below_last : (limit : ℕ) (front : List ℕ) (n : ℕ) → AllBelow limit (fron
 below_last limit [] n h = h.0
 below_last limit (m ∷ front) n h = below_last limit front n h.1
 
--- ---- offsets behind a body
+-- ---- offsets after a body
 
--- the offsets that a body has behind it are read again
+-- the offsets that a body has after it are read again
 pub offsets_behind-framed : (body os bytes : List ℕ) → IsFramed body os bytes → offsets_behind (length body) (length os) bytes ≡ Some os
 offsets_behind-framed body os bytes h =
     let n = length body in
@@ -65,7 +65,7 @@ offsets_behind-found before count bytes os e =
     let p = and_parts (leb before (length bytes)) (eqb (width before count) (width_in (length bytes))) g.0 in
     record { inside = leb-true _ _ p.0; wide = eqb-true _ _ p.1; offsets = offsets_at-found _ _ _ _ g.1 }
 
--- a body and the offsets that were read behind it are framed so
+-- a body and the offsets that were read after it are framed so
 pub framed-found : (body os bytes : List ℕ) → BehindIs (length body) (length os) bytes os → body ≡ take (length body) bytes → IsFramed body os bytes
 framed-found body os bytes h is =
     (h.offsets.below, sym (take-append-drop (length body) bytes) ∙ ap (λ (xs : List ℕ). xs ++ drop (length body) bytes) (sym is) ∙ ap (λ (xs : List ℕ). body ++ xs) (sym h.offsets.spelled))

@@ -72,7 +72,7 @@ child_at-found body at start end child le e =
 
 -- ---- all children
 
--- the marks of parts that stand behind a body
+-- the marks of parts that stand after a body
 abbrev pub marked : List ℕ → List Part → List Mark
 marked body [] = []
 marked body (part ∷ parts) = (part.0, length (placed body part)) ∷ marked (placed body part) parts
@@ -81,7 +81,7 @@ marked body (part ∷ parts) = (part.0, length (placed body part)) ∷ marked (p
 abbrev pub children_of : List Part → List (List ℕ)
 children_of = map (λ part. part.1)
 
--- what stands behind a body once parts are laid behind it
+-- what stands after a body once parts are laid after it
 abbrev pub behind : List ℕ → List Part → List ℕ
 behind body [] = []
 behind body (part ∷ parts) = (zeros (padding (length body) part.0) ++ part.1) ++ behind (placed body part) parts

@@ -1,4 +1,4 @@
--- The extents of members, one behind the other.
+-- The extents of members, one after the other.
 use Rattle.std.proofs.Common.{◌≡◌, ℕ, zero, suc, ◌+◌, ◌<◌, ◌≤◌, min, max, Bool, true, false, List, [], ◌∷◌, length, get_or, drop, Option, Some, None, option_map, option_and_then, unwrap_or, refl, sym, ap, ap₂, ◌∙◌, subst, arith}
 use Rattle.std.proofs.lemmas.Bool.{cases_lt}
 use Rattle.std.proofs.lemmas.List.{drop_more, drop_all}
@@ -42,13 +42,13 @@ mutual
   greatest_align-pos no_shapes = omega arith
   greatest_align-pos (shape t ts) = omega (arith, align-pos t)
 
--- one more member behind capped ends
+-- one more member after capped ends
 pub run_end-capped : (at : Option ℕ) (a : ℕ) (size : Option ℕ) → run_end (capped_size at) a (capped_size size) ≡ capped_size (option_and_then (λ x. option_map (λ n. end_behind x a n) size) at)
 run_end-capped None a size = refl
 run_end-capped (Some at) a None = refl
 run_end-capped (Some at) a (Some n) = ap (λ (x : ℕ). Some x) (capped-end at a n)
 
--- where members end behind others
+-- where members end after others
 abbrev pub end_behind_all : Option ℕ → Shapes → Option ℕ
 end_behind_all at ts = option_and_then (λ x. end_of x ts) at
 

@@ -11,7 +11,7 @@ same_bytes a b e = (bytes_eq-Decides a b).0 e
 pub bytes_eq-same : (a b : List ℕ) → a ≡ b → bytes_eq a b ≡ true
 bytes_eq-same a b e = (bytes_eq-Decides a b).1 e
 
--- a list that ends in one element has it behind the others
+-- a list that ends in one element has it after the others
 pub take_before : (a : List ℕ) (b : ℕ) → take (length (a ++ b ∷ []) - 1) (a ++ b ∷ []) ≡ a
 take_before a b = take_at a (b ∷ []) _ (omega (arith, length-append a (b ∷ [])))
 

@@ -160,7 +160,7 @@ type_again zero (entry k v) rest h = absurd cc
 
 -- ---- what is read was spelled so
 
--- a type of its text, with what stands behind it
+-- a type of its text, with what stands after it
 pub record Takes (n : ℕ) (text : List ℕ) (t : Shape) (rest : List ℕ) : Type 0 where
   pub is : text ≡ type_text t ++ rest
   pub nests : nests_within n t ≡ true
@@ -319,7 +319,7 @@ type_of-found text t e =
     let taken = type_takes max_depth text a.0.0 a.0.1 a.1 in
     subst (IsTextOf text) whole.0 (record { is = taken.is ∙ ap (λ (xs : List ℕ). type_text a.0.0 ++ xs) whole.1 ∙ append-nil (type_text a.0.0); type = taken.nests })
 
--- ---- a type string behind a zero byte
+-- ---- a type string after a zero byte
 
 has_zero-append : (a b : List ℕ) → has_zero a ≡ false → has_zero b ≡ false → has_zero (a ++ b) ≡ false
 has_zero-append [] b p q = q
@@ -362,7 +362,7 @@ parted-nonzero (b ∷ bytes) h =
     let p = or_parts (eqb b 0) (has_zero bytes) h in
     ap (parted_behind b bytes) (parted-nonzero bytes p.1) ∙ ap (λ (x : Bool). cond x (Some ([], bytes)) None) p.0
 
--- bytes part before the zero byte behind which none stands
+-- bytes part before the zero byte after which none stands
 pub parted-spelled : (front behind : List ℕ) → has_zero behind ≡ false → parted (front ++ 0 ∷ behind) ≡ Some (front, behind)
 parted-spelled [] behind h = ap (parted_behind 0 behind) (parted-nonzero behind h)
 parted-spelled (b ∷ front) behind h = ap (parted_behind b (front ++ 0 ∷ behind)) (parted-spelled front behind h)

@@ -87,7 +87,8 @@ fn variant_fits(parts: Parts<'_>, room: u32) -> bool
 #[cycle(fits)]
 fn array_fits(element: &GvType, parts: Parts<'_>, room: u32) -> bool
     requires { IsHeld parts }
-    ensures { result ≡ tree_fits_within (suc room) (array (shape_of element.now)) (part_tree parts.entry) }
+    ensures { result ≡ tree_fits_within (suc room) (array (shape_of element.now))
+        (part_tree parts.entry) }
 {
     match parts {
         Parts::Array(items) => all_fit(element, items, room),
@@ -109,7 +110,8 @@ fn is_byte(of: &GvType) -> bool
 /// Whether each item is of this type.
 #[cycle(fits)]
 fn all_fit(element: &GvType, items: &[GvValue], room: u32) -> bool
-    ensures { result ≡ all_trees_fit (tree_fits_within room (shape_of element.now)) (plains items.now) }
+    ensures { result ≡ all_trees_fit (tree_fits_within room (shape_of element.now))
+        (plains items.now) }
 {
     for item in items {
         if !fits_within(element, item, room) {
@@ -122,7 +124,8 @@ fn all_fit(element: &GvType, items: &[GvValue], room: u32) -> bool
 /// Whether a value is nothing, or a child of this type.
 #[cycle(fits)]
 fn maybe_fits(of: &GvType, parts: Parts<'_>, room: u32) -> bool
-    ensures { result ≡ tree_fits_within (suc room) (maybe (shape_of of.now)) (part_tree parts.entry) }
+    ensures { result ≡ tree_fits_within (suc room) (maybe (shape_of of.now))
+        (part_tree parts.entry) }
 {
     match parts {
         Parts::Nothing => true,
@@ -134,7 +137,8 @@ fn maybe_fits(of: &GvType, parts: Parts<'_>, room: u32) -> bool
 /// Whether a value is a tuple of these members.
 #[cycle(fits)]
 fn tuple_fits(members: &[GvType], parts: Parts<'_>, room: u32) -> bool
-    ensures { result ≡ tree_fits_within (suc room) (tuple (shapes_of members.now)) (part_tree parts.entry) }
+    ensures { result ≡ tree_fits_within (suc room) (tuple (shapes_of members.now))
+        (part_tree parts.entry) }
 {
     match parts {
         Parts::Tuple(items) => each_fits(members, items, room),
@@ -145,7 +149,8 @@ fn tuple_fits(members: &[GvType], parts: Parts<'_>, room: u32) -> bool
 /// Whether there are as many items as members, each of its member's type.
 #[cycle(fits)]
 fn each_fits(members: &[GvType], items: &[GvValue], room: u32) -> bool
-    ensures { result ≡ each_tree_fits (tree_fits_within room) (shapes_of members.now) (plains items.now) }
+    ensures { result ≡ each_tree_fits (tree_fits_within room) (shapes_of members.now)
+        (plains items.now) }
 {
     if members.len() != items.len() {
         return false;
@@ -161,7 +166,8 @@ fn each_fits(members: &[GvType], items: &[GvValue], room: u32) -> bool
 /// Whether a value is an entry of this key and this value.
 #[cycle(fits)]
 fn entry_fits(key: &GvType, value: &GvType, parts: Parts<'_>, room: u32) -> bool
-    ensures { result ≡ tree_fits_within (suc room) (entry (shape_of key.now) (shape_of value.now)) (part_tree parts.entry) }
+    ensures { result ≡ tree_fits_within (suc room) (entry (shape_of key.now) (shape_of value.now))
+        (part_tree parts.entry) }
 {
     match parts {
         Parts::Entry(first, second) => {

@@ -46,7 +46,8 @@ pub fn extent_of(of: &GvType) -> Extent
 /// The extent of members, one after the other.
 #[cycle(measure)]
 fn extent_of_members(members: &[GvType]) -> Extent
-    ensures { IsRun result (greatest_align (shapes_of members.now)) (end_of 0 (shapes_of members.now)) }
+    ensures { IsRun result (greatest_align (shapes_of members.now))
+        (end_of 0 (shapes_of members.now)) }
 {
     let mut run = Extent::no_members();
     for member in members {

@@ -31,7 +31,8 @@ impl Plan {
 /// The extent of members, one after the other.
 fn extent_of_plans(plans: &[Plan]) -> Extent
     requires { IsTrue (are_plans plans.now) }
-    ensures { IsRun result (greatest_align (plan_shapes plans.now)) (end_of 0 (plan_shapes plans.now)) }
+    ensures { IsRun result (greatest_align (plan_shapes plans.now))
+        (end_of 0 (plan_shapes plans.now)) }
 {
     let mut run = Extent::no_members();
     for plan in plans {

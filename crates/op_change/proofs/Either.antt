@@ -24,7 +24,7 @@ use Rattle.dep_states.specs.Sound.{Opens, IsOld, is_remotes, is_pins}
 use Rattle.dep_states.specs.After.{after, May, IsGood}
 use Rattle.dep_states.proofs.Law.{same_shown, seen_same, seen_in_config, now_left}
 use Rattle.fp_host.specs.Moments.{Moments, Goes}
-use Rattle.fp_host.specs.Frame.{Ends}
+use Rattle.fp_host.specs.Frame.{AtEnd}
 use Rattle.fp_host.proofs.Goes.{begins}
 use Rattle.fp_host.proofs.Ending.{ends_goes, ends_both, ends_to}
 use Rattle.fp_small.proofs.Pinning.{added, dropped}
@@ -244,5 +244,5 @@ pub moments_applied : {a b : Option Moments} {s : State} {op : Op} {t : State} �
 moments_applied tree is good reads goes = begins tree goes (λ u w here replaces. applies is good reads replaces) (λ u w here replaces end. applies is good reads replaces)
 
 pub ends_applied : {a b : Option Moments} {s : State} {op : Op} {t : State} → ((m : Moments) → a ≡ Some m → IsTree m.now) → t ≡ after s op → IsNext t → ReadsBack t
-    → Goes a b (Replaces config (config_text (settings_of t))) (Replaces config (config_text (settings_of t))) → Ends (WasReplaced config (config_text (settings_of t))) a b → Ends (WasApplied s op) a b
+    → Goes a b (Replaces config (config_text (settings_of t))) (Replaces config (config_text (settings_of t))) → AtEnd (WasReplaced config (config_text (settings_of t))) a b → AtEnd (WasApplied s op) a b
 ends_applied tree is good reads goes done = ends_to (ends_both (ends_goes tree goes) done) (λ u w both. was_applied is good reads both.0 both.1)

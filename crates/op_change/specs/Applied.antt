@@ -27,7 +27,7 @@ pub record Applies (s : State) (op : Op) (u w : View) : Type 0 where
   pub files : KeepsFiles u w
   pub printed : w.printed ≡ u.printed
 
--- behind it the state after, in `config`, which has just its text, all settled, and nothing at the new file's name
+-- after it the state after, in `config`, which has just its text, all settled, and nothing at the new file's name
 pub record WasApplied (s : State) (op : Op) (u w : View) : Type 0 where
   pub opens : Opens s u → Opens (after s op) w
   pub text : HasNew config (config_text (settings_of (after s op))) w

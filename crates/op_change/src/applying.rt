@@ -1,8 +1,8 @@
 // One operation on an installation.
 ghost use Rattle.std.specs.Prelude.{◌≡◌, IfOk, OnOk, IsErrOf};
 ghost use Rattle.fp_host.specs.Causes.{IsCaused};
-ghost use Rattle.fp_host.specs.Frame.{Ends};
-ghost use Rattle.fp_host.specs.Moments.{Goes};
+ghost use Rattle.fp_host.specs.Frame.{AtEnd};
+ghost use Rattle.fp_host.specs.Moments.{Always};
 ghost use Rattle.fp_small.specs.Config.{config_text, IsSettings};
 ghost use Rattle.fp_small.specs.Replace.{Replaces, WasReplaced, CanReplace};
 ghost use Rattle.dep_states.specs.Names.{config};
@@ -33,10 +33,13 @@ pub fn apply<H: Host>(
     ensures state { IfOk result (λ o. o ≡ after opened op.now) }
     ensures good { IfOk result IsGood }
     // A stop at any moment leaves the one state or the other.
-    ensures moments { Goes (H.moments host.old) (H.moments host.new) (Applies opened op.now) (Applies opened op.now) }
-    ensures done { OnOk result (Ends (WasApplied opened op.now) (H.moments host.old) (H.moments host.new)) }
-    ensures cause { IsCaused (IsErrOf result HostEnd.Fault) (H.moments host.old) (Opens opened) (H.faults host.old) (H.faults host.new) }
-    ensures memory { IsErrOf result HostEnd.NoMemory → Ends (λ u w. w ≡ u) (H.moments host.old) (H.moments host.new) }
+    ensures any_moment { Always (Applies opened op.now) (H.moments host.old) (H.moments host.new) }
+    ensures on_success { OnOk result (AtEnd (WasApplied opened op.now)
+        (H.moments host.old) (H.moments host.new)) }
+    ensures fault_has_cause { IsCaused (IsErrOf result HostEnd.Fault) (H.moments host.old)
+        (Opens opened) (H.faults host.old) (H.faults host.new) }
+    ensures starved_unchanged { IsErrOf result HostEnd.NoMemory → AtEnd (λ u w. w ≡ u)
+        (H.moments host.old) (H.moments host.new) }
 {
     let state = changed(opened.take(), op)?;
     write_state(alloc, host, &state)?;
@@ -73,10 +76,14 @@ fn changed(state: State, op: &Op) -> Result<State, AllocError>
 /// Writes `config` anew.
 fn write_state<H: Host>(alloc: Global, host: &mut H, state: &State) -> Result<(), HostEnd>
     requires { IsSettings (settings_of state.now) }
-    ensures moments { Goes (H.moments host.old) (H.moments host.new) (Replaces config (config_text (settings_of state.now))) (Replaces config (config_text (settings_of state.now))) }
-    ensures done { OnOk result (Ends (WasReplaced config (config_text (settings_of state.now))) (H.moments host.old) (H.moments host.new)) }
-    ensures cause { IsCaused (IsErrOf result HostEnd.Fault) (H.moments host.old) (CanReplace config) (H.faults host.old) (H.faults host.new) }
-    ensures memory { IsErrOf result HostEnd.NoMemory → Ends (λ u w. w ≡ u) (H.moments host.old) (H.moments host.new) }
+    ensures any_moment { Always (Replaces config (config_text (settings_of state.now)))
+        (H.moments host.old) (H.moments host.new) }
+    ensures on_success { OnOk result (AtEnd (WasReplaced config
+        (config_text (settings_of state.now))) (H.moments host.old) (H.moments host.new)) }
+    ensures fault_has_cause { IsCaused (IsErrOf result HostEnd.Fault) (H.moments host.old)
+        (CanReplace config) (H.faults host.old) (H.faults host.new) }
+    ensures starved_unchanged { IsErrOf result HostEnd.NoMemory → AtEnd (λ u w. w ≡ u)
+        (H.moments host.old) (H.moments host.new) }
 {
     let path = Path::root(alloc).child("config")?;
     let text = write_config(alloc, state.remotes.as_slice(), state.pins.as_slice())?;

@@ -37,14 +37,16 @@ impl ContentHasher {
 
     /// Takes in the next piece of the content.
     pub fn update(&mut self, piece: &[u8])
-        ensures { (mode : ℕ) (bytes : List ℕ) → HasTaken self.old mode bytes → HasTaken self.new mode (bytes ++ piece.now) }
+        ensures { (mode : ℕ) (bytes : List ℕ) → HasTaken self.old mode bytes → HasTaken self.new
+            mode (bytes ++ piece.now) }
     {
         self.hasher.update(piece);
     }
 
     /// The digest of the file whose content is all that was taken in, however it was cut.
     pub fn finish(self) -> Digest
-        ensures { (mode : ℕ) (bytes : List ℕ) → HasTaken self mode bytes → result ≡ digest_of_file mode bytes }
+        ensures { (mode : ℕ) (bytes : List ℕ) → HasTaken self mode bytes → result ≡ digest_of_file
+            mode bytes }
     {
         Digest::from_bytes(self.hasher.finalize())
     }

@@ -1,4 +1,4 @@
-//! What the digest of a file or a link begins with: a GVariant of the type `(uuuusa(ayay))` behind its length.
+//! What the digest of a file or a link begins with: a GVariant of the type `(uuuusa(ayay))` after its length.
 
 ghost use Rattle.std.specs.Prelude.{◌≡◌, ◌<◌, ◌^◌, ◌++◌, true, take, IfOk};
 ghost use Rattle.std.specs.Int.{w32, to_be_bytes};
@@ -31,7 +31,7 @@ fn beginning(length: u32, mode: u32) -> [u8; 24]
     bytes
 }
 
-/// The header of a file with these permission bits, behind its length: what its digest is taken of, before its content.
+/// The header of a file with these permission bits, after its length: what its digest is taken of, before its content.
 pub fn header(mode: u32) -> [u8; 26]
     requires { is_permission mode ≡ true }
     ensures { result ≡ file_header mode }
@@ -42,7 +42,7 @@ pub fn header(mode: u32) -> [u8; 26]
     bytes
 }
 
-/// The header of a link with this text, behind its length: what its digest is taken of.
+/// The header of a link with this text, after its length: what its digest is taken of.
 pub fn link_header(alloc: Global, target: &str) -> Result<Blob, AllocError>
     requires { is_link_text target.now ≡ true }
     ensures { IfOk result (λ bytes. bytes ≡ header_of_link target.now) }

@@ -5,7 +5,7 @@ use Rattle.gv_value.specs.Tree.{Tree, array, byte_trees}
 use Rattle.ost_model.specs.Fields.{text_in, each_of}
 use Rattle.ost_model.specs.Binding.{texts_in, later, last_named, binding_name, binding_in}
 
--- what is found behind, or what was found before
+-- what is found after, or what was found before
 abbrev pub settled : Option Tree → Option (List (List ℕ)) → Option (List (List ℕ))
 settled (Some v) before = texts_in v
 settled None before = before

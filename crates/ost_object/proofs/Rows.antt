@@ -6,7 +6,7 @@ use Rattle.gv_value.specs.Tree.{Tree, byte_trees}
 use Rattle.gv_value.specs.Views.{plain, plains}
 use Rattle.ost_model.specs.Fields.{byte_in, file_in, dir_in, each_of}
 
--- behind what was read before
+-- after what was read before
 abbrev pub behind : {A : Type 0} → List A → Option (List A) → Option (List A)
 behind before rest = option_map (λ others. before ++ others) rest
 

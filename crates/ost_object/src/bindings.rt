@@ -26,7 +26,8 @@ use std::alloc::{AllocError, Global};
 /// The refs that a commit says it was made for: the value of the last entry `ostree.ref-binding` of its metadata, where that
 /// has type `as`. Of the metadata no value is made but that one.
 pub fn binding(alloc: Global, commit: &Commit) -> Result<Option<Items<Text>>, AllocError>
-    ensures { IfOk result (λ found. found ≡ binding_in (tree_at dictionary_shape commit.now.metadata)) }
+    ensures { IfOk result (λ found. found ≡ binding_in (tree_at dictionary_shape
+        commit.now.metadata)) }
 {
     match entries_of(alloc, commit.metadata.as_slice()) {
         Ok(entries) => last_binding(alloc, &entries),
@@ -76,7 +77,8 @@ fn bound_by(
 ) -> Result<Option<Option<Items<Text>>>, AllocError>
     requires shape { shape_of of.now ≡ entry_shape }
     requires normal { IsSome (value_of entry_shape entry.now) }
-    ensures { IfOk result (λ found. found ≡ option_map texts_in (named_in binding_name (tree_at entry_shape entry.now))) }
+    ensures { IfOk result (λ found. found ≡ option_map texts_in
+        (named_in binding_name (tree_at entry_shape entry.now))) }
 {
     match children_of(alloc, of, entry) {
         Ok(members) => bound_pair(alloc, &members),
@@ -87,7 +89,8 @@ fn bound_by(
 
 /// The same by the entry's key and value.
 fn bound_pair(alloc: Global, members: &[&[u8]]) -> Result<Option<Option<Items<Text>>>, AllocError>
-    ensures { IfOk result (λ found. found ≡ option_map texts_in (named_in binding_name (pair_tree (slices members.now)))) }
+    ensures { IfOk result (λ found. found ≡ option_map texts_in
+        (named_in binding_name (pair_tree (slices members.now)))) }
 {
     match members {
         [key, value] => {
@@ -197,7 +200,8 @@ fn is_str(of: Basic) -> bool
 
 /// The texts of an array.
 fn item_texts(alloc: Global, value: &GvValue) -> Result<Option<Items<Text>>, AllocError>
-    ensures { IfOk result (λ found. found ≡ option_and_then (each_of text_in) (items_in (plain value.now))) }
+    ensures { IfOk result (λ found. found ≡ option_and_then (each_of text_in)
+        (items_in (plain value.now))) }
 {
     match value.parts() {
         Parts::Array(items) => if_texts(alloc, items),

@@ -39,7 +39,8 @@ pub struct CommitDigests {
 
 /// The fields of the commit that bytes are.
 pub fn commit_parts(alloc: Global, bytes: &[u8]) -> Result<CommitParts<'_>, ObjectError>
-    ensures { Finds parts_view result (option_and_then commit_in (value_of commit_shape bytes.now)) }
+    ensures { Finds parts_view result (option_and_then commit_in
+        (value_of commit_shape bytes.now)) }
 {
     let of = commit_type(alloc)?;
     check(alloc, &of, bytes)?;
@@ -68,7 +69,8 @@ fn eight_parts<'a>(members: &[&'a [u8]]) -> Result<CommitParts<'a>, ObjectError>
 
 /// The digests of a commit, or the first rule after `Value` that it breaks.
 pub fn commit_digests(parts: &CommitParts<'_>) -> Result<CommitDigests, ObjectError>
-    ensures { Reads digests_view result (kept (commit_breaks (parts_view parts.now)) (digests_in (parts_view parts.now))) }
+    ensures { Reads digests_view result (kept (commit_breaks (parts_view parts.now))
+        (digests_in (parts_view parts.now))) }
 {
     let parent = parent_of(parts.parent)?;
     let tree = digest_of(parts.tree, Rule::Tree)?;

@@ -20,7 +20,8 @@ pub fn digest_of(bytes: &[u8], broken: Rule) -> Result<Digest, ObjectError>
 
 /// A parent: no bytes, or a digest of 32.
 pub fn parent_of(bytes: &[u8]) -> Result<Option<Digest>, ObjectError>
-    ensures { Tries Rule.Parent parent_bytes result (if length bytes.now == 0 || is_long bytes.now then Some bytes.now else None) }
+    ensures { Tries Rule.Parent parent_bytes result (if length bytes.now == 0 || is_long bytes.now
+        then Some bytes.now else None) }
 {
     if bytes.is_empty() {
         return Ok(None);

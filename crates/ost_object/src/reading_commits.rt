@@ -60,7 +60,8 @@ fn whole_commit(
 
 /// The subject and the body.
 fn said_in(alloc: Global, parts: &CommitParts<'_>) -> Result<(Text, Text), AllocError>
-    ensures { IfOk result (λ texts. (texts.0 ≡ text_at parts.now.subject.now) × (texts.1 ≡ text_at parts.now.body.now)) }
+    ensures { IfOk result (λ texts. (texts.0 ≡ text_at parts.now.subject.now) ×
+        (texts.1 ≡ text_at parts.now.body.now)) }
 {
     let subject = text_of_bytes(alloc, parts.subject)?;
     let body = text_of_bytes(alloc, parts.body)?;
@@ -69,7 +70,8 @@ fn said_in(alloc: Global, parts: &CommitParts<'_>) -> Result<(Text, Text), Alloc
 
 /// The metadata and what is related, which are kept as they are.
 fn kept_of(alloc: Global, parts: &CommitParts<'_>) -> Result<(Blob, Blob), AllocError>
-    ensures { IfOk result (λ kept. (kept.0 ≡ parts.now.metadata.now) × (kept.1 ≡ parts.now.related.now)) }
+    ensures { IfOk result (λ kept. (kept.0 ≡ parts.now.metadata.now) ×
+        (kept.1 ≡ parts.now.related.now)) }
 {
     let metadata = Blob::from_slice(alloc, parts.metadata)?;
     let related = Blob::from_slice(alloc, parts.related)?;

@@ -85,7 +85,8 @@ fn is_bare_of_bytes(bytes: &[u8]) -> bool
 
 /// The dirmeta of these fields, or the first rule after `Value` that they break.
 fn judged(fields: MetaFields) -> Result<DirMeta, ObjectError>
-    ensures { Reads meta_view result (kept (meta_breaks (meta_fields fields)) (meta_fields fields)) }
+    ensures { Reads meta_view result (kept (meta_breaks (meta_fields fields))
+        (meta_fields fields)) }
 {
     if !(fields.uid == 0 && fields.gid == 0) {
         return Err(ObjectError::Malformed(Rule::Owner));

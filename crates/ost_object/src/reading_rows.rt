@@ -67,7 +67,8 @@ fn dir_members(alloc: Global, members: &[GvValue]) -> Result<DirFields, ObjectEr
 
 /// The files of an array.
 pub fn files_of(alloc: Global, value: &GvValue) -> Result<Vec<FileFields>, ObjectError>
-    ensures { Finds (λ rows. map file_fields rows.items) result (option_and_then (each_of file_in) (items_in (plain value.now))) }
+    ensures { Finds (λ rows. map file_fields rows.items) result
+        (option_and_then (each_of file_in) (items_in (plain value.now))) }
 {
     match value {
         GvValue::Array(items) => file_rows(alloc, items),
@@ -78,7 +79,8 @@ pub fn files_of(alloc: Global, value: &GvValue) -> Result<Vec<FileFields>, Objec
 
 /// The directories of an array.
 pub fn dirs_of(alloc: Global, value: &GvValue) -> Result<Vec<DirFields>, ObjectError>
-    ensures { Finds (λ rows. map dir_fields rows.items) result (option_and_then (each_of dir_in) (items_in (plain value.now))) }
+    ensures { Finds (λ rows. map dir_fields rows.items) result
+        (option_and_then (each_of dir_in) (items_in (plain value.now))) }
 {
     match value {
         GvValue::Array(items) => dir_rows(alloc, items),
@@ -89,7 +91,8 @@ pub fn dirs_of(alloc: Global, value: &GvValue) -> Result<Vec<DirFields>, ObjectE
 
 /// No files, where there are no bytes: a byte is no file.
 fn no_files(alloc: Global, bytes: &[u8]) -> Result<Vec<FileFields>, ObjectError>
-    ensures { Finds (λ rows. map file_fields rows.items) result (each_of file_in (byte_trees bytes.now)) }
+    ensures { Finds (λ rows. map file_fields rows.items) result
+        (each_of file_in (byte_trees bytes.now)) }
 {
     match bytes {
         [] => Ok(Vec::new(alloc)),
@@ -99,7 +102,8 @@ fn no_files(alloc: Global, bytes: &[u8]) -> Result<Vec<FileFields>, ObjectError>
 
 /// No directories, where there are no bytes.
 fn no_dirs(alloc: Global, bytes: &[u8]) -> Result<Vec<DirFields>, ObjectError>
-    ensures { Finds (λ rows. map dir_fields rows.items) result (each_of dir_in (byte_trees bytes.now)) }
+    ensures { Finds (λ rows. map dir_fields rows.items) result
+        (each_of dir_in (byte_trees bytes.now)) }
 {
     match bytes {
         [] => Ok(Vec::new(alloc)),
@@ -109,7 +113,8 @@ fn no_dirs(alloc: Global, bytes: &[u8]) -> Result<Vec<DirFields>, ObjectError>
 
 /// Files, one by one.
 fn file_rows(alloc: Global, values: &[GvValue]) -> Result<Vec<FileFields>, ObjectError>
-    ensures { Finds (λ rows. map file_fields rows.items) result (each_of file_in (plains values.now)) }
+    ensures { Finds (λ rows. map file_fields rows.items) result
+        (each_of file_in (plains values.now)) }
 {
     let mut rows = Vec::with_capacity(alloc, values.len())?;
     for value in values {
@@ -120,7 +125,8 @@ fn file_rows(alloc: Global, values: &[GvValue]) -> Result<Vec<FileFields>, Objec
 
 /// Directories, one by one.
 fn dir_rows(alloc: Global, values: &[GvValue]) -> Result<Vec<DirFields>, ObjectError>
-    ensures { Finds (λ rows. map dir_fields rows.items) result (each_of dir_in (plains values.now)) }
+    ensures { Finds (λ rows. map dir_fields rows.items) result
+        (each_of dir_in (plains values.now)) }
 {
     let mut rows = Vec::with_capacity(alloc, values.len())?;
     for value in values {
@@ -131,7 +137,8 @@ fn dir_rows(alloc: Global, values: &[GvValue]) -> Result<Vec<DirFields>, ObjectE
 
 /// The files, where each digest has 32 bytes.
 pub fn file_entries(alloc: Global, rows: &[FileFields]) -> Result<Vec<FileEntry>, ObjectError>
-    ensures { Tries Rule.Digest (λ files. map file_row files.items) result (only has_long (map file_fields rows.now)) }
+    ensures { Tries Rule.Digest (λ files. map file_row files.items) result
+        (only has_long (map file_fields rows.now)) }
 {
     let mut files = Vec::with_capacity(alloc, rows.len())?;
     for row in rows {
@@ -142,7 +149,8 @@ pub fn file_entries(alloc: Global, rows: &[FileFields]) -> Result<Vec<FileEntry>
 
 /// The directories, where each digest has 32 bytes.
 pub fn dir_entries(alloc: Global, rows: &[DirFields]) -> Result<Vec<DirEntry>, ObjectError>
-    ensures { Tries Rule.Digest (λ dirs. map dir_row dirs.items) result (only has_both_long (map dir_fields rows.now)) }
+    ensures { Tries Rule.Digest (λ dirs. map dir_row dirs.items) result
+        (only has_both_long (map dir_fields rows.now)) }
 {
     let mut dirs = Vec::with_capacity(alloc, rows.len())?;
     for row in rows {

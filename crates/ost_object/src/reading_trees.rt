@@ -34,7 +34,8 @@ fn tree_rows(
     alloc: Global,
     value: &GvValue,
 ) -> Result<(Vec<FileFields>, Vec<DirFields>), ObjectError>
-    ensures { Finds (λ rows. tree_fields rows.0.items rows.1.items) result (tree_in (plain value.now)) }
+    ensures { Finds (λ rows. tree_fields rows.0.items rows.1.items) result
+        (tree_in (plain value.now)) }
 {
     match value {
         GvValue::Tuple(members) => row_members(alloc, members),
@@ -47,7 +48,8 @@ fn row_members(
     alloc: Global,
     members: &[GvValue],
 ) -> Result<(Vec<FileFields>, Vec<DirFields>), ObjectError>
-    ensures { Finds (λ rows. tree_fields rows.0.items rows.1.items) result (tree_in (tuple (plains members.now))) }
+    ensures { Finds (λ rows. tree_fields rows.0.items rows.1.items) result
+        (tree_in (tuple (plains members.now))) }
 {
     match members {
         [files, dirs] => {
@@ -61,7 +63,8 @@ fn row_members(
 
 /// The dirtree of these rows, or the first rule after `Value` that they break.
 fn judged(alloc: Global, files: &[FileFields], dirs: &[DirFields]) -> Result<DirTree, ObjectError>
-    ensures { Reads tree_view result (kept (tree_breaks (tree_fields files.now dirs.now)) (tree_fields files.now dirs.now)) }
+    ensures { Reads tree_view result (kept (tree_breaks (tree_fields files.now dirs.now))
+        (tree_fields files.now dirs.now)) }
 {
     match file_entries(alloc, files) {
         Ok(files) => judged_dirs(alloc, files, dirs),
@@ -76,7 +79,8 @@ fn judged_dirs(
     dirs: &[DirFields],
 ) -> Result<DirTree, ObjectError>
     requires { list_all has_long (map file_row files.items) ≡ true }
-    ensures { Reads tree_view result (kept (tree_breaks (half_read files.items dirs.now)) (half_read files.items dirs.now)) }
+    ensures { Reads tree_view result (kept (tree_breaks (half_read files.items dirs.now))
+        (half_read files.items dirs.now)) }
 {
     match dir_entries(alloc, dirs) {
         Ok(dirs) => named(files, dirs),
@@ -86,7 +90,8 @@ fn judged_dirs(
 
 /// The dirtree, or the first rule after `Digest` that it breaks.
 fn named(files: Vec<FileEntry>, dirs: Vec<DirEntry>) -> Result<DirTree, ObjectError>
-    ensures { Reads tree_view result (kept (first_broken (name_tests (rows_view files.items dirs.items))) (rows_view files.items dirs.items)) }
+    ensures { Reads tree_view result (kept (first_broken (name_tests
+        (rows_view files.items dirs.items))) (rows_view files.items dirs.items)) }
 {
     match broken_name(&files, &dirs) {
         Some(rule) => Err(ObjectError::Malformed(rule)),

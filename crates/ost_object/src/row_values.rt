@@ -13,7 +13,8 @@ use std::alloc::{AllocError, Global};
 
 /// Files as values of type `(say)`.
 pub fn files_as_values(alloc: Global, files: &[FileEntry]) -> Result<Vec<GvValue>, AllocError>
-    ensures values { IfOk result (λ values. plains values.items ≡ each_value file_value (map file_row files.now)) }
+    ensures values { IfOk result (λ values. plains values.items ≡ each_value file_value
+        (map file_row files.now)) }
     ensures long { OnOk result (list_all has_long (map file_row files.now) ≡ true) }
 {
     let mut values = Vec::with_capacity(alloc, files.len())?;
@@ -35,7 +36,8 @@ fn file_as_value(alloc: Global, file: &FileEntry) -> Result<GvValue, AllocError>
 
 /// Directories as values of type `(sayay)`.
 pub fn dirs_as_values(alloc: Global, dirs: &[DirEntry]) -> Result<Vec<GvValue>, AllocError>
-    ensures values { IfOk result (λ values. plains values.items ≡ each_value dir_value (map dir_row dirs.now)) }
+    ensures values { IfOk result (λ values. plains values.items ≡ each_value dir_value
+        (map dir_row dirs.now)) }
     ensures long { OnOk result (list_all has_both_long (map dir_row dirs.now) ≡ true) }
 {
     let mut values = Vec::with_capacity(alloc, dirs.len())?;

@@ -79,7 +79,8 @@ struct DigestValues {
 #[tactic(auto, using(crate::proofs::Lengths::unbroken))]
 fn digest_values(alloc: Global, commit: &Commit) -> Result<DigestValues, AllocError>
     ensures good { OnOk result (commit_breaks (commit_view commit.now) ≡ None) }
-    ensures parent { IfOk result (λ values. plain values.parent ≡ bytes_value (parent_bytes commit.now.parent)) }
+    ensures parent { IfOk result (λ values. plain values.parent ≡ bytes_value
+        (parent_bytes commit.now.parent)) }
     ensures tree { IfOk result (λ values. plain values.tree ≡ bytes_value commit.now.tree) }
     ensures meta { IfOk result (λ values. plain values.meta ≡ bytes_value commit.now.meta) }
 {
@@ -93,7 +94,8 @@ fn digest_values(alloc: Global, commit: &Commit) -> Result<DigestValues, AllocEr
 #[tactic(auto, using(crate::proofs::Lengths::or_long))]
 fn parent_as_value(alloc: Global, parent: &Option<Digest>) -> Result<GvValue, AllocError>
     ensures value { IfOk result (λ value. plain value ≡ bytes_value (parent_bytes parent.now)) }
-    ensures long { length (parent_bytes parent.now) == 0 || is_long (parent_bytes parent.now) ≡ true }
+    ensures long { length (parent_bytes parent.now) == 0 || is_long (parent_bytes parent.now) ≡
+        true }
 {
     match parent {
         Some(digest) => digest_as_value(alloc, digest),
@@ -109,7 +111,8 @@ fn spelled_commit(
     related: GvValue,
     digests: DigestValues,
 ) -> Result<Blob, ObjectError>
-    ensures spelled { Spells result commit_shape (tuple (first (plain metadata) (first (plain digests.parent) (first (plain related)
+    ensures spelled { Spells result commit_shape (tuple (first (plain metadata)
+        (first (plain digests.parent) (first (plain related)
         (first (text_value commit.now.subject) (first (text_value commit.now.body) (first (time_value commit.now.timestamp)
         (first (plain digests.tree) (first (plain digests.meta) no_trees))))))))) }
     ensures small { commit.now.timestamp < 2 ^ 64 }
@@ -153,7 +156,8 @@ fn spelled_members(
     said: SaidValues,
     digests: DigestValues,
 ) -> Result<Blob, ObjectError>
-    ensures { Spells result commit_shape (tuple (first (plain metadata) (first (plain digests.parent) (first (plain related)
+    ensures { Spells result commit_shape (tuple (first (plain metadata)
+        (first (plain digests.parent) (first (plain related)
         (first (plain said.subject) (first (plain said.body) (first (plain said.time)
         (first (plain digests.tree) (first (plain digests.meta) no_trees))))))))) }
 {
@@ -187,7 +191,8 @@ fn commit_as_value(
     said: SaidValues,
     digests: DigestValues,
 ) -> Result<GvValue, AllocError>
-    ensures { IfOk result (λ value. plain value ≡ tuple (first (plain metadata) (first (plain digests.parent) (first (plain related)
+    ensures { IfOk result (λ value. plain value ≡ tuple (first (plain metadata)
+        (first (plain digests.parent) (first (plain related)
         (first (plain said.subject) (first (plain said.body) (first (plain said.time) (first (plain digests.tree) (first (plain digests.meta) no_trees))))))))) }
 {
     Ok(GvValue::Tuple(vec![in alloc;

@@ -38,7 +38,8 @@ fn write_rows(alloc: Global, files: &[FileEntry], dirs: &[DirEntry]) -> Result<B
 
 /// The bytes of the values of rows.
 fn spelled_rows(alloc: Global, files: Vec<GvValue>, dirs: Vec<GvValue>) -> Result<Blob, ObjectError>
-    ensures { Spells result tree_shape (tuple (first (array (plains files.items)) (first (array (plains dirs.items)) no_trees))) }
+    ensures { Spells result tree_shape (tuple (first (array (plains files.items))
+        (first (array (plains dirs.items)) no_trees))) }
 {
     let of = tree_type(alloc)?;
     let value = rows_as_value(alloc, files, dirs)?;
@@ -51,7 +52,8 @@ fn rows_as_value(
     files: Vec<GvValue>,
     dirs: Vec<GvValue>,
 ) -> Result<GvValue, AllocError>
-    ensures { IfOk result (λ value. plain value ≡ tuple (first (array (plains files.items)) (first (array (plains dirs.items)) no_trees))) }
+    ensures { IfOk result (λ value. plain value ≡ tuple (first (array (plains files.items))
+        (first (array (plains dirs.items)) no_trees))) }
 {
     Ok(GvValue::Tuple(vec![in alloc; GvValue::Array(files), GvValue::Array(dirs)]?))
 }

@@ -1,4 +1,4 @@
--- Refs that are dropped, and read behind a change.
+-- Refs that are dropped, and read after a change.
 use Rattle.std.proofs.Common.{◌≡◌, inl, ℕ, List, Ok, refl, ◌∙◌, ap, subst, true, Option}
 use Rattle.fp_host.specs.Paths.{Elements, absent}
 use Rattle.fp_host.specs.View.{View, IsTree}
@@ -11,7 +11,7 @@ use Rattle.fp_small.specs.Replace.{WasReplaced}
 use Rattle.fp_small.proofs.Staging.{synced}
 use Rattle.ost_refs.specs.Files.{ref_bytes, ref_in}
 use Rattle.ost_refs.specs.Changes.{WasDropped}
-use Rattle.fp_host.specs.Frame.{Frame, Ends, NoPath}
+use Rattle.fp_host.specs.Frame.{Frame, AtEnd, NoPath}
 use Rattle.fp_host.specs.Moments.{Moments}
 use Rattle.ost_refs.specs.declared.place.RefFile.TheVariants.{Digest, Absent}
 use Rattle.ost_refs.proofs.Files.{written}
@@ -40,5 +40,5 @@ read_dropped p w was = ap ref_in (was.gone (shows w) (stands w))
 pub frame_at : {p q : Elements} {a b : Option Moments} → p ≡ q → Frame (GoneAt p) (AbsentAt p) NoPath a b → Frame (GoneAt q) (AbsentAt q) NoPath a b
 frame_at {a = a} {b = b} same frame = subst (λ (r : Elements). Frame (GoneAt r) (AbsentAt r) NoPath a b) same frame
 
-pub ends_at : {p q : Elements} {a b : Option Moments} → p ≡ q → Ends (λ u w. w.names p ≡ absent) a b → Ends (λ u w. w.names q ≡ absent) a b
-ends_at {a = a} {b = b} same done = subst (λ (r : Elements). Ends (λ u w. w.names r ≡ absent) a b) same done
+pub ends_at : {p q : Elements} {a b : Option Moments} → p ≡ q → AtEnd (λ u w. w.names p ≡ absent) a b → AtEnd (λ u w. w.names q ≡ absent) a b
+ends_at {a = a} {b = b} same done = subst (λ (r : Elements). AtEnd (λ u w. w.names r ≡ absent) a b) same done

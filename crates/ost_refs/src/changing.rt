@@ -1,8 +1,8 @@
 // Refs that are written and dropped.
 ghost use Rattle.std.specs.Prelude.{◌≡◌, IfOk, OnOk, IsErrOf};
 ghost use Rattle.fp_host.specs.Causes.{IsCaused};
-ghost use Rattle.fp_host.specs.Frame.{Frame, Ends, NoPath};
-ghost use Rattle.fp_host.specs.Moments.{Goes};
+ghost use Rattle.fp_host.specs.Frame.{Frame, AtEnd, NoPath};
+ghost use Rattle.fp_host.specs.Moments.{Always};
 ghost use Rattle.fp_small.specs.Clear.{GoneAt, AbsentAt};
 ghost use Rattle.fp_small.specs.Replace.{Replaces, WasReplaced, IsFreeFile};
 ghost use Rattle.ost_refs.specs.Places.{place_path};
@@ -26,11 +26,15 @@ pub fn write_ref<H: Host>(
     digest: &Digest,
 ) -> Result<(), HostEnd>
     // A stop at any moment leaves at the place what some stop before would have left, or the whole new file.
-    ensures moments { Goes (H.moments host.old) (H.moments host.new) (Replaces (place_path root.now place.now) (ref_bytes digest.now)) (Replaces (place_path root.now place.now) (ref_bytes digest.now)) }
+    ensures any_moment { Always (Replaces (place_path root.now place.now) (ref_bytes digest.now))
+        (H.moments host.old) (H.moments host.new) }
     // Behind it every stop leaves the new file.
-    ensures done { OnOk result (Ends (WasReplaced (place_path root.now place.now) (ref_bytes digest.now)) (H.moments host.old) (H.moments host.new)) }
-    ensures cause { IsCaused (IsErrOf result HostEnd.Fault) (H.moments host.old) (CanWrite root.now place.now) (H.faults host.old) (H.faults host.new) }
-    ensures memory { IsErrOf result HostEnd.NoMemory → Ends (λ u w. w ≡ u) (H.moments host.old) (H.moments host.new) }
+    ensures on_success { OnOk result (AtEnd (WasReplaced (place_path root.now place.now)
+        (ref_bytes digest.now)) (H.moments host.old) (H.moments host.new)) }
+    ensures fault_has_cause { IsCaused (IsErrOf result HostEnd.Fault) (H.moments host.old)
+        (CanWrite root.now place.now) (H.faults host.old) (H.faults host.new) }
+    ensures starved_unchanged { IsErrOf result HostEnd.NoMemory → AtEnd (λ u w. w ≡ u)
+        (H.moments host.old) (H.moments host.new) }
 {
     let path = path_of(root, place)?;
     let bytes = ref_bytes(alloc, digest)?;
@@ -55,11 +59,16 @@ pub fn drop_ref<H: Host>(
     place: &RefPlace,
 ) -> Result<(), HostEnd>
     // A stop at any moment leaves at the place what some stop before would have left, or nothing, and all else as it was.
-    ensures frame { Frame (GoneAt (place_path root.now place.now)) (AbsentAt (place_path root.now place.now)) NoPath (H.moments host.old) (H.moments host.new) }
+    ensures frame { Frame (GoneAt (place_path root.now place.now))
+        (AbsentAt (place_path root.now place.now)) NoPath
+        (H.moments host.old) (H.moments host.new) }
     // Behind it no stop leaves anything there.
-    ensures done { OnOk result (Ends (λ u w. WasDropped (place_path root.now place.now) w) (H.moments host.old) (H.moments host.new)) }
-    ensures cause { IsCaused (IsErrOf result HostEnd.Fault) (H.moments host.old) (IsFreeFile (place_path root.now place.now)) (H.faults host.old) (H.faults host.new) }
-    ensures memory { IsErrOf result HostEnd.NoMemory → Ends (λ u w. w ≡ u) (H.moments host.old) (H.moments host.new) }
+    ensures on_success { OnOk result (AtEnd (λ u w. WasDropped (place_path root.now place.now) w)
+        (H.moments host.old) (H.moments host.new)) }
+    ensures fault_has_cause { IsCaused (IsErrOf result HostEnd.Fault) (H.moments host.old)
+        (IsFreeFile (place_path root.now place.now)) (H.faults host.old) (H.faults host.new) }
+    ensures starved_unchanged { IsErrOf result HostEnd.NoMemory → AtEnd (λ u w. w ≡ u)
+        (H.moments host.old) (H.moments host.new) }
 {
     let path = path_of(root, place)?;
     take_away(host, &path)?;

@@ -16,14 +16,17 @@ ghost use Rattle.ost_refs.specs.declared.place.RefFile.TheVariants.{Digest, Abse
 /// The file of a ref reads back as it was written, and no other file says the same.
 pub fn ref_files_read_back()
     ensures written { (d : List ℕ) → is_digest d ≡ true → ref_file (ref_bytes d) ≡ Digest d }
-    ensures read { (bytes d : List ℕ) → ref_file bytes ≡ Digest d → (bytes ≡ ref_bytes d) × (is_digest d ≡ true) }
+    ensures read { (bytes d : List ℕ) → ref_file bytes ≡ Digest d → (bytes ≡ ref_bytes d) ×
+        (is_digest d ≡ true) }
 {}
 
-/// Behind a write the ref reads as what was written, and behind a drop as absent.
+/// Behind a write the ref reads as what was written, and after a drop as absent.
 pub fn changed_refs_are_read()
-    ensures written { (root : Elements) (place : RefPlace) (d : List ℕ) (u w : View) → is_digest d ≡ true → WasReplaced (place_path root place) (ref_bytes d) u w
+    ensures written { (root : Elements) (place : RefPlace) (d : List ℕ) (u w : View) → is_digest d
+        ≡ true → WasReplaced (place_path root place) (ref_bytes d) u w
         → ref_in (shows w (place_path root place)) ≡ Digest d }
-    ensures dropped { (root : Elements) (place : RefPlace) (w : View) → WasDropped (place_path root place) w
+    ensures dropped { (root : Elements) (place : RefPlace) (w : View) → WasDropped
+        (place_path root place) w
         → ref_in (shows w (place_path root place)) ≡ Absent }
 {}
 

@@ -2,8 +2,8 @@
 ghost use Rattle.std.specs.Prelude.{◌≡◌, IfOk, OnOk, IsErrOf};
 ghost use Rattle.std.specs.String.{string_cmp};
 ghost use Rattle.std.specs.BTreeMap.{IsOrdered, values};
-ghost use Rattle.fp_host.specs.Causes.{IsCaused};
-ghost use Rattle.fp_host.specs.Frame.{Ends, Still};
+ghost use Rattle.fp_host.specs.Causes.{IsCounted};
+ghost use Rattle.fp_host.specs.Frame.{AtEnd, Unchanged};
 ghost use Rattle.ost_refs.specs.Lists.{ListsRefs};
 ghost use Rattle.ost_refs.specs.Found.{place_named, ArePaths, Puts, Adds, Finds};
 
@@ -28,9 +28,11 @@ pub fn list_refs<H: Host>(
     host: &mut H,
     root: &Path,
 ) -> Result<Items<RefPlace>, HostEnd>
-    ensures still { Still (H.moments host.old) (H.moments host.new) }
-    ensures tells { IfOk result (λ places. Ends (λ u w. ListsRefs root.now u places) (H.moments host.old) (H.moments host.new)) }
-    ensures cause { IsCaused (IsErrOf result HostEnd.Fault) (H.moments host.old) (λ v. Unit {0}) (H.faults host.old) (H.faults host.new) }
+    ensures unchanged { Unchanged (H.moments host.old) (H.moments host.new) }
+    ensures tells { IfOk result (λ places. AtEnd (λ u w. ListsRefs root.now u places)
+        (H.moments host.old) (H.moments host.new)) }
+    ensures fault_has_cause { IsCounted (IsErrOf result HostEnd.Fault)
+        (H.moments host.old) (H.faults host.old) (H.faults host.new) }
 {
     let paths = paths_of(alloc, host, root)?;
     let found = places_among(alloc, host, &paths)?;
@@ -39,9 +41,11 @@ pub fn list_refs<H: Host>(
 
 /// The paths at which refs may stand.
 fn paths_of<H: Host>(alloc: Global, host: &mut H, root: &Path) -> Result<Vec<Path>, HostEnd>
-    ensures still { Still (H.moments host.old) (H.moments host.new) }
-    ensures tells { IfOk result (λ paths. Ends (λ u w. ArePaths root.now u paths.items) (H.moments host.old) (H.moments host.new)) }
-    ensures cause { IsCaused (IsErrOf result HostEnd.Fault) (H.moments host.old) (λ v. Unit {0}) (H.faults host.old) (H.faults host.new) }
+    ensures unchanged { Unchanged (H.moments host.old) (H.moments host.new) }
+    ensures tells { IfOk result (λ paths. AtEnd (λ u w. ArePaths root.now u paths.items)
+        (H.moments host.old) (H.moments host.new)) }
+    ensures fault_has_cause { IsCounted (IsErrOf result HostEnd.Fault)
+        (H.moments host.old) (H.faults host.old) (H.faults host.new) }
 {
     let refs = root.child("refs")?;
     let heads = refs.child("heads")?;
@@ -58,9 +62,11 @@ fn places_among<H: Host>(
     host: &mut H,
     paths: &[Path],
 ) -> Result<BTreeMap<String, RefPlace>, HostEnd>
-    ensures still { Still (H.moments host.old) (H.moments host.new) }
-    ensures tells { IfOk result (λ found. Ends (λ u w. Finds paths.now u found.entries) (H.moments host.old) (H.moments host.new)) }
-    ensures cause { IsCaused (IsErrOf result HostEnd.Fault) (H.moments host.old) (λ v. Unit {0}) (H.faults host.old) (H.faults host.new) }
+    ensures unchanged { Unchanged (H.moments host.old) (H.moments host.new) }
+    ensures tells { IfOk result (λ found. AtEnd (λ u w. Finds paths.now u found.entries)
+        (H.moments host.old) (H.moments host.new)) }
+    ensures fault_has_cause { IsCounted (IsErrOf result HostEnd.Fault)
+        (H.moments host.old) (H.faults host.old) (H.faults host.new) }
 {
     let mut found = BTreeMap::new(alloc);
     for path in paths {
@@ -76,9 +82,11 @@ fn add_place<H: Host>(
     path: &Path,
     found: &mut BTreeMap<String, RefPlace>,
 ) -> Result<(), HostEnd>
-    ensures still { Still (H.moments host.old) (H.moments host.new) }
-    ensures tells { OnOk result (Ends (λ u w. Adds path.now u found.old.entries found.new.entries) (H.moments host.old) (H.moments host.new)) }
-    ensures cause { IsCaused (IsErrOf result HostEnd.Fault) (H.moments host.old) (λ v. Unit {0}) (H.faults host.old) (H.faults host.new) }
+    ensures unchanged { Unchanged (H.moments host.old) (H.moments host.new) }
+    ensures tells { OnOk result (AtEnd (λ u w. Adds path.now u found.old.entries found.new.entries)
+        (H.moments host.old) (H.moments host.new)) }
+    ensures fault_has_cause { IsCounted (IsErrOf result HostEnd.Fault)
+        (H.moments host.old) (H.faults host.old) (H.faults host.new) }
 {
     match host.stat(path)? {
         Stat::File { .. } => Ok(put_place(alloc, path, found)?),
@@ -92,7 +100,8 @@ fn put_place(
     path: &Path,
     found: &mut BTreeMap<String, RefPlace>,
 ) -> Result<(), AllocError>
-    ensures { OnOk result (Puts path.now (place_named path.now) found.old.entries found.new.entries) }
+    ensures { OnOk result (Puts path.now (place_named path.now) found.old.entries
+        found.new.entries) }
 {
     let Some(place) = place_named(alloc, path)? else {
         return Ok(());

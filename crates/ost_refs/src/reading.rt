@@ -1,7 +1,7 @@
 // A ref that is read.
 ghost use Rattle.std.specs.Prelude.{◌≡◌, IfOk, IsErrOf};
-ghost use Rattle.fp_host.specs.Causes.{IsCaused};
-ghost use Rattle.fp_host.specs.Frame.{Ends, Still};
+ghost use Rattle.fp_host.specs.Causes.{IsCounted};
+ghost use Rattle.fp_host.specs.Frame.{AtEnd, Unchanged};
 ghost use Rattle.ost_refs.specs.Places.{place_path};
 ghost use Rattle.ost_refs.specs.Files.{ref_file, ReadsRef};
 
@@ -25,9 +25,11 @@ pub fn read_ref<H: Host>(
     root: &Path,
     place: &RefPlace,
 ) -> Result<RefFile, HostEnd>
-    ensures still { Still (H.moments host.old) (H.moments host.new) }
-    ensures tells { IfOk result (λ ref. Ends (λ u w. ReadsRef (place_path root.now place.now) u ref) (H.moments host.old) (H.moments host.new)) }
-    ensures cause { IsCaused (IsErrOf result HostEnd.Fault) (H.moments host.old) (λ v. Unit {0}) (H.faults host.old) (H.faults host.new) }
+    ensures unchanged { Unchanged (H.moments host.old) (H.moments host.new) }
+    ensures tells { IfOk result (λ ref. AtEnd (λ u w. ReadsRef (place_path root.now place.now) u
+        ref) (H.moments host.old) (H.moments host.new)) }
+    ensures fault_has_cause { IsCounted (IsErrOf result HostEnd.Fault)
+        (H.moments host.old) (H.faults host.old) (H.faults host.new) }
 {
     let path = path_of(root, place)?;
     match load(alloc, host, &path, SIZE)? {

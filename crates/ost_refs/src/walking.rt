@@ -2,8 +2,8 @@
 ghost use Rattle.std.specs.Prelude.{◌≡◌, ◌++◌, ◌∷◌, [], true, map, IfOk, OnOk, IsErrOf};
 ghost use Rattle.std.specs.List.{list_all};
 ghost use Rattle.fp_host.specs.Paths.{is_element};
-ghost use Rattle.fp_host.specs.Causes.{IsCaused};
-ghost use Rattle.fp_host.specs.Frame.{Ends, Still};
+ghost use Rattle.fp_host.specs.Causes.{IsCounted};
+ghost use Rattle.fp_host.specs.Frame.{AtEnd, Unchanged};
 ghost use Rattle.fp_small.specs.Naming.{ListsIn};
 ghost use Rattle.ost_refs.specs.Walks.{AreBelow, AreLevel};
 
@@ -13,10 +13,12 @@ use std::alloc::{AllocError, Global};
 
 /// The names in the folder; none where it is no folder.
 fn names_in<H: Host>(alloc: Global, host: &mut H, folder: &Path) -> Result<Items<Text>, HostEnd>
-    ensures still { Still (H.moments host.old) (H.moments host.new) }
-    ensures tells { IfOk result (λ names. Ends (λ u w. ListsIn folder.now u names) (H.moments host.old) (H.moments host.new)) }
+    ensures unchanged { Unchanged (H.moments host.old) (H.moments host.new) }
+    ensures tells { IfOk result (λ names. AtEnd (λ u w. ListsIn folder.now u names)
+        (H.moments host.old) (H.moments host.new)) }
     ensures elements { IfOk result (λ names. list_all is_element names ≡ true) }
-    ensures cause { IsCaused (IsErrOf result HostEnd.Fault) (H.moments host.old) (λ v. Unit {0}) (H.faults host.old) (H.faults host.new) }
+    ensures fault_has_cause { IsCounted (IsErrOf result HostEnd.Fault)
+        (H.moments host.old) (H.faults host.old) (H.faults host.new) }
 {
     match host.stat(folder)? {
         Stat::Dir => Ok(host.list(alloc, folder)?),
@@ -27,7 +29,8 @@ fn names_in<H: Host>(alloc: Global, host: &mut H, folder: &Path) -> Result<Items
 /// Adds the paths of these names in the folder.
 fn add_names(folder: &Path, names: &[Text], paths: &mut Vec<Path>) -> Result<(), AllocError>
     requires { list_all is_element names.now ≡ true }
-    ensures { OnOk result (paths.new.items ≡ paths.old.items ++ map (λ x. x ∷ folder.now) names.now) }
+    ensures { OnOk result (paths.new.items ≡ paths.old.items ++ map (λ x. x ∷ folder.now)
+        names.now) }
 {
     for name in names {
         paths.push(folder.child(name.as_str())?)?;
@@ -37,9 +40,11 @@ fn add_names(folder: &Path, names: &[Text], paths: &mut Vec<Path>) -> Result<(),
 
 /// The paths directly below these folders.
 fn children<H: Host>(alloc: Global, host: &mut H, folders: &[Path]) -> Result<Vec<Path>, HostEnd>
-    ensures still { Still (H.moments host.old) (H.moments host.new) }
-    ensures tells { IfOk result (λ paths. Ends (λ u w. AreBelow folders.now u paths.items) (H.moments host.old) (H.moments host.new)) }
-    ensures cause { IsCaused (IsErrOf result HostEnd.Fault) (H.moments host.old) (λ v. Unit {0}) (H.faults host.old) (H.faults host.new) }
+    ensures unchanged { Unchanged (H.moments host.old) (H.moments host.new) }
+    ensures tells { IfOk result (λ paths. AtEnd (λ u w. AreBelow folders.now u paths.items)
+        (H.moments host.old) (H.moments host.new)) }
+    ensures fault_has_cause { IsCounted (IsErrOf result HostEnd.Fault)
+        (H.moments host.old) (H.faults host.old) (H.faults host.new) }
 {
     let mut paths = Vec::new(alloc);
     for folder in folders {
@@ -65,9 +70,11 @@ pub(crate) fn paths_below<H: Host>(
     folder: Path,
     depth: usize,
 ) -> Result<Vec<Path>, HostEnd>
-    ensures still { Still (H.moments host.old) (H.moments host.new) }
-    ensures tells { IfOk result (λ paths. Ends (λ u w. AreLevel depth folder u paths.items) (H.moments host.old) (H.moments host.new)) }
-    ensures cause { IsCaused (IsErrOf result HostEnd.Fault) (H.moments host.old) (λ v. Unit {0}) (H.faults host.old) (H.faults host.new) }
+    ensures unchanged { Unchanged (H.moments host.old) (H.moments host.new) }
+    ensures tells { IfOk result (λ paths. AtEnd (λ u w. AreLevel depth folder u paths.items)
+        (H.moments host.old) (H.moments host.new)) }
+    ensures fault_has_cause { IsCounted (IsErrOf result HostEnd.Fault)
+        (H.moments host.old) (H.faults host.old) (H.faults host.new) }
 {
     let mut paths = alone(alloc, folder)?;
     for _level in 0..depth {

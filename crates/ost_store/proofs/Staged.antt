@@ -7,7 +7,7 @@ use Rattle.fp_host.specs.Paths.{Elements, Slot, absent, dir, file, link}
 use Rattle.fp_host.specs.View.{View, Inode, IsTree}
 use Rattle.fp_host.specs.Calls.{Can, CanCreate, HasFolder, IsDirty, appends, makes_link, grow, grown, Step, Creates}
 use Rattle.fp_host.specs.Outcome.{Nothing}
-use Rattle.fp_host.specs.Frame.{Keeps, Frame, Ends, NoPath, Only}
+use Rattle.fp_host.specs.Frame.{Keeps, Frame, AtEnd, NoPath, Only}
 use Rattle.fp_host.specs.Moments.{Moments, Goes, Makes}
 use Rattle.fp_host.specs.declared.host.HostError.{HostError}
 use Rattle.fp_host.proofs.Separate.{set_same, file_same}
@@ -44,7 +44,7 @@ grew {t = t} {piece = piece} {v = v} {w = w} step = record {
 pub can_grow : {t : Elements} {mode : ℕ} {bytes : List ℕ} {v : View} → IsOpen t mode bytes v → CanGrow t v
 can_grow {v = v} before = subst (IsDirty v) (sym before.name) before.dirty
 
--- ---- behind the folders above
+-- ---- after the folders above
 
 module _ {t : Elements} {u v : View} (made : Keeps (FoldersAt (ancestors t)) (DirsAt (ancestors t)) NoPath u v) where
   -- what is absent now was so before
@@ -167,6 +167,6 @@ with_bytes bytes told goes = begins told goes (λ u w tree s. stages_with s) (λ
 pub as_meta : {a b : Option Moments} {t : Elements} {bytes : List ℕ} → IsTold a → Goes a b (Stages t (objects.File meta_mode bytes)) (Stages t (objects.File meta_mode bytes)) → Goes a b (Stages t (objects.Meta bytes)) (Stages t (objects.Meta bytes))
 as_meta told goes = begins told goes (λ u w tree s. stages_meta s) (λ u w tree s e. stages_meta s)
 
-pub writing : {a b c : Option Moments} {t : Elements} {mode : ℕ} (bytes : List ℕ) → IsTold a → Goes a b (Stages t (objects.File mode [])) (Stages t (objects.File mode [])) → Ends (WasStaged t (objects.File mode [])) a b → IsTold b
+pub writing : {a b c : Option Moments} {t : Elements} {mode : ℕ} (bytes : List ℕ) → IsTold a → Goes a b (Stages t (objects.File mode [])) (Stages t (objects.File mode [])) → AtEnd (WasStaged t (objects.File mode [])) a b → IsTold b
     → Frame Nothing NoName (Only t) b c → Goes a c (Stages t (objects.File mode bytes)) (Stages t (objects.File mode bytes))
 writing bytes told first known between frame = goes_on between (goes_known (with_bytes bytes told first) known) frame.goes (λ u v w tree s q more. stages_piece s q.1.free more) (λ u v w tree s q more end. stages_piece s q.1.free more)

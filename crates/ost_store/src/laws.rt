@@ -20,36 +20,49 @@ ghost use Rattle.ost_store.specs.Place.{Places, WasPlaced, IsReadyAs, LeavesObje
 
 /// After a sync, an object that the digest names is ready to be placed, and what is staged is held.
 pub fn staged_objects_are_ready()
-    ensures ready { (t : Elements) (object : Object) (d : List ℕ) (kind : ObjKind) (v w : View) → IsHeld t object v → w ≡ done syncs v → IsTree w
+    ensures ready { (t : Elements) (object : Object) (d : List ℕ) (kind : ObjKind) (v w : View) →
+        IsHeld t object v → w ≡ done syncs v → IsTree w
         → name_fault d kind (Some object) ≡ None → IsReadyAs d kind t w }
-    ensures held { (t : Elements) (object : Object) (v : View) → IsStaged t object v → IsHeld t object v }
+    ensures held { (t : Elements) (object : Object) (v : View) → IsStaged t object v → IsHeld t
+        object v }
 {}
 
 /// A name stays as it is where an object is staged neither there nor below, where another file grows, where an object is
 /// placed neither there nor below and from elsewhere, and where another name is taken away.
 pub fn names_elsewhere_stay()
-    ensures staged { (q t : Elements) (object : Object) (u w : View) → Stages t object u w → (IsWithin q t → ⊥) → Stays q u w }
-    ensures grown { (q t : Elements) (u w : View) → Keeps Nothing NoName (Only t) u w → u.names q ≢ u.names t → Stays q u w }
-    ensures placed { (q t p : Elements) (u w : View) → Places t p u w → (IsWithin q p → ⊥) → q ≢ t → Stays q u w }
-    ensures removed { (q p : Elements) (u w : View) → Keeps (GoneAt p) (AbsentAt p) NoPath u w → q ≢ p → Stays q u w }
+    ensures staged { (q t : Elements) (object : Object) (u w : View) → Stages t object u w →
+        (IsWithin q t → ⊥) → Stays q u w }
+    ensures grown { (q t : Elements) (u w : View) → Keeps Nothing NoName (Only t) u w → u.names q ≢
+        u.names t → Stays q u w }
+    ensures placed { (q t p : Elements) (u w : View) → Places t p u w → (IsWithin q p → ⊥) → q ≢ t
+        → Stays q u w }
+    ensures removed { (q p : Elements) (u w : View) → Keeps (GoneAt p) (AbsentAt p) NoPath u w → q
+        ≢ p → Stays q u w }
 {}
 
 /// What a name that stays holds and shows stays too; and where nothing is synced, what is staged there, and what is ready.
 pub fn what_stays_is_kept()
-    ensures held { (q : Elements) (object : Object) (u w : View) → Stays q u w → IsHeld q object u → IsHeld q object w }
-    ensures staged { (q : Elements) (object : Object) (u w : View) → Stays q u w → Unsynced u w → IsStaged q object u → IsStaged q object w }
-    ensures ready { (q : Elements) (d : List ℕ) (kind : ObjKind) (u w : View) → Stays q u w → IsTree u → IsTree w → Unsynced u w
+    ensures held { (q : Elements) (object : Object) (u w : View) → Stays q u w → IsHeld q object u
+        → IsHeld q object w }
+    ensures staged { (q : Elements) (object : Object) (u w : View) → Stays q u w → Unsynced u w →
+        IsStaged q object u → IsStaged q object w }
+    ensures ready { (q : Elements) (d : List ℕ) (kind : ObjKind) (u w : View) → Stays q u w →
+        IsTree u → IsTree w → Unsynced u w
         → IsReadyAs d kind q u → IsReadyAs d kind q w }
-    ensures shown { (q : Elements) (u w : View) → Stays q u w → IsTree u → IsTree w → shows w q ≡ shows u q }
+    ensures shown { (q : Elements) (u w : View) → Stays q u w → IsTree u → IsTree w → shows w q ≡
+        shows u q }
 {}
 
 /// An object that was placed is there, and the other objects of the store are as before; so they are where one is taken away.
 pub fn placed_objects_are_there()
-    ensures there { (root t : Elements) (d : List ℕ) (kind : ObjKind) (u w : View) → Places t (object_path root d kind) u w
+    ensures there { (root t : Elements) (d : List ℕ) (kind : ObjKind) (u w : View) → Places t
+        (object_path root d kind) u w
         → WasPlaced t (object_path root d kind) u w → IsTree u → IsTree w → IsReadyAs d kind t u → Named d kind (shows w (object_path root d kind)) }
-    ensures others { (root t : Elements) (d e : List ℕ) (k m : ObjKind) (u w : View) → Places t (object_path root d k) u w → is_digest d ≡ true → is_digest e ≡ true
+    ensures others { (root t : Elements) (d e : List ℕ) (k m : ObjKind) (u w : View) → Places t
+        (object_path root d k) u w → is_digest d ≡ true → is_digest e ≡ true
         → ((e ≡ d) × (m ≡ k) → ⊥) → object_path root e m ≢ t → IsTree u → IsTree w → store root (shows w) e m ≡ store root (shows u) e m }
-    ensures removed { (root : Elements) (d e : List ℕ) (k m : ObjKind) (u w : View) → Keeps (GoneAt (object_path root d k)) (AbsentAt (object_path root d k)) NoPath u w
+    ensures removed { (root : Elements) (d e : List ℕ) (k m : ObjKind) (u w : View) → Keeps
+        (GoneAt (object_path root d k)) (AbsentAt (object_path root d k)) NoPath u w
         → is_digest d ≡ true → is_digest e ≡ true → ((e ≡ d) × (m ≡ k) → ⊥) → IsTree u → IsTree w → store root (shows w) e m ≡ store root (shows u) e m }
 {}
 
@@ -57,24 +70,31 @@ pub fn placed_objects_are_there()
 /// and a store whose names are true stays one: the folders that are made above the path aren't below `objects` either. A piece
 /// changes no store, wherever its file is.
 pub fn staged_names_are_true()
-    ensures name { (root t : Elements) (object : Object) (d : List ℕ) (kind : ObjKind) (u w : View) → Stages t object u w → (IsAbove (objects_folder root) t → ⊥)
+    ensures name { (root t : Elements) (object : Object) (d : List ℕ) (kind : ObjKind) (u w : View)
+        → Stages t object u w → (IsAbove (objects_folder root) t → ⊥)
         → LeavesObject root d kind u → LeavesObject root d kind w }
-    ensures store { (root t : Elements) (object : Object) (u w : View) → Stages t object u w → (IsAbove (objects_folder root) t → ⊥) → LeavesStore root u → LeavesStore root w }
-    ensures piece { (root t : Elements) (u w : View) → Keeps Nothing NoName (Only t) u w → LeavesStore root u → LeavesStore root w }
+    ensures store { (root t : Elements) (object : Object) (u w : View) → Stages t object u w →
+        (IsAbove (objects_folder root) t → ⊥) → LeavesStore root u → LeavesStore root w }
+    ensures piece { (root t : Elements) (u w : View) → Keeps Nothing NoName (Only t) u w →
+        LeavesStore root u → LeavesStore root w }
 {}
 
 /// Where an object that its digest names is placed, every stop goes on to leave at its name that object or nothing, if every
 /// stop did before; and a store whose names are true stays one.
 pub fn placed_names_are_true()
-    ensures name { (root t : Elements) (d : List ℕ) (kind : ObjKind) (u w : View) → Places t (object_path root d kind) u w → IsReadyAs d kind t u
+    ensures name { (root t : Elements) (d : List ℕ) (kind : ObjKind) (u w : View) → Places t
+        (object_path root d kind) u w → IsReadyAs d kind t u
         → LeavesObject root d kind u → LeavesObject root d kind w }
-    ensures store { (root t : Elements) (d : List ℕ) (kind : ObjKind) (u w : View) → is_digest d ≡ true → Places t (object_path root d kind) u w → IsReadyAs d kind t u
+    ensures store { (root t : Elements) (d : List ℕ) (kind : ObjKind) (u w : View) → is_digest d ≡
+        true → Places t (object_path root d kind) u w → IsReadyAs d kind t u
         → LeavesStore root u → LeavesStore root w }
 {}
 
 /// The same where a name is taken away.
 pub fn names_left_are_true()
-    ensures name { (root p : Elements) (d : List ℕ) (kind : ObjKind) (u w : View) → Keeps (GoneAt p) (AbsentAt p) NoPath u w
+    ensures name { (root p : Elements) (d : List ℕ) (kind : ObjKind) (u w : View) → Keeps
+        (GoneAt p) (AbsentAt p) NoPath u w
         → LeavesObject root d kind u → LeavesObject root d kind w }
-    ensures store { (root p : Elements) (u w : View) → Keeps (GoneAt p) (AbsentAt p) NoPath u w → LeavesStore root u → LeavesStore root w }
+    ensures store { (root p : Elements) (u w : View) → Keeps (GoneAt p) (AbsentAt p) NoPath u w →
+        LeavesStore root u → LeavesStore root w }
 {}

@@ -3,7 +3,7 @@ ghost use Rattle.std.specs.Prelude.{◌≡◌, IfOk, IsErrOf};
 ghost use Rattle.std.specs.String.{string_cmp};
 ghost use Rattle.std.specs.BTreeMap.{IsOrdered, values};
 ghost use Rattle.fp_host.specs.Causes.{IsCaused};
-ghost use Rattle.fp_host.specs.Frame.{Ends, Still};
+ghost use Rattle.fp_host.specs.Frame.{AtEnd, Unchanged};
 ghost use Rattle.fp_small.specs.Clear.{Reaches};
 ghost use Rattle.ost_model.specs.Stores.{objects_folder};
 ghost use Rattle.ost_store.specs.Names.{ListsNames, CanList};
@@ -18,11 +18,14 @@ use std::collections::BTreeMap;
 /// The files and links below `objects` in the store in this folder, at any depth, ascending by the bytes of their paths,
 /// whether or not they are objects. It isn't for paths of more than 128 elements.
 pub fn names<H: Host>(alloc: Global, host: &mut H, root: &Path) -> Result<Items<Path>, HostEnd>
-    ensures still { Still (H.moments host.old) (H.moments host.new) }
-    ensures tells { IfOk result (λ paths. Ends (λ u w. ListsNames root.now u paths) (H.moments host.old) (H.moments host.new)) }
+    ensures unchanged { Unchanged (H.moments host.old) (H.moments host.new) }
+    ensures tells { IfOk result (λ paths. AtEnd (λ u w. ListsNames root.now u paths)
+        (H.moments host.old) (H.moments host.new)) }
     // No path below `objects` is longer.
-    ensures reach { IfOk result (λ _. Ends (λ u w. Reaches (objects_folder root.now) 127 u) (H.moments host.old) (H.moments host.new)) }
-    ensures cause { IsCaused (IsErrOf result HostEnd.Fault) (H.moments host.old) (CanList root.now) (H.faults host.old) (H.faults host.new) }
+    ensures reach { IfOk result (λ _. AtEnd (λ u w. Reaches (objects_folder root.now) 127 u)
+        (H.moments host.old) (H.moments host.new)) }
+    ensures fault_has_cause { IsCaused (IsErrOf result HostEnd.Fault) (H.moments host.old)
+        (CanList root.now) (H.faults host.old) (H.faults host.new) }
 {
     let objects = root.child("objects")?;
     let found = leaves_below(alloc, host, objects)?;

@@ -34,7 +34,8 @@ fn folder_name(alloc: Global, digest: &Digest) -> Result<String, AllocError>
 
 /// The object's name in that folder: the other digits, and the kind.
 fn file_name(alloc: Global, digest: &Digest, kind: ObjKind) -> Result<String, AllocError>
-    ensures text { IfOk result (λ name. string_bytes name ≡ drop 2 (hex digest.now) ++ (codes "." ++ kind_text kind)) }
+    ensures text { IfOk result (λ name. string_bytes name ≡ drop 2 (hex digest.now) ++
+        (codes "." ++ kind_text kind)) }
     ensures element { IfOk result (λ name. is_element (string_bytes name) ≡ true) }
 {
     let (_, rest) = digest.as_bytes().split_at(1);

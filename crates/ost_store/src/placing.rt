@@ -1,8 +1,8 @@
 // Objects that come to their names, and go.
 ghost use Rattle.std.specs.Prelude.{◌≡◌, OnOk, IsErrOf};
 ghost use Rattle.fp_host.specs.Causes.{IsCaused};
-ghost use Rattle.fp_host.specs.Frame.{Frame, Ends, NoPath};
-ghost use Rattle.fp_host.specs.Moments.{Goes};
+ghost use Rattle.fp_host.specs.Frame.{Frame, AtEnd, NoPath};
+ghost use Rattle.fp_host.specs.Moments.{Always};
 ghost use Rattle.ost_model.specs.Objects.{object_path};
 ghost use Rattle.fp_small.specs.Clear.{GoneAt, AbsentAt};
 ghost use Rattle.fp_small.specs.Unsynced.{MakesNoFile};
@@ -29,12 +29,16 @@ pub fn place<H: Host>(
 ) -> Result<(), HostEnd>
     // A stop at any moment leaves at the name what some stop before would have left, or what the path held; and all else as
     // it was, but that the path may be gone and folders above the name made.
-    ensures moments { Goes (H.moments host.old) (H.moments host.new) (Places tmp.now (object_path root.now digest.now kind)) (Places tmp.now (object_path root.now digest.now kind)) }
-    ensures done { OnOk result (Ends (WasPlaced tmp.now (object_path root.now digest.now kind)) (H.moments host.old) (H.moments host.new)) }
+    ensures any_moment { Always (Places tmp.now (object_path root.now digest.now kind))
+        (H.moments host.old) (H.moments host.new) }
+    ensures on_success { OnOk result (AtEnd (WasPlaced tmp.now
+        (object_path root.now digest.now kind)) (H.moments host.old) (H.moments host.new)) }
     // What was unsettled stays so.
-    ensures unsynced { Ends MakesNoFile (H.moments host.old) (H.moments host.new) }
-    ensures cause { IsCaused (IsErrOf result HostEnd.Fault) (H.moments host.old) (CanPlace root.now tmp.now digest.now kind) (H.faults host.old) (H.faults host.new) }
-    ensures memory { IsErrOf result HostEnd.NoMemory → Ends (λ u w. w ≡ u) (H.moments host.old) (H.moments host.new) }
+    ensures unsynced { AtEnd MakesNoFile (H.moments host.old) (H.moments host.new) }
+    ensures fault_has_cause { IsCaused (IsErrOf result HostEnd.Fault) (H.moments host.old)
+        (CanPlace root.now tmp.now digest.now kind) (H.faults host.old) (H.faults host.new) }
+    ensures starved_unchanged { IsErrOf result HostEnd.NoMemory → AtEnd (λ u w. w ≡ u)
+        (H.moments host.old) (H.moments host.new) }
 {
     let path = path_of(alloc, root, digest, kind)?;
     make_above(alloc, host, &path)?;
@@ -50,12 +54,17 @@ pub fn remove<H: Host>(
     kind: ObjKind,
 ) -> Result<(), HostEnd>
     // A stop at any moment leaves at the name what some stop before would have left, or nothing, and all else as it was.
-    ensures frame { Frame (GoneAt (object_path root.now digest.now kind)) (AbsentAt (object_path root.now digest.now kind)) NoPath (H.moments host.old) (H.moments host.new) }
-    ensures done { OnOk result (Ends (WasRemoved (object_path root.now digest.now kind)) (H.moments host.old) (H.moments host.new)) }
+    ensures frame { Frame (GoneAt (object_path root.now digest.now kind))
+        (AbsentAt (object_path root.now digest.now kind)) NoPath
+        (H.moments host.old) (H.moments host.new) }
+    ensures on_success { OnOk result (AtEnd (WasRemoved (object_path root.now digest.now kind))
+        (H.moments host.old) (H.moments host.new)) }
     // What was unsettled stays so.
-    ensures unsynced { Ends MakesNoFile (H.moments host.old) (H.moments host.new) }
-    ensures cause { IsCaused (IsErrOf result HostEnd.Fault) (H.moments host.old) (HasObject root.now digest.now kind) (H.faults host.old) (H.faults host.new) }
-    ensures memory { IsErrOf result HostEnd.NoMemory → Ends (λ u w. w ≡ u) (H.moments host.old) (H.moments host.new) }
+    ensures unsynced { AtEnd MakesNoFile (H.moments host.old) (H.moments host.new) }
+    ensures fault_has_cause { IsCaused (IsErrOf result HostEnd.Fault) (H.moments host.old)
+        (HasObject root.now digest.now kind) (H.faults host.old) (H.faults host.new) }
+    ensures starved_unchanged { IsErrOf result HostEnd.NoMemory → AtEnd (λ u w. w ≡ u)
+        (H.moments host.old) (H.moments host.new) }
 {
     let name = path_of(alloc, root, digest, kind)?;
     Ok(host.unlink(&name)?)

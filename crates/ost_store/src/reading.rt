@@ -1,7 +1,7 @@
 // Objects that are looked up and read.
 ghost use Rattle.std.specs.Prelude.{◌≡◌, ◌≤◌, length, IfOk, IsErrOf};
-ghost use Rattle.fp_host.specs.Causes.{IsCaused};
-ghost use Rattle.fp_host.specs.Frame.{Ends, Still};
+ghost use Rattle.fp_host.specs.Causes.{IsCaused, IsCounted};
+ghost use Rattle.fp_host.specs.Frame.{AtEnd, Unchanged};
 ghost use Rattle.fp_base.specs.declared.object.ObjKind.TheVariants as kinds;
 ghost use Rattle.ost_model.specs.Objects.{may_be_link};
 ghost use Rattle.ost_store.specs.Reads.{IsThere, IsGotOf, Gets, GetsAt, ReadsPiece, HasFile};
@@ -47,9 +47,11 @@ pub fn has<H: Host>(
     digest: &Digest,
     kind: ObjKind,
 ) -> Result<bool, HostEnd>
-    ensures still { Still (H.moments host.old) (H.moments host.new) }
-    ensures tells { IfOk result (λ there. Ends (λ u w. IsThere root.now digest.now kind u there) (H.moments host.old) (H.moments host.new)) }
-    ensures cause { IsCaused (IsErrOf result HostEnd.Fault) (H.moments host.old) (λ v. Unit {0}) (H.faults host.old) (H.faults host.new) }
+    ensures unchanged { Unchanged (H.moments host.old) (H.moments host.new) }
+    ensures tells { IfOk result (λ there. AtEnd (λ u w. IsThere root.now digest.now kind u there)
+        (H.moments host.old) (H.moments host.new)) }
+    ensures fault_has_cause { IsCounted (IsErrOf result HostEnd.Fault)
+        (H.moments host.old) (H.faults host.old) (H.faults host.new) }
 {
     let path = path_of(alloc, root, digest, kind)?;
     match host.stat(&path)? {
@@ -70,10 +72,12 @@ pub fn get<H: Host>(
     kind: ObjKind,
     max: u64,
 ) -> Result<Got, HostEnd>
-    ensures still { Still (H.moments host.old) (H.moments host.new) }
-    ensures tells { IfOk result (λ got. Ends (λ u w. Gets root.now digest.now kind max u got) (H.moments host.old) (H.moments host.new)) }
+    ensures unchanged { Unchanged (H.moments host.old) (H.moments host.new) }
+    ensures tells { IfOk result (λ got. AtEnd (λ u w. Gets root.now digest.now kind max u got)
+        (H.moments host.old) (H.moments host.new)) }
     ensures kinds { IfOk result (IsGotOf kind) }
-    ensures cause { IsCaused (IsErrOf result HostEnd.Fault) (H.moments host.old) (λ v. Unit {0}) (H.faults host.old) (H.faults host.new) }
+    ensures fault_has_cause { IsCounted (IsErrOf result HostEnd.Fault)
+        (H.moments host.old) (H.faults host.old) (H.faults host.new) }
 {
     let path = path_of(alloc, root, digest, kind)?;
     match kind {
@@ -84,10 +88,12 @@ pub fn get<H: Host>(
 
 /// The file or link at the path, as an object.
 fn get_content<H: Host>(alloc: Global, host: &mut H, path: &Path, max: u64) -> Result<Got, HostEnd>
-    ensures still { Still (H.moments host.old) (H.moments host.new) }
-    ensures tells { IfOk result (λ got. Ends (λ u w. GetsAt kinds.File path.now max u got) (H.moments host.old) (H.moments host.new)) }
+    ensures unchanged { Unchanged (H.moments host.old) (H.moments host.new) }
+    ensures tells { IfOk result (λ got. AtEnd (λ u w. GetsAt kinds.File path.now max u got)
+        (H.moments host.old) (H.moments host.new)) }
     ensures kinds { IfOk result (IsGotOf kinds.File) }
-    ensures cause { IsCaused (IsErrOf result HostEnd.Fault) (H.moments host.old) (λ v. Unit {0}) (H.faults host.old) (H.faults host.new) }
+    ensures fault_has_cause { IsCounted (IsErrOf result HostEnd.Fault)
+        (H.moments host.old) (H.faults host.old) (H.faults host.new) }
 {
     match host.stat(path)? {
         Stat::Absent | Stat::Dir => Ok(Got::Absent),
@@ -99,10 +105,12 @@ fn get_content<H: Host>(alloc: Global, host: &mut H, path: &Path, max: u64) -> R
 
 /// The metadata object at the path.
 fn get_meta<H: Host>(alloc: Global, host: &mut H, path: &Path, max: u64) -> Result<Got, HostEnd>
-    ensures still { Still (H.moments host.old) (H.moments host.new) }
-    ensures tells { IfOk result (λ got. Ends (λ u w. GetsAt kinds.Commit path.now max u got) (H.moments host.old) (H.moments host.new)) }
+    ensures unchanged { Unchanged (H.moments host.old) (H.moments host.new) }
+    ensures tells { IfOk result (λ got. AtEnd (λ u w. GetsAt kinds.Commit path.now max u got)
+        (H.moments host.old) (H.moments host.new)) }
     ensures kinds { IfOk result (IsGotOf kinds.Commit) }
-    ensures cause { IsCaused (IsErrOf result HostEnd.Fault) (H.moments host.old) (λ v. Unit {0}) (H.faults host.old) (H.faults host.new) }
+    ensures fault_has_cause { IsCounted (IsErrOf result HostEnd.Fault)
+        (H.moments host.old) (H.faults host.old) (H.faults host.new) }
 {
     match load(alloc, host, path, max)? {
         Loaded::Bytes(bytes) => Ok(Got::Meta(bytes)),
@@ -122,9 +130,11 @@ pub fn read_piece<H: Host>(
     into: &mut [u8],
 ) -> Result<usize, HostEnd>
     ensures bound { IfOk result (λ n. n ≤ length into.old) }
-    ensures still { Still (H.moments host.old) (H.moments host.new) }
-    ensures tells { IfOk result (λ n. Ends (λ u w. ReadsPiece root.now digest.now at into.new u n) (H.moments host.old) (H.moments host.new)) }
-    ensures cause { IsCaused (IsErrOf result HostEnd.Fault) (H.moments host.old) (HasFile root.now digest.now) (H.faults host.old) (H.faults host.new) }
+    ensures unchanged { Unchanged (H.moments host.old) (H.moments host.new) }
+    ensures tells { IfOk result (λ n. AtEnd (λ u w. ReadsPiece root.now digest.now at into.new u n)
+        (H.moments host.old) (H.moments host.new)) }
+    ensures fault_has_cause { IsCaused (IsErrOf result HostEnd.Fault) (H.moments host.old)
+        (HasFile root.now digest.now) (H.faults host.old) (H.faults host.new) }
 {
     let path = path_of(alloc, root, digest, ObjKind::File)?;
     Ok(host.read_at(&path, at, into)?)

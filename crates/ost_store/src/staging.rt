@@ -1,9 +1,9 @@
 // Objects that are written on their way to their names.
 ghost use Rattle.std.specs.Prelude.{◌≡◌, [], OnOk, IsErrOf};
-ghost use Rattle.fp_host.specs.Moments.{Goes};
+ghost use Rattle.fp_host.specs.Moments.{Always};
 ghost use Rattle.fp_host.specs.Causes.{IsCaused};
 ghost use Rattle.fp_host.specs.Outcome.{Nothing};
-ghost use Rattle.fp_host.specs.Frame.{Frame, Ends, Only};
+ghost use Rattle.fp_host.specs.Frame.{Frame, AtEnd, Only};
 ghost use Rattle.ost_model.specs.declared.object.Object.TheVariants as objects;
 ghost use Rattle.fp_small.specs.Unsynced.{MakesNoFile, MakesOneFile};
 ghost use Rattle.ost_store.specs.Stage.{Stages, NoName, WasStaged, Grows, CanStage, CanGrow};
@@ -28,12 +28,16 @@ pub fn stage<H: Host>(
 ) -> Result<(), HostEnd>
     // A stop at any moment leaves at the path what some stop before would have left, or such a file or link, and all else
     // as it was, but for folders above. Each file that was there keeps its bytes.
-    ensures moments { Goes (H.moments host.old) (H.moments host.new) (Stages tmp.now object.now) (Stages tmp.now object.now) }
-    ensures done { OnOk result (Ends (WasStaged tmp.now object.now) (H.moments host.old) (H.moments host.new)) }
+    ensures any_moment { Always (Stages tmp.now object.now)
+        (H.moments host.old) (H.moments host.new) }
+    ensures on_success { OnOk result (AtEnd (WasStaged tmp.now object.now)
+        (H.moments host.old) (H.moments host.new)) }
     // What was unsettled stays so.
-    ensures unsynced { Ends MakesOneFile (H.moments host.old) (H.moments host.new) }
-    ensures cause { IsCaused (IsErrOf result HostEnd.Fault) (H.moments host.old) (CanStage tmp.now object.now) (H.faults host.old) (H.faults host.new) }
-    ensures memory { IsErrOf result HostEnd.NoMemory → Ends (λ u w. w ≡ u) (H.moments host.old) (H.moments host.new) }
+    ensures unsynced { AtEnd MakesOneFile (H.moments host.old) (H.moments host.new) }
+    ensures fault_has_cause { IsCaused (IsErrOf result HostEnd.Fault) (H.moments host.old)
+        (CanStage tmp.now object.now) (H.faults host.old) (H.faults host.new) }
+    ensures starved_unchanged { IsErrOf result HostEnd.NoMemory → AtEnd (λ u w. w ≡ u)
+        (H.moments host.old) (H.moments host.new) }
 {
     match object {
         Object::Meta(bytes) => stage_bytes(alloc, host, tmp, META_MODE, bytes.as_slice()),
@@ -50,11 +54,15 @@ fn stage_bytes<H: Host>(
     mode: u32,
     bytes: &[u8],
 ) -> Result<(), HostEnd>
-    ensures moments { Goes (H.moments host.old) (H.moments host.new) (Stages tmp.now (objects.File mode bytes.now)) (Stages tmp.now (objects.File mode bytes.now)) }
-    ensures done { OnOk result (Ends (WasStaged tmp.now (objects.File mode bytes.now)) (H.moments host.old) (H.moments host.new)) }
-    ensures unsynced { Ends MakesOneFile (H.moments host.old) (H.moments host.new) }
-    ensures cause { IsCaused (IsErrOf result HostEnd.Fault) (H.moments host.old) (CanStage tmp.now (objects.File mode bytes.now)) (H.faults host.old) (H.faults host.new) }
-    ensures memory { IsErrOf result HostEnd.NoMemory → Ends (λ u w. w ≡ u) (H.moments host.old) (H.moments host.new) }
+    ensures any_moment { Always (Stages tmp.now (objects.File mode bytes.now))
+        (H.moments host.old) (H.moments host.new) }
+    ensures on_success { OnOk result (AtEnd (WasStaged tmp.now (objects.File mode bytes.now))
+        (H.moments host.old) (H.moments host.new)) }
+    ensures unsynced { AtEnd MakesOneFile (H.moments host.old) (H.moments host.new) }
+    ensures fault_has_cause { IsCaused (IsErrOf result HostEnd.Fault) (H.moments host.old)
+        (CanStage tmp.now (objects.File mode bytes.now)) (H.faults host.old) (H.faults host.new) }
+    ensures starved_unchanged { IsErrOf result HostEnd.NoMemory → AtEnd (λ u w. w ≡ u)
+        (H.moments host.old) (H.moments host.new) }
 {
     stage_file(alloc, host, tmp, mode)?;
     stage_piece(host, tmp, bytes)
@@ -62,11 +70,15 @@ fn stage_bytes<H: Host>(
 
 /// Makes the absent path a link with this text.
 fn stage_link<H: Host>(alloc: Global, host: &mut H, tmp: &Path, text: &str) -> Result<(), HostEnd>
-    ensures moments { Goes (H.moments host.old) (H.moments host.new) (Stages tmp.now (objects.Link text.now)) (Stages tmp.now (objects.Link text.now)) }
-    ensures done { OnOk result (Ends (WasStaged tmp.now (objects.Link text.now)) (H.moments host.old) (H.moments host.new)) }
-    ensures unsynced { Ends MakesNoFile (H.moments host.old) (H.moments host.new) }
-    ensures cause { IsCaused (IsErrOf result HostEnd.Fault) (H.moments host.old) (CanStage tmp.now (objects.Link text.now)) (H.faults host.old) (H.faults host.new) }
-    ensures memory { IsErrOf result HostEnd.NoMemory → Ends (λ u w. w ≡ u) (H.moments host.old) (H.moments host.new) }
+    ensures any_moment { Always (Stages tmp.now (objects.Link text.now))
+        (H.moments host.old) (H.moments host.new) }
+    ensures on_success { OnOk result (AtEnd (WasStaged tmp.now (objects.Link text.now))
+        (H.moments host.old) (H.moments host.new)) }
+    ensures unsynced { AtEnd MakesNoFile (H.moments host.old) (H.moments host.new) }
+    ensures fault_has_cause { IsCaused (IsErrOf result HostEnd.Fault) (H.moments host.old)
+        (CanStage tmp.now (objects.Link text.now)) (H.faults host.old) (H.faults host.new) }
+    ensures starved_unchanged { IsErrOf result HostEnd.NoMemory → AtEnd (λ u w. w ≡ u)
+        (H.moments host.old) (H.moments host.new) }
 {
     make_above(alloc, host, tmp)?;
     Ok(host.symlink(text, tmp)?)
@@ -81,12 +93,16 @@ pub fn stage_file<H: Host>(
     tmp: &Path,
     mode: u32,
 ) -> Result<(), HostEnd>
-    ensures moments { Goes (H.moments host.old) (H.moments host.new) (Stages tmp.now (objects.File mode [])) (Stages tmp.now (objects.File mode [])) }
-    ensures done { OnOk result (Ends (WasStaged tmp.now (objects.File mode [])) (H.moments host.old) (H.moments host.new)) }
+    ensures any_moment { Always (Stages tmp.now (objects.File mode []))
+        (H.moments host.old) (H.moments host.new) }
+    ensures on_success { OnOk result (AtEnd (WasStaged tmp.now (objects.File mode []))
+        (H.moments host.old) (H.moments host.new)) }
     // What was unsettled stays so.
-    ensures unsynced { Ends MakesOneFile (H.moments host.old) (H.moments host.new) }
-    ensures cause { IsCaused (IsErrOf result HostEnd.Fault) (H.moments host.old) (CanStage tmp.now (objects.File mode [])) (H.faults host.old) (H.faults host.new) }
-    ensures memory { IsErrOf result HostEnd.NoMemory → Ends (λ u w. w ≡ u) (H.moments host.old) (H.moments host.new) }
+    ensures unsynced { AtEnd MakesOneFile (H.moments host.old) (H.moments host.new) }
+    ensures fault_has_cause { IsCaused (IsErrOf result HostEnd.Fault) (H.moments host.old)
+        (CanStage tmp.now (objects.File mode [])) (H.faults host.old) (H.faults host.new) }
+    ensures starved_unchanged { IsErrOf result HostEnd.NoMemory → AtEnd (λ u w. w ≡ u)
+        (H.moments host.old) (H.moments host.new) }
 {
     make_above(alloc, host, tmp)?;
     Ok(host.create(tmp, mode)?)
@@ -96,10 +112,12 @@ pub fn stage_file<H: Host>(
 pub fn stage_piece<H: Host>(host: &mut H, tmp: &Path, piece: &[u8]) -> Result<(), HostEnd>
     // No name changes, and no file but this.
     ensures frame { Frame Nothing NoName (Only tmp.now) (H.moments host.old) (H.moments host.new) }
-    ensures done { OnOk result (Ends (Grows tmp.now piece.now) (H.moments host.old) (H.moments host.new)) }
-    ensures unsynced { Ends MakesNoFile (H.moments host.old) (H.moments host.new) }
-    ensures cause { IsCaused (IsErrOf result HostEnd.Fault) (H.moments host.old) (CanGrow tmp.now) (H.faults host.old) (H.faults host.new) }
-    ensures memory { IsErrOf result HostEnd.NoMemory → ⊥ }
+    ensures on_success { OnOk result (AtEnd (Grows tmp.now piece.now)
+        (H.moments host.old) (H.moments host.new)) }
+    ensures unsynced { AtEnd MakesNoFile (H.moments host.old) (H.moments host.new) }
+    ensures fault_has_cause { IsCaused (IsErrOf result HostEnd.Fault) (H.moments host.old)
+        (CanGrow tmp.now) (H.faults host.old) (H.faults host.new) }
+    ensures needs_no_memory { IsErrOf result HostEnd.NoMemory → ⊥ }
 {
     Ok(host.append(tmp, piece)?)
 }

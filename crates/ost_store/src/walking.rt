@@ -2,8 +2,8 @@
 ghost use Rattle.std.specs.Prelude.{◌≡◌, ◌++◌, ◌∷◌, [], true, map, IfOk, OnOk, IsErrOf};
 ghost use Rattle.std.specs.List.{list_all};
 ghost use Rattle.fp_host.specs.Paths.{is_element};
-ghost use Rattle.fp_host.specs.Causes.{IsCaused};
-ghost use Rattle.fp_host.specs.Frame.{Ends, Still};
+ghost use Rattle.fp_host.specs.Causes.{IsCaused, IsCounted};
+ghost use Rattle.fp_host.specs.Frame.{AtEnd, Unchanged};
 ghost use Rattle.fp_small.specs.Clear.{Reaches};
 ghost use Rattle.ost_store.specs.Walks.{Visits, VisitsAll, AreLeavesWithin, AreLeavesBelow};
 
@@ -25,7 +25,8 @@ fn add_path(path: &Path, paths: &mut Vec<Path>) -> Result<(), AllocError>
 /// Adds the paths of these names in the folder.
 fn add_names(folder: &Path, names: &[Text], paths: &mut Vec<Path>) -> Result<(), AllocError>
     requires { list_all is_element names.now ≡ true }
-    ensures { OnOk result (paths.new.items ≡ paths.old.items ++ map (λ x. x ∷ folder.now) names.now) }
+    ensures { OnOk result (paths.new.items ≡ paths.old.items ++ map (λ x. x ∷ folder.now)
+        names.now) }
 {
     for name in names {
         paths.push(folder.child(name.as_str())?)?;
@@ -42,9 +43,11 @@ fn visit<H: Host>(
     found: &mut Vec<Path>,
     next: &mut Vec<Path>,
 ) -> Result<(), HostEnd>
-    ensures still { Still (H.moments host.old) (H.moments host.new) }
-    ensures tells { OnOk result (Ends (λ u w. Visits path.now u found.old.items next.old.items found.new.items next.new.items) (H.moments host.old) (H.moments host.new)) }
-    ensures cause { IsCaused (IsErrOf result HostEnd.Fault) (H.moments host.old) (λ v. Unit {0}) (H.faults host.old) (H.faults host.new) }
+    ensures unchanged { Unchanged (H.moments host.old) (H.moments host.new) }
+    ensures tells { OnOk result (AtEnd (λ u w. Visits path.now u found.old.items next.old.items
+        found.new.items next.new.items) (H.moments host.old) (H.moments host.new)) }
+    ensures fault_has_cause { IsCounted (IsErrOf result HostEnd.Fault)
+        (H.moments host.old) (H.faults host.old) (H.faults host.new) }
 {
     match host.stat(path)? {
         Stat::Absent => Ok(()),
@@ -63,9 +66,11 @@ fn visit_all<H: Host>(
     paths: &[Path],
     found: &mut Vec<Path>,
 ) -> Result<Vec<Path>, HostEnd>
-    ensures still { Still (H.moments host.old) (H.moments host.new) }
-    ensures tells { IfOk result (λ next. Ends (λ u w. VisitsAll paths.now u found.old.items found.new.items next.items) (H.moments host.old) (H.moments host.new)) }
-    ensures cause { IsCaused (IsErrOf result HostEnd.Fault) (H.moments host.old) (λ v. Unit {0}) (H.faults host.old) (H.faults host.new) }
+    ensures unchanged { Unchanged (H.moments host.old) (H.moments host.new) }
+    ensures tells { IfOk result (λ next. AtEnd (λ u w. VisitsAll paths.now u found.old.items
+        found.new.items next.items) (H.moments host.old) (H.moments host.new)) }
+    ensures fault_has_cause { IsCounted (IsErrOf result HostEnd.Fault)
+        (H.moments host.old) (H.faults host.old) (H.faults host.new) }
 {
     let mut next = Vec::new(alloc);
     for path in paths {
@@ -85,10 +90,13 @@ fn alone(alloc: Global, path: Path) -> Result<Vec<Path>, AllocError>
 
 /// The files and links at the path and below. It isn't for what is 128 folders deep.
 fn leaves_within<H: Host>(alloc: Global, host: &mut H, folder: Path) -> Result<Vec<Path>, HostEnd>
-    ensures still { Still (H.moments host.old) (H.moments host.new) }
-    ensures tells { IfOk result (λ found. Ends (λ u w. AreLeavesWithin folder u found.items) (H.moments host.old) (H.moments host.new)) }
-    ensures reach { IfOk result (λ _. Ends (λ u w. Reaches folder 127 u) (H.moments host.old) (H.moments host.new)) }
-    ensures cause { IsCaused (IsErrOf result HostEnd.Fault) (H.moments host.old) (Reaches folder 127) (H.faults host.old) (H.faults host.new) }
+    ensures unchanged { Unchanged (H.moments host.old) (H.moments host.new) }
+    ensures tells { IfOk result (λ found. AtEnd (λ u w. AreLeavesWithin folder u found.items)
+        (H.moments host.old) (H.moments host.new)) }
+    ensures reach { IfOk result (λ _. AtEnd (λ u w. Reaches folder 127 u)
+        (H.moments host.old) (H.moments host.new)) }
+    ensures fault_has_cause { IsCaused (IsErrOf result HostEnd.Fault) (H.moments host.old)
+        (Reaches folder 127) (H.faults host.old) (H.faults host.new) }
 {
     let mut found = Vec::new(alloc);
     let mut level = alone(alloc, folder)?;
@@ -108,10 +116,13 @@ pub(crate) fn leaves_below<H: Host>(
     host: &mut H,
     folder: Path,
 ) -> Result<Vec<Path>, HostEnd>
-    ensures still { Still (H.moments host.old) (H.moments host.new) }
-    ensures tells { IfOk result (λ found. Ends (λ u w. AreLeavesBelow folder u found.items) (H.moments host.old) (H.moments host.new)) }
-    ensures reach { IfOk result (λ _. Ends (λ u w. Reaches folder 127 u) (H.moments host.old) (H.moments host.new)) }
-    ensures cause { IsCaused (IsErrOf result HostEnd.Fault) (H.moments host.old) (Reaches folder 127) (H.faults host.old) (H.faults host.new) }
+    ensures unchanged { Unchanged (H.moments host.old) (H.moments host.new) }
+    ensures tells { IfOk result (λ found. AtEnd (λ u w. AreLeavesBelow folder u found.items)
+        (H.moments host.old) (H.moments host.new)) }
+    ensures reach { IfOk result (λ _. AtEnd (λ u w. Reaches folder 127 u)
+        (H.moments host.old) (H.moments host.new)) }
+    ensures fault_has_cause { IsCaused (IsErrOf result HostEnd.Fault) (H.moments host.old)
+        (Reaches folder 127) (H.faults host.old) (H.faults host.new) }
 {
     match host.stat(&folder)? {
         Stat::Dir => leaves_within(alloc, host, folder),

@@ -9,7 +9,7 @@ use Rattle.fp_host.specs.Paths.{Elements}
 use Rattle.fp_host.specs.Remote.{Held, nothing, directory, contents, target, Holdings, IsNode, bytes_of}
 use Rattle.fp_host.specs.Outcome.{Spot, gone, folder, holds, points, shows}
 use Rattle.fp_host.specs.Moments.{Moments}
-use Rattle.fp_host.specs.Frame.{Ends}
+use Rattle.fp_host.specs.Frame.{AtEnd}
 use Rattle.fp_host.specs.declared.remotes.Node.{Node}
 use Rattle.fp_host.specs.declared.remotes.Node.TheVariants as nodes
 use Rattle.fp_base.specs.declared.object.ObjKind.{ObjKind}
@@ -168,7 +168,7 @@ module _ {root : Elements} {url : Option (List ℕ)} {told : Option Moments} {ho
   abbrev own : Option Object
   own = store root (shows s.moments.now) d kind
 
-  own_is : {told' : Option Moments} {most : ℕ} {got : Got} → Ends (λ u w. Gets root d kind most u got) told told' → got ≡ got_of most own
+  own_is : {told' : Option Moments} {most : ℕ} {got : Got} → AtEnd (λ u w. Gets root d kind most u got) told told' → got ≡ got_of most own
   own_is ends = (ends.goes.told s.moments s.told_is).3.is
 
   have_own : (o : Object) → own ≡ Some o → have d kind ≡ Some o
@@ -178,14 +178,14 @@ module _ {root : Elements} {url : Option (List ℕ)} {told : Option Moments} {ho
   have_remote e = ap (λ (h : Have). h d kind) s.is ∙ ap (λ x. or_else x (remote s.held url d kind)) e
 
   -- the store has it
-  pub store_has : {told' : Option Moments} {most : ℕ} {told_is : Got} (bytes : List ℕ) (result : Result (List ℕ) WalkEnd) → Ends (λ u w. Gets root d kind most u told_is) told told' → told_is ≡ got.Meta bytes
+  pub store_has : {told' : Option Moments} {most : ℕ} {told_is : Got} (bytes : List ℕ) (result : Result (List ℕ) WalkEnd) → AtEnd (λ u w. Gets root d kind most u told_is) told told' → told_is ≡ got.Meta bytes
       → (leb (length bytes) most ≡ true → Fetches d kind (Some (objects.Meta bytes)) result) → Fetches d kind (have d kind) result
   store_has {most = most} bytes result ends is tells =
       let there = got_meta most own bytes (sym is ∙ own_is ends) in
       subst (λ o. Fetches d kind o result) (sym (have_own (objects.Meta bytes) there.0)) (tells there.1)
 
   -- the store hasn't
-  pub store_lacks : {told' : Option Moments} {most : ℕ} {told_is : Got} (result : Result (List ℕ) WalkEnd) → may_be_link kind ≡ false → Ends (λ u w. Gets root d kind most u told_is) told told'
+  pub store_lacks : {told' : Option Moments} {most : ℕ} {told_is : Got} (result : Result (List ℕ) WalkEnd) → may_be_link kind ≡ false → AtEnd (λ u w. Gets root d kind most u told_is) told told'
       → ((bytes : List ℕ) → told_is ≡ got.Meta bytes → ⊥) → ((size : ℕ) → told_is ≡ got.TooLong size → ⊥)
       → ((held : Holdings) → holdings ≡ Some held → Fetches d kind (remote held url d kind) result) → Fetches d kind (have d kind) result
   store_lacks {most = most} {told_is = told_is} result meta ends not_meta not_long tells =

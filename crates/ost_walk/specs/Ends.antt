@@ -2,7 +2,7 @@
 use Rattle.std.specs.Prelude.{◌≡◌, ◌≤◌, ℕ, ⊤, List, Option, Some, Result, Ok, Err, IsErrOf}
 use Rattle.fp_host.specs.Moments.{Moments, Rose}
 use Rattle.fp_host.specs.Causes.{IsCaused}
-use Rattle.fp_host.specs.Frame.{Still}
+use Rattle.fp_host.specs.Frame.{Unchanged}
 use Rattle.fp_host.specs.Remote.{Holdings}
 use Rattle.fp_host.specs.declared.host.HostEnd.{HostEnd}
 use Rattle.fp_host.specs.declared.host.HostEnd.TheVariants as host_ends
@@ -96,7 +96,7 @@ outside told host_faults holdings remote_faults = record { told = told; host_fau
 
 -- Nothing changes outside, and each fault is that outside's own.
 pub record Observes {A : Type 0} (result : Result A WalkEnd) (u w : Outside) : Type 0 where
-  pub still : Still u.told w.told
+  pub still : Unchanged u.told w.told
   pub same : w.holdings ≡ u.holdings
   pub host : IsCaused (IsErrOf result ends.HostFault) u.told (λ v. Unit {0}) u.host_faults w.host_faults
   pub remote : IsRemotes (IsErrOf result ends.RemoteFault) u.remote_faults w.remote_faults

@@ -28,9 +28,11 @@ fn fetch_tree<H: Host, R: Remotes>(
     places: &Places,
     digest: &Digest,
 ) -> Result<DirTree, WalkEnd>
-    ensures looks { Observes result (outside (H.moments host.old) (H.faults host.old) (R.holds remotes.old) (R.faults remotes.old))
+    ensures looks { Observes result (outside (H.moments host.old) (H.faults host.old)
+        (R.holds remotes.old) (R.faults remotes.old))
         (outside (H.moments host.new) (H.faults host.new) (R.holds remotes.new) (R.faults remotes.new)) }
-    ensures tells { (have : Have) → Supplies places.now.root places.now.url (H.moments host.old) (R.holds remotes.old) have
+    ensures tells { (have : Have) → Supplies places.now.root places.now.url (H.moments host.old)
+        (R.holds remotes.old) have
         → EndsBy (λ t. IsTreeOf have digest.now (tree_view t)) (IsFaultOf digest.now kinds.DirTree (own_fault have digest.now kinds.DirTree)) result }
 {
     match fetch(alloc, host, remotes, places, digest, ObjKind::DirTree) {
@@ -47,9 +49,11 @@ pub(crate) fn fetch_root<H: Host, R: Remotes>(
     places: &Places,
     commit: &Digest,
 ) -> Result<Dir, WalkEnd>
-    ensures looks { Observes result (outside (H.moments host.old) (H.faults host.old) (R.holds remotes.old) (R.faults remotes.old))
+    ensures looks { Observes result (outside (H.moments host.old) (H.faults host.old)
+        (R.holds remotes.old) (R.faults remotes.old))
         (outside (H.moments host.new) (H.faults host.new) (R.holds remotes.new) (R.faults remotes.new)) }
-    ensures tells { (have : Have) → Supplies places.now.root places.now.url (H.moments host.old) (R.holds remotes.old) have
+    ensures tells { (have : Have) → Supplies places.now.root places.now.url (H.moments host.old)
+        (R.holds remotes.old) have
         → EndsBy (IsRoot have commit.now) (IsFaultOf commit.now kinds.Commit (own_fault have commit.now kinds.Commit)) result }
 {
     match fetch(alloc, host, remotes, places, commit, ObjKind::Commit) {
@@ -66,9 +70,11 @@ fn fetch_meta<H: Host, R: Remotes>(
     places: &Places,
     digest: &Digest,
 ) -> Result<(), WalkEnd>
-    ensures looks { Observes result (outside (H.moments host.old) (H.faults host.old) (R.holds remotes.old) (R.faults remotes.old))
+    ensures looks { Observes result (outside (H.moments host.old) (H.faults host.old)
+        (R.holds remotes.old) (R.faults remotes.old))
         (outside (H.moments host.new) (H.faults host.new) (R.holds remotes.new) (R.faults remotes.new)) }
-    ensures tells { (have : Have) → Supplies places.now.root places.now.url (H.moments host.old) (R.holds remotes.old) have
+    ensures tells { (have : Have) → Supplies places.now.root places.now.url (H.moments host.old)
+        (R.holds remotes.old) have
         → EndsBy (λ _. IsGood have digest.now kinds.DirMeta) (IsFaultOf digest.now kinds.DirMeta (own_fault have digest.now kinds.DirMeta)) result }
 {
     match fetch(alloc, host, remotes, places, digest, ObjKind::DirMeta) {
@@ -86,10 +92,12 @@ pub(crate) fn open_tree<H: Host, R: Remotes>(
     dir: &Dir,
     count: usize,
 ) -> Result<DirTree, WalkEnd>
-    ensures looks { Observes result (outside (H.moments host.old) (H.faults host.old) (R.holds remotes.old) (R.faults remotes.old))
+    ensures looks { Observes result (outside (H.moments host.old) (H.faults host.old)
+        (R.holds remotes.old) (R.faults remotes.old))
         (outside (H.moments host.new) (H.faults host.new) (R.holds remotes.new) (R.faults remotes.new)) }
     ensures limits { OnOk result (limit_of count dir.now.depth ≡ None) }
-    ensures tells { (have : Have) → Supplies places.now.root places.now.url (H.moments host.old) (R.holds remotes.old) have
+    ensures tells { (have : Have) → Supplies places.now.root places.now.url (H.moments host.old)
+        (R.holds remotes.old) have
         → EndsBy (λ t. IsTree have count dir.now (tree_view t)) (IsFaultOf dir.now.tree kinds.DirTree (walk_fault have count (tree_of dir.now))) result }
 {
     match limit_of(count, dir.depth) {
@@ -107,10 +115,12 @@ fn open_meta<H: Host, R: Remotes>(
     dir: &Dir,
     count: usize,
 ) -> Result<(), WalkEnd>
-    ensures looks { Observes result (outside (H.moments host.old) (H.faults host.old) (R.holds remotes.old) (R.faults remotes.old))
+    ensures looks { Observes result (outside (H.moments host.old) (H.faults host.old)
+        (R.holds remotes.old) (R.faults remotes.old))
         (outside (H.moments host.new) (H.faults host.new) (R.holds remotes.new) (R.faults remotes.new)) }
     ensures limits { OnOk result (limit_of count dir.now.depth ≡ None) }
-    ensures tells { (have : Have) → Supplies places.now.root places.now.url (H.moments host.old) (R.holds remotes.old) have
+    ensures tells { (have : Have) → Supplies places.now.root places.now.url (H.moments host.old)
+        (R.holds remotes.old) have
         → EndsBy (λ _. IsChecked have count (meta_of dir.now)) (IsFaultOf dir.now.meta kinds.DirMeta (walk_fault have count (meta_of dir.now))) result }
 {
     match limit_of(count, dir.depth) {
@@ -128,10 +138,12 @@ pub(crate) fn open_dir<H: Host, R: Remotes>(
     dir: &Dir,
     count: usize,
 ) -> Result<DirTree, WalkEnd>
-    ensures looks { Observes result (outside (H.moments host.old) (H.faults host.old) (R.holds remotes.old) (R.faults remotes.old))
+    ensures looks { Observes result (outside (H.moments host.old) (H.faults host.old)
+        (R.holds remotes.old) (R.faults remotes.old))
         (outside (H.moments host.new) (H.faults host.new) (R.holds remotes.new) (R.faults remotes.new)) }
     ensures limits { OnOk result (limit_of (count + 1) dir.now.depth ≡ None) }
-    ensures tells { (have : Have) → Supplies places.now.root places.now.url (H.moments host.old) (R.holds remotes.old) have
+    ensures tells { (have : Have) → Supplies places.now.root places.now.url (H.moments host.old)
+        (R.holds remotes.old) have
         → EndsBy (λ t. IsOpened have count dir.now (tree_view t)) (IsFirst (heads_fault have count dir.now)) result }
 {
     match open_tree(alloc, host, remotes, places, dir, count) {

@@ -35,7 +35,8 @@ pub(crate) fn add_dirs(
     depth: u32,
     left: &mut Vec<Dir>,
 ) -> Result<(), AllocError>
-    ensures { OnOk result (left.new.items ≡ left.old.items ++ reverse (map (child depth) (map row_of entries.now))) }
+    ensures { OnOk result (left.new.items ≡ left.old.items ++ reverse
+        (map (child depth) (map row_of entries.now))) }
 {
     let mut i = entries.len();
     while i > 0 {

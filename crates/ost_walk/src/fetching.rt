@@ -27,9 +27,11 @@ pub fn fetch<H: Host, R: Remotes>(
     kind: ObjKind,
 ) -> Result<Blob, WalkEnd>
     requires { may_be_link kind ≡ false }
-    ensures looks { Observes result (outside (H.moments host.old) (H.faults host.old) (R.holds remotes.old) (R.faults remotes.old))
+    ensures looks { Observes result (outside (H.moments host.old) (H.faults host.old)
+        (R.holds remotes.old) (R.faults remotes.old))
         (outside (H.moments host.new) (H.faults host.new) (R.holds remotes.new) (R.faults remotes.new)) }
-    ensures tells { (have : Have) → Supplies places.now.root places.now.url (H.moments host.old) (R.holds remotes.old) have
+    ensures tells { (have : Have) → Supplies places.now.root places.now.url (H.moments host.old)
+        (R.holds remotes.old) have
         → Fetches digest.now kind (have digest.now kind) result }
 {
     match get(alloc, host, &places.root, digest, kind, MOST_BYTES)? {
@@ -49,9 +51,11 @@ fn fetch_from<R: Remotes>(
 ) -> Result<Blob, WalkEnd>
     requires { may_be_link kind ≡ false }
     ensures same { R.holds remotes.new ≡ R.holds remotes.old }
-    ensures tells { (held : Holdings) → R.holds remotes.old ≡ Some held → Fetches digest.now kind (remote held places.now.url digest.now kind) result }
+    ensures tells { (held : Holdings) → R.holds remotes.old ≡ Some held → Fetches digest.now kind
+        (remote held places.now.url digest.now kind) result }
     ensures host { IsErrOf result WalkEnd.HostFault → ⊥ }
-    ensures remote { IsRemotes (IsErrOf result WalkEnd.RemoteFault) (R.faults remotes.old) (R.faults remotes.new) }
+    ensures remote { IsRemotes (IsErrOf result WalkEnd.RemoteFault)
+        (R.faults remotes.old) (R.faults remotes.new) }
 {
     match &places.url {
         Some(url) => fetch_remote(alloc, remotes, url.as_str(), digest, kind),

@@ -18,8 +18,10 @@ use std::alloc::AllocError;
 /// Adds a file of a directory so far below the root.
 #[tactic(auto, using(crate::proofs::Listed::limit_low))]
 fn add_file(digest: &Digest, depth: u32, done: &mut Vec<(Digest, ObjKind)>) -> Result<(), WalkEnd>
-    ensures tells { EndsBy (λ _. limit_of (length done.old.items) depth ≡ None) (λ w. IsLimit digest.now kinds.File (limit_of (length done.old.items) depth) w) result }
-    ensures done { OnOk result (done.new.items ≡ done.old.items ++ (digest.now, kinds.File) ∷ []) }
+    ensures tells { EndsBy (λ _. limit_of (length done.old.items) depth ≡ None)
+        (λ w. IsLimit digest.now kinds.File (limit_of (length done.old.items) depth) w) result }
+    ensures on_success { OnOk result (done.new.items ≡ done.old.items ++ (digest.now, kinds.File) ∷
+        []) }
     ensures most { OnOk result (length done.new.items ≤ 200000) }
     ensures faults { NoFault result }
 {
@@ -36,7 +38,8 @@ fn add_files(
     depth: u32,
     done: &mut Vec<(Digest, ObjKind)>,
 ) -> Result<(), WalkEnd>
-    ensures tells { (have : Have) → EndsBy (λ _. AreListed have depth (map file_row files.now) done.old.items done.new.items)
+    ensures tells { (have : Have) → EndsBy (λ _. AreListed have depth (map file_row files.now)
+        done.old.items done.new.items)
         (IsFirst (first_of (walk_fault have) (length done.old.items) (file_places depth (map file_row files.now)))) result }
     ensures more { OnOk result (length done.old.items ≤ length done.new.items) }
     ensures most { length done.old.items ≤ 200000 → OnOk result (length done.new.items ≤ 200000) }
@@ -69,7 +72,8 @@ pub(crate) fn list_dir(
     left: &mut Vec<Dir>,
 ) -> Result<(), WalkEnd>
     requires { limit_of (length done.old.items + 1) dir.now.depth ≡ None }
-    ensures tells { (have : Have) → IsOpened have (length done.old.items) dir.now (tree_view tree.now)
+    ensures tells { (have : Have) → IsOpened have (length done.old.items) dir.now
+        (tree_view tree.now)
         → EndsBy (λ _. IsWalked have dir.now done.old.items done.new.items left.old.items left.new.items) (IsFirst (dir_fault have (length done.old.items) dir.now)) result }
     ensures more { OnOk result (length done.old.items + 2 ≤ length done.new.items) }
     ensures most { OnOk result (length done.new.items ≤ 200000) }

@@ -26,10 +26,12 @@ fn start<H: Host, R: Remotes>(
     places: &Places,
     commit: &Digest,
 ) -> Result<Here, WalkEnd>
-    ensures looks { Observes result (outside (H.moments host.old) (H.faults host.old) (R.holds remotes.old) (R.faults remotes.old))
+    ensures looks { Observes result (outside (H.moments host.old) (H.faults host.old)
+        (R.holds remotes.old) (R.faults remotes.old))
         (outside (H.moments host.new) (H.faults host.new) (R.holds remotes.new) (R.faults remotes.new)) }
     ensures low { IfOk result IsLow }
-    ensures tells { (have : Have) → Supplies places.now.root places.now.url (H.moments host.old) (R.holds remotes.old) have
+    ensures tells { (have : Have) → Supplies places.now.root places.now.url (H.moments host.old)
+        (R.holds remotes.old) have
         → EndsBy (IsHere have commit.now []) (IsFirst (look_fault have commit.now [])) result }
 {
     match fetch_root(alloc, host, remotes, places, commit) {
@@ -52,10 +54,12 @@ fn enter<H: Host, R: Remotes>(
     name: &str,
 ) -> Result<Here, WalkEnd>
     requires { depth ≤ 64 }
-    ensures looks { Observes result (outside (H.moments host.old) (H.faults host.old) (R.holds remotes.old) (R.faults remotes.old))
+    ensures looks { Observes result (outside (H.moments host.old) (H.faults host.old)
+        (R.holds remotes.old) (R.faults remotes.old))
         (outside (H.moments host.new) (H.faults host.new) (R.holds remotes.new) (R.faults remotes.new)) }
     ensures low { IfOk result IsLow }
-    ensures tells { (have : Have) (commit : List ℕ) (up : Elements) → Supplies places.now.root places.now.url (H.moments host.old) (R.holds remotes.old) have
+    ensures tells { (have : Have) (commit : List ℕ) (up : Elements) → Supplies places.now.root
+        places.now.url (H.moments host.old) (R.holds remotes.old) have
         → IsDirAt have commit up (tree_view tree.now) depth → EndsBy (IsHere have commit (name.now ∷ up)) (IsFirst (look_fault have commit (name.now ∷ up))) result }
 {
     match find_dir(tree.dirs.as_slice(), name, depth + 1) {
@@ -80,10 +84,12 @@ fn advance<H: Host, R: Remotes>(
     name: &str,
 ) -> Result<Here, WalkEnd>
     requires { IsLow here.now }
-    ensures looks { Observes result (outside (H.moments host.old) (H.faults host.old) (R.holds remotes.old) (R.faults remotes.old))
+    ensures looks { Observes result (outside (H.moments host.old) (H.faults host.old)
+        (R.holds remotes.old) (R.faults remotes.old))
         (outside (H.moments host.new) (H.faults host.new) (R.holds remotes.new) (R.faults remotes.new)) }
     ensures low { IfOk result IsLow }
-    ensures tells { (have : Have) (commit : List ℕ) (up : Elements) → Supplies places.now.root places.now.url (H.moments host.old) (R.holds remotes.old) have
+    ensures tells { (have : Have) (commit : List ℕ) (up : Elements) → Supplies places.now.root
+        places.now.url (H.moments host.old) (R.holds remotes.old) have
         → IsHere have commit up here.now → EndsBy (IsHere have commit (name.now ∷ up)) (IsFirst (look_fault have commit (name.now ∷ up))) result }
 {
     match here {
@@ -103,10 +109,12 @@ fn follow_one<H: Host, R: Remotes>(
 ) -> Result<Here, WalkEnd>
     requires some { path.now ≢ [] }
     requires low { IsLow here.now }
-    ensures looks { Observes result (outside (H.moments host.old) (H.faults host.old) (R.holds remotes.old) (R.faults remotes.old))
+    ensures looks { Observes result (outside (H.moments host.old) (H.faults host.old)
+        (R.holds remotes.old) (R.faults remotes.old))
         (outside (H.moments host.new) (H.faults host.new) (R.holds remotes.new) (R.faults remotes.new)) }
     ensures low { IfOk result IsLow }
-    ensures tells { (have : Have) (commit : List ℕ) → Supplies places.now.root places.now.url (H.moments host.old) (R.holds remotes.old) have
+    ensures tells { (have : Have) (commit : List ℕ) → Supplies places.now.root places.now.url
+        (H.moments host.old) (R.holds remotes.old) have
         → IsHere have commit (drop 1 path.now) here.now → EndsBy (IsHere have commit path.now) (IsFirst (look_fault have commit path.now)) result }
 {
     match path.name() {
@@ -125,9 +133,11 @@ fn follow<H: Host, R: Remotes>(
     path: &Path,
 ) -> Result<Here, WalkEnd>
     requires { IsLow root }
-    ensures looks { Observes result (outside (H.moments host.old) (H.faults host.old) (R.holds remotes.old) (R.faults remotes.old))
+    ensures looks { Observes result (outside (H.moments host.old) (H.faults host.old)
+        (R.holds remotes.old) (R.faults remotes.old))
         (outside (H.moments host.new) (H.faults host.new) (R.holds remotes.new) (R.faults remotes.new)) }
-    ensures tells { (have : Have) (commit : List ℕ) → Supplies places.now.root places.now.url (H.moments host.old) (R.holds remotes.old) have
+    ensures tells { (have : Have) (commit : List ℕ) → Supplies places.now.root places.now.url
+        (H.moments host.old) (R.holds remotes.old) have
         → IsHere have commit [] root → EndsBy (IsHere have commit path.now) (IsFirst (look_fault have commit path.now)) result }
 {
     let mut here = root;
@@ -145,7 +155,8 @@ fn follow<H: Host, R: Remotes>(
 
 /// What is said of what was reached.
 fn found_of(here: &Here) -> Found
-    ensures tells { (have : Have) (commit : List ℕ) (path : Elements) → IsHere have commit path here.now → IsFound have commit path result }
+    ensures tells { (have : Have) (commit : List ℕ) (path : Elements) → IsHere have commit path
+        here.now → IsFound have commit path result }
 {
     match here {
         Here::Dir(..) => Found::Dir,
@@ -165,9 +176,11 @@ pub fn look<H: Host, R: Remotes>(
     path: &Path,
 ) -> Result<Found, WalkEnd>
     // Nothing changes, and a fault comes only where the count of that outside rose.
-    ensures looks { Observes result (outside (H.moments host.old) (H.faults host.old) (R.holds remotes.old) (R.faults remotes.old))
+    ensures looks { Observes result (outside (H.moments host.old) (H.faults host.old)
+        (R.holds remotes.old) (R.faults remotes.old))
         (outside (H.moments host.new) (H.faults host.new) (R.holds remotes.new) (R.faults remotes.new)) }
-    ensures tells { (have : Have) → Supplies places.now.root places.now.url (H.moments host.old) (R.holds remotes.old) have
+    ensures tells { (have : Have) → Supplies places.now.root places.now.url (H.moments host.old)
+        (R.holds remotes.old) have
         → EndsBy (IsFound have commit.now path.now) (IsFirst (look_fault have commit.now path.now)) result }
 {
     match start(alloc, host, remotes, places, commit) {

@@ -76,7 +76,8 @@ pub(crate) fn check_meta(alloc: Global, bytes: &Blob, digest: &Digest) -> Result
 
 /// Checks the permission bits of a dirmeta.
 fn check_mode(meta: DirMeta, digest: &Digest) -> Result<(), WalkEnd>
-    ensures tells { EndsBy (λ _. dir_bits (Some (meta_view meta)) ≡ None) (IsFaultOf digest.now kinds.DirMeta (dir_bits (Some (meta_view meta)))) result }
+    ensures tells { EndsBy (λ _. dir_bits (Some (meta_view meta)) ≡ None)
+        (IsFaultOf digest.now kinds.DirMeta (dir_bits (Some (meta_view meta)))) result }
     ensures faults { NoFault result }
 {
     if is_permission(meta.mode % 4096) {

@@ -22,7 +22,8 @@ pub(crate) const MOST_BYTES: u64 = 16 * 1024 * 1024;
 /// The bytes, where the digest names them. It is for at most 16 MiB.
 pub(crate) fn named(bytes: Blob, digest: &Digest, kind: ObjKind) -> Result<Blob, WalkEnd>
     requires { may_be_link kind ≡ false }
-    ensures tells { leb (length bytes) (16 * 1024 * 1024) ≡ true → Fetches digest.now kind (Some (objects.Meta bytes)) result }
+    ensures tells { leb (length bytes) (16 * 1024 * 1024) ≡ true → Fetches digest.now kind
+        (Some (objects.Meta bytes)) result }
     ensures host { IsErrOf result WalkEnd.HostFault → ⊥ }
     ensures remote { IsErrOf result WalkEnd.RemoteFault → ⊥ }
 {
@@ -43,10 +44,13 @@ fn read_whole<R: Remotes>(
     size: u64,
 ) -> Result<Blob, WalkEnd>
     ensures same { R.holds remotes.new ≡ R.holds remotes.old }
-    ensures tells { (held : Holdings) → R.holds remotes.old ≡ Some held → length (bytes_of (held url.now path.now)) ≡ size → IfOk result (λ bytes. bytes ≡ bytes_of (held url.now path.now)) }
+    ensures tells { (held : Holdings) → R.holds remotes.old ≡ Some held → length
+        (bytes_of (held url.now path.now)) ≡ size → IfOk result
+        (λ bytes. bytes ≡ bytes_of (held url.now path.now)) }
     ensures refuses { (w : WalkFault) → IsErrOf result (WalkEnd.Refused w) → ⊥ }
     ensures host { IsErrOf result WalkEnd.HostFault → ⊥ }
-    ensures remote { IsRemotes (IsErrOf result WalkEnd.RemoteFault) (R.faults remotes.old) (R.faults remotes.new) }
+    ensures remote { IsRemotes (IsErrOf result WalkEnd.RemoteFault)
+        (R.faults remotes.old) (R.faults remotes.new) }
 {
     let mut bytes = vec![in alloc; 0u8; size as usize]?;
     let count = remotes.read_at(url, path, 0, &mut bytes)?;
@@ -64,9 +68,11 @@ pub(crate) fn fetch_remote<R: Remotes>(
 ) -> Result<Blob, WalkEnd>
     requires { may_be_link kind ≡ false }
     ensures same { R.holds remotes.new ≡ R.holds remotes.old }
-    ensures tells { (held : Holdings) → R.holds remotes.old ≡ Some held → Fetches digest.now kind (remote_at held url.now digest.now kind) result }
+    ensures tells { (held : Holdings) → R.holds remotes.old ≡ Some held → Fetches digest.now kind
+        (remote_at held url.now digest.now kind) result }
     ensures host { IsErrOf result WalkEnd.HostFault → ⊥ }
-    ensures remote { IsRemotes (IsErrOf result WalkEnd.RemoteFault) (R.faults remotes.old) (R.faults remotes.new) }
+    ensures remote { IsRemotes (IsErrOf result WalkEnd.RemoteFault)
+        (R.faults remotes.old) (R.faults remotes.new) }
 {
     let path = path_of(alloc, &Path::root(alloc), digest, kind)?;
     match remotes.node(alloc, url, &path)? {

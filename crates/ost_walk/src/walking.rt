@@ -27,11 +27,13 @@ fn visit<H: Host, R: Remotes>(
     done: &mut Vec<(Digest, ObjKind)>,
     left: &mut Vec<Dir>,
 ) -> Result<(), WalkEnd>
-    ensures looks { Observes result (outside (H.moments host.old) (H.faults host.old) (R.holds remotes.old) (R.faults remotes.old))
+    ensures looks { Observes result (outside (H.moments host.old) (H.faults host.old)
+        (R.holds remotes.old) (R.faults remotes.old))
         (outside (H.moments host.new) (H.faults host.new) (R.holds remotes.new) (R.faults remotes.new)) }
     ensures more { OnOk result (length done.old.items + 2 ≤ length done.new.items) }
     ensures most { OnOk result (length done.new.items ≤ 200000) }
-    ensures tells { (have : Have) → Supplies places.now.root places.now.url (H.moments host.old) (R.holds remotes.old) have
+    ensures tells { (have : Have) → Supplies places.now.root places.now.url (H.moments host.old)
+        (R.holds remotes.old) have
         → EndsBy (λ _. IsWalked have dir.now done.old.items done.new.items left.old.items left.new.items) (IsFirst (dir_fault have (length done.old.items) dir.now)) result }
 {
     match open_dir(alloc, host, remotes, places, dir, done.len()) {
@@ -49,9 +51,11 @@ fn walk<H: Host, R: Remotes>(
     done: &mut Vec<(Digest, ObjKind)>,
     left: &mut Vec<Dir>,
 ) -> Result<(), WalkEnd>
-    ensures looks { Observes result (outside (H.moments host.old) (H.faults host.old) (R.holds remotes.old) (R.faults remotes.old))
+    ensures looks { Observes result (outside (H.moments host.old) (H.faults host.old)
+        (R.holds remotes.old) (R.faults remotes.old))
         (outside (H.moments host.new) (H.faults host.new) (R.holds remotes.new) (R.faults remotes.new)) }
-    ensures tells { (have : Have) (commit : List ℕ) → Supplies places.now.root places.now.url (H.moments host.old) (R.holds remotes.old) have
+    ensures tells { (have : Have) (commit : List ℕ) → Supplies places.now.root places.now.url
+        (H.moments host.old) (R.holds remotes.old) have
         → IsOnTheWay have commit done.old.items left.old.items
         → EndsBy (λ _. IsOnTheWay have commit done.new.items []) (IsFirst (first_walk_fault have commit)) result }
 {
@@ -91,9 +95,11 @@ fn order_from<H: Host, R: Remotes>(
     commit: &Digest,
     root: Dir,
 ) -> Result<Items<(Digest, ObjKind)>, WalkEnd>
-    ensures looks { Observes result (outside (H.moments host.old) (H.faults host.old) (R.holds remotes.old) (R.faults remotes.old))
+    ensures looks { Observes result (outside (H.moments host.old) (H.faults host.old)
+        (R.holds remotes.old) (R.faults remotes.old))
         (outside (H.moments host.new) (H.faults host.new) (R.holds remotes.new) (R.faults remotes.new)) }
-    ensures tells { (have : Have) → Supplies places.now.root places.now.url (H.moments host.old) (R.holds remotes.old) have → IsRoot have commit.now root
+    ensures tells { (have : Have) → Supplies places.now.root places.now.url (H.moments host.old)
+        (R.holds remotes.old) have → IsRoot have commit.now root
         → EndsBy (IsOrder have commit.now) (IsFirst (first_walk_fault have commit.now)) result }
 {
     let mut done = commit_alone(alloc, commit)?;
@@ -114,9 +120,11 @@ pub fn order<H: Host, R: Remotes>(
     places: &Places,
     commit: &Digest,
 ) -> Result<Items<(Digest, ObjKind)>, WalkEnd>
-    ensures looks { Observes result (outside (H.moments host.old) (H.faults host.old) (R.holds remotes.old) (R.faults remotes.old))
+    ensures looks { Observes result (outside (H.moments host.old) (H.faults host.old)
+        (R.holds remotes.old) (R.faults remotes.old))
         (outside (H.moments host.new) (H.faults host.new) (R.holds remotes.new) (R.faults remotes.new)) }
-    ensures tells { (have : Have) → Supplies places.now.root places.now.url (H.moments host.old) (R.holds remotes.old) have
+    ensures tells { (have : Have) → Supplies places.now.root places.now.url (H.moments host.old)
+        (R.holds remotes.old) have
         → EndsBy (IsOrder have commit.now) (IsFirst (first_walk_fault have commit.now)) result }
 {
     match fetch_root(alloc, host, remotes, places, commit) {

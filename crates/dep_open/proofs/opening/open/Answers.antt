@@ -10,19 +10,19 @@ use Rattle.dep_open.proofs.Unread.{not_read, read_on}
 use Rattle.dep_open.proofs.opening.open.Goals as goal
 
 pub returns-in_err-state-clause-frame : goal.returns-in_err-state-clause-frame
-returns-in_err-state-clause-frame g c = let t = g.met.H.Host.is_tree in frame_looks c.read_state.ensures.still (frame_start (t c.args.host.now)) (t c.args.host.now)
+returns-in_err-state-clause-frame g c = let t = g.met.H.Host.is_tree in frame_looks c.read_state.ensures.unchanged (frame_start (t c.args.host.now)) (t c.args.host.now)
 
 pub returns-in_err-sync-clause-frame : goal.returns-in_err-sync-clause-frame
-returns-in_err-sync-clause-frame g c = let t = g.met.H.Host.is_tree in frame_sync c.sync.ensures.step (frame_looks c.read_state.ensures.still (frame_start (t c.args.host.now)) (t c.args.host.now)) (t c.read_state.new.host)
+returns-in_err-sync-clause-frame g c = let t = g.met.H.Host.is_tree in frame_sync c.sync.ensures.step (frame_looks c.read_state.ensures.unchanged (frame_start (t c.args.host.now)) (t c.args.host.now)) (t c.read_state.new.host)
 
 pub returns-in_err-sync-clause-tells : goal.returns-in_err-sync-clause-tells
 returns-in_err-sync-clause-tells g c =
     let t = g.met.H.Host.is_tree in
-    let frame = frame_sync {G = Nothing} {W = NoName} {A = NoPath} c.sync.ensures.step (frame_looks c.read_state.ensures.still (frame_start (t c.args.host.now)) (t c.args.host.now)) (t c.read_state.new.host) in
+    let frame = frame_sync {G = Nothing} {W = NoName} {A = NoPath} c.sync.ensures.step (frame_looks c.read_state.ensures.unchanged (frame_start (t c.args.host.now)) (t c.args.host.now)) (t c.read_state.new.host) in
     ends_to (ends_frame (t c.args.host.now) frame) (λ u w keeps. ended c.from_residual-in_err-sync.result (end_of c.in_err-sync.field-0.0) u w c.from_residual-in_err-sync.ensures.0 c.from_residual-in_err-sync.ensures.1)
 
 pub returns-clause-frame : goal.returns-clause-frame
-returns-clause-frame g c = let t = g.met.H.Host.is_tree in frame_sync c.sync.ensures.step (frame_looks c.read_state.ensures.still (frame_start (t c.args.host.now)) (t c.args.host.now)) (t c.read_state.new.host)
+returns-clause-frame g c = let t = g.met.H.Host.is_tree in frame_sync c.sync.ensures.step (frame_looks c.read_state.ensures.unchanged (frame_start (t c.args.host.now)) (t c.args.host.now)) (t c.read_state.new.host)
 
 pub returns-clause-tells : goal.returns-clause-tells
 returns-clause-tells g c =
@@ -31,7 +31,7 @@ returns-clause-tells g c =
     (λ u v w tree q step. opened_ok c.in_ok-state.state c.of.result u v w c.of.ensures tree q.0.0 q.1 step)
 
 pub returns-in_err-state-clause-unread : goal.returns-in_err-state-clause-unread
-returns-in_err-state-clause-unread g c = not_read (g.met.H.Host.is_tree c.args.host.now) c.read_state.ensures.still
+returns-in_err-state-clause-unread g c = not_read (g.met.H.Host.is_tree c.args.host.now) c.read_state.ensures.unchanged
 
 pub returns-in_err-sync-clause-unread : goal.returns-in_err-sync-clause-unread
 returns-in_err-sync-clause-unread g c =

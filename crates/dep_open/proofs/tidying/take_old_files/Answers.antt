@@ -15,14 +15,14 @@ use Rattle.dep_open.specs.Tidy.{OldAbsent, CanTakeOld}
 use Rattle.dep_open.proofs.Tidied.{takes_none, takes_some, there_known, still_absent, still_no_dir}
 use Rattle.dep_open.proofs.tidying.take_old_files.Goals as goal
 
-pub returns-in_err-stat-clause-moments : goal.returns-in_err-stat-clause-moments
-returns-in_err-stat-clause-moments g c = begins (g.met.H.Host.is_tree c.args.host.now) (makes_goes c.stat.ensures.step) (λ u w tree s. takes_none s.same) (λ u w tree s e. takes_none e.same)
+pub returns-in_err-stat-clause-any_moment : goal.returns-in_err-stat-clause-any_moment
+returns-in_err-stat-clause-any_moment g c = begins (g.met.H.Host.is_tree c.args.host.now) (makes_goes c.stat.ensures.step) (λ u w tree s. takes_none s.same) (λ u w tree s e. takes_none e.same)
 
-pub returns-in-Absent-clause-moments : goal.returns-in-Absent-clause-moments
-returns-in-Absent-clause-moments g c = begins (g.met.H.Host.is_tree c.args.host.now) (makes_goes c.stat.ensures.step) (λ u w tree s. takes_none s.same) (λ u w tree s e. takes_none e.same)
+pub returns-in-Absent-clause-any_moment : goal.returns-in-Absent-clause-any_moment
+returns-in-Absent-clause-any_moment g c = begins (g.met.H.Host.is_tree c.args.host.now) (makes_goes c.stat.ensures.step) (λ u w tree s. takes_none s.same) (λ u w tree s e. takes_none e.same)
 
-pub returns-in-Absent-clause-done : goal.returns-in-Absent-clause-done
-returns-in-Absent-clause-done g c =
+pub returns-in-Absent-clause-on_success : goal.returns-in-Absent-clause-on_success
+returns-in-Absent-clause-on_success g c =
     let at : c.in_ok-config.config ≡ config = c.in_ok-config.ensures in
     ends_to (ends_call (g.met.H.Host.is_tree c.args.host.now) c.in_ok-stat.ensures.step) (λ u w s. record { old = λ some. absurd (some (sym (ap w.names at) ∙ stat_gone c.in-Absent.is s)) })
 
@@ -35,7 +35,7 @@ returns-in_err-take_away-in_default g c =
     record {
       moments = knowing {P = λ v. v.names config ≡ absent → ⊥} (there_known c.in_ok-config.ensures c.in_ok-stat.ensures.step c.in_default.not-Absent) frame.goes (λ u w there k. takes_some there k) (λ u w there k. takes_some there k);
       done = ends_err _ _ c.from_residual-in_err-take_away-in_default.ensures.0;
-      cause = fault_caused CanTakeOld (λ v. IsNoDir (v.names p)) _ _ _ _ _ (t c.args.host.now) c.stat.ensures.cause.later (ends_call (t c.args.host.now) c.stat.ensures.step) c.take_away.ensures.cause (same_fault _ _ _ c.in_err-take_away-in_default.was c.from_residual-in_err-take_away-in_default.ensures.1)
+      cause = fault_caused CanTakeOld (λ v. IsNoDir (v.names p)) _ _ _ _ _ (t c.args.host.now) c.stat.ensures.fault_has_cause.later (ends_call (t c.args.host.now) c.stat.ensures.step) c.take_away.ensures.fault_has_cause (same_fault _ _ _ c.in_err-take_away-in_default.was c.from_residual-in_err-take_away-in_default.ensures.1)
           (λ u v tree q can. subst (λ (x : View). IsNoDir (x.names p)) (sym q.same) (subst (λ r. IsNoDir (u.names r)) (sym c.in_ok-remotes.ensures) can.remotes));
     }
 
@@ -53,7 +53,7 @@ returns g c =
       done = on_ok_weaker c.take_away-in_default.result
           (λ done. ends_on (ends_both (ends_frame (t c.take_away.new.host) c.take_away-in_default.ensures.frame) done) gone (t c.take_away.new.host)
           (λ u v w tree none q. record { old = λ some. (sym (ap w.names c.in_ok-remotes.ensures) ∙ still_absent none q.0, sym (ap w.names c.in_ok-pins.ensures) ∙ q.1) }))
-          c.take_away-in_default.ensures.done;
-      cause = fault_caused CanTakeOld (λ v. IsNoDir (v.names p)) _ _ _ _ _ (t c.args.host.now) (omega (arith, c.stat.ensures.cause.later, c.take_away.ensures.cause.later)) (ends_frame (t c.args.host.now) first) c.take_away-in_default.ensures.cause (λ e. e)
+          c.take_away-in_default.ensures.on_success;
+      cause = fault_caused CanTakeOld (λ v. IsNoDir (v.names p)) _ _ _ _ _ (t c.args.host.now) (omega (arith, c.stat.ensures.fault_has_cause.later, c.take_away.ensures.fault_has_cause.later)) (ends_frame (t c.args.host.now) first) c.take_away-in_default.ensures.fault_has_cause (λ e. e)
           (λ u v tree keeps can. subst (λ q. IsNoDir (v.names q)) (sym c.in_ok-pins.ensures) (still_no_dir _ (λ e put. put.1) can.pins keeps));
     }

@@ -9,46 +9,46 @@ use Rattle.dep_open.specs.Tidy.{CanTakeOld}
 use Rattle.dep_open.proofs.Tidied.{tidies_sync, synced_goes, emptied_goes, firm_goes, old_goes, can_empty, can_take_old, tidy_end}
 use Rattle.dep_open.proofs.tidying.tidy.Goals as goal
 
-pub returns-in_err-sync-clause-moments : goal.returns-in_err-sync-clause-moments
-returns-in_err-sync-clause-moments g c = begins (g.met.H.Host.is_tree c.args.host.now) (makes_goes c.sync.ensures.step) (λ u w tree s. tidies_sync tree s) (λ u w tree s e. tidies_sync tree e)
+pub returns-in_err-sync-clause-any_moment : goal.returns-in_err-sync-clause-any_moment
+returns-in_err-sync-clause-any_moment g c = begins (g.met.H.Host.is_tree c.args.host.now) (makes_goes c.sync.ensures.step) (λ u w tree s. tidies_sync tree s) (λ u w tree s e. tidies_sync tree e)
 
-pub returns-in_err-empty_work-clause-moments : goal.returns-in_err-empty_work-clause-moments
-returns-in_err-empty_work-clause-moments g c =
+pub returns-in_err-empty_work-clause-any_moment : goal.returns-in_err-empty_work-clause-any_moment
+returns-in_err-empty_work-clause-any_moment g c =
     let t = g.met.H.Host.is_tree in
     let first = synced_goes (t c.args.host.now) (t c.sync.new.self) c.in_ok-sync.ensures.step in
     firm_goes (emptied_goes first (t c.sync.new.self) (t c.empty_work.new.host) c.empty_work.ensures.frame)
 
-pub returns-in_err-empty_work-clause-cause : goal.returns-in_err-empty_work-clause-cause
-returns-in_err-empty_work-clause-cause g c =
+pub returns-in_err-empty_work-clause-fault_has_cause : goal.returns-in_err-empty_work-clause-fault_has_cause
+returns-in_err-empty_work-clause-fault_has_cause g c =
     let t = g.met.H.Host.is_tree in
     let first = synced_goes {s = c.args.opened} (t c.args.host.now) (t c.sync.new.self) c.in_ok-sync.ensures.step in
-    fault_caused (Opens c.args.opened) (CanEmpty tmp) _ _ _ _ _ (t c.args.host.now) c.sync.ensures.cause.later (ends_goes (t c.args.host.now) first) c.empty_work.ensures.cause (same_fault _ _ _ c.in_err-empty_work.was c.from_residual-in_err-empty_work.ensures.1)
+    fault_caused (Opens c.args.opened) (CanEmpty tmp) _ _ _ _ _ (t c.args.host.now) c.sync.ensures.fault_has_cause.later (ends_goes (t c.args.host.now) first) c.empty_work.ensures.fault_has_cause (same_fault _ _ _ c.in_err-empty_work.was c.from_residual-in_err-empty_work.ensures.1)
     (λ u v tree firm opens. can_empty firm.tree (firm.tidies.opens opens))
 
-pub returns-in_err-take_old_files-clause-moments : goal.returns-in_err-take_old_files-clause-moments
-returns-in_err-take_old_files-clause-moments g c =
+pub returns-in_err-take_old_files-clause-any_moment : goal.returns-in_err-take_old_files-clause-any_moment
+returns-in_err-take_old_files-clause-any_moment g c =
     let t = g.met.H.Host.is_tree in
     let first = synced_goes (t c.args.host.now) (t c.sync.new.self) c.in_ok-sync.ensures.step in
-    old_goes (emptied_goes first (t c.sync.new.self) (t c.empty_work.new.host) c.empty_work.ensures.frame) (t c.empty_work.new.host) c.take_old_files.ensures.moments
+    old_goes (emptied_goes first (t c.sync.new.self) (t c.empty_work.new.host) c.empty_work.ensures.frame) (t c.empty_work.new.host) c.take_old_files.ensures.any_moment
 
-pub returns-in_err-take_old_files-clause-cause : goal.returns-in_err-take_old_files-clause-cause
-returns-in_err-take_old_files-clause-cause g c =
+pub returns-in_err-take_old_files-clause-fault_has_cause : goal.returns-in_err-take_old_files-clause-fault_has_cause
+returns-in_err-take_old_files-clause-fault_has_cause g c =
     let t = g.met.H.Host.is_tree in
     let first = synced_goes {s = c.args.opened} (t c.args.host.now) (t c.sync.new.self) c.in_ok-sync.ensures.step in
     let second = emptied_goes first (t c.sync.new.self) (t c.empty_work.new.host) c.empty_work.ensures.frame in
-    fault_caused (Opens c.args.opened) CanTakeOld _ _ _ _ _ (t c.args.host.now) (omega (arith, c.sync.ensures.cause.later, c.empty_work.ensures.cause.later)) (ends_goes (t c.args.host.now) second) c.take_old_files.ensures.cause
+    fault_caused (Opens c.args.opened) CanTakeOld _ _ _ _ _ (t c.args.host.now) (omega (arith, c.sync.ensures.fault_has_cause.later, c.empty_work.ensures.fault_has_cause.later)) (ends_goes (t c.args.host.now) second) c.take_old_files.ensures.fault_has_cause
     (same_fault _ _ _ c.in_err-take_old_files.was c.from_residual-in_err-take_old_files.ensures.1)
     (λ u v tree firm opens. can_take_old firm.tree (firm.tidies.opens opens))
 
-pub returns-clause-moments : goal.returns-clause-moments
-returns-clause-moments g c =
+pub returns-clause-any_moment : goal.returns-clause-any_moment
+returns-clause-any_moment g c =
     let t = g.met.H.Host.is_tree in
     let first = synced_goes (t c.args.host.now) (t c.sync.new.self) c.in_ok-sync.ensures.step in
-    old_goes (emptied_goes first (t c.sync.new.self) (t c.empty_work.new.host) c.empty_work.ensures.frame) (t c.empty_work.new.host) c.take_old_files.ensures.moments
+    old_goes (emptied_goes first (t c.sync.new.self) (t c.empty_work.new.host) c.empty_work.ensures.frame) (t c.empty_work.new.host) c.take_old_files.ensures.any_moment
 
-pub returns-clause-done : goal.returns-clause-done
-returns-clause-done g c =
+pub returns-clause-on_success : goal.returns-clause-on_success
+returns-clause-on_success g c =
     let t = g.met.H.Host.is_tree in
     let first = synced_goes {s = c.args.opened} (t c.args.host.now) (t c.sync.new.self) c.in_ok-sync.ensures.step in
     let emptied = ends_on c.in_ok-empty_work.ensures.done (ends_goes (t c.args.host.now) first) (t c.sync.new.self) (λ u v w tree q e. e) in
-    ends_on (ends_both (ends_goes (t c.empty_work.new.host) c.take_old_files.ensures.moments) c.in_ok-take_old_files.ensures.done) emptied (t c.empty_work.new.host) (λ u v w tree e q. tidy_end e q.0 q.1)
+    ends_on (ends_both (ends_goes (t c.empty_work.new.host) c.take_old_files.ensures.any_moment) c.in_ok-take_old_files.ensures.done) emptied (t c.empty_work.new.host) (λ u v w tree e q. tidy_end e q.0 q.1)

@@ -16,8 +16,8 @@ loop-change-init g c = record {
   later = omega arith;
 }
 
-pub returns-in_err-current-clause-moments : goal.returns-in_err-current-clause-moments
-returns-in_err-current-clause-moments g c =
+pub returns-in_err-current-clause-any_moment : goal.returns-in_err-current-clause-any_moment
+returns-in_err-current-clause-any_moment g c =
     let t = g.met.H.Host.is_tree in
     let all = c.args.changes.now in
     let i = c.loop-change.change-index in
@@ -41,5 +41,5 @@ loop-change-preserved g c =
       layout = c.in_ok-current.ensures.layout;
       turn = turn;
       opens = ends_to (ends_goes (t c.args.host.now) turn) (λ u w stage. stage_opens stage);
-      later = omega (arith, c.loop-change.invariant.later, c.do_change.ensures.cause.later);
+      later = omega (arith, c.loop-change.invariant.later, c.do_change.ensures.fault_has_cause.later);
     }

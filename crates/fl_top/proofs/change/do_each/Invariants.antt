@@ -2,7 +2,7 @@ use Rattle.std.proofs.Common.{◌≡◌, ◌≤◌, drop}
 use Rattle.fp_small.specs.declared.state.Layout.TheVariants.{Two}
 use Rattle.dep_states.specs.After.{IsGood}
 use Rattle.dep_states.specs.Sound.{Opens}
-use Rattle.fp_host.specs.Frame.{Ends}
+use Rattle.fp_host.specs.Frame.{AtEnd}
 use Rattle.fl_top.proofs.Composing.{InTurn}
 use Rattle.fl_top.proofs.change.do_each.Given as goal
 
@@ -11,6 +11,6 @@ invariant-loop-change g l = record {
   good : IsGood l.current;
   layout : l.current.layout ≡ Two;
   turn : InTurn l.changes (drop l.change-index l.changes) l.fn.opened l.current (g.H.Host.moments l.fn.host) (g.H.Host.moments l.host);
-  opens : Ends (λ u w. Opens l.fn.opened u → Opens l.current w) (g.H.Host.moments l.fn.host) (g.H.Host.moments l.host);
+  opens : AtEnd (λ u w. Opens l.fn.opened u → Opens l.current w) (g.H.Host.moments l.fn.host) (g.H.Host.moments l.host);
   later : g.H.Host.faults l.fn.host ≤ g.H.Host.faults l.host;
 }

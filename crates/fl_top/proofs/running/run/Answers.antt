@@ -7,20 +7,20 @@ use Rattle.fl_top.specs.Runs.{WasTaken}
 use Rattle.fl_top.proofs.Finishing.{goes_command, goes_no_command, goes_unread, took_nothing}
 use Rattle.fl_top.proofs.running.run.Goals as goal
 
-pub returns-in-Ok-clause-moments : goal.returns-in-Ok-clause-moments
-returns-in-Ok-clause-moments g c = goes_last (goes_command (map string_bytes c.args.words.now) (g.I.Source.left c.args.input.now) c.in-Ok.command c.run_command.result (g.met.H.Host.is_tree c.args.host.now) c.in-Ok.ensures.ok c.run_command.ensures.moments)
+pub returns-in-Ok-clause-any_moment : goal.returns-in-Ok-clause-any_moment
+returns-in-Ok-clause-any_moment g c = goes_last (goes_command (map string_bytes c.args.words.now) (g.I.Source.left c.args.input.now) c.in-Ok.command c.run_command.result (g.met.H.Host.is_tree c.args.host.now) c.in-Ok.ensures.ok c.run_command.ensures.any_moment)
 
 pub returns-in-Ok-clause-at_return : goal.returns-in-Ok-clause-at_return
 returns-in-Ok-clause-at_return g c =
     let t = g.met.H.Host.is_tree c.args.host.now in
-    ends_goes t (goes_command (map string_bytes c.args.words.now) (g.I.Source.left c.args.input.now) c.in-Ok.command c.run_command.result t c.in-Ok.ensures.ok c.run_command.ensures.moments)
+    ends_goes t (goes_command (map string_bytes c.args.words.now) (g.I.Source.left c.args.input.now) c.in-Ok.command c.run_command.result t c.in-Ok.ensures.ok c.run_command.ensures.any_moment)
 
-pub returns-in-Err-BadWords-clause-moments : goal.returns-in-Err-BadWords-clause-moments
-returns-in-Err-BadWords-clause-moments g c =
+pub returns-in-Err-BadWords-clause-any_moment : goal.returns-in-Err-BadWords-clause-any_moment
+returns-in-Err-BadWords-clause-any_moment g c =
     let words = map string_bytes c.args.words.now in
     let bad : IsNoCommand words c.in-Err-BadWords.field-0 = c.in-Err-BadWords.ensures.bad in
     let is = subst (IsNoCommand words) c.in-Err-BadWords.field-0-is bad in
-    goes_last (goes_no_command words (g.I.Source.left c.args.input.now) c.in-Err-BadWords.index c.refuse_words.result (g.met.H.Host.is_tree c.args.host.now) is.0 is.1 c.refuse_words.ensures.moments)
+    goes_last (goes_no_command words (g.I.Source.left c.args.input.now) c.in-Err-BadWords.index c.refuse_words.result (g.met.H.Host.is_tree c.args.host.now) is.0 is.1 c.refuse_words.ensures.any_moment)
 
 pub returns-in-Err-BadWords-clause-at_return : goal.returns-in-Err-BadWords-clause-at_return
 returns-in-Err-BadWords-clause-at_return g c =
@@ -28,10 +28,10 @@ returns-in-Err-BadWords-clause-at_return g c =
     let bad : IsNoCommand words c.in-Err-BadWords.field-0 = c.in-Err-BadWords.ensures.bad in
     let is = subst (IsNoCommand words) c.in-Err-BadWords.field-0-is bad in
     let t = g.met.H.Host.is_tree c.args.host.now in
-    ends_goes t (goes_no_command words (g.I.Source.left c.args.input.now) c.in-Err-BadWords.index c.refuse_words.result t is.0 is.1 c.refuse_words.ensures.moments)
+    ends_goes t (goes_no_command words (g.I.Source.left c.args.input.now) c.in-Err-BadWords.index c.refuse_words.result t is.0 is.1 c.refuse_words.ensures.any_moment)
 
-pub returns-in-Err-NoMemory-clause-moments : goal.returns-in-Err-NoMemory-clause-moments
-returns-in-Err-NoMemory-clause-moments g c = goes_last (goes_unread (map string_bytes c.args.words.now) (g.I.Source.left c.args.input.now) (g.met.H.Host.is_tree c.args.host.now))
+pub returns-in-Err-NoMemory-clause-any_moment : goal.returns-in-Err-NoMemory-clause-any_moment
+returns-in-Err-NoMemory-clause-any_moment g c = goes_last (goes_unread (map string_bytes c.args.words.now) (g.I.Source.left c.args.input.now) (g.met.H.Host.is_tree c.args.host.now))
 
 pub returns-in-Err-NoMemory-clause-at_return : goal.returns-in-Err-NoMemory-clause-at_return
 returns-in-Err-NoMemory-clause-at_return g c = let t = g.met.H.Host.is_tree c.args.host.now in ends_goes t (goes_unread (map string_bytes c.args.words.now) (g.I.Source.left c.args.input.now) t)

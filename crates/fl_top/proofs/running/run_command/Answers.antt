@@ -8,33 +8,33 @@ use Rattle.fl_top.proofs.Ending.{not_answered}
 use Rattle.fl_top.specs.Performs.{Takes}
 use Rattle.fl_top.proofs.running.run_command.Goals as goal
 
-pub returns-in-Ok-clause-moments : goal.returns-in-Ok-clause-moments
-returns-in-Ok-clause-moments g c = goes_done c.args.command (g.I.Source.left c.args.input.now) (g.met.H.Host.is_tree c.args.host.now) c.in-Ok.ensures.moments
+pub returns-in-Ok-clause-any_moment : goal.returns-in-Ok-clause-any_moment
+returns-in-Ok-clause-any_moment g c = goes_done c.args.command (g.I.Source.left c.args.input.now) (g.met.H.Host.is_tree c.args.host.now) c.in-Ok.ensures.moments
 
-pub returns-in-Err-Refused-clause-moments : goal.returns-in-Err-Refused-clause-moments
-returns-in-Err-Refused-clause-moments g c =
+pub returns-in-Err-Refused-clause-any_moment : goal.returns-in-Err-Refused-clause-any_moment
+returns-in-Err-Refused-clause-any_moment g c =
     let left = g.I.Source.left c.args.input.now in
     let performed = subst (λ (e : CommandEnd). Goes (g.H.Host.moments c.args.host.now) (g.H.Host.moments c.perform.new.host) (RunsOn c.args.command left) (EndedOn c.args.command left (Err e))) c.in-Err-Refused.field-0-is c.in-Err-Refused.ensures.moments in
-    goes_refused c.args.command left c.in-Err-Refused.refusal c.refuse.result (g.met.H.Host.is_tree c.perform.new.host) performed c.refuse.ensures.moments
+    goes_refused c.args.command left c.in-Err-Refused.refusal c.refuse.result (g.met.H.Host.is_tree c.perform.new.host) performed c.refuse.ensures.any_moment
 
-pub returns-in-Err-Fault-clause-moments : goal.returns-in-Err-Fault-clause-moments
-returns-in-Err-Fault-clause-moments g c =
+pub returns-in-Err-Fault-clause-any_moment : goal.returns-in-Err-Fault-clause-any_moment
+returns-in-Err-Fault-clause-any_moment g c =
     let left = g.I.Source.left c.args.input.now in
     goes_fault c.args.command left (g.met.H.Host.is_tree c.args.host.now) (subst (λ (e : CommandEnd). Goes (g.H.Host.moments c.args.host.now) (g.H.Host.moments c.perform.new.host) (RunsOn c.args.command left) (EndedOn c.args.command left (Err e))) c.in-Err-Fault.field-0-is c.in-Err-Fault.ensures.moments)
 
-pub returns-in-Err-Fault-clause-cause : goal.returns-in-Err-Fault-clause-cause
-returns-in-Err-Fault-clause-cause g c = record {
-  later = c.perform.ensures.cause.later;
-  fault = λ same. c.perform.ensures.cause.fault (c.in-Err-Fault.is ∙ ap (λ (e : CommandEnd). Err e) c.in-Err-Fault.field-0-is);
+pub returns-in-Err-Fault-clause-fault_has_cause : goal.returns-in-Err-Fault-clause-fault_has_cause
+returns-in-Err-Fault-clause-fault_has_cause g c = record {
+  later = c.perform.ensures.fault_has_cause.later;
+  fault = λ same. c.perform.ensures.fault_has_cause.fault (c.in-Err-Fault.is ∙ ap (λ (e : CommandEnd). Err e) c.in-Err-Fault.field-0-is);
 }
 
-pub returns-in-Err-InputFault-clause-moments : goal.returns-in-Err-InputFault-clause-moments
-returns-in-Err-InputFault-clause-moments g c =
+pub returns-in-Err-InputFault-clause-any_moment : goal.returns-in-Err-InputFault-clause-any_moment
+returns-in-Err-InputFault-clause-any_moment g c =
     let left = g.I.Source.left c.args.input.now in
     goes_input c.args.command left (g.met.H.Host.is_tree c.args.host.now) (subst (λ (e : CommandEnd). Goes (g.H.Host.moments c.args.host.now) (g.H.Host.moments c.perform.new.host) (RunsOn c.args.command left) (EndedOn c.args.command left (Err e))) c.in-Err-InputFault.field-0-is c.in-Err-InputFault.ensures.moments)
 
-pub returns-in-Err-NoMemory-clause-moments : goal.returns-in-Err-NoMemory-clause-moments
-returns-in-Err-NoMemory-clause-moments g c =
+pub returns-in-Err-NoMemory-clause-any_moment : goal.returns-in-Err-NoMemory-clause-any_moment
+returns-in-Err-NoMemory-clause-any_moment g c =
     let left = g.I.Source.left c.args.input.now in
     goes_memory c.args.command left (g.met.H.Host.is_tree c.args.host.now) (subst (λ (e : CommandEnd). Goes (g.H.Host.moments c.args.host.now) (g.H.Host.moments c.perform.new.host) (RunsOn c.args.command left) (EndedOn c.args.command left (Err e))) c.in-Err-NoMemory.field-0-is c.in-Err-NoMemory.ensures.moments)
 

@@ -6,7 +6,7 @@ use Rattle.fp_name.specs.Bytes.{is_dot}
 use Rattle.fp_name.specs.Grammar.{are_elements}
 use Rattle.fp_name.proofs.grammar.has_elements.Given as goal
 
--- what is left has the elements behind the dots so far
+-- what is left has the elements after the dots so far
 abbrev pub invariant-loop-element : goal.invariant-loop-element
 invariant-loop-element l = record {
   is_text : shadow (Utf8 l.rest);

@@ -23,11 +23,11 @@ clear_names-loop-name-init g t c =
     record {
       frame = frame_list c.list.ensures.step (frame_start (tree c.args.host.now)) (tree c.args.host.now);
       tells = ends_to (ends_call (tree c.args.host.now) c.in_ok-names.ensures.step) (λ u w s. (subst (ListsIn c.args.path.now u) (sym c.as_slice-name-items.ensures) (lists_of refl s), none_yet c.args.path.now w));
-      later = c.list.ensures.cause.later;
+      later = c.list.ensures.fault_has_cause.later;
     }
 
-pub clear_names-returns-then-depth-eq0-clause-cause : goal.clear_names-returns-then-depth-eq0-clause-cause
-clear_names-returns-then-depth-eq0-clause-cause g t c = record {
+pub clear_names-returns-then-depth-eq0-clause-fault_has_cause : goal.clear_names-returns-then-depth-eq0-clause-fault_has_cause
+clear_names-returns-then-depth-eq0-clause-fault_has_cause g t c = record {
   later = c.loop-name.invariant.later;
   fault = λ is m told can. absurd (within_reach c.args.path.now c.as_slice-name-items.result.now c.loop-name.name-index c.name-item.result c.loop-name-test.true c.name-item.is (c.loop-name.invariant.tells.goes.told m told).3.0 can.1 c.if-depth-eq0.true);
 }
@@ -39,12 +39,12 @@ clear_names-returns-in_err-clear_within-clause-frame g t c =
     frame_within c.clear_within.ensures.frame c.loop-name.invariant.frame (g.met.H.Host.is_tree c.loop-name.host)
     (λ q spot h. (within_child c.as_str.result.now p q (subst (λ r. (q ≡ r) ⊎ IsAbove r q) child h.0), h.1)) (λ q e h. (within_child c.as_str.result.now p q (subst (λ r. (q ≡ r) ⊎ IsAbove r q) child h.0), h.1)) (λ q h. h) (λ q id h put. h)
 
-pub clear_names-returns-in_err-clear_within-clause-cause : goal.clear_names-returns-in_err-clear_within-clause-cause
-clear_names-returns-in_err-clear_within-clause-cause g t c =
+pub clear_names-returns-in_err-clear_within-clause-fault_has_cause : goal.clear_names-returns-in_err-clear_within-clause-fault_has_cause
+clear_names-returns-in_err-clear_within-clause-fault_has_cause g t c =
     let tree = g.met.H.Host.is_tree in
     let p = c.args.path.now in
     let child : c.in_ok-child.child ≡ c.as_str.result.now ∷ p = c.in_ok-child.ensures in
-    fault_caused (λ v. (v.names p ≡ dir) × Reaches p c.args.depth v) (ReachesDown c.in_ok-child.child (c.args.depth - 1)) _ _ _ _ _ (tree c.args.host.now) c.loop-name.invariant.later (ends_frame (tree c.args.host.now) c.loop-name.invariant.frame) c.clear_within.ensures.cause
+    fault_caused (λ v. (v.names p ≡ dir) × Reaches p c.args.depth v) (ReachesDown c.in_ok-child.child (c.args.depth - 1)) _ _ _ _ _ (tree c.args.host.now) c.loop-name.invariant.later (ends_frame (tree c.args.host.now) c.loop-name.invariant.frame) c.clear_within.ensures.fault_has_cause
     (same_fault _ _ _ c.in_err-clear_within.was c.from_residual-in_err-clear_within.ensures.1)
     (λ u v is keeps can. subst (λ r. ReachesDown r (c.args.depth - 1) v) (sym child) (reaches_child p c.as_str.result.now keeps.names can.1 c.if-depth-eq0.false))
 
@@ -63,11 +63,11 @@ clear_names-loop-name-preserved g t c =
             (subst (λ r. (x : List (List ℕ)) → (w.names x ≡ v.names x) ⊎ (((x ≡ r) ⊎ IsAbove r x) × (w.names x ≡ absent))) child s.0.names)
             (subst (λ r. IsCleared r w) child s.1),
       ));
-      later = omega (arith, c.loop-name.invariant.later, c.clear_within.ensures.cause.later);
+      later = omega (arith, c.loop-name.invariant.later, c.clear_within.ensures.fault_has_cause.later);
     }
 
-pub clear_names-returns-clause-done : goal.clear_names-returns-clause-done
-clear_names-returns-clause-done g t c =
+pub clear_names-returns-clause-on_success : goal.clear_names-returns-clause-on_success
+clear_names-returns-clause-on_success g t c =
     let tree = g.met.H.Host.is_tree in
     let p = c.args.path.now in
     let items = c.as_slice-name-items.result.now in
@@ -89,15 +89,15 @@ clear_within-returns-in_err-remove_dir-in-Dir-clause-frame g t c =
     (frame_within c.clear_names.ensures.frame (frame_stat c.stat.ensures.step (frame_start (tree c.args.host.now)) (tree c.args.host.now)) (tree c.stat.new.self) (λ q spot h. (inr h.0, h.1)) (λ q e h. (inr h.0, h.1)) (λ q h. h) (λ q id h put. h))
     (tree c.clear_names.new.host) (inl refl, refl) (inl refl, refl)
 
-pub clear_within-returns-in_err-remove_dir-in-Dir-clause-cause : goal.clear_within-returns-in_err-remove_dir-in-Dir-clause-cause
-clear_within-returns-in_err-remove_dir-in-Dir-clause-cause g t c =
+pub clear_within-returns-in_err-remove_dir-in-Dir-clause-fault_has_cause : goal.clear_within-returns-in_err-remove_dir-in-Dir-clause-fault_has_cause
+clear_within-returns-in_err-remove_dir-in-Dir-clause-fault_has_cause g t c =
     let tree = g.met.H.Host.is_tree in
     let p = c.args.path.now in
     let e = c.in_err-remove_dir-in-Dir.ensures in
     let seen = ends_to {Q' = λ u w. (w ≡ u) × (u.names p ≡ dir)} (ends_call (tree c.args.host.now) c.in_ok-stat.ensures.step) (λ u w s. (s.same, stat_dir (subst (λ r. StatOf p (Ok r) u w) c.in-Dir.is s))) in
     let below = ends_both (ends_frame (tree c.stat.new.self) c.clear_names.ensures.frame) c.in_ok-clear_names-in-Dir.ensures.done in
     let known = ends_on {Q' = λ u w. p ≢ [] → Can (removes_dir p) w} below seen (tree c.stat.new.self) (λ u v w is q s no_root. can_remove p v w (ap (λ (x : View). x.names p) q.0 ∙ q.1) no_root s.0.names s.1) in
-    call_caused (ReachesDown p c.args.depth) (Can (removes_dir p)) _ _ _ _ _ (tree c.args.host.now) (omega (arith, c.stat.ensures.cause.later, c.clear_names.ensures.cause.later)) known e.step e.cause c.from_residual-in_err-remove_dir-in-Dir.ensures.1 (λ v w step. clash_step step) (λ u v is q can. q can.no_root)
+    call_caused (ReachesDown p c.args.depth) (Can (removes_dir p)) _ _ _ _ _ (tree c.args.host.now) (omega (arith, c.stat.ensures.fault_has_cause.later, c.clear_names.ensures.fault_has_cause.later)) known e.step e.cause c.from_residual-in_err-remove_dir-in-Dir.ensures.1 (λ v w step. clash_step step) (λ u v is q can. q can.no_root)
 
 pub clear_within-returns-in_err-unlink-in-File-clause-frame : goal.clear_within-returns-in_err-unlink-in-File-clause-frame
 clear_within-returns-in_err-unlink-in-File-clause-frame g t c =
@@ -107,8 +107,8 @@ clear_within-returns-in_err-unlink-in-File-clause-frame g t c =
 pub clear_within-returns-in-Absent-clause-frame : goal.clear_within-returns-in-Absent-clause-frame
 clear_within-returns-in-Absent-clause-frame g t c = let tree = g.met.H.Host.is_tree in frame_stat c.stat.ensures.step (frame_start (tree c.args.host.now)) (tree c.args.host.now)
 
-pub clear_within-returns-in-Absent-clause-done : goal.clear_within-returns-in-Absent-clause-done
-clear_within-returns-in-Absent-clause-done g t c =
+pub clear_within-returns-in-Absent-clause-on_success : goal.clear_within-returns-in-Absent-clause-on_success
+clear_within-returns-in-Absent-clause-on_success g t c =
     let tree = g.met.H.Host.is_tree in
     let p = c.args.path.now in
     ends_in_tree (tree c.stat.new.self) (ends_call (tree c.args.host.now) c.in_ok-stat.ensures.step) (λ u w is s. cleared_absent is (ap (λ (x : View). x.names p) s.same ∙ stat_absent (subst (λ r. StatOf p (Ok r) u w) c.in-Absent.is s)))
@@ -120,8 +120,8 @@ clear_within-returns-in_ok-remove_dir-in-Dir-clause-frame g t c =
     (frame_within c.clear_names.ensures.frame (frame_stat c.stat.ensures.step (frame_start (tree c.args.host.now)) (tree c.args.host.now)) (tree c.stat.new.self) (λ q spot h. (inr h.0, h.1)) (λ q e h. (inr h.0, h.1)) (λ q h. h) (λ q id h put. h))
     (tree c.clear_names.new.host) (inl refl, refl) (inl refl, refl)
 
-pub clear_within-returns-in_ok-remove_dir-in-Dir-clause-done : goal.clear_within-returns-in_ok-remove_dir-in-Dir-clause-done
-clear_within-returns-in_ok-remove_dir-in-Dir-clause-done g t c =
+pub clear_within-returns-in_ok-remove_dir-in-Dir-clause-on_success : goal.clear_within-returns-in_ok-remove_dir-in-Dir-clause-on_success
+clear_within-returns-in_ok-remove_dir-in-Dir-clause-on_success g t c =
     let tree = g.met.H.Host.is_tree in
     let p = c.args.path.now in
     let frame = frame_within {G = GoneBelow p} {W = AbsentBelow p} {A = NoPath} c.clear_names.ensures.frame (frame_stat c.stat.ensures.step (frame_start (tree c.args.host.now)) (tree c.args.host.now)) (tree c.stat.new.self) (λ q spot h. h) (λ q e h. h) (λ q h. h) (λ q id h put. h) in
@@ -134,8 +134,8 @@ clear_within-returns-in_ok-unlink-in-File-clause-frame g t c =
     let tree = g.met.H.Host.is_tree in
     frame_unlink c.unlink.ensures.step (frame_stat c.stat.ensures.step (frame_start (tree c.args.host.now)) (tree c.args.host.now)) (tree c.stat.new.self) (inl refl, refl) (inl refl, refl)
 
-pub clear_within-returns-in_ok-unlink-in-File-clause-done : goal.clear_within-returns-in_ok-unlink-in-File-clause-done
-clear_within-returns-in_ok-unlink-in-File-clause-done g t c =
+pub clear_within-returns-in_ok-unlink-in-File-clause-on_success : goal.clear_within-returns-in_ok-unlink-in-File-clause-on_success
+clear_within-returns-in_ok-unlink-in-File-clause-on_success g t c =
     let tree = g.met.H.Host.is_tree in
     let p = c.args.path.now in
     ends_in_tree (tree c.unlink.new.self)

@@ -18,17 +18,17 @@ returns-in-Dir-clause-frame g c =
     let t = g.met.H.Host.is_tree in
     frame_within c.clear_names.ensures.frame (frame_stat c.stat.ensures.step (frame_start (t c.args.host.now)) (t c.args.host.now)) (t c.stat.new.self) (λ q spot h. h) (λ q e h. h) (λ q h. h) (λ q id h put. h)
 
-pub returns-in-Dir-clause-done : goal.returns-in-Dir-clause-done
-returns-in-Dir-clause-done g c =
+pub returns-in-Dir-clause-on_success : goal.returns-in-Dir-clause-on_success
+returns-in-Dir-clause-on_success g c =
     let t = g.met.H.Host.is_tree in
-    on_ok_weaker c.clear_names.result (λ done. ends_on done (ends_call (t c.args.host.now) c.stat.ensures.step) (t c.stat.new.self) (λ u v w tree q s. s)) c.clear_names.ensures.done
+    on_ok_weaker c.clear_names.result (λ done. ends_on done (ends_call (t c.args.host.now) c.stat.ensures.step) (t c.stat.new.self) (λ u v w tree q s. s)) c.clear_names.ensures.on_success
 
-pub returns-in-Dir-clause-cause : goal.returns-in-Dir-clause-cause
-returns-in-Dir-clause-cause g c =
+pub returns-in-Dir-clause-fault_has_cause : goal.returns-in-Dir-clause-fault_has_cause
+returns-in-Dir-clause-fault_has_cause g c =
     let t = g.met.H.Host.is_tree in
     let p = c.args.path.now in
     let seen = ends_to {Q' = λ u w. (w ≡ u) × (u.names p ≡ dir)} (ends_call (t c.args.host.now) c.in_ok-stat.ensures.step) (λ u w s. (s.same, stat_dir (subst (λ r. StatOf p (Ok r) u w) c.in-Dir.is s))) in
-    fault_caused (CanEmpty p) (λ v. (v.names p ≡ dir) × Reaches p 128 v) _ _ _ _ _ (t c.args.host.now) c.stat.ensures.cause.later seen c.clear_names.ensures.cause (λ e. e)
+    fault_caused (CanEmpty p) (λ v. (v.names p ≡ dir) × Reaches p 128 v) _ _ _ _ _ (t c.args.host.now) c.stat.ensures.fault_has_cause.later seen c.clear_names.ensures.fault_has_cause (λ e. e)
     (λ u v tree q can. (ap (λ (x : View). x.names p) q.0 ∙ q.1, subst (Reaches p 128) (sym q.0) (reaches_most can)))
 
 pub returns-in_default : goal.returns-in_default
@@ -38,5 +38,5 @@ returns-in_default g c =
     record {
       frame = frame_stat c.stat.ensures.step (frame_start (t c.args.host.now)) (t c.args.host.now);
       done = ends_in_tree (t c.stat.new.self) (ends_call (t c.args.host.now) c.in_ok-stat.ensures.step) (λ u w tree s. emptied_no_dir tree (λ there. stat_no_dir s c.in_default.not-Dir (sym (ap (λ (x : View). x.names p) s.same) ∙ there)));
-      cause = record { later = c.stat.ensures.cause.later; fault = λ is. absurd (cc is) };
+      cause = record { later = c.stat.ensures.fault_has_cause.later; fault = λ is. absurd (cc is) };
     }

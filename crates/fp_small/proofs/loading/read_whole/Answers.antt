@@ -5,11 +5,11 @@ use Rattle.fp_host.proofs.Ending.{ends_call, ends_to}
 use Rattle.fp_small.proofs.SmallFiles.{reads_whole}
 use Rattle.fp_small.proofs.loading.read_whole.Goals as goal
 
-pub returns-in_err-count-clause-still : goal.returns-in_err-count-clause-still
-returns-in_err-count-clause-still g c = let t = g.met.H.Host.is_tree in looks_read c.read_at.ensures.step (looks_start (t c.args.host.now)) (t c.args.host.now)
+pub returns-in_err-count-clause-unchanged : goal.returns-in_err-count-clause-unchanged
+returns-in_err-count-clause-unchanged g c = let t = g.met.H.Host.is_tree in looks_read c.read_at.ensures.step (looks_start (t c.args.host.now)) (t c.args.host.now)
 
-pub returns-clause-still : goal.returns-clause-still
-returns-clause-still g c = let t = g.met.H.Host.is_tree in looks_read c.read_at.ensures.step (looks_start (t c.args.host.now)) (t c.args.host.now)
+pub returns-clause-unchanged : goal.returns-clause-unchanged
+returns-clause-unchanged g c = let t = g.met.H.Host.is_tree in looks_read c.read_at.ensures.step (looks_start (t c.args.host.now)) (t c.args.host.now)
 
 pub returns-clause-tells : goal.returns-clause-tells
 returns-clause-tells g c = ends_to (ends_call (g.met.H.Host.is_tree c.args.host.now) c.in_ok-count.ensures.step)

@@ -21,8 +21,8 @@ returns-in_ok-make_dir-in-Absent-clause-frame g c =
     let tree = g.met.H.Host.is_tree in
     frame_make_dir c.make_dir.ensures.step (frame_stat c.stat.ensures.step (frame_start (tree c.args.host.now)) (tree c.args.host.now)) (tree c.stat.new.self) (refl, refl) (refl, refl)
 
-pub returns-in_ok-make_dir-in-Absent-clause-done : goal.returns-in_ok-make_dir-in-Absent-clause-done
-returns-in_ok-make_dir-in-Absent-clause-done g c =
+pub returns-in_ok-make_dir-in-Absent-clause-on_success : goal.returns-in_ok-make_dir-in-Absent-clause-on_success
+returns-in_ok-make_dir-in-Absent-clause-on_success g c =
     let tree = g.met.H.Host.is_tree in
     ends_on (ends_call (tree c.stat.new.self) c.in_ok-make_dir-in-Absent.ensures.step) (ends_call (tree c.args.host.now) c.stat.ensures.step) (tree c.stat.new.self) (λ u v w t q step free. made_dir step)
 
@@ -48,6 +48,6 @@ returns-in_default g c =
       frame = frame_stat c.stat.ensures.step (frame_start (tree c.args.host.now)) (tree c.args.host.now);
       done = ends_to (ends_call (tree c.args.host.now) c.in_ok-stat.ensures.step) (λ u w stat free. ap (λ (x : View). x.names c.args.path.now) stat.same ∙ free_there u c.args.path.now free (stat_there stat c.in_default.not-Absent));
       unsynced = ends_to (ends_call (tree c.args.host.now) c.stat.ensures.step) (λ u w s. none_same s.same);
-      cause = record { later = c.stat.ensures.cause.later; fault = λ is. absurd (cc is) };
+      cause = record { later = c.stat.ensures.fault_has_cause.later; fault = λ is. absurd (cc is) };
       memory = λ is. cc is;
     }

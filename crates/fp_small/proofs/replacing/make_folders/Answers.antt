@@ -16,11 +16,11 @@ returns-in_err-make_folder-clause-frame g c =
     let has = item_in c.args.paths.now c.loop-path.path-index c.path-item.result c.loop-path-test.true c.path-item.is in
     frame_within c.make_folder.ensures.frame c.loop-path.invariant.frame (t c.loop-path.host) (λ q spot h. (subst (Contains c.args.paths.now) (sym h.0) has, h.1)) (λ q e h. (subst (Contains c.args.paths.now) (sym h.0) has, h.1)) (λ q h. h) (λ q id h p. h)
 
-pub returns-in_err-make_folder-clause-cause : goal.returns-in_err-make_folder-clause-cause
-returns-in_err-make_folder-clause-cause g c =
+pub returns-in_err-make_folder-clause-fault_has_cause : goal.returns-in_err-make_folder-clause-fault_has_cause
+returns-in_err-make_folder-clause-fault_has_cause g c =
     let t = g.met.H.Host.is_tree in
     let paths = c.args.paths.now in
-    fault_caused (λ v. IsLadder paths × AreFree paths v) (λ v. v.names c.path-item.result ≡ absent → HasFolder v c.path-item.result) _ _ _ _ _ (t c.args.host.now) c.loop-path.invariant.later (ends_in_tree {Q' = λ u w. IsTree w × (AreFree paths u → AreFree paths w × AreDirs (take c.loop-path.path-index paths) w)} (t c.loop-path.host) c.loop-path.invariant.done (λ u w tree q. (tree, q))) c.make_folder.ensures.cause (same_fault _ _ _ c.in_err-make_folder.was c.from_residual.ensures.1)
+    fault_caused (λ v. IsLadder paths × AreFree paths v) (λ v. v.names c.path-item.result ≡ absent → HasFolder v c.path-item.result) _ _ _ _ _ (t c.args.host.now) c.loop-path.invariant.later (ends_in_tree {Q' = λ u w. IsTree w × (AreFree paths u → AreFree paths w × AreDirs (take c.loop-path.path-index paths) w)} (t c.loop-path.host) c.loop-path.invariant.done (λ u w tree q. (tree, q))) c.make_folder.ensures.fault_has_cause (same_fault _ _ _ c.in_err-make_folder.was c.from_residual.ensures.1)
     (λ u v tree q can none. can_make paths c.loop-path.path-index c.path-item.result c.loop-path-test.true c.path-item.is q.0 can.0 (q.1 can.1).1 none)
 
 pub returns-in_err-make_folder-clause-unsynced : goal.returns-in_err-make_folder-clause-unsynced
@@ -36,5 +36,5 @@ loop-path-preserved g c =
       frame = frame_within c.make_folder.ensures.frame c.loop-path.invariant.frame (t c.loop-path.host) (λ q spot h. (subst (Contains paths) (sym h.0) has, h.1)) (λ q e h. (subst (Contains paths) (sym h.0) has, h.1)) (λ q h. h) (λ q id h p. h);
       done = ends_on made c.loop-path.invariant.done (t c.loop-path.host) (λ u v w tree q s free. one_more paths c.loop-path.path-index c.path-item.result c.loop-path-test.true c.path-item.is q s.0.names s.1 free);
       unsynced = ends_on c.make_folder.ensures.unsynced c.loop-path.invariant.unsynced (t c.loop-path.host) (λ u v w tree q s. none_on q s);
-      later = omega (arith, c.loop-path.invariant.later, c.make_folder.ensures.cause.later);
+      later = omega (arith, c.loop-path.invariant.later, c.make_folder.ensures.fault_has_cause.later);
     }

@@ -17,12 +17,12 @@ returns-in_err-append-clause-frame g c =
     let t = g.met.H.Host.is_tree in
     frame_append c.append.ensures.step (frame_create c.create.ensures.step (frame_start (t c.args.host.now)) (t c.args.host.now) (λ id bytes. refl) (λ id. refl)) (t c.create.new.self) refl
 
-pub returns-in_err-append-clause-cause : goal.returns-in_err-append-clause-cause
-returns-in_err-append-clause-cause g c =
+pub returns-in_err-append-clause-fault_has_cause : goal.returns-in_err-append-clause-fault_has_cause
+returns-in_err-append-clause-fault_has_cause g c =
     let t = g.met.H.Host.is_tree in
     let e = c.in_err-append.ensures in
     let created = ends_to (ends_call (t c.args.host.now) c.in_ok-create.ensures.step) (λ u w s. written_create s) in
-    call_caused (CanStage c.args.path.now) (Can (appends c.args.path.now c.args.bytes.now)) _ _ _ _ _ (t c.args.host.now) c.create.ensures.cause.later created e.step e.cause c.from_residual-in_err-append.ensures.1 (λ v w step. clash_step step)
+    call_caused (CanStage c.args.path.now) (Can (appends c.args.path.now c.args.bytes.now)) _ _ _ _ _ (t c.args.host.now) c.create.ensures.fault_has_cause.later created e.step e.cause c.from_residual-in_err-append.ensures.1 (λ v w step. clash_step step)
     (λ u v t q can. can_append q)
 
 pub returns-in_err-sync-clause-frame : goal.returns-in_err-sync-clause-frame
@@ -35,8 +35,8 @@ returns-clause-frame g c =
     let t = g.met.H.Host.is_tree in
     frame_sync c.sync.ensures.step (frame_append c.append.ensures.step (frame_create c.create.ensures.step (frame_start (t c.args.host.now)) (t c.args.host.now) (λ id bytes. refl) (λ id. refl)) (t c.create.new.self) refl) (t c.append.new.self)
 
-pub returns-clause-done : goal.returns-clause-done
-returns-clause-done g c =
+pub returns-clause-on_success : goal.returns-clause-on_success
+returns-clause-on_success g c =
     let t = g.met.H.Host.is_tree in
     let created = ends_to (ends_call (t c.args.host.now) c.in_ok-create.ensures.step) (λ u w s. written_create s) in
     let written = ends_on (ends_call (t c.create.new.self) c.in_ok-append.ensures.step) created (t c.create.new.self) (λ u v w t q s. written_append q s) in

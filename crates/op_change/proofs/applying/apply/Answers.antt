@@ -17,30 +17,30 @@ write_state-requires g c =
     let is : c.in_ok-state.state ≡ after c.args.opened c.args.op.now = c.in_ok-state.ensures ∙ ap (λ (s : State). after s c.args.op.now) c.take.ensures in
     (subst IsNext (sym is) (next_after c.args.opened c.args.op.now c.requires.may c.requires.good)).settings
 
-pub returns-in_err-write_state-clause-moments : goal.returns-in_err-write_state-clause-moments
-returns-in_err-write_state-clause-moments g c =
+pub returns-in_err-write_state-clause-any_moment : goal.returns-in_err-write_state-clause-any_moment
+returns-in_err-write_state-clause-any_moment g c =
     let is : c.in_ok-state.state ≡ after c.args.opened c.args.op.now = c.in_ok-state.ensures ∙ ap (λ (s : State). after s c.args.op.now) c.take.ensures in
     let good = subst IsNext (sym is) (next_after c.args.opened c.args.op.now c.requires.may c.requires.good) in
-    moments_applied (g.met.H.Host.is_tree c.args.host.now) is good (written_back (settings_of c.in_ok-state.state) good.settings) c.write_state.ensures.moments
+    moments_applied (g.met.H.Host.is_tree c.args.host.now) is good (written_back (settings_of c.in_ok-state.state) good.settings) c.write_state.ensures.any_moment
 
-pub returns-in_err-write_state-clause-cause : goal.returns-in_err-write_state-clause-cause
-returns-in_err-write_state-clause-cause g c =
+pub returns-in_err-write_state-clause-fault_has_cause : goal.returns-in_err-write_state-clause-fault_has_cause
+returns-in_err-write_state-clause-fault_has_cause g c =
     let t = g.met.H.Host.is_tree c.args.host.now in
-    passed_on _ (IsErrOf c.write_state.result Fault) (Opens c.args.opened) (CanReplace config) _ _ _ t (omega arith) (ends_start t) c.write_state.ensures.cause
+    passed_on _ (IsErrOf c.write_state.result Fault) (Opens c.args.opened) (CanReplace config) _ _ _ t (omega arith) (ends_start t) c.write_state.ensures.fault_has_cause
     (same_fault c.write_state.result _ c.in_err-write_state.field-0.0 c.in_err-write_state.was c.from_residual-in_err-write_state.ensures.1)
     (λ u v tree q opens. subst (CanReplace config) (sym q) (can_replace u tree opens))
 
-pub returns-clause-moments : goal.returns-clause-moments
-returns-clause-moments g c =
+pub returns-clause-any_moment : goal.returns-clause-any_moment
+returns-clause-any_moment g c =
     let is : c.in_ok-state.state ≡ after c.args.opened c.args.op.now = c.in_ok-state.ensures ∙ ap (λ (s : State). after s c.args.op.now) c.take.ensures in
     let good = subst IsNext (sym is) (next_after c.args.opened c.args.op.now c.requires.may c.requires.good) in
-    moments_applied (g.met.H.Host.is_tree c.args.host.now) is good (written_back (settings_of c.in_ok-state.state) good.settings) c.write_state.ensures.moments
+    moments_applied (g.met.H.Host.is_tree c.args.host.now) is good (written_back (settings_of c.in_ok-state.state) good.settings) c.write_state.ensures.any_moment
 
-pub returns-clause-done : goal.returns-clause-done
-returns-clause-done g c =
+pub returns-clause-on_success : goal.returns-clause-on_success
+returns-clause-on_success g c =
     let is : c.in_ok-state.state ≡ after c.args.opened c.args.op.now = c.in_ok-state.ensures ∙ ap (λ (s : State). after s c.args.op.now) c.take.ensures in
     let good = subst IsNext (sym is) (next_after c.args.opened c.args.op.now c.requires.may c.requires.good) in
-    ends_applied (g.met.H.Host.is_tree c.args.host.now) is good (written_back (settings_of c.in_ok-state.state) good.settings) c.write_state.ensures.moments c.in_ok-write_state.ensures.done
+    ends_applied (g.met.H.Host.is_tree c.args.host.now) is good (written_back (settings_of c.in_ok-state.state) good.settings) c.write_state.ensures.any_moment c.in_ok-write_state.ensures.done
 
 pub returns-clause-good : goal.returns-clause-good
 returns-clause-good g c =

@@ -10,10 +10,10 @@ use Rattle.ost_refs.specs.Places.{place_path}
 use Rattle.ost_refs.proofs.Drops.{dropped, frame_at, ends_at}
 use Rattle.ost_refs.proofs.changing.drop_ref.Goals as goal
 
-pub returns-in_err-take_away-clause-cause : goal.returns-in_err-take_away-clause-cause
-returns-in_err-take_away-clause-cause g c = record {
-  later = c.take_away.ensures.cause.later;
-  fault = λ is m told free. c.take_away.ensures.cause.fault (same_fault _ _ _ c.in_err-take_away.was c.from_residual-in_err-take_away.ensures.1 is) m told (subst (λ (q : Elements). IsNoDir (m.now.names q)) (sym c.in_ok-path.ensures) (free_no_dir _ m.now free));
+pub returns-in_err-take_away-clause-fault_has_cause : goal.returns-in_err-take_away-clause-fault_has_cause
+returns-in_err-take_away-clause-fault_has_cause g c = record {
+  later = c.take_away.ensures.fault_has_cause.later;
+  fault = λ is m told free. c.take_away.ensures.fault_has_cause.fault (same_fault _ _ _ c.in_err-take_away.was c.from_residual-in_err-take_away.ensures.1 is) m told (subst (λ (q : Elements). IsNoDir (m.now.names q)) (sym c.in_ok-path.ensures) (free_no_dir _ m.now free));
 }
 
 pub returns-in_err-sync-clause-frame : goal.returns-in_err-sync-clause-frame
@@ -26,8 +26,8 @@ returns-clause-frame g c =
     let t = g.met.H.Host.is_tree in
     frame_sync c.sync.ensures.step (frame_at c.in_ok-path.ensures c.take_away.ensures.frame) (t c.take_away.new.host)
 
-pub returns-clause-done : goal.returns-clause-done
-returns-clause-done g c =
+pub returns-clause-on_success : goal.returns-clause-on_success
+returns-clause-on_success g c =
     let t = g.met.H.Host.is_tree in
     let p = place_path c.args.root.now c.args.place.now in
     let gone = ends_at c.in_ok-path.ensures c.in_ok-take_away.ensures.done in

@@ -16,9 +16,9 @@ returns-clause-tells g c =
     (subst (λ (p : Elements). AreLeavesBelow p u c.in_ok-found.found.items) c.in_ok-objects.ensures leaves) c.in_ok-keyed.ensures
     (c.from_vec.ensures ∙ c.in_ok-in_order.ensures.paths) c.in_ok-in_order.ensures.ordered)
 
-pub returns-in_err-found-clause-cause : goal.returns-in_err-found-clause-cause
-returns-in_err-found-clause-cause g c =
-    let told = c.leaves_below.ensures.cause in
+pub returns-in_err-found-clause-fault_has_cause : goal.returns-in_err-found-clause-fault_has_cause
+returns-in_err-found-clause-fault_has_cause g c =
+    let told = c.leaves_below.ensures.fault_has_cause in
     record {
       later = told.later;
       fault = λ is m at can. told.fault (same_fault _ _ _ c.in_err-found.was c.from_residual-in_err-found.ensures.1 is) m at (within_reach c.args.root.now c.in_ok-objects.objects c.in_ok-objects.ensures can);

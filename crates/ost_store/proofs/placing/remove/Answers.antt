@@ -15,8 +15,8 @@ returns-in_err-unlink-clause-frame g c =
     let t = g.met.H.Host.is_tree in
     frame_unlink c.unlink.ensures.step (frame_start (t c.args.host.now)) (t c.args.host.now) (c.in_ok-name.ensures, refl) (c.in_ok-name.ensures, refl)
 
-pub returns-in_err-unlink-clause-cause : goal.returns-in_err-unlink-clause-cause
-returns-in_err-unlink-clause-cause g c =
+pub returns-in_err-unlink-clause-fault_has_cause : goal.returns-in_err-unlink-clause-fault_has_cause
+returns-in_err-unlink-clause-fault_has_cause g c =
     let t = g.met.H.Host.is_tree in
     let e = c.in_err-unlink.ensures in
     call_caused (HasObject c.args.root.now c.args.digest.now c.args.kind) (Can (unlinks c.in_ok-name.name)) _ _ _ _ _ (t c.args.host.now) (omega arith) (ends_start (t c.args.host.now)) e.step e.cause c.from_residual-in_err-unlink.ensures.1 (λ v w step. clash_step step)
@@ -27,8 +27,8 @@ returns-clause-frame g c =
     let t = g.met.H.Host.is_tree in
     frame_unlink c.unlink.ensures.step (frame_start (t c.args.host.now)) (t c.args.host.now) (c.in_ok-name.ensures, refl) (c.in_ok-name.ensures, refl)
 
-pub returns-clause-done : goal.returns-clause-done
-returns-clause-done g c =
+pub returns-clause-on_success : goal.returns-clause-on_success
+returns-clause-on_success g c =
     let t = g.met.H.Host.is_tree in
     ends_to (ends_call (t c.args.host.now) c.in_ok-unlink.ensures.step) (λ u w s. subst (λ (q : Elements). WasRemoved q u w) c.in_ok-name.ensures (record { leaf = s.how.0; left = unlinked s }))
 

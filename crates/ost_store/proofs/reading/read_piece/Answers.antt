@@ -5,11 +5,11 @@ use Rattle.fp_host.proofs.Ending.{ends_call, ends_in_tree}
 use Rattle.ost_store.proofs.Gets.{piece_read}
 use Rattle.ost_store.proofs.reading.read_piece.Goals as goal
 
-pub returns-in_err-read_at-clause-still : goal.returns-in_err-read_at-clause-still
-returns-in_err-read_at-clause-still g c = let t = g.met.H.Host.is_tree in looks_read c.read_at.ensures.step (looks_start (t c.args.host.now)) (t c.args.host.now)
+pub returns-in_err-read_at-clause-unchanged : goal.returns-in_err-read_at-clause-unchanged
+returns-in_err-read_at-clause-unchanged g c = let t = g.met.H.Host.is_tree in looks_read c.read_at.ensures.step (looks_start (t c.args.host.now)) (t c.args.host.now)
 
-pub returns-clause-still : goal.returns-clause-still
-returns-clause-still g c = let t = g.met.H.Host.is_tree in looks_read c.read_at.ensures.step (looks_start (t c.args.host.now)) (t c.args.host.now)
+pub returns-clause-unchanged : goal.returns-clause-unchanged
+returns-clause-unchanged g c = let t = g.met.H.Host.is_tree in looks_read c.read_at.ensures.step (looks_start (t c.args.host.now)) (t c.args.host.now)
 
 pub returns-clause-tells : goal.returns-clause-tells
 returns-clause-tells g c =

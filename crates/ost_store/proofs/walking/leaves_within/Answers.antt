@@ -9,8 +9,8 @@ use Rattle.ost_store.proofs.Lists.{empty_items}
 use Rattle.ost_store.proofs.Levels.{IsAtLevel, first_level, next_level, all_found, all_reached, none_left}
 use Rattle.ost_store.proofs.walking.leaves_within.Goals as goal
 
-pub returns-in_err-level-2-clause-still : goal.returns-in_err-level-2-clause-still
-returns-in_err-level-2-clause-still g c = looks_within c.visit_all.ensures.still c.loop-depth.invariant.still (g.met.H.Host.is_tree c.loop-depth.host)
+pub returns-in_err-level-2-clause-unchanged : goal.returns-in_err-level-2-clause-unchanged
+returns-in_err-level-2-clause-unchanged g c = looks_within c.visit_all.ensures.unchanged c.loop-depth.invariant.still (g.met.H.Host.is_tree c.loop-depth.host)
 
 pub loop-depth-init : goal.loop-depth-init
 loop-depth-init g c =
@@ -25,12 +25,12 @@ pub loop-depth-preserved : goal.loop-depth-preserved
 loop-depth-preserved g c =
     let t = g.met.H.Host.is_tree in
     record {
-      still = looks_within c.visit_all.ensures.still c.loop-depth.invariant.still (t c.loop-depth.host);
+      still = looks_within c.visit_all.ensures.unchanged c.loop-depth.invariant.still (t c.loop-depth.host);
       tells = ends_on c.in_ok-level-2.ensures.tells (ends_both (ends_looks (t c.args.host.now) c.loop-depth.invariant.still) c.loop-depth.invariant.tells) (t c.loop-depth.host) (λ u v w tree q all.
           next_level c.loop-depth._depth c.args.folder c.loop-depth.level.items c.loop-depth.found.items c.visit_all.new.found.items c.in_ok-level-2.level.items q.1
           (subst (λ (x : View). VisitsAll c.loop-depth.level.items x c.loop-depth.found.items c.visit_all.new.found.items c.in_ok-level-2.level.items) q.0.0
           (subst (λ (l : List Elements). VisitsAll l v c.loop-depth.found.items c.visit_all.new.found.items c.in_ok-level-2.level.items) c.deref.ensures.value all)));
-      later = omega (arith, c.loop-depth.invariant.later, c.visit_all.ensures.cause.later);
+      later = omega (arith, c.loop-depth.invariant.later, c.visit_all.ensures.fault_has_cause.later);
     }
 
 pub returns-then-is_empty-clause-tells : goal.returns-then-is_empty-clause-tells
@@ -48,8 +48,8 @@ returns-then-is_empty-clause-reach g c =
     all_reached 127 c.args.folder c.loop-depth.level.items c.loop-depth.found.items (subst IsTree q.0.0 tree)
     (subst (λ (k : ℕ). IsAtLevel k c.args.folder u c.loop-depth.level.items c.loop-depth.found.items) full q.1) none)
 
-pub returns-else-is_empty-clause-cause : goal.returns-else-is_empty-clause-cause
-returns-else-is_empty-clause-cause g c = record {
+pub returns-else-is_empty-clause-fault_has_cause : goal.returns-else-is_empty-clause-fault_has_cause
+returns-else-is_empty-clause-fault_has_cause g c = record {
   later = c.loop-depth.invariant.later;
   fault = λ is m told can.
       let full : c.loop-depth._depth ≡ 127 + 1 = omega arith in

@@ -1,5 +1,5 @@
 use Rattle.std.proofs.Common.{◌≤◌, take}
-use Rattle.fp_host.specs.Frame.{Still}
+use Rattle.fp_host.specs.Frame.{Unchanged}
 use Rattle.ost_model.specs.Objects.{Have}
 use Rattle.ost_model.specs.Remotes.{Stores}
 use Rattle.ost_walk.specs.UsedList.{AreUsed}
@@ -7,7 +7,7 @@ use Rattle.ost_walk.proofs.gathering.gather.Given as goal
 
 abbrev pub invariant-loop-commit : goal.invariant-loop-commit
 invariant-loop-commit g l = record {
-  still : Still (g.H.Host.moments l.fn.host) (g.H.Host.moments l.host);
+  still : Unchanged (g.H.Host.moments l.fn.host) (g.H.Host.moments l.host);
   later : g.H.Host.faults l.fn.host ≤ g.H.Host.faults l.host;
   used : (have : Have) → Stores l.places.root (g.H.Host.moments l.fn.host) have → AreUsed have (take l.commit-index l.commits) l.found.entries;
 }

@@ -20,5 +20,5 @@ read_at-tells g c = record {
   bound = c.ensures.bound;
   later = c.ensures.counts.later;
   failed = remote_cause c.ensures.counts;
-  memory = c.ensures.memory;
+  needs_no_memory = c.ensures.needs_no_memory;
 }

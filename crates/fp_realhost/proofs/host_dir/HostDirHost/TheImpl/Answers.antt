@@ -3,43 +3,43 @@ use Rattle.fp_realhost.proofs.Causes.{untold, cause}
 use Rattle.fp_realhost.proofs.host_dir.HostDirHost.TheImpl.Goals as goal
 
 pub stat-tells : goal.stat-tells
-stat-tells g c = record { step = untold; bits = c.ensures.bits; cause = cause c.ensures.counts; memory = c.ensures.memory }
+stat-tells g c = record { step = untold; bits = c.ensures.bits; fault_has_cause = cause c.ensures.counts; needs_no_memory = c.ensures.needs_no_memory }
 
 pub list-tells : goal.list-tells
-list-tells g c = record { step = untold; names = c.ensures.names; cause = cause c.ensures.counts }
+list-tells g c = record { step = untold; names = c.ensures.names; fault_has_cause = cause c.ensures.counts }
 
 pub read_at-tells : goal.read_at-tells
-read_at-tells g c = record { bound = c.ensures.bound; step = untold; cause = cause c.ensures.counts; memory = c.ensures.memory }
+read_at-tells g c = record { bound = c.ensures.bound; step = untold; fault_has_cause = cause c.ensures.counts; needs_no_memory = c.ensures.needs_no_memory }
 
 pub read_link-tells : goal.read_link-tells
-read_link-tells g c = record { step = untold; cause = cause c.ensures.counts }
+read_link-tells g c = record { step = untold; fault_has_cause = cause c.ensures.counts }
 
 pub make_dir-tells : goal.make_dir-tells
-make_dir-tells g c = record { step = untold; cause = cause c.ensures.counts; memory = c.ensures.memory }
+make_dir-tells g c = record { step = untold; fault_has_cause = cause c.ensures.counts; needs_no_memory = c.ensures.needs_no_memory }
 
 pub create-tells : goal.create-tells
-create-tells g c = record { step = untold; cause = cause c.ensures.counts; memory = c.ensures.memory }
+create-tells g c = record { step = untold; fault_has_cause = cause c.ensures.counts; needs_no_memory = c.ensures.needs_no_memory }
 
 pub append-tells : goal.append-tells
-append-tells g c = record { step = untold; cause = cause c.ensures.counts; memory = c.ensures.memory }
+append-tells g c = record { step = untold; fault_has_cause = cause c.ensures.counts; needs_no_memory = c.ensures.needs_no_memory }
 
 pub link-tells : goal.link-tells
-link-tells g c = record { step = untold; cause = cause c.ensures.counts; memory = c.ensures.memory }
+link-tells g c = record { step = untold; fault_has_cause = cause c.ensures.counts; needs_no_memory = c.ensures.needs_no_memory }
 
 pub symlink-tells : goal.symlink-tells
-symlink-tells g c = record { step = untold; cause = cause c.ensures.counts; memory = c.ensures.memory }
+symlink-tells g c = record { step = untold; fault_has_cause = cause c.ensures.counts; needs_no_memory = c.ensures.needs_no_memory }
 
 pub rename-tells : goal.rename-tells
-rename-tells g c = record { step = untold; cause = cause c.ensures.counts; memory = c.ensures.memory }
+rename-tells g c = record { step = untold; fault_has_cause = cause c.ensures.counts; needs_no_memory = c.ensures.needs_no_memory }
 
 pub unlink-tells : goal.unlink-tells
-unlink-tells g c = record { step = untold; cause = cause c.ensures.counts; memory = c.ensures.memory }
+unlink-tells g c = record { step = untold; fault_has_cause = cause c.ensures.counts; needs_no_memory = c.ensures.needs_no_memory }
 
 pub remove_dir-tells : goal.remove_dir-tells
-remove_dir-tells g c = record { step = untold; cause = cause c.ensures.counts; memory = c.ensures.memory }
+remove_dir-tells g c = record { step = untold; fault_has_cause = cause c.ensures.counts; needs_no_memory = c.ensures.needs_no_memory }
 
 pub sync-tells : goal.sync-tells
-sync-tells g c = record { step = untold; cause = cause c.ensures.counts; memory = c.ensures.memory }
+sync-tells g c = record { step = untold; fault_has_cause = cause c.ensures.counts; needs_no_memory = c.ensures.needs_no_memory }
 
 pub say-tells : goal.say-tells
-say-tells g c = record { step = untold; cause = cause c.ensures.counts; memory = c.ensures.memory }
+say-tells g c = record { step = untold; fault_has_cause = cause c.ensures.counts; needs_no_memory = c.ensures.needs_no_memory }
