@@ -1,26 +1,30 @@
 //! Laws of what images show. Each is the contract of a function that does nothing.
-ghost use Rattle.std.specs.Prelude.{◌≡◌, ◌++◌, ℕ, List, true, Some, None, Result, Err};
-ghost use Rattle.fp_host.specs.Paths.{Elements};
+ghost use Rattle.std.specs.Prelude.{◌≡◌, ◌≤◌, ◌++◌, ◌∷◌, ℕ, List, length, true, Some, None, Result, Err};
+ghost use Rattle.fp_host.specs.Paths.{Elements, absent};
 ghost use Rattle.fp_host.specs.View.{View, IsTree};
-ghost use Rattle.fp_host.specs.Outcome.{Disk, Follows, IsSettled, gone, shows};
+ghost use Rattle.fp_host.specs.Outcome.{Disk, Follows, Nothing, IsSettled, gone, folder, shows};
 ghost use Rattle.fp_name.specs.Refs.{Ref, is_ref};
+ghost use Rattle.fp_small.specs.Config.{IsSettings, config_text};
 ghost use Rattle.fp_small.specs.Places.{repo, tmp};
+ghost use Rattle.fp_small.specs.declared.config.Settings.{Settings};
+ghost use Rattle.fp_small.specs.declared.op.Op.TheVariants.{Install, Update, Uninstall, Rollback};
 ghost use Rattle.fp_small.specs.declared.state.State.{State};
 ghost use Rattle.fp_small.specs.declared.state.RefRow.{RefRow};
 ghost use Rattle.fp_small.specs.declared.state.Previous.{Previous};
 ghost use Rattle.ost_model.specs.Order.{In};
 ghost use Rattle.ost_model.specs.Stores.{IsStore};
-ghost use Rattle.fp_small.specs.declared.op.Op.TheVariants.{Install, Update, Uninstall, Rollback};
 ghost use Rattle.dep_states.specs.After.{HasOrder, row_at, after_op};
 ghost use Rattle.dep_states.specs.Switch.{IsWith, SwitchesAt, Stages, OpensEither};
 ghost use Rattle.dep_states.specs.Names.{active, config, remotes_conf, pins_file};
-ghost use Rattle.dep_states.specs.Shown.{Shows, IsShown};
-ghost use Rattle.dep_states.specs.Zones.{IsFileOrGone, IsFolderOrGone};
+ghost use Rattle.dep_states.specs.Shown.{Shows, IsShown, config_most};
+ghost use Rattle.dep_states.specs.Zones.{Allowed, IsFileOrGone, IsFolderOrGone, anything, outward, zone};
 ghost use Rattle.dep_states.specs.Damaged.{Damages, Gives};
 ghost use Rattle.dep_states.specs.Sound.{Sound, Opens, IsSound, Spares, Spared, InTmp, OldGone, HasConfig};
 ghost use Rattle.dep_states.specs.Settled.{Settled};
 ghost use Rattle.dep_states.specs.Deployed.{deployed_disk, deployed_state};
-ghost use Rattle.dep_states.specs.Samples.{empty_disk, empty_state, worked_disk, worked_state, damaged_disk, dashed_ref};
+ghost use Rattle.dep_states.specs.Samples.{no_disk, empty_disk, empty_state, config_disk, settings_state, worked_disk, worked_state, damaged_disk, dashed_ref};
+
+// ---- what is shown
 
 /// An image gives at most one state, or one first path that doesn't read, and not both.
 pub fn one_result_is_given()
@@ -29,11 +33,20 @@ pub fn one_result_is_given()
 
 /// An image of finitely many names shows a state where nothing in it is damaged.
 pub fn undamaged_images_show_a_state()
-    ensures { (disk : Disk) (names : List Elements) → ((p : Elements) → (disk p ≡ gone → ⊥) → In
-        names p) → ((p : Elements) → Damages disk p → ⊥) → IsShown disk }
+    ensures { (disk : Disk) (names : List Elements)
+        → ((p : Elements) → (disk p ≡ gone → ⊥) → In names p)
+        → ((p : Elements) → Damages disk p → ⊥) → IsShown disk }
 {}
 
-/// The empty image shows the empty state of layout 2, is sound, and is settled.
+/// Of two refs that don't read, one since its `deploy` is that of another commit, the path is given that comes first by its
+/// bytes: that of `org.x.A-b`, though `org.x.A` is the first of the IDs.
+pub fn the_first_path_is_by_bytes()
+    ensures { Gives damaged_disk (Err (active dashed_ref)) }
+{}
+
+// ---- worked images
+
+/// The root alone shows the empty state of layout 2, is sound, and is settled.
 pub fn the_empty_image_is_sound()
     ensures shown { Shows empty_disk empty_state }
     ensures sound { Sound empty_disk }
@@ -45,60 +58,65 @@ pub fn the_worked_image_shows_its_state()
     ensures { Shows worked_disk worked_state }
 {}
 
-/// A step that gives nothing to a fixed path, and elsewhere only what may stand there, leaves what was shown before, and leaves
-/// it sound.
-pub fn steps_that_spare()
-    ensures opens { (old new : View) (s : State) → Follows (Spared old) old new → Opens s old →
-        Opens s new }
-    ensures sound { (old new : View) → Follows (Spared old) old new → IsSound old → IsSound new }
-{}
-
 /// An image with one deployed ref, its objects and its ref file shows it, and is sound.
 pub fn the_deployed_image_is_sound()
     ensures shown { Shows deployed_disk deployed_state }
     ensures sound { Sound deployed_disk }
 {}
 
-/// The rename of a link from `repo/tmp` onto `active`: where its commit stands beside the state, each outcome shows the state of
-/// before or the one with the new row, and is sound.
-pub fn a_switch_is_old_or_new()
-    ensures { (u w : View) (s t : State) (name : Ref) (row : RefRow) (rest : Elements) → is_ref
-        name ≡ true → IsWith s name (Some row) t
-        → Follows (SwitchesAt name row (rest ++ tmp)) u w → Stages s name row u → OpensEither s t w }
+/// Sound images: one without even a root; and the root with a `config` as it is written, which shows its settings.
+pub fn sound_images()
+    ensures nothing { Sound no_disk }
+    ensures written { (s : Settings) → IsSettings s → length (config_text s) ≤ config_most
+        → Sound (config_disk (config_text s)) × Shows (config_disk (config_text s)) (settings_state s) }
 {}
 
-/// What the operations on refs make of a state: the row of that ref changes, and no other.
-pub fn operations_change_one_row()
-    ensures install { (s : State) (name : Ref) (remote commit : List ℕ) (time : ℕ) → HasOrder s →
-        row_at s name ≡ None
-        → IsWith s name (Some (record { name = name; origin = remote; commit = commit; timestamp = time; previous = None })) (after_op s time (Install name remote commit)) }
-    ensures update { (s : State) (name : Ref) (remote commit : List ℕ) (time : ℕ) (row : RefRow) →
-        HasOrder s → row_at s name ≡ Some row
-        → IsWith s name (Some (record { name = name; origin = remote; commit = commit; timestamp = time; previous = Some (record { commit = row.commit; timestamp = row.timestamp }) })) (after_op s time (Update name remote commit)) }
-    ensures uninstall { (s : State) (name : Ref) (time : ℕ) → HasOrder s → IsWith s name None
-        (after_op s time (Uninstall name)) }
-    ensures rollback { (s : State) (commit : List ℕ) (time : ℕ) (row : RefRow) (p : Previous) →
-        HasOrder s → row_at s row.name ≡ Some row → row.previous ≡ Some p
-        → IsWith s row.name (Some (record { name = row.name; origin = row.origin; commit = p.commit; timestamp = p.timestamp; previous = Some (record { commit = row.commit; timestamp = row.timestamp }) })) (after_op s time (Rollback row.name commit)) }
+/// A view in which the root stands alone is sound where every stop leaves what stands.
+pub fn a_bare_view_is_sound()
+    ensures { (v : View) → IsTree v → IsSettled v
+        → ((x : List ℕ) (up : Elements) → v.names (x ∷ up) ≡ absent) → IsSound v }
 {}
 
-/// Of two refs that don't read, one since its `deploy` is that of another commit, the path is given that comes first by its bytes: that of `org.x.A-b`, though `org.x.A` is the
-/// first of the IDs.
-pub fn the_first_path_is_by_bytes()
-    ensures { Gives damaged_disk (Err (active dashed_ref)) }
+/// A path of 128 elements that is for nothing else may be a folder, and one of 129 may not.
+pub fn paths_have_a_longest()
+    ensures longest { (p : Elements) → length p ≡ 128 → zone (outward p) ≡ anything → Allowed p folder }
+    ensures too_long { (p : Elements) → length p ≡ 129 → Allowed p folder → ⊥ }
 {}
 
-/// Anything below `repo/tmp` may come and go; and where no stop leaves the installation without `config`, the files of layout 1
-/// may go.
-pub fn what_the_usual_steps_spare()
-    ensures work { (v : View) → Spares v InTmp }
-    ensures old { (v : View) → HasConfig v → Spares v OldGone }
-    ensures config { (u w : View) → Follows (Spared u) u w → HasConfig u → HasConfig w }
+// ---- steps
+
+/// A step that gives nothing to any path leaves what was shown before, and leaves it sound.
+pub fn steps_that_give_nothing()
+    ensures opens { (old new : View) (s : State) → Follows Nothing old new → Opens s old → Opens s new }
+    ensures sound { (old new : View) → Follows Nothing old new → IsSound old → IsSound new }
+{}
+
+/// A step that gives nothing to a fixed path, and elsewhere only what may stand there, leaves what was shown before, and leaves
+/// it sound. `config` stays, too.
+pub fn steps_that_spare()
+    ensures opens { (old new : View) (s : State) → Follows (Spared old) old new → Opens s old → Opens s new }
+    ensures sound { (old new : View) → Follows (Spared old) old new → IsSound old → IsSound new }
+    ensures config { (old new : View) → Follows (Spared old) old new → HasConfig old → HasConfig new }
+{}
+
+/// Anything below `repo/tmp` may come and go.
+pub fn work_may_come_and_go()
+    ensures { (v : View) → Spares v InTmp }
+{}
+
+/// Where no stop leaves the installation without `config`, the files of layout 1 may go.
+pub fn old_files_may_go()
+    ensures { (v : View) → HasConfig v → Spares v OldGone }
 {}
 
 /// Where all is settled and `config` stands, no stop leaves the installation without it.
 pub fn settled_config_stays()
     ensures { (v : View) → IsTree v → IsSettled v → (shows v config ≡ gone → ⊥) → HasConfig v }
+{}
+
+/// Where every outcome shows one state, every outcome shows a state.
+pub fn opened_is_sound()
+    ensures { (s : State) (v : View) → Opens s v → IsSound v }
 {}
 
 /// In a sound image `config` and the files of layout 1 are absent or files, `repo` and `repo/tmp` are absent or folders, and the
@@ -110,4 +128,37 @@ pub fn what_a_sound_image_holds()
     ensures repo { (disk : Disk) → Sound disk → IsFolderOrGone (disk repo) }
     ensures tmp { (disk : Disk) → Sound disk → IsFolderOrGone (disk tmp) }
     ensures store { (disk : Disk) → Sound disk → IsStore repo disk }
+{}
+
+// ---- operations on refs
+
+/// What the operations on refs make of a state: the row of that ref changes, and no other.
+pub fn operations_change_one_row()
+    ensures install { (s : State) (name : Ref) (remote commit : List ℕ) (time : ℕ) → HasOrder s
+        → row_at s name ≡ None
+        → IsWith s name
+            (Some (record { name = name; origin = remote; commit = commit; timestamp = time; previous = None }))
+            (after_op s time (Install name remote commit)) }
+    ensures update { (s : State) (name : Ref) (remote commit : List ℕ) (time : ℕ) (row : RefRow) → HasOrder s
+        → row_at s name ≡ Some row
+        → IsWith s name
+            (Some (record { name = name; origin = remote; commit = commit; timestamp = time;
+                previous = Some (record { commit = row.commit; timestamp = row.timestamp }) }))
+            (after_op s time (Update name remote commit)) }
+    ensures uninstall { (s : State) (name : Ref) (time : ℕ) → HasOrder s
+        → IsWith s name None (after_op s time (Uninstall name)) }
+    ensures rollback { (s : State) (commit : List ℕ) (time : ℕ) (row : RefRow) (p : Previous) → HasOrder s
+        → row_at s row.name ≡ Some row → row.previous ≡ Some p
+        → IsWith s row.name
+            (Some (record { name = row.name; origin = row.origin; commit = p.commit; timestamp = p.timestamp;
+                previous = Some (record { commit = row.commit; timestamp = row.timestamp }) }))
+            (after_op s time (Rollback row.name commit)) }
+{}
+
+/// The rename of a link from `repo/tmp` onto `active`: where its commit stands beside the state, each outcome shows the state of
+/// before or the one with the new row, and is sound.
+pub fn a_switch_is_old_or_new()
+    ensures { (u w : View) (s t : State) (name : Ref) (row : RefRow) (rest : Elements) → is_ref name ≡ true
+        → IsWith s name (Some row) t → Follows (SwitchesAt name row (rest ++ tmp)) u w → Stages s name row u
+        → OpensEither s t w }
 {}

@@ -30,7 +30,7 @@ has_group file name = list_any (λ g. bytes_eq g.name name) file
 abbrev pub runtime_of : List ℕ → Option Ref
 runtime_of text = ref_of (kind_word refs.Runtime ++ 47 ∷ text)
 
--- the name behind `Extension `, which isn't empty
+-- the name after `Extension `, which isn't empty
 abbrev pub name_behind : List ℕ → List (List ℕ)
 name_behind name = if is_empty name then [] else name ∷ []
 

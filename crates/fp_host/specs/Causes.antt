@@ -23,3 +23,7 @@ end_of_path fault.NoMemory = end.NoMemory
 pub record IsCaused (Faulted : Type 0) (told : Option Moments) (Condition : View → Type 0) (before now : ℕ) : Type 0 where
   pub later : before ≤ now
   pub fault : Faulted → (m : Moments) → told ≡ Some m → Condition m.now → Rose before now
+
+-- A fault that comes only where the count rose, whatever the host holds.
+abbrev pub IsCounted : Type 0 → Option Moments → ℕ → ℕ → Type 0
+IsCounted Faulted told before now = IsCaused Faulted told (λ v. Unit {0}) before now

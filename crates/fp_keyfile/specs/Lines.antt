@@ -53,7 +53,7 @@ pub data Statement : Type 0 where
 abbrev pub is_text : List ℕ → Bool
 is_text bs = is_utf8 bs && not (list_any (λ b. b == 0) bs)
 
--- behind `[`: the name, `]`, and nothing but spaces and tabs
+-- after `[`: the name, `]`, and nothing but spaces and tabs
 abbrev pub header_at : Option (List ℕ × List ℕ) → Result Statement KeyRule
 header_at None = Err rules.Group
 header_at (Some parts) = if is_name parts.0 && list_all is_blank parts.1 then Ok (header parts.0) else Err rules.Group

@@ -1,4 +1,4 @@
-//! A real folder as a host, folders behind `file://` as remotes, and the standard input as a source.
+//! A real folder as a host, folders that `file://` names as remotes, and the standard input as a source.
 #![tactic(auto)]
 
 mod changes;

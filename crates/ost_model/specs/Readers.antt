@@ -73,7 +73,7 @@ abbrev pub kept : {A : Type 0} → Option Rule → A → Result A Rule
 kept None a = Ok a
 kept (Some rule) a = Err rule
 
--- what was read, judged by the rules behind `value`
+-- what was read, judged by the rules after `value`
 abbrev pub judged : {A : Type 0} → (A → Option Rule) → Option A → Result A Rule
 judged breaks None = Err rules.Value
 judged breaks (Some a) = kept (breaks a) a

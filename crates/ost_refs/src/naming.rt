@@ -7,7 +7,7 @@ use fp_host::Path;
 use fp_name::{NameFault, RefKind, RefName, RemoteName};
 use std::alloc::{AllocError, Global};
 
-/// How many elements the path of a ref has at least: KIND/ID/ARCH/BRANCH behind `refs/heads`.
+/// How many elements the path of a ref has at least: KIND/ID/ARCH/BRANCH after `refs/heads`.
 const FEWEST_ELEMENTS: usize = 6;
 
 /// The innermost element.
