@@ -1,3 +1,4 @@
+pub mod DeployShapes
 pub mod Law
 pub mod Single
 pub mod Empty
@@ -12,3 +13,10 @@ pub mod Switching
 pub mod FirstPath
 pub mod Usual
 pub mod Total
+pub mod Deploys
+pub mod Good
+pub mod Sparing
+pub mod SettledSample
+pub mod Absent
+pub mod Pulling
+pub mod Small

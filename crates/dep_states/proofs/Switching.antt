@@ -26,7 +26,7 @@ use Rattle.dep_states.proofs.Rows.{text_apart, head_of}
 use Rattle.dep_states.proofs.Deployed.{outward_append, top}
 use Rattle.dep_states.proofs.Switch.{shows_changed, sound_changed, switched, inside_apart, deploy_apart, length_apart}
 
-abbrev second : List (List ℕ) → List ℕ
+abbrev pub second : List (List ℕ) → List ℕ
 second [] = []
 second (x ∷ rest) = head_of rest
 

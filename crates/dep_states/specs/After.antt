@@ -1,6 +1,6 @@
 -- What operations make of a state.
 use Rattle.std.specs.Prelude.{◌≡◌, ◌≢◌, ◌<◌, ◌^◌, ℕ, List, [], ◌∷◌, length, map, Contains, Bool, true, false, Option, Some, None}
-use Rattle.std.specs.List.{list_all, AllByRecursion}
+use Rattle.std.specs.List.{AllByRecursion}
 use Rattle.fp_keyfile.specs.KeyFile.{is_good}
 use Rattle.fp_host.specs.Reads.{is_ascending}
 use Rattle.fp_name.specs.Grammar.{is_remote_name}
@@ -12,6 +12,7 @@ use Rattle.fp_small.specs.Order.{inserted, removed, replaced, has_name}
 use Rattle.fp_small.specs.declared.state.State.{State}
 use Rattle.fp_small.specs.declared.state.RefRow.{RefRow}
 use Rattle.fp_small.specs.declared.state.Previous.{Previous}
+use Rattle.fp_small.specs.declared.state.OverrideRow.{OverrideRow}
 use Rattle.fp_small.specs.declared.state.Layout.{Layout}
 use Rattle.fp_small.specs.declared.state.Layout.TheVariants.{One, Two}
 use Rattle.fp_small.specs.declared.op.Op.{Op}
@@ -123,23 +124,28 @@ pub record May (s : State) (op : Op) : Type 0 where
 
 -- ---- states that can be written
 
-abbrev pub are_digests : Option Previous → Bool
-are_digests None = true
-are_digests (Some p) = is_digest p.commit
+abbrev pub IsGoodPrevious : Option Previous → Type 0
+IsGoodPrevious None = Unit {0}
+IsGoodPrevious (Some p) = (is_digest p.commit ≡ true) × (p.timestamp < 2 ^ 64)
 
 -- a row that its `deploy` can say
 pub record IsGoodRow (row : RefRow) : Type 0 where
   pub name : is_ref row.name ≡ true
   pub origin : is_remote_name row.origin ≡ true
   pub commit : is_digest row.commit ≡ true
-  pub previous : are_digests row.previous ≡ true
+  pub previous : IsGoodPrevious row.previous
   pub moves : goes_back_to row.commit row.previous ≡ false
   pub time : row.timestamp < 2 ^ 64
+
+-- a row that its key file can say
+pub record IsGoodLayer (row : OverrideRow) : Type 0 where
+  pub name : is_override row.name ≡ true
+  pub file : is_good row.file ≡ true
 
 -- a state whose parts can be written, in order
 pub record IsGood (s : State) : Type 0 where
   pub settings : IsSettings (settings_of s)
   pub rows : AllByRecursion IsGoodRow s.refs
   pub refs_ascend : is_ascending (map ref_key s.refs) ≡ true
-  pub names : list_all (λ row. is_override row.name) s.overrides ≡ true
+  pub layers : AllByRecursion IsGoodLayer s.overrides
   pub overrides_ascend : is_ascending (map override_key s.overrides) ≡ true

@@ -1,5 +1,5 @@
 -- The file `deploy`: a normal value of type `(sstm(st))`.
-use Rattle.std.specs.Prelude.{ℕ, List, Bool, false, Option, Some, None, option_map, option_and_then, if◌then◌else◌}
+use Rattle.std.specs.Prelude.{◌≡◌, ⊤, ℕ, List, Bool, false, Option, Some, None, option_map, option_and_then, Result, Ok, Err, if◌then◌else◌}
 use Rattle.std.specs.Str.{bytes_eq}
 use Rattle.fp_name.specs.Grammar.{is_remote_name}
 use Rattle.fp_name.specs.Hex.{unhex}
@@ -10,6 +10,8 @@ use Rattle.gv_value.specs.Tree.{Content, Tree, no_trees, tree}
 use Rattle.gv_value.specs.Reading.{value_of}
 use Rattle.ost_model.specs.Fields.{text_in}
 use Rattle.dep_states.specs.declared.deploy.DeployData.{DeployData}
+use Rattle.dep_states.specs.declared.deploy.DeployError.{DeployError}
+use Rattle.dep_states.specs.declared.deploy.DeployError.TheVariants as errors
 
 abbrev pub text_shape : Shape
 text_shape = basic basics.Str
@@ -67,3 +69,19 @@ deploy_in _ = None
 -- what the bytes of a `deploy` say, where they read
 unfoldable pub deploy_of : List ℕ → Option DeployData
 deploy_of bytes = option_and_then deploy_in (value_of deploy_shape bytes)
+
+-- ---- what reading answers; nothing is said of want of memory
+
+abbrev pub Misses : {Y : Type 0} → DeployError → Option Y → Type 0
+Misses errors.Bad there = there ≡ None
+Misses errors.NoMemory there = ⊤
+
+-- what was returned, seen by a view, is what is there
+abbrev pub Finds : {X Y : Type 0} → (X → Y) → Result X DeployError → Option Y → Type 0
+Finds view (Ok x) there = there ≡ Some (view x)
+Finds view (Err e) there = Misses e there
+
+-- what was returned is what is there
+abbrev pub Says : {X : Type 0} → Result X DeployError → Option X → Type 0
+Says (Ok x) there = there ≡ Some x
+Says (Err e) there = Misses e there

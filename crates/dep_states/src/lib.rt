@@ -2,8 +2,9 @@
 #![tactic(auto)]
 
 mod deploy;
+mod deploy_reading;
 pub mod laws;
 mod opened;
 
-pub use deploy::DeployData;
+pub use deploy::{DeployData, DeployError};
 pub use opened::Opened;
