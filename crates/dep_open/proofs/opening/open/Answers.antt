@@ -27,7 +27,7 @@ returns-clause-frame g c = let t = g.met.H.Host.is_tree in frame_sync c.sync.ens
 pub returns-clause-tells : goal.returns-clause-tells
 returns-clause-tells g c =
     let t = g.met.H.Host.is_tree in
-    ends_on (ends_call (t c.read_state.new.host) c.in_ok-sync.ensures.step) (ends_both (ends_looks (t c.args.host.now) c.in_ok-state.ensures.still) c.in_ok-state.ensures.tells) (t c.read_state.new.host)
+    ends_on (ends_call (t c.read_state.new.host) c.in_ok-sync.ensures.step) (ends_both (ends_looks (t c.args.host.now) c.in_ok-state.ensures.unchanged) c.in_ok-state.ensures.tells) (t c.read_state.new.host)
     (λ u v w tree q step. opened_ok c.in_ok-state.state c.of.result u v w c.of.ensures tree q.0.0 q.1 step)
 
 pub returns-in_err-state-clause-unread : goal.returns-in_err-state-clause-unread
@@ -36,9 +36,9 @@ returns-in_err-state-clause-unread g c = not_read (g.met.H.Host.is_tree c.args.h
 pub returns-in_err-sync-clause-unread : goal.returns-in_err-sync-clause-unread
 returns-in_err-sync-clause-unread g c =
     let t = g.met.H.Host.is_tree in
-    read_on c.in_ok-state.state (t c.args.host.now) (t c.read_state.new.host) c.in_ok-state.ensures.still c.in_ok-state.ensures.tells (makes_goes c.sync.ensures.step)
+    read_on c.in_ok-state.state (t c.args.host.now) (t c.read_state.new.host) c.in_ok-state.ensures.unchanged c.in_ok-state.ensures.tells (makes_goes c.sync.ensures.step)
 
 pub returns-clause-unread : goal.returns-clause-unread
 returns-clause-unread g c =
     let t = g.met.H.Host.is_tree in
-    read_on c.in_ok-state.state (t c.args.host.now) (t c.read_state.new.host) c.in_ok-state.ensures.still c.in_ok-state.ensures.tells (makes_goes c.sync.ensures.step)
+    read_on c.in_ok-state.state (t c.args.host.now) (t c.read_state.new.host) c.in_ok-state.ensures.unchanged c.in_ok-state.ensures.tells (makes_goes c.sync.ensures.step)

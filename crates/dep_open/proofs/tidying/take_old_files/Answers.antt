@@ -33,9 +33,9 @@ returns-in_err-take_away-in_default g c =
     let frame = frame_within {G = OldGone} {W = OldAbsent} {A = NoPath} c.take_away.ensures.frame (frame_stat c.stat.ensures.step (frame_start (t c.args.host.now)) (t c.args.host.now)) (t c.stat.new.self)
     (λ q spot h. (is_remotes (h.0 ∙ c.in_ok-remotes.ensures), h.1)) (λ q e h. (is_remotes (h.0 ∙ c.in_ok-remotes.ensures), h.1)) (λ q h. h) (λ q id h put. h) in
     record {
-      moments = knowing {P = λ v. v.names config ≡ absent → ⊥} (there_known c.in_ok-config.ensures c.in_ok-stat.ensures.step c.in_default.not-Absent) frame.goes (λ u w there k. takes_some there k) (λ u w there k. takes_some there k);
-      done = ends_err _ _ c.from_residual-in_err-take_away-in_default.ensures.0;
-      cause = fault_caused CanTakeOld (λ v. IsNoDir (v.names p)) _ _ _ _ _ (t c.args.host.now) c.stat.ensures.fault_has_cause.later (ends_call (t c.args.host.now) c.stat.ensures.step) c.take_away.ensures.fault_has_cause (same_fault _ _ _ c.in_err-take_away-in_default.was c.from_residual-in_err-take_away-in_default.ensures.1)
+      any_moment = knowing {P = λ v. v.names config ≡ absent → ⊥} (there_known c.in_ok-config.ensures c.in_ok-stat.ensures.step c.in_default.not-Absent) frame.goes (λ u w there k. takes_some there k) (λ u w there k. takes_some there k);
+      on_success = ends_err _ _ c.from_residual-in_err-take_away-in_default.ensures.0;
+      fault_has_cause = fault_caused CanTakeOld (λ v. IsNoDir (v.names p)) _ _ _ _ _ (t c.args.host.now) c.stat.ensures.fault_has_cause.later (ends_call (t c.args.host.now) c.stat.ensures.step) c.take_away.ensures.fault_has_cause (same_fault _ _ _ c.in_err-take_away-in_default.was c.from_residual-in_err-take_away-in_default.ensures.1)
           (λ u v tree q can. subst (λ (x : View). IsNoDir (x.names p)) (sym q.same) (subst (λ r. IsNoDir (u.names r)) (sym c.in_ok-remotes.ensures) can.remotes));
     }
 
@@ -47,13 +47,13 @@ returns g c =
     let first = frame_within {G = OldGone} {W = OldAbsent} {A = NoPath} c.take_away.ensures.frame (frame_stat c.stat.ensures.step (frame_start (t c.args.host.now)) (t c.args.host.now)) (t c.stat.new.self)
     (λ q spot h. (is_remotes (h.0 ∙ c.in_ok-remotes.ensures), h.1)) (λ q e h. (is_remotes (h.0 ∙ c.in_ok-remotes.ensures), h.1)) (λ q h. h) (λ q id h put. h) in
     let frame = frame_within {G = OldGone} {W = OldAbsent} {A = NoPath} c.take_away-in_default.ensures.frame first (t c.take_away.new.host) (λ q spot h. (is_pins (h.0 ∙ c.in_ok-pins.ensures), h.1)) (λ q e h. (is_pins (h.0 ∙ c.in_ok-pins.ensures), h.1)) (λ q h. h) (λ q id h put. h) in
-    let gone = ends_on c.in_ok-take_away-in_default.ensures.done (ends_call (t c.args.host.now) c.stat.ensures.step) (t c.stat.new.self) (λ u v w tree q s. s) in
+    let gone = ends_on c.in_ok-take_away-in_default.ensures.on_success (ends_call (t c.args.host.now) c.stat.ensures.step) (t c.stat.new.self) (λ u v w tree q s. s) in
     record {
-      moments = knowing {P = λ v. v.names config ≡ absent → ⊥} (there_known c.in_ok-config.ensures c.in_ok-stat.ensures.step c.in_default.not-Absent) frame.goes (λ u w there k. takes_some there k) (λ u w there k. takes_some there k);
-      done = on_ok_weaker c.take_away-in_default.result
+      any_moment = knowing {P = λ v. v.names config ≡ absent → ⊥} (there_known c.in_ok-config.ensures c.in_ok-stat.ensures.step c.in_default.not-Absent) frame.goes (λ u w there k. takes_some there k) (λ u w there k. takes_some there k);
+      on_success = on_ok_weaker c.take_away-in_default.result
           (λ done. ends_on (ends_both (ends_frame (t c.take_away.new.host) c.take_away-in_default.ensures.frame) done) gone (t c.take_away.new.host)
           (λ u v w tree none q. record { old = λ some. (sym (ap w.names c.in_ok-remotes.ensures) ∙ still_absent none q.0, sym (ap w.names c.in_ok-pins.ensures) ∙ q.1) }))
           c.take_away-in_default.ensures.on_success;
-      cause = fault_caused CanTakeOld (λ v. IsNoDir (v.names p)) _ _ _ _ _ (t c.args.host.now) (omega (arith, c.stat.ensures.fault_has_cause.later, c.take_away.ensures.fault_has_cause.later)) (ends_frame (t c.args.host.now) first) c.take_away-in_default.ensures.fault_has_cause (λ e. e)
+      fault_has_cause = fault_caused CanTakeOld (λ v. IsNoDir (v.names p)) _ _ _ _ _ (t c.args.host.now) (omega (arith, c.stat.ensures.fault_has_cause.later, c.take_away.ensures.fault_has_cause.later)) (ends_frame (t c.args.host.now) first) c.take_away-in_default.ensures.fault_has_cause (λ e. e)
           (λ u v tree keeps can. subst (λ q. IsNoDir (v.names q)) (sym c.in_ok-pins.ensures) (still_no_dir _ (λ e put. put.1) can.pins keeps));
     }

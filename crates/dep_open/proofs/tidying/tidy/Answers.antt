@@ -50,5 +50,5 @@ pub returns-clause-on_success : goal.returns-clause-on_success
 returns-clause-on_success g c =
     let t = g.met.H.Host.is_tree in
     let first = synced_goes {s = c.args.opened} (t c.args.host.now) (t c.sync.new.self) c.in_ok-sync.ensures.step in
-    let emptied = ends_on c.in_ok-empty_work.ensures.done (ends_goes (t c.args.host.now) first) (t c.sync.new.self) (λ u v w tree q e. e) in
-    ends_on (ends_both (ends_goes (t c.empty_work.new.host) c.take_old_files.ensures.any_moment) c.in_ok-take_old_files.ensures.done) emptied (t c.empty_work.new.host) (λ u v w tree e q. tidy_end e q.0 q.1)
+    let emptied = ends_on c.in_ok-empty_work.ensures.on_success (ends_goes (t c.args.host.now) first) (t c.sync.new.self) (λ u v w tree q e. e) in
+    ends_on (ends_both (ends_goes (t c.empty_work.new.host) c.take_old_files.ensures.any_moment) c.in_ok-take_old_files.ensures.on_success) emptied (t c.empty_work.new.host) (λ u v w tree e q. tidy_end e q.0 q.1)

@@ -9,9 +9,9 @@ returns-in_err-opened-clause-any_moment g c = goes_not_opened (changing c.args.c
 pub returns-in_err-do_all-clause-any_moment : goal.returns-in_err-do_all-clause-any_moment
 returns-in_err-do_all-clause-any_moment g c =
     let t = g.met.H.Host.is_tree in
-    goes_failed (changing c.args.changes.now) c.in_ok-opened.opened c.in_err-do_all.field-0.0 c.from_residual-in_err-do_all.result (changing_late c.args.changes.now) (t c.args.host.now) (t c.open.new.host) c.open.ensures.frame c.open.ensures.unread c.in_ok-opened.ensures.tells c.in_err-do_all.ensures.moments c.from_residual-in_err-do_all.ensures.1
+    goes_failed (changing c.args.changes.now) c.in_ok-opened.opened c.in_err-do_all.field-0.0 c.from_residual-in_err-do_all.result (changing_late c.args.changes.now) (t c.args.host.now) (t c.open.new.host) c.open.ensures.frame c.open.ensures.unread c.in_ok-opened.ensures.tells c.in_err-do_all.ensures.any_moment c.from_residual-in_err-do_all.ensures.1
 
 pub returns-clause-any_moment : goal.returns-clause-any_moment
 returns-clause-any_moment g c =
     let t = g.met.H.Host.is_tree in
-    goes_opened (changing c.args.changes.now) c.in_ok-opened.opened _ (changing_late c.args.changes.now) (t c.args.host.now) (t c.open.new.host) c.open.ensures.frame c.open.ensures.unread c.in_ok-opened.ensures.tells c.in_ok-do_all.ensures.moments
+    goes_opened (changing c.args.changes.now) c.in_ok-opened.opened _ (changing_late c.args.changes.now) (t c.args.host.now) (t c.open.new.host) c.open.ensures.frame c.open.ensures.unread c.in_ok-opened.ensures.tells c.in_ok-do_all.ensures.any_moment

@@ -10,9 +10,9 @@ returns-in_err-done-clause-any_moment g c =
 pub returns-in_err-say-clause-any_moment : goal.returns-in_err-say-clause-any_moment
 returns-in_err-say-clause-any_moment g c =
     let t = g.met.H.Host.is_tree in
-    goes_not_said c.args.op.now c.args.opened _ c.in_err-say.field-0.0 c.from_residual-in_err-say.result (t c.args.host.now) (t c.apply.new.host) c.apply.ensures.any_moment c.in_ok-done.ensures.done c.requires.line c.in_err-say.ensures.step c.from_residual-in_err-say.ensures.1
+    goes_not_said c.args.op.now c.args.opened _ c.in_err-say.field-0.0 c.from_residual-in_err-say.result (t c.args.host.now) (t c.apply.new.host) c.apply.ensures.any_moment c.in_ok-done.ensures.on_success c.requires.line c.in_err-say.ensures.step c.from_residual-in_err-say.ensures.1
 
 pub returns-clause-any_moment : goal.returns-clause-any_moment
 returns-clause-any_moment g c =
     let t = g.met.H.Host.is_tree in
-    goes_said c.args.op.now c.args.opened c.in_ok-done.done _ (t c.args.host.now) (t c.apply.new.host) c.apply.ensures.any_moment c.in_ok-done.ensures.done c.requires.line c.in_ok-say.ensures.step
+    goes_said c.args.op.now c.args.opened c.in_ok-done.done _ (t c.args.host.now) (t c.apply.new.host) c.apply.ensures.any_moment c.in_ok-done.ensures.on_success c.requires.line c.in_ok-say.ensures.step

@@ -24,7 +24,7 @@ returns-in_err-current-clause-any_moment g c =
     let next : drop i all ≡ c.change-item.result ∷ drop (i + 1) all = drop_more all i c.change-item.result c.loop-change-test.true ∙ ap (λ (x : Change). x ∷ drop (i + 1) all) (sym c.change-item.is) in
     let before : InTurn all (c.change-item.result ∷ drop (i + 1) all) c.args.opened c.loop-change.current (g.H.Host.moments c.args.host.now) (g.H.Host.moments c.loop-change.host) =
     subst (λ (l : List Change). InTurn all l c.args.opened c.loop-change.current (g.H.Host.moments c.args.host.now) (g.H.Host.moments c.loop-change.host)) next c.loop-change.invariant.turn in
-    turn_fails all c.change-item.result (drop (i + 1) all) c.args.opened c.loop-change.current c.in_err-current.field-0.0 c.from_residual.result (t c.loop-change.host) before c.in_err-current.ensures.moments c.from_residual.ensures.1
+    turn_fails all c.change-item.result (drop (i + 1) all) c.args.opened c.loop-change.current c.in_err-current.field-0.0 c.from_residual.result (t c.loop-change.host) before c.in_err-current.ensures.any_moment c.from_residual.ensures.1
 
 pub loop-change-preserved : goal.loop-change-preserved
 loop-change-preserved g c =
@@ -35,7 +35,7 @@ loop-change-preserved g c =
     let before : InTurn all (c.change-item.result ∷ drop (i + 1) all) c.args.opened c.loop-change.current (g.H.Host.moments c.args.host.now) (g.H.Host.moments c.loop-change.host) =
     subst (λ (l : List Change). InTurn all l c.args.opened c.loop-change.current (g.H.Host.moments c.args.host.now) (g.H.Host.moments c.loop-change.host)) next c.loop-change.invariant.turn in
     let turn : InTurn all (drop (i + 1) all) c.args.opened c.in_ok-current.current (g.H.Host.moments c.args.host.now) (g.H.Host.moments c.do_change.new.host) =
-    turn_goes_on all c.change-item.result (drop (i + 1) all) c.args.opened c.loop-change.current c.in_ok-current.current (t c.loop-change.host) before c.in_ok-current.ensures.moments in
+    turn_goes_on all c.change-item.result (drop (i + 1) all) c.args.opened c.loop-change.current c.in_ok-current.current (t c.loop-change.host) before c.in_ok-current.ensures.any_moment in
     record {
       good = c.in_ok-current.ensures.good;
       layout = c.in_ok-current.ensures.layout;

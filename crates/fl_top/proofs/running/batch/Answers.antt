@@ -28,7 +28,7 @@ returns-in_err-change_all-clause-any_moment g c =
     let left = g.I.Source.left c.args.input.now in
     let commands : c.as_slice-2.result.now ≡ c.in_ok-changes.changes = c.as_slice-2.ensures in
     let read : batch_of c.in_ok-bytes.bytes ≡ Ok c.in_ok-changes.changes = subst (λ (b : List ℕ). batch_of b ≡ Ok c.in_ok-changes.changes) c.as_slice.ensures c.in_ok-changes.ensures.ok in
-    let changed = subst (λ (l : List Change). Goes (g.H.Host.moments c.args.host.now) (g.H.Host.moments c.change_all.new.host) (RunsOver (changing l)) (EndedOver (changing l) (Err c.in_err-change_all.field-0.0))) commands c.in_err-change_all.ensures.moments in
+    let changed = subst (λ (l : List Change). Goes (g.H.Host.moments c.args.host.now) (g.H.Host.moments c.change_all.new.host) (RunsOver (changing l)) (EndedOver (changing l) (Err c.in_err-change_all.field-0.0))) commands c.in_err-change_all.ensures.any_moment in
     goes_not_changed Batch left (changing c.in_ok-changes.changes) c.in_err-change_all.field-0.0 c.from_residual-in_err-change_all.result (g.met.H.Host.is_tree c.args.host.now) refl (batch_answers left c.in_ok-bytes.bytes c.in_ok-changes.changes c.in_ok-bytes.ensures.ok read) changed c.from_residual-in_err-change_all.ensures.1
 
 pub returns-in_err-change_all-clause-fault_has_cause : goal.returns-in_err-change_all-clause-fault_has_cause
@@ -42,7 +42,7 @@ returns-clause-any_moment g c =
     let left = g.I.Source.left c.args.input.now in
     let commands : c.as_slice-2.result.now ≡ c.in_ok-changes.changes = c.as_slice-2.ensures in
     let read : batch_of c.in_ok-bytes.bytes ≡ Ok c.in_ok-changes.changes = subst (λ (b : List ℕ). batch_of b ≡ Ok c.in_ok-changes.changes) c.as_slice.ensures c.in_ok-changes.ensures.ok in
-    let changed = subst (λ (l : List Change). Goes (g.H.Host.moments c.args.host.now) (g.H.Host.moments c.change_all.new.host) (RunsOver (changing l)) (EndedOver (changing l) (Ok tt))) commands c.in_ok-change_all.ensures.moments in
+    let changed = subst (λ (l : List Change). Goes (g.H.Host.moments c.args.host.now) (g.H.Host.moments c.change_all.new.host) (RunsOver (changing l)) (EndedOver (changing l) (Ok tt))) commands c.in_ok-change_all.ensures.any_moment in
     goes_change Batch left (changing c.in_ok-changes.changes) (g.met.H.Host.is_tree c.args.host.now) refl (batch_answers left c.in_ok-bytes.bytes c.in_ok-changes.changes c.in_ok-bytes.ensures.ok read) changed
 
 pub returns-in_err-bytes-clause-taken : goal.returns-in_err-bytes-clause-taken

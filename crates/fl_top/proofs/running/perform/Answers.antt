@@ -16,7 +16,7 @@ returns-in_err-change_all-in-Change-clause-any_moment g c =
     let b = g.H.Host.moments c.change_all.new.host in
     let r = c.from_residual.result in
     subst (λ (k : Command). Goes a b (RunsOn k left) (EndedOn k left r)) (sym c.in-Change.is)
-    (goes_not_changed (Changing c.in-Change.change) left (changing (c.in-Change.change ∷ [])) c.in_err-change_all-in-Change.field-0.0 r (g.met.H.Host.is_tree c.args.host.now) refl (λ input given u. refl) c.in_err-change_all-in-Change.ensures.moments c.from_residual.ensures.1)
+    (goes_not_changed (Changing c.in-Change.change) left (changing (c.in-Change.change ∷ [])) c.in_err-change_all-in-Change.field-0.0 r (g.met.H.Host.is_tree c.args.host.now) refl (λ input given u. refl) c.in_err-change_all-in-Change.ensures.any_moment c.from_residual.ensures.1)
 
 pub returns-in_ok-change_all-in-Change-clause-any_moment : goal.returns-in_ok-change_all-in-Change-clause-any_moment
 returns-in_ok-change_all-in-Change-clause-any_moment g c =
@@ -24,7 +24,7 @@ returns-in_ok-change_all-in-Change-clause-any_moment g c =
     let a = g.H.Host.moments c.args.host.now in
     let b = g.H.Host.moments c.change_all.new.host in
     subst (λ (k : Command). Goes a b (RunsOn k left) (EndedOn k left (Ok tt))) (sym c.in-Change.is)
-    (goes_change (Changing c.in-Change.change) left (changing (c.in-Change.change ∷ [])) (g.met.H.Host.is_tree c.args.host.now) refl (λ input given u. refl) c.in_ok-change_all-in-Change.ensures.moments)
+    (goes_change (Changing c.in-Change.change) left (changing (c.in-Change.change ∷ [])) (g.met.H.Host.is_tree c.args.host.now) refl (λ input given u. refl) c.in_ok-change_all-in-Change.ensures.any_moment)
 
 pub returns-in_err-change_all-in-Change-clause-fault_has_cause : goal.returns-in_err-change_all-in-Change-clause-fault_has_cause
 returns-in_err-change_all-in-Change-clause-fault_has_cause g c = caused_change c.args.command _ _ (ap only_looks c.in-Change.is) c.change_all.ensures.fault_has_cause (run_fault c.change_all.result c.from_residual.result c.in_err-change_all-in-Change.field-0.0 c.in_err-change_all-in-Change.was c.from_residual.ensures.1)
@@ -36,7 +36,7 @@ returns-in_err-list-in-List-clause-any_moment g c =
     let b = g.H.Host.moments c.list.new.host in
     let r = c.from_residual-in_err-list-in-List.result in
     subst (λ (k : Command). Goes a b (RunsOn k left) (EndedOn k left r)) (sym c.in-List.is)
-    (goes_not_looked (Listed c.in-List.listing) left (listed c.in-List.listing) c.in_err-list-in-List.field-0.0 r (g.met.H.Host.is_tree c.args.host.now) (λ input given u. refl) c.in_err-list-in-List.ensures.moments c.from_residual-in_err-list-in-List.ensures.1)
+    (goes_not_looked (Listed c.in-List.listing) left (listed c.in-List.listing) c.in_err-list-in-List.field-0.0 r (g.met.H.Host.is_tree c.args.host.now) (λ input given u. refl) c.in_err-list-in-List.ensures.any_moment c.from_residual-in_err-list-in-List.ensures.1)
 
 pub returns-in_ok-list-in-List-clause-any_moment : goal.returns-in_ok-list-in-List-clause-any_moment
 returns-in_ok-list-in-List-clause-any_moment g c =
@@ -44,7 +44,7 @@ returns-in_ok-list-in-List-clause-any_moment g c =
     let a = g.H.Host.moments c.args.host.now in
     let b = g.H.Host.moments c.list.new.host in
     subst (λ (k : Command). Goes a b (RunsOn k left) (EndedOn k left (Ok tt))) (sym c.in-List.is)
-    (goes_look (Listed c.in-List.listing) left (listed c.in-List.listing) (g.met.H.Host.is_tree c.args.host.now) (λ input given u. refl) c.in_ok-list-in-List.ensures.moments)
+    (goes_look (Listed c.in-List.listing) left (listed c.in-List.listing) (g.met.H.Host.is_tree c.args.host.now) (λ input given u. refl) c.in_ok-list-in-List.ensures.any_moment)
 
 pub returns-in-Batch-clause-fault_has_cause : goal.returns-in-Batch-clause-fault_has_cause
 returns-in-Batch-clause-fault_has_cause g c = caused_change c.args.command _ _ (ap only_looks c.in-Batch.is) c.batch.ensures.fault_has_cause (λ is. is)

@@ -9,18 +9,18 @@ use Rattle.fl_top.specs.Performs.{Takes}
 use Rattle.fl_top.proofs.running.run_command.Goals as goal
 
 pub returns-in-Ok-clause-any_moment : goal.returns-in-Ok-clause-any_moment
-returns-in-Ok-clause-any_moment g c = goes_done c.args.command (g.I.Source.left c.args.input.now) (g.met.H.Host.is_tree c.args.host.now) c.in-Ok.ensures.moments
+returns-in-Ok-clause-any_moment g c = goes_done c.args.command (g.I.Source.left c.args.input.now) (g.met.H.Host.is_tree c.args.host.now) c.in-Ok.ensures.any_moment
 
 pub returns-in-Err-Refused-clause-any_moment : goal.returns-in-Err-Refused-clause-any_moment
 returns-in-Err-Refused-clause-any_moment g c =
     let left = g.I.Source.left c.args.input.now in
-    let performed = subst (λ (e : CommandEnd). Goes (g.H.Host.moments c.args.host.now) (g.H.Host.moments c.perform.new.host) (RunsOn c.args.command left) (EndedOn c.args.command left (Err e))) c.in-Err-Refused.field-0-is c.in-Err-Refused.ensures.moments in
+    let performed = subst (λ (e : CommandEnd). Goes (g.H.Host.moments c.args.host.now) (g.H.Host.moments c.perform.new.host) (RunsOn c.args.command left) (EndedOn c.args.command left (Err e))) c.in-Err-Refused.field-0-is c.in-Err-Refused.ensures.any_moment in
     goes_refused c.args.command left c.in-Err-Refused.refusal c.refuse.result (g.met.H.Host.is_tree c.perform.new.host) performed c.refuse.ensures.any_moment
 
 pub returns-in-Err-Fault-clause-any_moment : goal.returns-in-Err-Fault-clause-any_moment
 returns-in-Err-Fault-clause-any_moment g c =
     let left = g.I.Source.left c.args.input.now in
-    goes_fault c.args.command left (g.met.H.Host.is_tree c.args.host.now) (subst (λ (e : CommandEnd). Goes (g.H.Host.moments c.args.host.now) (g.H.Host.moments c.perform.new.host) (RunsOn c.args.command left) (EndedOn c.args.command left (Err e))) c.in-Err-Fault.field-0-is c.in-Err-Fault.ensures.moments)
+    goes_fault c.args.command left (g.met.H.Host.is_tree c.args.host.now) (subst (λ (e : CommandEnd). Goes (g.H.Host.moments c.args.host.now) (g.H.Host.moments c.perform.new.host) (RunsOn c.args.command left) (EndedOn c.args.command left (Err e))) c.in-Err-Fault.field-0-is c.in-Err-Fault.ensures.any_moment)
 
 pub returns-in-Err-Fault-clause-fault_has_cause : goal.returns-in-Err-Fault-clause-fault_has_cause
 returns-in-Err-Fault-clause-fault_has_cause g c = record {
@@ -31,12 +31,12 @@ returns-in-Err-Fault-clause-fault_has_cause g c = record {
 pub returns-in-Err-InputFault-clause-any_moment : goal.returns-in-Err-InputFault-clause-any_moment
 returns-in-Err-InputFault-clause-any_moment g c =
     let left = g.I.Source.left c.args.input.now in
-    goes_input c.args.command left (g.met.H.Host.is_tree c.args.host.now) (subst (λ (e : CommandEnd). Goes (g.H.Host.moments c.args.host.now) (g.H.Host.moments c.perform.new.host) (RunsOn c.args.command left) (EndedOn c.args.command left (Err e))) c.in-Err-InputFault.field-0-is c.in-Err-InputFault.ensures.moments)
+    goes_input c.args.command left (g.met.H.Host.is_tree c.args.host.now) (subst (λ (e : CommandEnd). Goes (g.H.Host.moments c.args.host.now) (g.H.Host.moments c.perform.new.host) (RunsOn c.args.command left) (EndedOn c.args.command left (Err e))) c.in-Err-InputFault.field-0-is c.in-Err-InputFault.ensures.any_moment)
 
 pub returns-in-Err-NoMemory-clause-any_moment : goal.returns-in-Err-NoMemory-clause-any_moment
 returns-in-Err-NoMemory-clause-any_moment g c =
     let left = g.I.Source.left c.args.input.now in
-    goes_memory c.args.command left (g.met.H.Host.is_tree c.args.host.now) (subst (λ (e : CommandEnd). Goes (g.H.Host.moments c.args.host.now) (g.H.Host.moments c.perform.new.host) (RunsOn c.args.command left) (EndedOn c.args.command left (Err e))) c.in-Err-NoMemory.field-0-is c.in-Err-NoMemory.ensures.moments)
+    goes_memory c.args.command left (g.met.H.Host.is_tree c.args.host.now) (subst (λ (e : CommandEnd). Goes (g.H.Host.moments c.args.host.now) (g.H.Host.moments c.perform.new.host) (RunsOn c.args.command left) (EndedOn c.args.command left (Err e))) c.in-Err-NoMemory.field-0-is c.in-Err-NoMemory.ensures.any_moment)
 
 pub returns-in-Ok-clause-taken : goal.returns-in-Ok-clause-taken
 returns-in-Ok-clause-taken g c =

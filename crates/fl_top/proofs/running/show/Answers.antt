@@ -53,7 +53,7 @@ returns-clause-any_moment g c =
     let left = g.I.Source.left c.args.input.now in
     let said : c.as_bytes.result.now ≡ c.in_ok-text.text = search rules in
     let shown : shown_by c.args.thing.now c.in_ok-given.given ≡ told c.as_bytes.result.now = subst (λ (t : List ℕ). shown_by c.args.thing.now c.in_ok-given.given ≡ told t) (sym said) (subst (λ (b : List ℕ). shown_by c.args.thing.now b ≡ told c.in_ok-text.text) c.as_slice.ensures c.in_ok-text.ensures) in
-    goes_shown c.args.thing.now left c.in_ok-given.given c.as_bytes.result.now (g.met.H.Host.is_tree c.args.host.now) c.in_ok-given.ensures.ok shown c.in_ok-say.ensures.moments
+    goes_shown c.args.thing.now left c.in_ok-given.given c.as_bytes.result.now (g.met.H.Host.is_tree c.args.host.now) c.in_ok-given.ensures.ok shown c.in_ok-say.ensures.any_moment
 
 pub returns-in_err-given-clause-taken : goal.returns-in_err-given-clause-taken
 returns-in_err-given-clause-taken g c = not_taken c.in_err-given.field-0.0 c.from_residual.result (g.I.Source.left c.args.input.now) (g.I.Source.left c.read_input.new.input) (g.I.Source.faults c.args.input.now) (g.I.Source.faults c.read_input.new.input) c.from_residual.ensures.1 c.in_err-given.ensures.stops

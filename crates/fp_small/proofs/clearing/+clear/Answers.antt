@@ -53,7 +53,7 @@ clear_names-loop-name-preserved g t c =
     let tree = g.met.H.Host.is_tree in
     let p = c.args.path.now in
     let child : c.in_ok-child.child ≡ c.name-item.result ∷ p = c.in_ok-child.ensures ∙ ap (λ (x : List ℕ). x ∷ p) c.as_str.ensures in
-    let cleared = ends_both (ends_frame (tree c.loop-name.host) c.clear_within.ensures.frame) c.in_ok-clear_within.ensures.done in
+    let cleared = ends_both (ends_frame (tree c.loop-name.host) c.clear_within.ensures.frame) c.in_ok-clear_within.ensures.on_success in
     record {
       frame = frame_within c.clear_within.ensures.frame c.loop-name.invariant.frame (tree c.loop-name.host)
           (λ q spot h. (within_child c.name-item.result p q (subst (λ r. (q ≡ r) ⊎ IsAbove r q) child h.0), h.1)) (λ q e h. (within_child c.name-item.result p q (subst (λ r. (q ≡ r) ⊎ IsAbove r q) child h.0), h.1)) (λ q h. h) (λ q id h put. h);
@@ -95,9 +95,9 @@ clear_within-returns-in_err-remove_dir-in-Dir-clause-fault_has_cause g t c =
     let p = c.args.path.now in
     let e = c.in_err-remove_dir-in-Dir.ensures in
     let seen = ends_to {Q' = λ u w. (w ≡ u) × (u.names p ≡ dir)} (ends_call (tree c.args.host.now) c.in_ok-stat.ensures.step) (λ u w s. (s.same, stat_dir (subst (λ r. StatOf p (Ok r) u w) c.in-Dir.is s))) in
-    let below = ends_both (ends_frame (tree c.stat.new.self) c.clear_names.ensures.frame) c.in_ok-clear_names-in-Dir.ensures.done in
+    let below = ends_both (ends_frame (tree c.stat.new.self) c.clear_names.ensures.frame) c.in_ok-clear_names-in-Dir.ensures.on_success in
     let known = ends_on {Q' = λ u w. p ≢ [] → Can (removes_dir p) w} below seen (tree c.stat.new.self) (λ u v w is q s no_root. can_remove p v w (ap (λ (x : View). x.names p) q.0 ∙ q.1) no_root s.0.names s.1) in
-    call_caused (ReachesDown p c.args.depth) (Can (removes_dir p)) _ _ _ _ _ (tree c.args.host.now) (omega (arith, c.stat.ensures.fault_has_cause.later, c.clear_names.ensures.fault_has_cause.later)) known e.step e.cause c.from_residual-in_err-remove_dir-in-Dir.ensures.1 (λ v w step. clash_step step) (λ u v is q can. q can.no_root)
+    call_caused (ReachesDown p c.args.depth) (Can (removes_dir p)) _ _ _ _ _ (tree c.args.host.now) (omega (arith, c.stat.ensures.fault_has_cause.later, c.clear_names.ensures.fault_has_cause.later)) known e.step e.fault_has_cause c.from_residual-in_err-remove_dir-in-Dir.ensures.1 (λ v w step. clash_step step) (λ u v is q can. q can.no_root)
 
 pub clear_within-returns-in_err-unlink-in-File-clause-frame : goal.clear_within-returns-in_err-unlink-in-File-clause-frame
 clear_within-returns-in_err-unlink-in-File-clause-frame g t c =

@@ -37,6 +37,6 @@ returns-in_default g c =
     let p = c.args.path.now in
     record {
       frame = frame_stat c.stat.ensures.step (frame_start (t c.args.host.now)) (t c.args.host.now);
-      done = ends_in_tree (t c.stat.new.self) (ends_call (t c.args.host.now) c.in_ok-stat.ensures.step) (λ u w tree s. emptied_no_dir tree (λ there. stat_no_dir s c.in_default.not-Dir (sym (ap (λ (x : View). x.names p) s.same) ∙ there)));
-      cause = record { later = c.stat.ensures.fault_has_cause.later; fault = λ is. absurd (cc is) };
+      on_success = ends_in_tree (t c.stat.new.self) (ends_call (t c.args.host.now) c.in_ok-stat.ensures.step) (λ u w tree s. emptied_no_dir tree (λ there. stat_no_dir s c.in_default.not-Dir (sym (ap (λ (x : View). x.names p) s.same) ∙ there)));
+      fault_has_cause = record { later = c.stat.ensures.fault_has_cause.later; fault = λ is. absurd (cc is) };
     }

@@ -46,8 +46,8 @@ returns-in_default g c =
     let tree = g.met.H.Host.is_tree in
     record {
       frame = frame_stat c.stat.ensures.step (frame_start (tree c.args.host.now)) (tree c.args.host.now);
-      done = ends_to (ends_call (tree c.args.host.now) c.in_ok-stat.ensures.step) (λ u w stat free. ap (λ (x : View). x.names c.args.path.now) stat.same ∙ free_there u c.args.path.now free (stat_there stat c.in_default.not-Absent));
+      on_success = ends_to (ends_call (tree c.args.host.now) c.in_ok-stat.ensures.step) (λ u w stat free. ap (λ (x : View). x.names c.args.path.now) stat.same ∙ free_there u c.args.path.now free (stat_there stat c.in_default.not-Absent));
       unsynced = ends_to (ends_call (tree c.args.host.now) c.stat.ensures.step) (λ u w s. none_same s.same);
-      cause = record { later = c.stat.ensures.fault_has_cause.later; fault = λ is. absurd (cc is) };
-      memory = λ is. cc is;
+      fault_has_cause = record { later = c.stat.ensures.fault_has_cause.later; fault = λ is. absurd (cc is) };
+      needs_no_memory = λ is. cc is;
     }

@@ -31,7 +31,7 @@ loop-path-preserved g c =
     let t = g.met.H.Host.is_tree in
     let paths = c.args.paths.now in
     let has = item_in paths c.loop-path.path-index c.path-item.result c.loop-path-test.true c.path-item.is in
-    let made = ends_both (ends_frame (t c.loop-path.host) c.make_folder.ensures.frame) c.in_ok-make_folder.ensures.done in
+    let made = ends_both (ends_frame (t c.loop-path.host) c.make_folder.ensures.frame) c.in_ok-make_folder.ensures.on_success in
     record {
       frame = frame_within c.make_folder.ensures.frame c.loop-path.invariant.frame (t c.loop-path.host) (λ q spot h. (subst (Contains paths) (sym h.0) has, h.1)) (λ q e h. (subst (Contains paths) (sym h.0) has, h.1)) (λ q h. h) (λ q id h p. h);
       done = ends_on made c.loop-path.invariant.done (t c.loop-path.host) (λ u v w tree q s free. one_more paths c.loop-path.path-index c.path-item.result c.loop-path-test.true c.path-item.is q s.0.names s.1 free);

@@ -15,7 +15,7 @@ pub returns-in_err-rename-clause-fault_has_cause : goal.returns-in_err-rename-cl
 returns-in_err-rename-clause-fault_has_cause g c =
     let t = g.met.H.Host.is_tree in
     let e = c.in_err-rename.ensures in
-    call_caused (CanMove c.args.from.now c.args.to.now) (Can (renames c.args.from.now c.args.to.now)) _ _ _ _ _ (t c.args.host.now) (omega arith) (ends_start (t c.args.host.now)) e.step e.cause c.from_residual.ensures.1 (λ v w step. clash_step step) (λ u v t q can. subst (Can (renames c.args.from.now c.args.to.now)) (sym q) (can_rename can))
+    call_caused (CanMove c.args.from.now c.args.to.now) (Can (renames c.args.from.now c.args.to.now)) _ _ _ _ _ (t c.args.host.now) (omega arith) (ends_start (t c.args.host.now)) e.step e.fault_has_cause c.from_residual.ensures.1 (λ v w step. clash_step step) (λ u v t q can. subst (Can (renames c.args.from.now c.args.to.now)) (sym q) (can_rename can))
 
 pub returns-in_err-sync-clause-any_moment : goal.returns-in_err-sync-clause-any_moment
 returns-in_err-sync-clause-any_moment g c =

@@ -41,7 +41,7 @@ returns-in_err-stage-clause-any_moment g c =
     let bytes = c.args.bytes.now in
     let folders = c.deref.ensures.value ∙ c.in_ok-folders.ensures in
     let first = placed p bytes (t c.args.host.now) c.staging_place.ensures.unchanged c.in_ok-place.ensures.tells in
-    staging p bytes (housed p bytes folders first (t c.staging_place.new.host) c.make_folders.ensures.frame c.in_ok-make_folders.ensures.done) (t c.make_folders.new.host) c.stage.ensures.frame
+    staging p bytes (housed p bytes folders first (t c.staging_place.new.host) c.make_folders.ensures.frame c.in_ok-make_folders.ensures.on_success) (t c.make_folders.new.host) c.stage.ensures.frame
 
 pub returns-in_err-stage-clause-fault_has_cause : goal.returns-in_err-stage-clause-fault_has_cause
 returns-in_err-stage-clause-fault_has_cause g c =
@@ -50,7 +50,7 @@ returns-in_err-stage-clause-fault_has_cause g c =
     let bytes = c.args.bytes.now in
     let folders = c.deref.ensures.value ∙ c.in_ok-folders.ensures in
     let first = placed p bytes (t c.args.host.now) c.staging_place.ensures.unchanged c.in_ok-place.ensures.tells in
-    let second = housed p bytes folders first (t c.staging_place.new.host) c.make_folders.ensures.frame c.in_ok-make_folders.ensures.done in
+    let second = housed p bytes folders first (t c.staging_place.new.host) c.make_folders.ensures.frame c.in_ok-make_folders.ensures.on_success in
     fault_caused (CanReplace p) (CanStage c.in_ok-place.place) _ _ _ _ _ (t c.args.host.now) (omega (arith, c.staging_place.ensures.fault_has_cause.later, c.make_folders.ensures.fault_has_cause.later)) (ends_goes (t c.args.host.now) second) c.stage.ensures.fault_has_cause
     (same_fault _ _ _ c.in_err-stage.was c.from_residual-in_err-stage.ensures.1) (λ u v tree q can. can_stage p c.in_ok-place.place u can q.staging q.made (q.dirs can))
 
@@ -61,8 +61,8 @@ returns-clause-any_moment g c =
     let bytes = c.args.bytes.now in
     let folders = c.deref.ensures.value ∙ c.in_ok-folders.ensures in
     let first = placed p bytes (t c.args.host.now) c.staging_place.ensures.unchanged c.in_ok-place.ensures.tells in
-    let second = housed p bytes folders first (t c.staging_place.new.host) c.make_folders.ensures.frame c.in_ok-make_folders.ensures.done in
-    let third = written p bytes second (t c.make_folders.new.host) c.stage.ensures.frame c.in_ok-stage.ensures.done in
+    let second = housed p bytes folders first (t c.staging_place.new.host) c.make_folders.ensures.frame c.in_ok-make_folders.ensures.on_success in
+    let third = written p bytes second (t c.make_folders.new.host) c.stage.ensures.frame c.in_ok-stage.ensures.on_success in
     moving p bytes third (t c.stage.new.host) c.move_onto.ensures.any_moment
 
 pub returns-clause-on_success : goal.returns-clause-on_success
@@ -72,8 +72,8 @@ returns-clause-on_success g c =
     let bytes = c.args.bytes.now in
     let folders = c.deref.ensures.value ∙ c.in_ok-folders.ensures in
     let first = placed p bytes (t c.args.host.now) c.staging_place.ensures.unchanged c.in_ok-place.ensures.tells in
-    let second = housed p bytes folders first (t c.staging_place.new.host) c.make_folders.ensures.frame c.in_ok-make_folders.ensures.done in
-    let third = written p bytes second (t c.make_folders.new.host) c.stage.ensures.frame c.in_ok-stage.ensures.done in
+    let second = housed p bytes folders first (t c.staging_place.new.host) c.make_folders.ensures.frame c.in_ok-make_folders.ensures.on_success in
+    let third = written p bytes second (t c.make_folders.new.host) c.stage.ensures.frame c.in_ok-stage.ensures.on_success in
     on_ok_weaker c.move_onto.result (λ moved. ends_on moved (ends_goes (t c.args.host.now) third) (t c.stage.new.host) (λ u v w tree q m. was_replaced p c.in_ok-place.place bytes q.staging q.ready m)) c.move_onto.ensures.on_success
 
 pub returns-clause-fault_has_cause : goal.returns-clause-fault_has_cause
@@ -83,7 +83,7 @@ returns-clause-fault_has_cause g c =
     let bytes = c.args.bytes.now in
     let folders = c.deref.ensures.value ∙ c.in_ok-folders.ensures in
     let first = placed p bytes (t c.args.host.now) c.staging_place.ensures.unchanged c.in_ok-place.ensures.tells in
-    let second = housed p bytes folders first (t c.staging_place.new.host) c.make_folders.ensures.frame c.in_ok-make_folders.ensures.done in
-    let third = written p bytes second (t c.make_folders.new.host) c.stage.ensures.frame c.in_ok-stage.ensures.done in
+    let second = housed p bytes folders first (t c.staging_place.new.host) c.make_folders.ensures.frame c.in_ok-make_folders.ensures.on_success in
+    let third = written p bytes second (t c.make_folders.new.host) c.stage.ensures.frame c.in_ok-stage.ensures.on_success in
     fault_caused (CanReplace p) (CanMove c.in_ok-place.place p) _ _ _ _ _ (t c.args.host.now) (omega (arith, c.staging_place.ensures.fault_has_cause.later, c.make_folders.ensures.fault_has_cause.later, c.stage.ensures.fault_has_cause.later)) (ends_goes (t c.args.host.now) third) c.move_onto.ensures.fault_has_cause (λ e. e)
     (λ u v tree q can. q.can can)

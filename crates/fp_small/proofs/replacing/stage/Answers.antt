@@ -22,7 +22,7 @@ returns-in_err-append-clause-fault_has_cause g c =
     let t = g.met.H.Host.is_tree in
     let e = c.in_err-append.ensures in
     let created = ends_to (ends_call (t c.args.host.now) c.in_ok-create.ensures.step) (λ u w s. written_create s) in
-    call_caused (CanStage c.args.path.now) (Can (appends c.args.path.now c.args.bytes.now)) _ _ _ _ _ (t c.args.host.now) c.create.ensures.fault_has_cause.later created e.step e.cause c.from_residual-in_err-append.ensures.1 (λ v w step. clash_step step)
+    call_caused (CanStage c.args.path.now) (Can (appends c.args.path.now c.args.bytes.now)) _ _ _ _ _ (t c.args.host.now) c.create.ensures.fault_has_cause.later created e.step e.fault_has_cause c.from_residual-in_err-append.ensures.1 (λ v w step. clash_step step)
     (λ u v t q can. can_append q)
 
 pub returns-in_err-sync-clause-frame : goal.returns-in_err-sync-clause-frame

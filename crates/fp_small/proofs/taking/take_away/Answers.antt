@@ -29,7 +29,7 @@ returns-in_err-unlink-in_default-clause-fault_has_cause g c =
     let p = c.args.path.now in
     let e = c.in_err-unlink-in_default.ensures in
     let seen = ends_to {Q' = λ u w. (w ≡ u) × (u.names p ≡ absent → ⊥)} (ends_call (t c.args.host.now) c.in_ok-stat.ensures.step) (λ u w s. (s.same, stat_there s c.in_default.not-Absent)) in
-    call_caused (λ v. IsNoDir (v.names p)) (Can (unlinks p)) _ _ _ _ _ (t c.args.host.now) c.stat.ensures.fault_has_cause.later seen e.step e.cause c.from_residual-in_err-unlink-in_default.ensures.1 (λ v w step. clash_step step)
+    call_caused (λ v. IsNoDir (v.names p)) (Can (unlinks p)) _ _ _ _ _ (t c.args.host.now) c.stat.ensures.fault_has_cause.later seen e.step e.fault_has_cause c.from_residual-in_err-unlink-in_default.ensures.1 (λ v w step. clash_step step)
     (λ u v is q no_dir. subst (λ (x : View). IsLeaf (x.names p)) (sym q.0) (leaf_there (u.names p) no_dir q.1))
 
 pub returns-in_ok-unlink-in_default-clause-frame : goal.returns-in_ok-unlink-in_default-clause-frame

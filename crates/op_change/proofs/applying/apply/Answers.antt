@@ -40,7 +40,7 @@ pub returns-clause-on_success : goal.returns-clause-on_success
 returns-clause-on_success g c =
     let is : c.in_ok-state.state ≡ after c.args.opened c.args.op.now = c.in_ok-state.ensures ∙ ap (λ (s : State). after s c.args.op.now) c.take.ensures in
     let good = subst IsNext (sym is) (next_after c.args.opened c.args.op.now c.requires.may c.requires.good) in
-    ends_applied (g.met.H.Host.is_tree c.args.host.now) is good (written_back (settings_of c.in_ok-state.state) good.settings) c.write_state.ensures.any_moment c.in_ok-write_state.ensures.done
+    ends_applied (g.met.H.Host.is_tree c.args.host.now) is good (written_back (settings_of c.in_ok-state.state) good.settings) c.write_state.ensures.any_moment c.in_ok-write_state.ensures.on_success
 
 pub returns-clause-good : goal.returns-clause-good
 returns-clause-good g c =

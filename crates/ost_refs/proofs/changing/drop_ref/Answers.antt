@@ -30,7 +30,7 @@ pub returns-clause-on_success : goal.returns-clause-on_success
 returns-clause-on_success g c =
     let t = g.met.H.Host.is_tree in
     let p = place_path c.args.root.now c.args.place.now in
-    let gone = ends_at c.in_ok-path.ensures c.in_ok-take_away.ensures.done in
+    let gone = ends_at c.in_ok-path.ensures c.in_ok-take_away.ensures.on_success in
     ends_in_tree (t c.sync.new.self)
     (ends_on {Q' = λ u w. (v : View) × (v.names p ≡ absent) × Step syncs (Ok tt) v w} (ends_call (t c.take_away.new.host) c.in_ok-sync.ensures.step) gone (t c.take_away.new.host) (λ u v w is q s. (v, q, s)))
     (λ u w tree q. dropped tree q.1 q.2)

@@ -23,7 +23,7 @@ pub returns-in_default : goal.returns-in_default
 returns-in_default g c =
     let t = g.met.H.Host.is_tree in
     record {
-      still = looks_stat c.stat.ensures.step (looks_start (t c.args.host.now)) (t c.args.host.now);
+      unchanged = looks_stat c.stat.ensures.step (looks_start (t c.args.host.now)) (t c.args.host.now);
       tells = ends_to (ends_call (t c.args.host.now) c.in_ok-stat.ensures.step) (λ u w s. inr (λ file. let is = stat_of_file s file in c.in_default.not-File is.0 is.1 is.2 is.3, refl));
-      cause = record { later = c.stat.ensures.fault_has_cause.later; fault = λ is. absurd (cc is) };
+      fault_has_cause = record { later = c.stat.ensures.fault_has_cause.later; fault = λ is. absurd (cc is) };
     }

@@ -26,8 +26,8 @@ returns-in_default g c =
     let t = g.met.H.Host.is_tree in
     let none = c.from_vec.ensures ∙ c.new.ensures.items in
     record {
-      still = looks_stat c.stat.ensures.step (looks_start (t c.args.host.now)) (t c.args.host.now);
+      unchanged = looks_stat c.stat.ensures.step (looks_start (t c.args.host.now)) (t c.args.host.now);
       tells = ends_on (ends_start (t c.stat.new.self)) (ends_call (t c.args.host.now) c.in_ok-stat.ensures.step) (t c.stat.new.self) (λ u v w tree q s. subst (ListsIn c.args.folder.now u) (sym none) (lists_none (subst IsTree q.same tree) (stat_no_dir q c.in_default.not-Dir)));
       elements = ap (list_all is_element) none;
-      cause = record { later = c.stat.ensures.fault_has_cause.later; fault = λ is. absurd (cc is) };
+      fault_has_cause = record { later = c.stat.ensures.fault_has_cause.later; fault = λ is. absurd (cc is) };
     }

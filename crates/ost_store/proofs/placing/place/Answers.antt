@@ -21,8 +21,8 @@ pub returns-in_err-rename-clause-fault_has_cause : goal.returns-in_err-rename-cl
 returns-in_err-rename-clause-fault_has_cause g c =
     let t = g.met.H.Host.is_tree in
     let e = c.in_err-rename.ensures in
-    let made = ends_both (ends_goes (t c.args.host.now) (making {t = c.args.tmp.now} (t c.args.host.now) c.make_above.ensures.frame)) c.in_ok-make_above.ensures.done in
-    call_caused (CanPlace c.args.root.now c.args.tmp.now c.args.digest.now c.args.kind) (Can (renames c.args.tmp.now c.in_ok-path.path)) _ _ _ _ _ (t c.args.host.now) c.make_above.ensures.fault_has_cause.later made e.step e.cause c.from_residual-in_err-rename.ensures.1 (λ v w step. clash_step step)
+    let made = ends_both (ends_goes (t c.args.host.now) (making {t = c.args.tmp.now} (t c.args.host.now) c.make_above.ensures.frame)) c.in_ok-make_above.ensures.on_success in
+    call_caused (CanPlace c.args.root.now c.args.tmp.now c.args.digest.now c.args.kind) (Can (renames c.args.tmp.now c.in_ok-path.path)) _ _ _ _ _ (t c.args.host.now) c.make_above.ensures.fault_has_cause.later made e.step e.fault_has_cause c.from_residual-in_err-rename.ensures.1 (λ v w step. clash_step step)
     (λ u v tree q can. can_place c.args.root.now c.args.digest.now c.args.kind c.in_ok-path.ensures q.0 q.1 can)
 
 pub returns-clause-any_moment : goal.returns-clause-any_moment

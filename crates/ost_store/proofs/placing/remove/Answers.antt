@@ -19,7 +19,7 @@ pub returns-in_err-unlink-clause-fault_has_cause : goal.returns-in_err-unlink-cl
 returns-in_err-unlink-clause-fault_has_cause g c =
     let t = g.met.H.Host.is_tree in
     let e = c.in_err-unlink.ensures in
-    call_caused (HasObject c.args.root.now c.args.digest.now c.args.kind) (Can (unlinks c.in_ok-name.name)) _ _ _ _ _ (t c.args.host.now) (omega arith) (ends_start (t c.args.host.now)) e.step e.cause c.from_residual-in_err-unlink.ensures.1 (λ v w step. clash_step step)
+    call_caused (HasObject c.args.root.now c.args.digest.now c.args.kind) (Can (unlinks c.in_ok-name.name)) _ _ _ _ _ (t c.args.host.now) (omega arith) (ends_start (t c.args.host.now)) e.step e.fault_has_cause c.from_residual-in_err-unlink.ensures.1 (λ v w step. clash_step step)
     (λ u v tree q can. subst (Can (unlinks c.in_ok-name.name)) (sym q) (can_remove c.args.root.now c.args.digest.now c.args.kind c.in_ok-name.ensures tree can))
 
 pub returns-clause-frame : goal.returns-clause-frame

@@ -20,7 +20,7 @@ returns-in_err-read_link-in-Link-clause-fault_has_cause g c =
     let t = g.met.H.Host.is_tree in
     let p = c.args.path.now in
     let e = c.in_err-read_link-in-Link.ensures in
-    call_caused (λ v. Unit {0}) (λ (v : View). (text : List ℕ) × (v.names p ≡ link text)) _ _ _ _ _ (t c.args.host.now) c.stat.ensures.fault_has_cause.later (ends_call (t c.args.host.now) c.in_ok-stat.ensures.step) e.step e.cause c.from_residual-in_err-read_link-in-Link.ensures.1
+    call_caused (λ v. Unit {0}) (λ (v : View). (text : List ℕ) × (v.names p ≡ link text)) _ _ _ _ _ (t c.args.host.now) c.stat.ensures.fault_has_cause.later (ends_call (t c.args.host.now) c.in_ok-stat.ensures.step) e.step e.fault_has_cause c.from_residual-in_err-read_link-in-Link.ensures.1
     (λ v w step. clash_link step)
     (λ u v tree s can. subst (λ (x : View). (text : List ℕ) × (x.names p ≡ link text)) (sym s.same) (stat_link (subst (λ r. StatOf p (Ok r) u v) c.in-Link.is s)))
 

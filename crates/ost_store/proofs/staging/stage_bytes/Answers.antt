@@ -18,17 +18,17 @@ returns-in_err-stage_file-clause-fault_has_cause g c =
     (same_fault _ _ _ c.in_err-stage_file.was c.from_residual.ensures.1) (λ u v tree q can. subst (CanStage c.args.tmp.now (objects.File c.args.mode [])) (sym q) (started can))
 
 pub returns-clause-any_moment : goal.returns-clause-any_moment
-returns-clause-any_moment g c = let t = g.met.H.Host.is_tree in writing c.args.bytes.now (t c.args.host.now) c.stage_file.ensures.any_moment c.in_ok-stage_file.ensures.done (t c.stage_file.new.host) c.stage_piece.ensures.frame
+returns-clause-any_moment g c = let t = g.met.H.Host.is_tree in writing c.args.bytes.now (t c.args.host.now) c.stage_file.ensures.any_moment c.in_ok-stage_file.ensures.on_success (t c.stage_file.new.host) c.stage_piece.ensures.frame
 
 pub returns-clause-on_success : goal.returns-clause-on_success
 returns-clause-on_success g c =
     let t = g.met.H.Host.is_tree in
-    on_ok_weaker c.stage_piece.result (λ grows. ends_on grows c.in_ok-stage_file.ensures.done (t c.stage_file.new.host) (λ u v w tree was more. written was more)) c.stage_piece.ensures.on_success
+    on_ok_weaker c.stage_piece.result (λ grows. ends_on grows c.in_ok-stage_file.ensures.on_success (t c.stage_file.new.host) (λ u v w tree was more. written was more)) c.stage_piece.ensures.on_success
 
 pub returns-clause-fault_has_cause : goal.returns-clause-fault_has_cause
 returns-clause-fault_has_cause g c =
     let t = g.met.H.Host.is_tree in
-    fault_caused (CanStage c.args.tmp.now (objects.File c.args.mode c.args.bytes.now)) (CanGrow c.args.tmp.now) _ _ _ _ _ (t c.args.host.now) c.stage_file.ensures.fault_has_cause.later c.in_ok-stage_file.ensures.done c.stage_piece.ensures.fault_has_cause (λ e. e) (λ u v tree was can. can_grow was.there)
+    fault_caused (CanStage c.args.tmp.now (objects.File c.args.mode c.args.bytes.now)) (CanGrow c.args.tmp.now) _ _ _ _ _ (t c.args.host.now) c.stage_file.ensures.fault_has_cause.later c.in_ok-stage_file.ensures.on_success c.stage_piece.ensures.fault_has_cause (λ e. e) (λ u v tree was can. can_grow was.there)
 
 pub returns-clause-unsynced : goal.returns-clause-unsynced
 returns-clause-unsynced g c =

@@ -19,8 +19,8 @@ pub returns-in_err-create-clause-fault_has_cause : goal.returns-in_err-create-cl
 returns-in_err-create-clause-fault_has_cause g c =
     let t = g.met.H.Host.is_tree in
     let e = c.in_err-create.ensures in
-    let made = ends_both (ends_frame (t c.args.host.now) c.make_above.ensures.frame) c.in_ok-make_above.ensures.done in
-    call_caused (CanStage c.args.tmp.now (objects.File c.args.mode [])) (CanCreate c.args.tmp.now c.args.mode) _ _ _ _ _ (t c.args.host.now) c.make_above.ensures.fault_has_cause.later made e.step e.cause c.from_residual-in_err-create.ensures.1 (λ v w step. clash_create step)
+    let made = ends_both (ends_frame (t c.args.host.now) c.make_above.ensures.frame) c.in_ok-make_above.ensures.on_success in
+    call_caused (CanStage c.args.tmp.now (objects.File c.args.mode [])) (CanCreate c.args.tmp.now c.args.mode) _ _ _ _ _ (t c.args.host.now) c.make_above.ensures.fault_has_cause.later made e.step e.fault_has_cause c.from_residual-in_err-create.ensures.1 (λ v w step. clash_create step)
     (λ u v tree q can. can_create tree q.0 q.1 can)
 
 pub returns-clause-any_moment : goal.returns-clause-any_moment

@@ -17,8 +17,8 @@ pub returns-in_err-symlink-clause-fault_has_cause : goal.returns-in_err-symlink-
 returns-in_err-symlink-clause-fault_has_cause g c =
     let t = g.met.H.Host.is_tree in
     let e = c.in_err-symlink.ensures in
-    let made = ends_both (ends_frame (t c.args.host.now) c.make_above.ensures.frame) c.in_ok-make_above.ensures.done in
-    call_caused (CanStage c.args.tmp.now (objects.Link c.args.text.now)) (Can (makes_link c.args.text.now c.args.tmp.now)) _ _ _ _ _ (t c.args.host.now) c.make_above.ensures.fault_has_cause.later made e.step e.cause c.from_residual-in_err-symlink.ensures.1 (λ v w step. clash_step step)
+    let made = ends_both (ends_frame (t c.args.host.now) c.make_above.ensures.frame) c.in_ok-make_above.ensures.on_success in
+    call_caused (CanStage c.args.tmp.now (objects.Link c.args.text.now)) (Can (makes_link c.args.text.now c.args.tmp.now)) _ _ _ _ _ (t c.args.host.now) c.make_above.ensures.fault_has_cause.later made e.step e.fault_has_cause c.from_residual-in_err-symlink.ensures.1 (λ v w step. clash_step step)
     (λ u v tree q can. can_link tree q.0 q.1 can)
 
 pub returns-clause-any_moment : goal.returns-clause-any_moment

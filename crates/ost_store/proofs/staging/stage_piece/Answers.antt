@@ -15,7 +15,7 @@ pub returns-in_err-append-clause-fault_has_cause : goal.returns-in_err-append-cl
 returns-in_err-append-clause-fault_has_cause g c =
     let t = g.met.H.Host.is_tree in
     let e = c.in_err-append.ensures in
-    call_caused (CanGrow c.args.tmp.now) (Can (appends c.args.tmp.now c.args.piece.now)) _ _ _ _ _ (t c.args.host.now) (omega arith) (ends_start (t c.args.host.now)) e.step e.cause c.from_residual.ensures.1 (λ v w step. clash_step step)
+    call_caused (CanGrow c.args.tmp.now) (Can (appends c.args.tmp.now c.args.piece.now)) _ _ _ _ _ (t c.args.host.now) (omega arith) (ends_start (t c.args.host.now)) e.step e.fault_has_cause c.from_residual.ensures.1 (λ v w step. clash_step step)
     (λ u v tree q can. subst (CanGrow c.args.tmp.now) (sym q) can)
 
 pub returns-clause-frame : goal.returns-clause-frame

@@ -41,8 +41,8 @@ pub returns-in_default : goal.returns-in_default
 returns-in_default g c =
     let t = g.met.H.Host.is_tree in
     record {
-      still = looks_stat c.stat.ensures.step (looks_start (t c.args.host.now)) (t c.args.host.now);
+      unchanged = looks_stat c.stat.ensures.step (looks_start (t c.args.host.now)) (t c.args.host.now);
       tells = ends_in_tree (t c.stat.new.self) (ends_call (t c.args.host.now) c.in_ok-stat.ensures.step) (λ u w tree s. below_none c.args.folder c.new.result.items (subst IsTree s.same tree) (stat_no_dir s c.in_default.not-Dir) c.new.ensures.items);
       reach = ends_in_tree (t c.stat.new.self) (ends_call (t c.args.host.now) c.in_ok-stat.ensures.step) (λ u w tree s. none_reached 127 c.args.folder (subst IsTree s.same tree) (stat_no_dir s c.in_default.not-Dir));
-      cause = record { later = c.stat.ensures.fault_has_cause.later; fault = λ is. absurd (cc is) };
+      fault_has_cause = record { later = c.stat.ensures.fault_has_cause.later; fault = λ is. absurd (cc is) };
     }

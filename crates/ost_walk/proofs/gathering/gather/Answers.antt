@@ -8,14 +8,14 @@ pub loop-commit-preserved : goal.loop-commit-preserved
 loop-commit-preserved g c =
     let t = g.met.H.Host.is_tree in
     record {
-      still = looks_within c.in-Ok.ensures.still c.loop-commit.invariant.still (t c.loop-commit.host);
+      still = looks_within c.in-Ok.ensures.unchanged c.loop-commit.invariant.still (t c.loop-commit.host);
       later = omega (arith, c.loop-commit.invariant.later, c.put_order.ensures.fault_has_cause.later);
       used = λ have s. next_used have c.args.commits.now c.loop-commit.commit-index c.commit-item.result c.loop-commit.found.entries c.put_order.new.found.entries c.loop-commit-test.true c.commit-item.is
           (c.loop-commit.invariant.used have s) (c.in-Ok.ensures.tells have (still_stored c.loop-commit.invariant.still s));
     }
 
 pub returns-in-Err-clause-unchanged : goal.returns-in-Err-clause-unchanged
-returns-in-Err-clause-unchanged g c = looks_within c.in-Err.ensures.still c.loop-commit.invariant.still (g.met.H.Host.is_tree c.loop-commit.host)
+returns-in-Err-clause-unchanged g c = looks_within c.in-Err.ensures.unchanged c.loop-commit.invariant.still (g.met.H.Host.is_tree c.loop-commit.host)
 
 pub returns-in-Err-clause-tells : goal.returns-in-Err-clause-tells
 returns-in-Err-clause-tells g c have s =

@@ -9,8 +9,8 @@ returns-in-Err-clause-tells c have = stopped c.args.files.now c.loop-file.file-i
 
 pub loop-file-preserved : goal.loop-file-preserved
 loop-file-preserved c = record {
-  listed = λ have. next_listed c.args.files.now c.loop-file.file-index c.file-item.result c.loop-file-test.true c.file-item.is (c.loop-file.invariant.listed have) c.in-Ok.ensures.tells c.in-Ok.ensures.done;
-  more = omega (arith, c.loop-file.invariant.more, ap (λ (l : List (List ℕ × ObjKind)). length l) c.in-Ok.ensures.done, length-append c.loop-file.done.items ((c.file-item.result.digest, kinds.File) ∷ []));
+  listed = λ have. next_listed c.args.files.now c.loop-file.file-index c.file-item.result c.loop-file-test.true c.file-item.is (c.loop-file.invariant.listed have) c.in-Ok.ensures.tells c.in-Ok.ensures.on_success;
+  more = omega (arith, c.loop-file.invariant.more, ap (λ (l : List (List ℕ × ObjKind)). length l) c.in-Ok.ensures.on_success, length-append c.loop-file.done.items ((c.file-item.result.digest, kinds.File) ∷ []));
   most = λ le. c.in-Ok.ensures.most;
 }
 
