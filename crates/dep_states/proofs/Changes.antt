@@ -11,8 +11,10 @@ use Rattle.fp_small.proofs.Ordered.{bytes_eq-itself, bytes_eq-is, bytes_eq-diffe
 use Rattle.fp_small.specs.declared.state.State.{State}
 use Rattle.fp_small.specs.declared.state.RefRow.{RefRow}
 use Rattle.fp_small.specs.declared.state.Previous.{Previous}
-use Rattle.fp_small.specs.declared.op.Op.TheVariants.{Install, Update, Uninstall, Rollback}
-use Rattle.dep_states.specs.Shown.{at_name, ref_key}
+use Rattle.fp_small.specs.declared.state.OverrideRow.{OverrideRow}
+use Rattle.fp_small.specs.declared.op.Op.TheVariants.{Install, Update, Uninstall, SetOverride, DropOverride, Rollback}
+use Rattle.dep_states.specs.Shown.{at_name, ref_key, override_key}
+use Rattle.dep_states.specs.Small.{IsLayered}
 use Rattle.dep_states.specs.After.{row_at, with_refs, moved, updated, exchanged, back, rolled_back, after_op}
 use Rattle.dep_states.specs.Switch.{IsWith}
 use Rattle.dep_states.proofs.Single.{some_none}
@@ -136,3 +138,22 @@ module _ (s : State) (up : is_ascending (map ref_key s.refs) ≡ true) where
       → IsWith s row.name (Some (exchanged row p)) (after_op s time (Rollback row.name commit))
   after_rollback commit time row p is before =
       subst (λ t. IsWith s row.name (Some (exchanged row p)) t) (sym (ap (rolled_back s) is ∙ ap (λ o. back s row o) before)) (with_row (exchanged row p))
+
+-- ---- operations on overrides
+
+module _ (s : State) (up : is_ascending (map override_key s.overrides) ≡ true) where
+  pub after_set : (row : OverrideRow) (time : ℕ) → IsLayered s row.name (after_op s time (SetOverride row))
+  after_set row time = record {
+    setup = refl;
+    refs = refl;
+    others = λ name off. at_replaced override_key s.overrides row name ∙ rw (off_false row.name name off) refl;
+    ascend = replaced_ascends override_key s.overrides row up;
+  }
+
+  pub after_drop : (name : List ℕ) (time : ℕ) → IsLayered s name (after_op s time (DropOverride name))
+  after_drop name time = record {
+    setup = refl;
+    refs = refl;
+    others = λ other off. at_removed override_key s.overrides name other ∙ rw (off_false name other off) refl;
+    ascend = removed_ascends override_key s.overrides name up;
+  }

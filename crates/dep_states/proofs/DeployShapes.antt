@@ -1,5 +1,5 @@
 -- What is no `deploy`.
-use Rattle.std.proofs.Common.{◌≡◌, ℕ, ◌<◌, ◌≤◌, List, [], ◌∷◌, Bool, true, false, ◌&&◌, leb, Option, None, refl, ap, length, arith}
+use Rattle.std.proofs.Common.{◌≡◌, ◌⊎◌, inl, inr, ℕ, ◌<◌, ◌≤◌, List, [], ◌∷◌, Bool, true, false, ◌&&◌, leb, Option, None, refl, ap, length, arith}
 use Rattle.std.specs.Prelude.{if◌then◌else◌}
 use Rattle.std.proofs.lemmas.Bool.{leb-true}
 use Rattle.gv_value.specs.declared.value.GvValue.{GvValue}
@@ -31,16 +31,16 @@ short_is_none t bytes short = go (leb (length bytes) max_bytes) refl
 
 -- tuples of another number of members
 
-pub no_deploy : (vs : List GvValue) → (length vs ≡ 4 → ⊥) → deploy_in (tuple (plains vs)) ≡ None
+pub no_deploy : (vs : List GvValue) → (length vs < 4) ⊎ (5 ≤ length vs) → deploy_in (tuple (plains vs)) ≡ None
 no_deploy [] h = refl
 no_deploy (a ∷ []) h = refl
 no_deploy (a ∷ b ∷ []) h = refl
 no_deploy (a ∷ b ∷ c ∷ []) h = refl
-no_deploy (a ∷ b ∷ c ∷ d ∷ []) h = absurd (h refl)
+no_deploy (a ∷ b ∷ c ∷ d ∷ []) h = absurd (elim h [ inl less ↦ omega (arith, less) | inr more ↦ omega (arith, more) ])
 no_deploy (a ∷ b ∷ c ∷ d ∷ e ∷ vs) h = refl
 
-pub no_previous : (vs : List GvValue) → (length vs ≡ 2 → ⊥) → previous_in (just (tuple (plains vs))) ≡ None
+pub no_previous : (vs : List GvValue) → (length vs < 2) ⊎ (3 ≤ length vs) → previous_in (just (tuple (plains vs))) ≡ None
 no_previous [] h = refl
 no_previous (a ∷ []) h = refl
-no_previous (a ∷ b ∷ []) h = absurd (h refl)
+no_previous (a ∷ b ∷ []) h = absurd (elim h [ inl less ↦ omega (arith, less) | inr more ↦ omega (arith, more) ])
 no_previous (a ∷ b ∷ c ∷ vs) h = refl

@@ -126,7 +126,7 @@ active_good disk name folder row good e = absurd cc
 active_good disk name (holds id mode bytes) row good e = absurd cc
 active_good disk name (points text) row good e = deploy_good name text _ row good e
 
-row_good : (disk : Disk) (row : RefRow) → IsThere disk row → IsGoodRow row
+pub row_good : (disk : Disk) (row : RefRow) → IsThere disk row → IsGoodRow row
 row_good disk row is = let e = is.is in let good = is.good in active_good disk row.name (disk (active row.name)) row good (rw good at e)
 
 -- ---- overrides

@@ -13,7 +13,7 @@ use Rattle.fp_small.specs.declared.state.State.{State}
 use Rattle.fp_small.specs.declared.state.OverrideRow.{OverrideRow}
 use Rattle.ost_model.specs.Objects.{object_path}
 use Rattle.dep_states.specs.Names.{config, remotes_conf, pins_file, override_path, active, text_dir, commit_dir, deploy}
-use Rattle.dep_states.specs.Shown.{there, seen_of, ref_seen, row_seen, override_seen, settings_seen, at_name, override_key, setup_of, Shows}
+use Rattle.dep_states.specs.Shown.{there, seen_of, ref_seen, row_seen, override_seen, settings_seen, at_name, ref_key, override_key, setup_of, Shows}
 use Rattle.dep_states.specs.Sound.{Sound, Fixed, IsOld, is_remotes, is_pins, is_config, is_old, is_active, is_deploy, is_layer, is_inside, is_object, Permits}
 use Rattle.dep_states.specs.Small.{IsSetting, IsLayered}
 use Rattle.dep_states.proofs.Deployed.{outward_append, top}
@@ -46,8 +46,8 @@ module _ {i j : Disk} (still : (p : Elements) → Fixed i p → (IsSetting p →
   pub shows_settings : {s t : State} → settings_seen j ≡ there (setup_of t) → t.refs ≡ s.refs → t.overrides ≡ s.overrides → Shows i s → Shows j t
   shows_settings {s = s} {t = t} now refs overrides a = record {
     settings = now;
-    refs = λ text. rows_still (ref_of text) ∙ a.refs text ∙ ap (λ rows. seen_of (at_name _ rows text)) (sym refs);
-    refs_ascend = ap (λ rows. is_ascending (map _ rows)) refs ∙ a.refs_ascend;
+    refs = λ text. rows_still (ref_of text) ∙ a.refs text ∙ ap (λ rows. seen_of (at_name ref_key rows text)) (sym refs);
+    refs_ascend = ap (λ rows. is_ascending (map ref_key rows)) refs ∙ a.refs_ascend;
     overrides = λ name. override_same i j name (λ good. still (override_path name) (is_layer name good refl) no_setting) ∙ a.overrides name ∙ ap (λ rows. seen_of (at_name override_key rows name)) (sym overrides);
     overrides_ascend = ap (λ rows. is_ascending (map override_key rows)) overrides ∙ a.overrides_ascend;
   }
@@ -82,8 +82,8 @@ module _ {i j : Disk} (layer : List ℕ) (still : (p : Elements) → Fixed i p �
   pub shows_layer : {s t : State} → IsLayered s layer t → override_seen j layer ≡ seen_of (at_name override_key t.overrides layer) → Shows i s → Shows j t
   shows_layer {s = s} {t = t} w now a = record {
     settings = settings_same i j (still config (is_config refl) (λ e. cc)) (λ none. (still remotes_conf (is_old none (is_remotes refl)) (λ e. cc), still pins_file (is_old none (is_pins refl)) (λ e. cc))) ∙ a.settings ∙ ap there (sym w.setup);
-    refs = λ text. rows_stay (ref_of text) ∙ a.refs text ∙ ap (λ rows. seen_of (at_name _ rows text)) (sym w.refs);
-    refs_ascend = ap (λ rows. is_ascending (map _ rows)) w.refs ∙ a.refs_ascend;
+    refs = λ text. rows_stay (ref_of text) ∙ a.refs text ∙ ap (λ rows. seen_of (at_name ref_key rows text)) (sym w.refs);
+    refs_ascend = ap (λ rows. is_ascending (map ref_key rows)) w.refs ∙ a.refs_ascend;
     overrides = λ name. elim (layer_cases name) [
       | inl e ↦ ap (override_seen j) e ∙ now ∙ ap (λ n. seen_of (at_name override_key t.overrides n)) (sym e)
       | inr off ↦ override_same i j name (λ good. still (override_path name) (is_layer name good refl) (λ e. off (first e))) ∙ a.overrides name ∙ ap seen_of (sym (w.others name off))

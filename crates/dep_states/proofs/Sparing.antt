@@ -206,7 +206,7 @@ none_left : (r : Elements) → outward_onto r [] ≡ [] → r ≡ []
 none_left [] e = refl
 none_left (x ∷ r) e = absurd (onto_some r x [] e)
 
-hex_exact : (a b : List ℕ) → is_digest a ≡ true → is_digest b ≡ true → hex a ≡ hex b → a ≡ b
+pub hex_exact : (a b : List ℕ) → is_digest a ≡ true → is_digest b ≡ true → hex a ≡ hex b → a ≡ b
 hex_exact a b of_a of_b e = some_is (sym (unhex-hex a of_a) ∙ ap unhex e ∙ unhex-hex b of_b)
 
 -- the commits that an image keeps are digests

@@ -107,7 +107,7 @@ ref_is disk name row e = elim (cases_Bool (is_ref name)) [
     no_there : away ≡ there row → ⊥
     no_there e = cc
 
-row_there : (disk : Disk) (o : Option Ref) (row : RefRow) → row_seen disk o ≡ there row → IsThere disk row
+pub row_there : (disk : Disk) (o : Option Ref) (row : RefRow) → row_seen disk o ≡ there row → IsThere disk row
 row_there disk None row e = absurd cc
 row_there disk (Some name) row e =
     let is = ref_is disk name row e in
@@ -169,7 +169,7 @@ layer_name : (name : List ℕ) (spot : Spot) (row : OverrideRow) → override_at
 unfolding override_at
 layer_name name spot row e = named_is name _ row e
 
-override_is : (disk : Disk) (name : List ℕ) (row : OverrideRow) → override_seen disk name ≡ there row → row.name ≡ name
+pub override_is : (disk : Disk) (name : List ℕ) (row : OverrideRow) → override_seen disk name ≡ there row → row.name ≡ name
 override_is disk name row e = elim (cases_Bool (is_override name)) [
   | inl t ↦ layer_name name (disk (override_path name)) row (rw t at e)
   | inr f ↦ absurd (no_there (rw f at e))

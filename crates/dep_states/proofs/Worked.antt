@@ -83,7 +83,7 @@ none_at p (row ∷ rs) off = elim (cases_Bool (path_eq p row.0)) [
 text_apart : (a b : List ℕ) → bytes_eq a b ≡ false → a ≢ b
 text_apart a b f e = both_ways (bytes_eq a b) f ((bytes_eq-Decides a b).1 e)
 
-word_same : (a b : RefKind) → kind_word a ≡ kind_word b → a ≡ b
+pub word_same : (a b : RefKind) → kind_word a ≡ kind_word b → a ≡ b
 word_same App App e = refl
 word_same Runtime Runtime e = refl
 word_same App Runtime e = absurd (text_apart (codes "app") (codes "runtime") refl e)

@@ -25,11 +25,7 @@ pub(crate) fn deploy_type(alloc: Global) -> Result<GvType, AllocError>
 }
 
 /// The value of a type that bytes are.
-pub(crate) fn value_in(
-    alloc: Global,
-    of: &GvType,
-    bytes: &[u8],
-) -> Result<GvValue, DeployError>
+pub(crate) fn value_in(alloc: Global, of: &GvType, bytes: &[u8]) -> Result<GvValue, DeployError>
     ensures { Finds plain result (value_of (shape_of of.now) bytes.now) }
 {
     match decode(alloc, of, bytes) {
@@ -69,13 +65,13 @@ fn data_of(alloc: Global, members: &[GvValue]) -> Result<DeployData, DeployError
 }
 
 /// The data, where the previous commit is another one.
-fn if_moves(data: DeployData) -> Result<DeployData, DeployError>
-    ensures { Says result (if_moves data) }
+fn if_moves(read: DeployData) -> Result<DeployData, DeployError>
+    ensures { Says result (if_moves read) }
 {
-    if goes_back_to(&data.commit, &data.previous) {
+    if goes_back_to(&read.commit, &read.previous) {
         return Err(DeployError::Bad);
     }
-    Ok(data)
+    Ok(read)
 }
 
 /// Whether the previous commit is this one.

@@ -1,25 +1,31 @@
 //! Laws of what images show. Each is the contract of a function that does nothing.
-ghost use Rattle.std.specs.Prelude.{◌≡◌, ◌≤◌, ◌++◌, ◌∷◌, ℕ, List, length, true, Some, None, Result, Err};
+ghost use Rattle.std.specs.Prelude.{◌≡◌, ◌⊎◌, ◌↔◌, ◌≤◌, ◌++◌, ◌∷◌, ℕ, List, length, map, true, Some, None, Result, Err};
 ghost use Rattle.fp_host.specs.Paths.{Elements, absent};
 ghost use Rattle.fp_host.specs.View.{View, IsTree};
 ghost use Rattle.fp_host.specs.Outcome.{Disk, Follows, Nothing, IsSettled, gone, folder, shows};
+ghost use Rattle.fp_base.specs.declared.object.ObjKind.{ObjKind};
+ghost use Rattle.fp_host.specs.Reads.{is_ascending};
+ghost use Rattle.fp_name.specs.Hex.{is_digest};
 ghost use Rattle.fp_name.specs.Refs.{Ref, is_ref};
 ghost use Rattle.fp_small.specs.Config.{IsSettings, config_text};
 ghost use Rattle.fp_small.specs.Places.{repo, tmp};
 ghost use Rattle.fp_small.specs.declared.config.Settings.{Settings};
-ghost use Rattle.fp_small.specs.declared.op.Op.TheVariants.{Install, Update, Uninstall, Rollback};
+ghost use Rattle.fp_small.specs.declared.op.Op.TheVariants.{Install, Update, Uninstall, SetOverride, DropOverride, Rollback};
 ghost use Rattle.fp_small.specs.declared.state.State.{State};
 ghost use Rattle.fp_small.specs.declared.state.RefRow.{RefRow};
+ghost use Rattle.fp_small.specs.declared.state.OverrideRow.{OverrideRow};
 ghost use Rattle.fp_small.specs.declared.state.Previous.{Previous};
 ghost use Rattle.ost_model.specs.Order.{In};
 ghost use Rattle.ost_model.specs.Stores.{IsStore};
-ghost use Rattle.dep_states.specs.After.{HasOrder, row_at, after_op};
+ghost use Rattle.dep_states.specs.After.{HasOrder, IsGood, row_at, after_op};
+ghost use Rattle.dep_states.specs.Frames.{KeptIn, InDir, IsUnused, ObjectGone, IsNewObject, Pulls};
+ghost use Rattle.dep_states.specs.Small.{IsSetting, IsLayered};
 ghost use Rattle.dep_states.specs.Switch.{IsWith, SwitchesAt, Stages, OpensEither};
-ghost use Rattle.dep_states.specs.Names.{active, config, remotes_conf, pins_file};
-ghost use Rattle.dep_states.specs.Shown.{Shows, IsShown, config_most};
+ghost use Rattle.dep_states.specs.Names.{active, config, remotes_conf, pins_file, override_path};
+ghost use Rattle.dep_states.specs.Shown.{there, seen_of, settings_seen, override_seen, at_name, override_key, setup_of, Shows, IsShown, config_most};
 ghost use Rattle.dep_states.specs.Zones.{Allowed, IsFileOrGone, IsFolderOrGone, anything, outward, zone};
 ghost use Rattle.dep_states.specs.Damaged.{Damages, Gives};
-ghost use Rattle.dep_states.specs.Sound.{Sound, Opens, IsSound, Spares, Spared, InTmp, OldGone, HasConfig};
+ghost use Rattle.dep_states.specs.Sound.{Keeps, Sound, Fixed, Permits, Opens, IsSound, Spares, Spared, InTmp, OldGone, HasConfig};
 ghost use Rattle.dep_states.specs.Settled.{Settled};
 ghost use Rattle.dep_states.specs.Deployed.{deployed_disk, deployed_state};
 ghost use Rattle.dep_states.specs.Samples.{no_disk, empty_disk, empty_state, config_disk, settings_state, worked_disk, worked_state, damaged_disk, dashed_ref};
@@ -44,6 +50,18 @@ pub fn the_first_path_is_by_bytes()
     ensures { Gives damaged_disk (Err (active dashed_ref)) }
 {}
 
+/// What is shown can be written: good names, URLs and patterns, in order and within the limits; rows that a `deploy` can say;
+/// and overrides that a key file can say.
+pub fn what_is_shown_can_be_written()
+    ensures { (disk : Disk) (s : State) → Shows disk s → IsGood s }
+{}
+
+/// An image keeps just the commits that the state which it shows keeps.
+pub fn the_state_tells_what_is_kept()
+    ensures { (disk : Disk) (s : State) (name : Ref) (commit : List ℕ) → is_ref name ≡ true → Shows disk s
+        → Keeps disk name commit ↔ KeptIn s name commit }
+{}
+
 // ---- worked images
 
 /// The root alone shows the empty state of layout 2, is sound, and is settled.
@@ -58,10 +76,11 @@ pub fn the_worked_image_shows_its_state()
     ensures { Shows worked_disk worked_state }
 {}
 
-/// An image with one deployed ref, its objects and its ref file shows it, and is sound.
+/// An image with one deployed ref, its objects and its ref file shows it, is sound, and is settled.
 pub fn the_deployed_image_is_sound()
     ensures shown { Shows deployed_disk deployed_state }
     ensures sound { Sound deployed_disk }
+    ensures settled { Settled deployed_disk }
 {}
 
 /// Sound images: one without even a root; and the root with a `config` as it is written, which shows its settings.
@@ -109,6 +128,31 @@ pub fn old_files_may_go()
     ensures { (v : View) → HasConfig v → Spares v OldGone }
 {}
 
+/// What is in the folder of a commit that the state doesn't keep may come and go.
+pub fn unkept_folders_may_change()
+    ensures { (s : State) (v : View) (name : Ref) (commit : List ℕ) → is_digest commit ≡ true → Opens s v
+        → (KeptIn s name commit → ⊥) → Spares v (InDir name commit) }
+{}
+
+/// An object that no kept commit uses may go.
+pub fn unused_objects_may_go()
+    ensures { (v : View) (d : List ℕ) (kind : ObjKind) → IsUnused v d kind → Spares v (ObjectGone d kind) }
+{}
+
+/// An object may come to a name that is absent. So a pull, which works below `repo/tmp` and brings new objects, leaves what was
+/// shown before, and leaves it sound. Pulls one after another are a pull.
+pub fn new_objects_may_come()
+    ensures spares { (s : State) (v : View) → Opens s v → Spares v (IsNewObject v) }
+    ensures pulls { (s : State) (u w : View) → Opens s u → Pulls InTmp u w → Opens s w }
+    ensures nothing { (u : View) → Pulls InTmp u u }
+    ensures one_after_another { (u v w : View) → Pulls InTmp u v → Pulls InTmp v w → Pulls InTmp u w }
+{}
+
+/// Where all is settled, every stop leaves what stands.
+pub fn what_is_settled_is_opened()
+    ensures { (s : State) (v : View) → IsTree v → IsSettled v → Shows (shows v) s → Sound (shows v) → Opens s v }
+{}
+
 /// Where all is settled and `config` stands, no stop leaves the installation without it.
 pub fn settled_config_stays()
     ensures { (v : View) → IsTree v → IsSettled v → (shows v config ≡ gone → ⊥) → HasConfig v }
@@ -130,6 +174,38 @@ pub fn what_a_sound_image_holds()
     ensures store { (disk : Disk) → Sound disk → IsStore repo disk }
 {}
 
+// ---- small files
+
+/// An image that differs from another in the files of the settings alone, and elsewhere in what may stand there, shows the state
+/// with the settings that are read of it, and is sound.
+pub fn settings_may_change()
+    ensures shown { (i j : Disk) (s t : State) → ((p : Elements) → Fixed i p → (IsSetting p → ⊥) → j p ≡ i p)
+        → settings_seen j ≡ there (setup_of t) → t.refs ≡ s.refs → t.overrides ≡ s.overrides → Shows i s
+        → Shows j t }
+    ensures sound { (i j : Disk) → ((p : Elements) → Fixed i p → (IsSetting p → ⊥) → j p ≡ i p)
+        → ((p : Elements) → (j p ≡ i p) ⊎ Permits i p (j p)) → Sound i → Sound j }
+{}
+
+/// An image that differs from another in one override alone, and elsewhere in what may stand there, shows the state with the
+/// override that is read of it, or without one, and is sound.
+pub fn an_override_may_change()
+    ensures shown { (i j : Disk) (s t : State) (layer : List ℕ)
+        → ((p : Elements) → Fixed i p → (p ≡ override_path layer → ⊥) → j p ≡ i p)
+        → IsLayered s layer t → override_seen j layer ≡ seen_of (at_name override_key t.overrides layer)
+        → Shows i s → Shows j t }
+    ensures sound { (i j : Disk) (layer : List ℕ)
+        → ((p : Elements) → Fixed i p → (p ≡ override_path layer → ⊥) → j p ≡ i p)
+        → ((p : Elements) → (j p ≡ i p) ⊎ Permits i p (j p)) → Sound i → Sound j }
+{}
+
+/// Setting an override, or dropping it, changes that one.
+pub fn operations_change_one_override()
+    ensures set { (s : State) (row : OverrideRow) (time : ℕ) → is_ascending (map override_key s.overrides) ≡ true
+        → IsLayered s row.name (after_op s time (SetOverride row)) }
+    ensures drop { (s : State) (name : List ℕ) (time : ℕ) → is_ascending (map override_key s.overrides) ≡ true
+        → IsLayered s name (after_op s time (DropOverride name)) }
+{}
+
 // ---- operations on refs
 
 /// What the operations on refs make of a state: the row of that ref changes, and no other.
@@ -137,22 +213,32 @@ pub fn operations_change_one_row()
     ensures install { (s : State) (name : Ref) (remote commit : List ℕ) (time : ℕ) → HasOrder s
         → row_at s name ≡ None
         → IsWith s name
-            (Some (record { name = name; origin = remote; commit = commit; timestamp = time; previous = None }))
-            (after_op s time (Install name remote commit)) }
+        (Some (record { name = name; origin = remote; commit = commit; timestamp = time; previous = None }))
+        (after_op s time (Install name remote commit)) }
     ensures update { (s : State) (name : Ref) (remote commit : List ℕ) (time : ℕ) (row : RefRow) → HasOrder s
         → row_at s name ≡ Some row
         → IsWith s name
-            (Some (record { name = name; origin = remote; commit = commit; timestamp = time;
-                previous = Some (record { commit = row.commit; timestamp = row.timestamp }) }))
-            (after_op s time (Update name remote commit)) }
+        (Some (record {
+          name = name;
+          origin = remote;
+          commit = commit;
+          timestamp = time;
+          previous = Some (record { commit = row.commit; timestamp = row.timestamp });
+        }))
+        (after_op s time (Update name remote commit)) }
     ensures uninstall { (s : State) (name : Ref) (time : ℕ) → HasOrder s
         → IsWith s name None (after_op s time (Uninstall name)) }
     ensures rollback { (s : State) (commit : List ℕ) (time : ℕ) (row : RefRow) (p : Previous) → HasOrder s
         → row_at s row.name ≡ Some row → row.previous ≡ Some p
         → IsWith s row.name
-            (Some (record { name = row.name; origin = row.origin; commit = p.commit; timestamp = p.timestamp;
-                previous = Some (record { commit = row.commit; timestamp = row.timestamp }) }))
-            (after_op s time (Rollback row.name commit)) }
+        (Some (record {
+          name = row.name;
+          origin = row.origin;
+          commit = p.commit;
+          timestamp = p.timestamp;
+          previous = Some (record { commit = row.commit; timestamp = row.timestamp });
+        }))
+        (after_op s time (Rollback row.name commit)) }
 {}
 
 /// The rename of a link from `repo/tmp` onto `active`: where its commit stands beside the state, each outcome shows the state of
