@@ -157,8 +157,11 @@ impl Value {
 impl Mention {
     /// A mention of its own.
     pub fn new(alloc: Global, list: PermList, name: &str, value: Value) -> Result<Self, AllocError>
-        ensures { IfOk result (λ m. m ≡ record { permission = record
-            { list = list; name = name.now }; value = value }) }
+        ensures { IfOk result (λ m. m ≡ record {
+          permission = record
+              { list = list; name = name.now };
+          value = value;
+        }) }
     {
         Ok(Mention {
             permission: Permission::new(alloc, list, name)?,

@@ -51,8 +51,11 @@ impl Group {
         key: &str,
         value: &str,
     ) -> Result<Self, AllocError>
-        ensures { IfOk result (λ g. g ≡ record { name = name.now; pairs = record
-            { key = key.now; value = value.now } ∷ [] }) }
+        ensures { IfOk result (λ g. g ≡ record {
+          name = name.now;
+          pairs = record
+              { key = key.now; value = value.now } ∷ [];
+        }) }
     {
         let mut pairs = Items::new(alloc);
         pairs.push(Pair::new(alloc, key, value)?)?;

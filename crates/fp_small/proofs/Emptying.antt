@@ -1,7 +1,7 @@
 -- Names that are taken away, with all that is below them.
-use Rattle.std.proofs.Common.{◌≡◌, ◌≢◌, ◌⊎◌, inl, inr, ℕ, ◌+◌, ◌-◌, ◌<◌, ◌≤◌, List, [], ◌∷◌, length, take, get_or, Ok, refl, sym, ◌∙◌, ap, subst, Contains, arith}
+use Rattle.std.proofs.Common.{◌≡◌, ◌≢◌, ◌⊎◌, inl, inr, ℕ, ◌+◌, ◌-◌, ◌<◌, ◌≤◌, List, [], ◌∷◌, ◌++◌, length, take, get_or, Ok, refl, sym, ◌∙◌, ap, subst, Contains, arith}
 use Rattle.std.proofs.lemmas.List.{take_more}
-use Rattle.std.proofs.lemmas.List.Elements.{Contains-push_cases, Contains-get_or}
+use Rattle.std.proofs.lemmas.List.Elements.{Contains-append_left, Contains-push, Contains-push_cases, Contains-get_or}
 use Rattle.fp_host.specs.Paths.{Elements, Slot, absent, dir, file, link, IsAbove}
 use Rattle.fp_host.specs.View.{View, IsTree}
 use Rattle.fp_host.specs.Calls.{unlinks, removes_dir, Step, Can, IsLeaf, IsNoDir}
@@ -121,10 +121,99 @@ reaches_child p x {depth = depth} others reaches some = record {
     nearer : (depth long : ℕ) (p : Elements) → depth ≢ 0 → long ≤ length p + depth → long ≤ length (x ∷ p) + (depth - 1)
     nearer depth long p some near = omega (arith, some, near)
 
--- ---- from 128 elements on
+-- ---- how far down
 
-pub reaches_most : {p : Elements} {v : View} → CanEmpty p v → Reaches p 128 v
+-- the child of a path that another is within
+child_above : (p q : Elements) → IsAbove p q → (x : List ℕ) × IsWithin (x ∷ p) q
+child_above p [] above = absurd above
+child_above p (y ∷ up) (inl is) = (y, inl (ap (λ (r : Elements). y ∷ r) (sym is)))
+child_above p (y ∷ up) (inr higher) =
+    let c = child_above p up higher in
+    (c.0, inr (elim c.1 [ inl is ↦ inl (sym is) | inr above ↦ inr above ]))
+
+-- nothing is below what is no folder
+pub reaches_no_dir : (p : Elements) (depth : ℕ) {v : View} → IsTree v → (v.names p ≡ dir → ⊥) → Reaches p depth v
+reaches_no_dir p depth tree no_dir = record { far = λ q above. inl ((emptied_no_dir {p = p} tree no_dir).gone q above) }
+
+pub leaf_no_dir : (e : Slot) → IsLeaf e → e ≡ dir → ⊥
+leaf_no_dir absent leaf is = leaf
+leaf_no_dir dir leaf is = leaf
+leaf_no_dir (file id) leaf is = cc is
+leaf_no_dir (link text) leaf is = cc is
+
+-- What was at these names in the folder, and below them, is within reach; what else is there is as it was.
+pub record AreReached (p : Elements) (depth : ℕ) (names : List (List ℕ)) (u w : View) : Type 0 where
+  pub each : (x : List ℕ) → Contains names x → (q : Elements) → IsWithin (x ∷ p) q → (u.names q ≡ absent) ⊎ (length q ≤ length p + depth)
+  pub others : (q : Elements) → (w.names q ≡ u.names q) ⊎ ((x : List ℕ) × Contains names x × IsWithin (x ∷ p) q)
+
+pub none_reached : (p : Elements) (depth : ℕ) {u w : View} → w ≡ u → AreReached p depth [] u w
+none_reached p depth same = record {
+  each = λ x has q within. absurd (omega (arith, has.1));
+  others = λ q. inl (ap (λ (v : View). v.names q) same);
+}
+
+near_child : (depth long low : ℕ) → depth ≢ 0 → long ≡ low + 1 → long ≤ low + depth
+near_child depth long low some is = omega (arith, some, is)
+
+near_below : (depth long low : ℕ) → depth ≢ 0 → long ≤ low + 1 + (depth - 1) → long ≤ low + depth
+near_below depth long low some near = omega (arith, some, near)
+
+-- one name more
+module _ (p : Elements) (depth : ℕ) (names : List (List ℕ)) (i : ℕ) (x : List ℕ) (low : i < length names) (is : x ≡ get_or names i x) (some : depth ≢ 0) where
+  more : (y : List ℕ) → Contains (take i names ++ get_or names i x ∷ []) y → Contains (take (i + 1) names) y
+  more y has = subst (λ (l : List (List ℕ)). Contains l y) (sym (take_more names i x low)) has
+
+  module _ {u v : View} (before : AreReached p depth (take i names) u v) (reach : Reaches (x ∷ p) (depth - 1) v) where
+    here : (q : Elements) → IsWithin (x ∷ p) q → (u.names q ≡ absent) ⊎ (length q ≤ length p + depth)
+    here q within = elim (before.others q) [
+      | inr had ↦ before.each had.0 had.1 q had.2
+      | inl same ↦ elim within [
+        | inl at ↦ inr (near_child depth (length q) (length p) some (omega (arith, ap length at)))
+        | inr above ↦ elim (reach.far q above) [
+          | inl none ↦ inl (sym same ∙ none)
+          | inr near ↦ inr (near_below depth (length q) (length p) some (omega (arith, near)))
+        ]
+      ]
+    ]
+
+    pub one_reached : {w : View} → ((q : Elements) → (w.names q ≡ v.names q) ⊎ AbsentWithin (x ∷ p) q (w.names q)) → AreReached p depth (take (i + 1) names) u w
+    one_reached changed = record {
+      each = λ y has q within. elim (Contains-push_cases (take i names) (get_or names i x) y (subst (λ (l : List (List ℕ)). Contains l y) (take_more names i x low) has)) [
+        | inl earlier ↦ before.each y earlier q within
+        | inr same ↦ here q (subst (λ (z : List ℕ). IsWithin (z ∷ p) q) (sym same ∙ sym is) within)
+      ];
+      others = λ q. elim (changed q) [
+        | inl same ↦ elim (before.others q) [
+          | inl first ↦ inl (same ∙ first)
+          | inr had ↦ inr (had.0, more had.0 (Contains-append_left (take i names) (get_or names i x ∷ []) had.0 had.1), had.2)
+        ]
+        | inr put ↦ inr (x, more x (subst (Contains (take i names ++ get_or names i x ∷ [])) (sym is) (Contains-push (take i names) (get_or names i x))), put.0)
+      ];
+    }
+
+-- no name of the folder is left
+pub all_reached : {p : Elements} {depth : ℕ} {names : List (List ℕ)} {u w : View} → IsTree u → ListsIn p u names → AreReached p depth names u w → Reaches p depth u
+all_reached {p = p} {u = u} tree lists reached = record {
+  far = λ q above.
+      let c = child_above p q above in
+      elim (absent_cases (u.names (c.0 ∷ p))) [
+        | inl none ↦ inl ((cleared_absent {p = c.0 ∷ p} tree none).gone q c.1)
+        | inr there ↦ reached.each c.0 ((lists.each c.0).1 there) q c.1
+      ];
+}
+
+-- ---- to 128 elements
+
+pub reaches_most : {p : Elements} {v : View} → CanEmpty p v → Reaches p (128 - length p) v
 reaches_most {p = p} can = record { far = λ q above. elim (can.short q above) [ inl none ↦ inl none | inr short ↦ inr (omega (arith, short)) ] }
 
-pub reaches_down : {p : Elements} {v : View} → CanClear p v → ReachesDown p 128 v
+pub reaches_down : {p : Elements} {v : View} → CanClear p v → ReachesDown p (128 - length p) v
 reaches_down can = record { no_root = can.no_root; below = reaches_most can.below }
+
+pub most_reached : {p : Elements} {v : View} → Reaches p (128 - length p) v → CanEmpty p v
+most_reached {p = p} reach = record {
+  short = λ q above. elim (reach.far q above) [
+    | inl none ↦ inl none
+    | inr near ↦ inr (omega (arith, near, above_longer p q above))
+  ];
+}

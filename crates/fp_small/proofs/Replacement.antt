@@ -21,8 +21,9 @@ use Rattle.fp_small.specs.Folders.{ancestors, FoldersAt, DirsAt, AreDirs, IsLadd
 use Rattle.fp_small.specs.Stage.{IsReady, WasStaged, CanStage}
 use Rattle.fp_small.specs.Move.{Moves, WasMoved, CanMove}
 use Rattle.fp_small.specs.Naming.{IsFirstFree, ListsIn}
+use Rattle.fp_small.specs.Files.{MakesFile, SameFiles}
 use Rattle.fp_small.specs.Replace.{IsStaging, folders_of, ReplacesAt, ReplacesName, Replaces, WasReplaced, IsFreeFile, CanReplace}
-use Rattle.fp_small.proofs.Keeping.{files_framed}
+use Rattle.fp_small.proofs.Keeping.{files_framed, made_moved}
 
 -- the names that are tried may be elements of a path
 good_byte : (b : ℕ) → b ≢ 47 → b ≢ 0 → is_name_byte b ≡ true
@@ -261,9 +262,10 @@ module _ (p place : Elements) (u : View) (can : CanReplace p u) (staging : IsSta
         other = other;
       }
 
-pub was_replaced : (p place : Elements) (bytes : List ℕ) {u v w : View} → IsStaging u place → IsReady place bytes v → WasMoved place p v w → WasReplaced p bytes u w
-was_replaced p place bytes {u = u} {w = w} staging ready moved = record {
+pub was_replaced : (p place : Elements) (bytes : List ℕ) {u v w : View} → IsStaging u place → IsReady place bytes v → WasMoved place p v w → MakesFile place bytes u v → SameFiles v w → WasReplaced p bytes u w
+was_replaced p place bytes {u = u} {w = w} staging ready moved made same = record {
   new = moved.new bytes ready;
   settled = moved.settled;
   work = λ q is. ap w.names (one_staging is staging) ∙ moved.left;
+  made = made_moved made moved.name same;
 }

@@ -1,7 +1,6 @@
 -- Lists that are put in order, and rows that come and go: what they have.
-use Rattle.std.proofs.Common.{◌≡◌, ◌≢◌, ⊎_elim, ◌⊎◌, ◌↔◌, Bool, true, false, List, ℕ, [], ◌∷◌, ◌++◌, Contains, refl, sym, ap, subst, ◌∙◌, inl, inr, append-nil}
+use Rattle.std.proofs.Common.{List, ℕ, [], ◌∷◌, ◌++◌, subst, inl, inr, append-nil}
 use Rattle.std.specs.List.Sorted.{IsPermutation}
-use Rattle.std.specs.Str.{bytes_eq}
 use Rattle.std.proofs.lemmas.Bool.{cases_Bool}
 use Rattle.std.proofs.lemmas.List.Sorted.{IsPermutation-refl, IsPermutation-trans, IsPermutation-sym, IsPermutation-cons, IsPermutation-middle, IsPermutation-append_right}
 use Rattle.fp_small.specs.Order.{comes_before, inserted, sorted_onto, sorted_by}

@@ -1,5 +1,5 @@
 -- A new file on its way, and to its name.
-use Rattle.std.proofs.Common.{◌≡◌, inl, inr, ℕ, List, [], true, Option, Some, Result, Ok, refl, sym, ◌∙◌, ap, subst}
+use Rattle.std.proofs.Common.{◌≡◌, inl, inr, ℕ, List, [], true, Option, Some, None, Result, Ok, refl, sym, ◌∙◌, ap, subst}
 use Rattle.std.proofs.lemmas.Bool.{false≢true}
 use Rattle.fp_host.specs.Paths.{Elements, Slot, absent, file, set_at}
 use Rattle.fp_host.specs.View.{View, Inode, IsTree}
@@ -11,8 +11,11 @@ use Rattle.fp_host.proofs.Follow.{called}
 use Rattle.fp_host.proofs.Filed.{PutsOf}
 use Rattle.fp_host.proofs.Framed.{keeps_on, keeps_call}
 use Rattle.fp_host.proofs.Settled.{settled_disk}
+use Rattle.fp_small.specs.Files.{MakesFile}
+use Rattle.fp_small.specs.Unsynced.{MakesOneFile}
 use Rattle.fp_small.specs.Stage.{IsReady, WasStaged}
 use Rattle.fp_small.specs.Move.{MovesAt, MovesName, Moves, HasNew, WasMoved, CanMove}
+use Rattle.fp_small.proofs.Unsynced.{one_on, step_none, create_one}
 
 -- after the create, and after the append
 pub record Written (t : Elements) (bytes : List ℕ) (old new : View) : Type 0 where
@@ -59,6 +62,32 @@ staged_sync {t = t} first step =
       settled = synced step;
     }
 
+-- the same, where it is the only file that was made
+pub record Begun (t : Elements) (bytes : List ℕ) (u v : View) : Type 0 where
+  pub written : Written t bytes u v
+  pub free : u.files written.id ≡ None
+  pub one : MakesOneFile u v
+
+pub begun_create : {t : Elements} {v w : View} → Creates t 420 (Ok tt) v w → Begun t [] v w
+unfolding written_create
+begun_create step = record { written = written_create step; free = step.how.1.0.1; one = create_one step }
+
+pub begun_append : {t : Elements} {bytes : List ℕ} {u v w : View} → Begun t [] u v → Step (appends t bytes) (Ok tt) v w → Begun t bytes u w
+unfolding written_append
+begun_append first step = record { written = written_append first.written step; free = first.free; one = one_on first.one (step_none tt step) }
+
+pub made_synced : {t : Elements} {bytes : List ℕ} {u v w : View} → Begun t bytes u v → Step syncs (Ok tt) v w → MakesFile t bytes u w
+made_synced {t = t} {bytes = bytes} first step =
+    let is = step.how.1 in
+    let file = first.written in
+    record {
+      id = file.id;
+      free = first.free;
+      name = ap (λ (x : View). x.names t) is ∙ file.name;
+      row = ap (λ (x : View). x.files file.id) is ∙ file.row;
+      only = λ j f n s. first.one.one j file.id f (record { mode = 420; bytes = bytes }) n (sym (ap (λ (x : View). x.files j) is) ∙ s) first.free file.row;
+    }
+
 pub can_append : {t : Elements} {u v : View} → Written t [] u v → IsDirty v (v.names t)
 can_append {v = v} written = subst (IsDirty v) (sym written.name) written.dirty
 
@@ -92,18 +121,23 @@ moves_sync tree first step = record {
 -- after the rename
 pub record Renamed (from to : Elements) (u v : View) : Type 0 where
   pub ready : (bytes : List ℕ) → IsReady from bytes u → IsReady to bytes v
+  pub name : v.names to ≡ u.names from
   pub left : v.names from ≡ absent
 
 pub renamed : {from to : Elements} {v w : View} → Step (renames from to) (Ok tt) v w → Renamed from to v w
-renamed {from = from} {to = to} {v = v} step = record {
+renamed {from = from} {to = to} {v = v} {w = w} step = record {
   ready = λ bytes ready. record {
     id = ready.id;
-    name = ap (λ (x : View). x.names to) step.how.1 ∙ set_other (set_at v.names to (v.names from)) from absent to (λ e. step.how.0.3 (sym e)) ∙ set_same v.names to (v.names from) to refl ∙ ready.name;
+    name = moved ∙ ready.name;
     row = ap (λ (x : View). x.files ready.id) step.how.1 ∙ ready.row;
     clean = ap (λ (x : View). x.dirty ready.id) step.how.1 ∙ ready.clean;
   };
+  name = moved;
   left = ap (λ (x : View). x.names from) step.how.1 ∙ set_same (put to (v.names from) v).names from absent from refl;
 }
+  where
+    moved : w.names to ≡ v.names from
+    moved = ap (λ (x : View). x.names to) step.how.1 ∙ set_other (set_at v.names to (v.names from)) from absent to (λ e. step.how.0.3 (sym e)) ∙ set_same v.names to (v.names from) to refl
 
 -- a file that is ready stands there after a sync, whatever stop comes
 pub has_new : {to : Elements} {bytes : List ℕ} {w : View} → IsTree w → IsSettled w → IsReady to bytes w → HasNew to bytes w
@@ -121,6 +155,7 @@ was_moved {from = from} {to = to} tree first step =
         row = ap (λ (x : View). x.files r.id) is ∙ r.row;
         clean = ap (λ (x : View). x.dirty r.id) is;
       });
+      name = ap (λ (x : View). x.names to) is ∙ first.name;
       left = ap (λ (x : View). x.names from) is ∙ first.left;
       settled = synced step;
     }

@@ -1,7 +1,24 @@
--- Files that stay as they are.
-use Rattle.std.specs.Prelude.{◌≡◌, ℕ, Some}
+-- Files that stay as they are, and files that are made.
+use Rattle.std.specs.Prelude.{◌≡◌, ℕ, List, Some, None}
+use Rattle.fp_host.specs.Paths.{Elements, file}
 use Rattle.fp_host.specs.View.{View, Inode}
 
 -- each file that was there keeps its mode and its bytes
 pub record KeepsFiles (u w : View) : Type 0 where
   pub rows : (id : ℕ) (f : Inode) → u.files id ≡ Some f → w.files id ≡ Some f
+
+-- the files are those that were there, as they were
+pub record SameFiles (u w : View) : Type 0 where
+  pub rows : (id : ℕ) → w.files id ≡ u.files id
+
+-- no two files were made
+pub record MakesOneAtMost (u w : View) : Type 0 where
+  pub one : (i j : ℕ) (f g : Inode) → u.files i ≡ None → w.files i ≡ Some f → u.files j ≡ None → w.files j ≡ Some g → i ≡ j
+
+-- One file was made. It stands at the path, with these bytes and the permission bits 0644.
+pub record MakesFile (p : Elements) (bytes : List ℕ) (u w : View) : Type 0 where
+  pub id : ℕ
+  pub free : u.files id ≡ None
+  pub name : w.names p ≡ file id
+  pub row : w.files id ≡ Some (record { mode = 420; bytes = bytes })
+  pub only : (j : ℕ) (f : Inode) → u.files j ≡ None → w.files j ≡ Some f → j ≡ id

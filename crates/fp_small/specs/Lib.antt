@@ -2,6 +2,7 @@ pub mod Places
 pub mod Files
 pub mod Load
 pub mod Naming
+pub mod Walks
 pub mod Folders
 pub mod Stage
 pub mod Move

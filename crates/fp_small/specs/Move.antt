@@ -27,6 +27,7 @@ pub record HasNew (p : Elements) (bytes : List ℕ) (v : View) : Type 0 where
 
 pub record WasMoved (from to : Elements) (u w : View) : Type 0 where
   pub new : (bytes : List ℕ) → IsReady from bytes u → HasNew to bytes w
+  pub name : w.names to ≡ u.names from
   pub left : w.names from ≡ absent
   pub settled : IsSettled w
 

@@ -7,7 +7,7 @@ use Rattle.fp_host.specs.Outcome.{Spot, folder, IsSettled}
 use Rattle.fp_host.specs.Frame.{Keeps}
 use Rattle.fp_small.specs.Places.{repo, tmp, new_name}
 use Rattle.fp_small.specs.Folders.{ancestors, AreFree}
-use Rattle.fp_small.specs.Files.{KeepsFiles}
+use Rattle.fp_small.specs.Files.{KeepsFiles, MakesFile}
 use Rattle.fp_small.specs.Move.{IsNew, HasNew}
 
 -- the first of the names new0, new1 and so on that nothing in tmp has
@@ -36,11 +36,13 @@ pub record Replaces (p : Elements) (bytes : List ℕ) (u w : View) : Type 0 wher
   pub keeps : Keeps (ReplacesAt p bytes u) (ReplacesName p u) (IsStaging u) u w
   pub files : KeepsFiles u w
 
--- On Ok every stop leaves the new file, and all that stands; the names in tmp are as they were.
+-- On Ok every stop leaves the new file, and all that stands; the names in tmp are as they were. The file at the path is the
+-- only one that was made.
 pub record WasReplaced (p : Elements) (bytes : List ℕ) (u w : View) : Type 0 where
   pub new : HasNew p bytes w
   pub settled : IsSettled w
   pub work : (q : Elements) → IsStaging u q → w.names q ≡ absent
+  pub made : MakesFile p bytes u w
 
 -- nothing stands at the path, or a file
 abbrev pub IsFreeFile : Elements → View → Type 0

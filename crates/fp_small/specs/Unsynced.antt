@@ -1,5 +1,5 @@
 -- What was done without a sync, and the files that were made.
-use Rattle.std.specs.Prelude.{◌≡◌, ℕ, true, Option, Some, None, Contains}
+use Rattle.std.specs.Prelude.{◌≡◌, ℕ, true, Some, None, Contains}
 use Rattle.fp_host.specs.Paths.{Elements, Slot}
 use Rattle.fp_host.specs.View.{View, Inode}
 

@@ -1,5 +1,5 @@
 // Names that are taken away, with all that is below them.
-ghost use Rattle.std.specs.Prelude.{◌≡◌, OnOk, IsErrOf};
+ghost use Rattle.std.specs.Prelude.{◌≡◌, ◌-◌, length, OnOk, IsErrOf};
 ghost use Rattle.fp_host.specs.Paths.{dir};
 ghost use Rattle.fp_host.specs.Causes.{IsCaused};
 ghost use Rattle.fp_host.specs.Frame.{Frame, AtEnd, NoPath};
@@ -9,7 +9,14 @@ use fp_host::{Host, HostEnd, Path, Stat};
 use std::alloc::Global;
 
 /// No path of an installation has more elements.
-const MOST_ELEMENTS: u32 = 128;
+const MOST_ELEMENTS: usize = 128;
+
+/// How many folders below the path a path of an installation may go.
+fn levels_below(path: &Path) -> usize
+    ensures { result ≡ 128 - length path.now }
+{
+    MOST_ELEMENTS.saturating_sub(path.len())
+}
 
 /// Takes the path away, and all that is below it. Where it is absent, nothing is done. It isn't for the root, nor for paths
 /// of more than 128 elements.
@@ -18,10 +25,13 @@ pub fn clear<H: Host>(alloc: Global, host: &mut H, path: &Path) -> Result<(), Ho
         (H.moments host.old) (H.moments host.new) }
     ensures on_success { OnOk result (AtEnd (λ u w. IsCleared path.now w)
         (H.moments host.old) (H.moments host.new)) }
+    // No path below had more than 128 elements.
+    ensures reach { OnOk result (AtEnd (λ u w. CanEmpty path.now u)
+        (H.moments host.old) (H.moments host.new)) }
     ensures fault_has_cause { IsCaused (IsErrOf result HostEnd.Fault) (H.moments host.old)
         (CanClear path.now) (H.faults host.old) (H.faults host.new) }
 {
-    clear_within(alloc, host, path, MOST_ELEMENTS)
+    clear_within(alloc, host, path, levels_below(path))
 }
 
 /// Takes away all that is below the path, and leaves the path itself. Where it is no folder, nothing is done. It isn't for
@@ -31,11 +41,14 @@ pub fn clear_below<H: Host>(alloc: Global, host: &mut H, path: &Path) -> Result<
         (H.moments host.old) (H.moments host.new) }
     ensures on_success { OnOk result (AtEnd (λ u w. IsEmptied path.now w)
         (H.moments host.old) (H.moments host.new)) }
+    // No path below had more than 128 elements.
+    ensures reach { OnOk result (AtEnd (λ u w. CanEmpty path.now u)
+        (H.moments host.old) (H.moments host.new)) }
     ensures fault_has_cause { IsCaused (IsErrOf result HostEnd.Fault) (H.moments host.old)
         (CanEmpty path.now) (H.faults host.old) (H.faults host.new) }
 {
     match host.stat(path)? {
-        Stat::Dir => clear_names(alloc, host, path, MOST_ELEMENTS),
+        Stat::Dir => clear_names(alloc, host, path, levels_below(path)),
         _ => Ok(()),
     }
 }
@@ -46,11 +59,13 @@ fn clear_within<H: Host>(
     alloc: Global,
     host: &mut H,
     path: &Path,
-    depth: u32,
+    depth: usize,
 ) -> Result<(), HostEnd>
     ensures frame { Frame (GoneWithin path.now) (AbsentWithin path.now) NoPath
         (H.moments host.old) (H.moments host.new) }
     ensures on_success { OnOk result (AtEnd (λ u w. IsCleared path.now w)
+        (H.moments host.old) (H.moments host.new)) }
+    ensures reach { OnOk result (AtEnd (λ u w. Reaches path.now depth u)
         (H.moments host.old) (H.moments host.new)) }
     ensures fault_has_cause { IsCaused (IsErrOf result HostEnd.Fault) (H.moments host.old)
         (ReachesDown path.now depth) (H.faults host.old) (H.faults host.new) }
@@ -67,10 +82,17 @@ fn clear_within<H: Host>(
 
 /// Takes away what is in the folder, at most so many folders below it.
 #[cycle(clear)]
-fn clear_names<H: Host>(alloc: Global, host: &mut H, path: &Path, depth: u32) -> Result<(), HostEnd>
+fn clear_names<H: Host>(
+    alloc: Global,
+    host: &mut H,
+    path: &Path,
+    depth: usize,
+) -> Result<(), HostEnd>
     ensures frame { Frame (GoneBelow path.now) (AbsentBelow path.now) NoPath
         (H.moments host.old) (H.moments host.new) }
     ensures on_success { OnOk result (AtEnd (λ u w. IsEmptied path.now w)
+        (H.moments host.old) (H.moments host.new)) }
+    ensures reach { OnOk result (AtEnd (λ u w. Reaches path.now depth u)
         (H.moments host.old) (H.moments host.new)) }
     ensures fault_has_cause { IsCaused (IsErrOf result HostEnd.Fault) (H.moments host.old)
         (λ v. (v.names path.now ≡ dir) × Reaches path.now depth v)

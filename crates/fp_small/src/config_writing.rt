@@ -13,8 +13,7 @@ use std::alloc::{AllocError, Global};
 fn group_of(alloc: Global, name: &str, key: &str, value: &str) -> Result<Group, AllocError>
     ensures { IfOk result (λ g. g ≡ record {
       name = name.now;
-      pairs = record
-          { key = key.now; value = value.now } ∷ [];
+      pairs = record { key = key.now; value = value.now } ∷ [];
     }) }
 {
     let mut pairs = Vec::with_capacity(alloc, 1)?;
@@ -81,11 +80,9 @@ pub fn write_config(
     requires { IsSettings (record { remotes = remotes.now; pins = pins.now }) }
     ensures text { IfOk result (λ t. t ≡ config_text (record
         { remotes = remotes.now; pins = pins.now })) }
-    ensures reads_back { config_of (config_text (record {
-      remotes = remotes.now;
-      pins =
-          pins.now;
-    })) ≡ Some (record { remotes = remotes.now; pins = pins.now }) }
+    ensures reads_back { config_of (config_text (record
+        { remotes = remotes.now; pins = pins.now }))
+        ≡ Some (record { remotes = remotes.now; pins = pins.now }) }
 {
     let groups = config_groups(alloc, remotes, pins)?;
     KeyFile::from_groups(Items::from_vec(groups)).write()

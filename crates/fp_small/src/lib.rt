@@ -16,6 +16,7 @@ mod refusal;
 mod replacing;
 mod state;
 mod taking;
+mod walking;
 
 pub use above::make_above;
 pub use clearing::{clear, clear_below};
@@ -31,3 +32,4 @@ pub use refusal::Refusal;
 pub use replacing::replace;
 pub use state::{Layout, OverrideRow, Previous, RefRow, RemoteRow, State};
 pub use taking::take_away;
+pub use walking::{add_names, list_of_one, names_in, values_in_order};

@@ -7,14 +7,16 @@ ghost use Rattle.fp_host.specs.Moments.{Always};
 ghost use Rattle.fp_host.specs.Causes.{IsCaused, IsCounted};
 ghost use Rattle.fp_host.specs.Frame.{Frame, AtEnd, Unchanged, AnyAt, AnyHeld, Only, NoPath};
 ghost use Rattle.fp_small.specs.Places.{tmp, new_name};
+ghost use Rattle.fp_small.specs.Files.{SameFiles, MakesOneAtMost, MakesFile};
 ghost use Rattle.fp_small.specs.Unsynced.{MakesNoFile};
 ghost use Rattle.fp_small.specs.Folders.{ancestors, FolderAt, DirAt, FoldersAt, DirsAt, IsFree, AreFree, AreDirs, IsLadder};
 ghost use Rattle.fp_small.specs.Stage.{WasStaged, CanStage};
 ghost use Rattle.fp_small.specs.Move.{Moves, WasMoved, CanMove};
-ghost use Rattle.fp_small.specs.Naming.{IsFirstFree, ListsIn};
+ghost use Rattle.fp_small.specs.Naming.{IsFirstFree};
 ghost use Rattle.fp_small.specs.Replace.{folders_of, IsStaging, Replaces, WasReplaced, CanReplace};
 
-use fp_base::{Items, Text};
+use crate::walking::names_in;
+use fp_base::Text;
 use fp_host::{Host, HostEnd, Path, Stat};
 use std::alloc::{AllocError, Global};
 
@@ -62,6 +64,9 @@ fn stage<H: Host>(host: &mut H, path: &Path, bytes: &[u8]) -> Result<(), HostEnd
         (H.moments host.old) (H.moments host.new) }
     ensures on_success { OnOk result (AtEnd (WasStaged path.now bytes.now)
         (H.moments host.old) (H.moments host.new)) }
+    ensures made { OnOk result (AtEnd (MakesFile path.now bytes.now)
+        (H.moments host.old) (H.moments host.new)) }
+    ensures one { AtEnd MakesOneAtMost (H.moments host.old) (H.moments host.new) }
     ensures fault_has_cause { IsCaused (IsErrOf result HostEnd.Fault) (H.moments host.old)
         (CanStage path.now) (H.faults host.old) (H.faults host.new) }
     ensures needs_no_memory { IsErrOf result HostEnd.NoMemory → ⊥ }
@@ -76,6 +81,7 @@ fn move_onto<H: Host>(host: &mut H, from: &Path, to: &Path) -> Result<(), HostEn
     ensures any_moment { Always (Moves from.now to.now) (H.moments host.old) (H.moments host.new) }
     ensures on_success { OnOk result (AtEnd (WasMoved from.now to.now)
         (H.moments host.old) (H.moments host.new)) }
+    ensures files { AtEnd SameFiles (H.moments host.old) (H.moments host.new) }
     ensures fault_has_cause { IsCaused (IsErrOf result HostEnd.Fault) (H.moments host.old)
         (CanMove from.now to.now) (H.faults host.old) (H.faults host.new) }
     ensures needs_no_memory { IsErrOf result HostEnd.NoMemory → ⊥ }
@@ -112,20 +118,6 @@ fn free_name(alloc: Global, names: &[Text]) -> Result<String, AllocError>
             unreachable!();
         }
         k += 1;
-    }
-}
-
-/// The names in the folder; none where it is no folder.
-fn names_in<H: Host>(alloc: Global, host: &mut H, folder: &Path) -> Result<Items<Text>, HostEnd>
-    ensures unchanged { Unchanged (H.moments host.old) (H.moments host.new) }
-    ensures tells { IfOk result (λ names. AtEnd (λ u w. ListsIn folder.now u names)
-        (H.moments host.old) (H.moments host.new)) }
-    ensures fault_has_cause { IsCounted (IsErrOf result HostEnd.Fault)
-        (H.moments host.old) (H.faults host.old) (H.faults host.new) }
-{
-    match host.stat(folder)? {
-        Stat::Dir => Ok(host.list(alloc, folder)?),
-        _ => Ok(Items::from_vec(Vec::new(alloc))),
     }
 }
 
@@ -185,9 +177,11 @@ pub fn replace<H: Host>(
     // A stop at any moment leaves at the path what some stop before would have left, or the whole new file.
     ensures any_moment { Always (Replaces path.now bytes.now)
         (H.moments host.old) (H.moments host.new) }
-    // Behind it every stop leaves the new file.
+    // After it every stop leaves the new file, and no other file was made.
     ensures on_success { OnOk result (AtEnd (WasReplaced path.now bytes.now)
         (H.moments host.old) (H.moments host.new)) }
+    // Nor were two files made where it fails.
+    ensures one { AtEnd MakesOneAtMost (H.moments host.old) (H.moments host.new) }
     ensures fault_has_cause { IsCaused (IsErrOf result HostEnd.Fault) (H.moments host.old)
         (CanReplace path.now) (H.faults host.old) (H.faults host.new) }
     ensures starved_unchanged { IsErrOf result HostEnd.NoMemory → AtEnd (λ u w. w ≡ u)

@@ -1,6 +1,5 @@
 -- Objects without a fault.
-use Rattle.std.proofs.Common.{◌≡◌, ℕ, suc, List, [], ◌∷◌, Bool, true, false, leb, if◌then◌else◌, Option, Some, None, Result, Ok, Err, refl, sym, ◌∙◌, ap}
-use Rattle.std.specs.Prelude.{option_and_then}
+use Rattle.std.proofs.Common.{◌≡◌, ℕ, suc, List, [], ◌∷◌, Bool, true, false, leb, if◌then◌else◌, Option, Some, None, Result, Ok, Err, refl, ◌∙◌, ap}
 use Rattle.fp_base.specs.declared.object.ObjKind.TheVariants as kinds
 use Rattle.fp_base.specs.declared.object.ObjKind.{ObjKind}
 use Rattle.fp_base.specs.declared.rule.Rule.{Rule}
@@ -8,8 +7,8 @@ use Rattle.ost_model.specs.declared.object.Object.{Object}
 use Rattle.ost_model.specs.declared.object.Object.TheVariants as objects
 use Rattle.ost_model.specs.Fields.{CommitView, TreeView}
 use Rattle.ost_model.specs.Readers.{commit_read, commit_of, tree_read, tree_of, if_read, if_broken}
-use Rattle.ost_model.specs.Objects.{Have, Fault, malformed, or_else, as_malformed, kind_fault, content_fault, length_fault, mode_fault, digest_fault, rule_fault, name_fault, dir_mode_fault, object_fault}
-use Rattle.ost_model.specs.Order.{Place, read_as, tree_at, commit_at, order, place_fault, walk_fault, of_metadata, limited, found_at, first_of, first_fault, first_walk_fault}
+use Rattle.ost_model.specs.Objects.{Have, Fault, or_else, as_malformed, kind_fault, content_fault, length_fault, mode_fault, digest_fault, rule_fault, name_fault, dir_mode_fault, object_fault}
+use Rattle.ost_model.specs.Order.{Place, read_as, place_fault, walk_fault, of_metadata, found_at, first_of}
 use Rattle.ost_model.proofs.Places.{or_none, found_none}
 
 not_broken : {A : Type 0} (r : Result A Rule) → as_malformed (if_broken r) ≡ None → (a : A) × (if_read r ≡ Some a)

@@ -1,5 +1,5 @@
 -- What Look finds stands in the order, where no place has a fault.
-use Rattle.std.proofs.Common.{◌≡◌, ◌⊎◌, inl, inr, ℕ, zero, suc, ◌+◌, List, [], ◌∷◌, Bool, true, false, leb, Option, Some, None, refl, sym, ◌∙◌, ap, subst, arith}
+use Rattle.std.proofs.Common.{◌≡◌, ◌⊎◌, inl, inr, ℕ, zero, suc, ◌+◌, List, [], ◌∷◌, length, Bool, true, false, leb, Option, Some, None, refl, sym, ◌∙◌, ap, subst, arith}
 use Rattle.std.specs.Prelude.{if◌then◌else◌}
 use Rattle.std.specs.Str.{bytes_eq}
 use Rattle.std.proofs.lemmas.Bool.{false≢true}
@@ -7,10 +7,11 @@ use Rattle.fp_host.specs.Paths.{Elements}
 use Rattle.fp_base.specs.declared.object.ObjKind.TheVariants as kinds
 use Rattle.ost_model.specs.Fields.{DirRow, FileRow, CommitView, TreeView}
 use Rattle.ost_model.specs.Readers.{tree_of, commit_of}
-use Rattle.ost_model.specs.Objects.{Have}
-use Rattle.ost_model.specs.Order.{Place, In, inside, dir_places, file_place, file_places, tree_place, read_as, tree_at, commit_at, below_commit, root_row, commit_place, order, first_fault, Agree}
-use Rattle.ost_model.specs.Look.{Found, nothing, directory, file_at, find_dir, find_file, either, entry_in, next, at_root, look, Reached, FileReached}
+use Rattle.ost_model.specs.Objects.{Have, too_deep, or_else, object_fault}
+use Rattle.ost_model.specs.Order.{Place, In, inside, dir_places, file_place, file_places, tree_place, read_as, tree_at, commit_at, below_commit, root_row, commit_place, place_fault, found_at, first_of, order, first_fault, Agree}
+use Rattle.ost_model.specs.Look.{Found, nothing, directory, file_at, find_dir, find_file, either, entry_in, next, at_root, look, found_places, look_places, look_fault, Reached, FileReached}
 use Rattle.ost_model.proofs.Places.{in_left, in_right, in_each, faultless}
+use Rattle.ost_model.proofs.Pending.{first_append}
 
 head_in : (have : Have) (fuel depth : ℕ) (e : DirRow) → In (dir_places have fuel depth e) (tree_place depth e)
 head_in have zero depth e = inl refl
@@ -64,26 +65,40 @@ file_found : (x : List ℕ) (fs : List FileRow) (f : FileRow) (depth : ℕ) → 
 file_found x [] f depth is = absurd (cc is)
 file_found x (g ∷ fs) f depth is = elim (if_some (bytes_eq g.name x) g f (find_file x fs) is) [ inl h ↦ inl (ap (file_place depth) h) | inr h ↦ inr (file_found x fs f depth h) ]
 
-pub reached : (have : Have) (commit : List ℕ) → first_fault have commit ≡ None → (rest : Elements) (e : DirRow) → look have commit rest ≡ directory e → Reached have commit e
-reached have commit none [] e found = from_root have commit e (commit_at have commit) refl found
-reached have commit none (x ∷ up) e found = by_found (look have commit up) (λ d h. reached have commit none up d h) found
+-- as deep as its path is long
+pub reached_at : (have : Have) (commit : List ℕ) → first_fault have commit ≡ None → (rest : Elements) (e : DirRow) → look have commit rest ≡ directory e
+    → (r : Reached have commit e) × (r.depth ≡ length rest)
+unfolding from_root
+reached_at have commit none [] e found = (from_root have commit e (commit_at have commit) refl found, at_zero (commit_at have commit) refl found)
   where
-    by_view : (r : DirRow) → Reached have commit r → (v : Option TreeView) → tree_at have r.tree ≡ v → entry_in x v ≡ directory e → Reached have commit e
+    at_zero : (c : Option CommitView) (is : commit_at have commit ≡ c) (h : at_root c ≡ directory e) → (from_root have commit e c is h).depth ≡ 0
+    at_zero None is h = absurd (cc h)
+    at_zero (Some c) is h = refl
+reached_at have commit none (x ∷ up) e found = by_found (look have commit up) (λ d h. reached_at have commit none up d h) found
+  where
+    by_view : (r : DirRow) → (s : Reached have commit r) × (s.depth ≡ length up) → (v : Option TreeView) → tree_at have r.tree ≡ v → entry_in x v ≡ directory e
+        → (s : Reached have commit e) × (s.depth ≡ length (x ∷ up))
     by_view d r None is h = absurd (cc h)
     by_view d r (Some v) is h =
         let in_dirs = dir_found x v.dirs e (either_dir (find_dir x v.dirs) (find_file x v.files) e h) in
-        let n = entered none r v is in
-        record {
-          fuel = n.0;
-          depth = suc r.depth;
-          sum = omega (arith, n.1);
-          sub = λ p k. n.2 p (in_right (file_places r.depth v.files) _ p (in_each (dir_places have n.0 (suc r.depth)) v.dirs e p in_dirs k));
-        }
+        let n = entered none r.0 v is in (
+          record {
+            fuel = n.0;
+            depth = suc r.0.depth;
+            sum = omega (arith, n.1);
+            sub = λ p k. n.2 p (in_right (file_places r.0.depth v.files) _ p (in_each (dir_places have n.0 (suc r.0.depth)) v.dirs e p in_dirs k));
+          },
+          ap suc r.1,
+        )
 
-    by_found : (f : Found) → ((d : DirRow) → f ≡ directory d → Reached have commit d) → next have x f ≡ directory e → Reached have commit e
+    by_found : (f : Found) → ((d : DirRow) → f ≡ directory d → (s : Reached have commit d) × (s.depth ≡ length up)) → next have x f ≡ directory e
+        → (s : Reached have commit e) × (s.depth ≡ length (x ∷ up))
     by_found nothing above h = absurd (cc h)
     by_found (file_at d) above h = absurd (cc h)
     by_found (directory d) above h = by_view d (above d refl) (tree_at have d.tree) refl h
+
+pub reached : (have : Have) (commit : List ℕ) → first_fault have commit ≡ None → (rest : Elements) (e : DirRow) → look have commit rest ≡ directory e → Reached have commit e
+reached have commit none rest e found = (reached_at have commit none rest e found).0
 
 -- a file that Look finds stands in the order
 pub file_reached : (have : Have) (commit : List ℕ) → first_fault have commit ≡ None → (rest : Elements) (digest : List ℕ) → look have commit rest ≡ file_at digest
@@ -122,3 +137,31 @@ pub look_same : (i j : Have) (commit : List ℕ) → first_fault i commit ≡ No
 look_same i j commit none agree [] = ap (λ t. at_root (read_as commit_of t)) (agree (commit_place commit) (inl refl))
 look_same i j commit none agree (x ∷ up) = ap (next j x) (look_same i j commit none agree up)
     ∙ next_same i j x (look i commit up) (λ e h. let r = reached i commit none up e h in agree (tree_place r.depth e) (tree_reached r))
+
+-- ---- the first fault on a path
+
+module _ (have : Have) (commit : List ℕ) (none : first_fault have commit ≡ None) where
+  -- a place of the order has no fault, whatever its number
+  faultless_at : (p : Place) → In (order have commit) p → place_fault have 0 p ≡ None
+  faultless_at p within =
+      let good = faultless have 0 (order have commit) none p within in
+      ap (λ b. if b then Some too_deep else object_fault p.digest p.kind (have p.digest p.kind)) good.0 ∙ good.1
+
+  no_fault_in : (n depth : ℕ) (f : Found) → ((e : DirRow) → f ≡ directory e → In (order have commit) (tree_place depth e)) → first_of (λ k. place_fault have 0) n (found_places depth f) ≡ None
+  no_fault_in n depth nothing within = refl
+  no_fault_in n depth (file_at d) within = refl
+  no_fault_in n depth (directory e) within = ap (λ f. or_else (found_at (tree_place depth e) f) None) (faultless_at (tree_place depth e) (within e refl))
+
+  found_within : (rest : Elements) (e : DirRow) → look have commit rest ≡ directory e → In (order have commit) (tree_place (length rest) e)
+  found_within rest e found =
+      let r = reached_at have commit none rest e found in
+      subst (λ k. In (order have commit) (tree_place k e)) r.1 (tree_reached r.0)
+
+  pub no_fault_on_path : (path : Elements) → look_fault have commit path ≡ None
+  no_fault_on_path [] =
+      ap (λ f. or_else (found_at (commit_place commit) f) (first_of (λ k. place_fault have 0) 1 (found_places 0 (look have commit [])))) (faultless_at (commit_place commit) (inl refl))
+      ∙ no_fault_in 1 0 (look have commit []) (found_within [])
+  no_fault_on_path (x ∷ up) =
+      first_append (λ k. place_fault have 0) 0 (look_places have commit up) (found_places (length (x ∷ up)) (look have commit (x ∷ up)))
+      ∙ ap (λ f. or_else f (first_of (λ k. place_fault have 0) (0 + length (look_places have commit up)) (found_places (length (x ∷ up)) (look have commit (x ∷ up))))) (no_fault_on_path up)
+      ∙ no_fault_in (0 + length (look_places have commit up)) (length (x ∷ up)) (look have commit (x ∷ up)) (found_within (x ∷ up))

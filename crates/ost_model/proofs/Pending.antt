@@ -2,7 +2,7 @@
 use Rattle.std.proofs.Common.{◌≡◌, ◌≤◌, ◌-◌, ℕ, zero, suc, ◌+◌, List, [], ◌∷◌, ◌++◌, Option, Some, None, refl, sym, ◌∙◌, ap, append_assoc, append-nil, length, arith}
 use Rattle.ost_model.specs.Fields.{DirRow, TreeView}
 use Rattle.ost_model.specs.Objects.{Have, Fault, or_else}
-use Rattle.ost_model.specs.Order.{Place, each_in, inside, dir_places, file_places, tree_place, meta_place, tree_at, order, first_of, found_at}
+use Rattle.ost_model.specs.Order.{Place, each_in, inside, dir_places, tree_at, order, first_of, found_at}
 use Rattle.ost_model.specs.Walk.{Open, open_row, open_at, open_places, pending, opened, heads, own_places, Walked}
 
 -- ---- the places of directories

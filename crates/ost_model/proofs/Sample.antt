@@ -9,8 +9,7 @@ use Rattle.sha2.specs.Sha256.{sha256, digest_bytes, hash_after, compress, rounds
 use Rattle.ost_model.specs.declared.object.Object.{Object}
 use Rattle.ost_model.specs.declared.object.Object.TheVariants as objects
 use Rattle.ost_model.specs.Contents.{meta_digest, file_digest, header}
-use Rattle.ost_model.specs.Fields.{DirRow}
-use Rattle.ost_model.specs.Objects.{Have, missing, corrupt, refused_mode}
+use Rattle.ost_model.specs.Objects.{Have, missing}
 use Rattle.ost_model.specs.Order.{Place, order, first_fault, first_walk_fault}
 use Rattle.ost_model.specs.Look.{nothing, directory, file_at, look, look_places, look_fault}
 

@@ -8,7 +8,7 @@ use Rattle.fp_base.specs.declared.object.ObjKind.TheVariants as kinds
 use Rattle.ost_model.specs.Fields.{DirRow, TreeView, CommitView}
 use Rattle.ost_model.specs.Objects.{Have, Fault, Named, object_path, object_fault, or_else}
 use Rattle.ost_model.specs.Order.{Place, Agree, order, first_fault, first_walk_fault, first_of, tree_at, commit_at}
-use Rattle.ost_model.specs.Look.{look, directory, file_at, Reached, FileReached}
+use Rattle.ost_model.specs.Look.{look, look_fault, directory, file_at, Reached, FileReached}
 use Rattle.ost_model.specs.Standing.{Stands, SameBelow, SameObjects}
 use Rattle.ost_model.specs.Stores.{objects_folder, IsStore, SameStore, KeepsStore}
 use Rattle.ost_model.specs.Walk.{Open, open_places, pending, opened, heads, own_places, Walked}
@@ -35,6 +35,10 @@ DirsAreReached = (have : Have) (commit : List ℕ) → first_fault have commit �
 abbrev pub FilesAreReached : Type 0
 FilesAreReached = (have : Have) (commit : List ℕ) → first_fault have commit ≡ None
     → (rest : Elements) (digest : List ℕ) → look have commit rest ≡ file_at digest → FileReached have commit digest
+
+-- and what is read on a path of a commit without a fault has none
+abbrev pub PathsHaveNoFault : Type 0
+PathsHaveNoFault = (have : Have) (commit : List ℕ) → first_fault have commit ≡ None → (path : Elements) → look_fault have commit path ≡ None
 
 -- a commit that stands in a folder goes on standing where its paths and the objects of its order stay
 abbrev pub StandingIsLocal : Type 0

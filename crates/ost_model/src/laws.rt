@@ -1,5 +1,5 @@
 //! Laws of stores and commits. Each is the contract of a function that does nothing.
-ghost use Rattle.ost_model.specs.Laws.{OrderIsLocal, FaultIsLocal, LookIsLocal, DirsAreReached, FilesAreReached, StandingIsLocal, StoreIsLocal, StoreGoesOn, NothingIsAStore, ObjectsAreNamed, ObjectsAreNoFolders, NamesAreApart, GoodTreesAreRead, GoodCommitsAreRead, WalkFaultsAreFaults, FirstOfTwo, OpensWithHeads, OpensAsRead, WalkGoesOn, WalkEnds, WalkFindsTheFirst};
+ghost use Rattle.ost_model.specs.Laws.{OrderIsLocal, FaultIsLocal, LookIsLocal, DirsAreReached, FilesAreReached, PathsHaveNoFault, StandingIsLocal, StoreIsLocal, StoreGoesOn, NothingIsAStore, ObjectsAreNamed, ObjectsAreNoFolders, NamesAreApart, GoodTreesAreRead, GoodCommitsAreRead, WalkFaultsAreFaults, FirstOfTwo, OpensWithHeads, OpensAsRead, WalkGoesOn, WalkEnds, WalkFindsTheFirst};
 
 /// The order of a commit and its first fault depend on the objects of that order alone, and so does what is found in the
 /// commit, where it has no fault.
@@ -9,10 +9,11 @@ pub fn orders_depend_on_their_objects()
     ensures look { LookIsLocal }
 {}
 
-/// What is found in a commit without a fault stands in its order.
+/// What is found in a commit without a fault stands in its order, and what is read on the way has no fault either.
 pub fn what_is_found_is_reached()
     ensures dirs { DirsAreReached }
     ensures files { FilesAreReached }
+    ensures paths { PathsHaveNoFault }
 {}
 
 /// A commit that stands in a folder goes on standing where its paths and its objects stay.

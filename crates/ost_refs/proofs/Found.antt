@@ -20,8 +20,9 @@ use Rattle.fp_host.specs.View.{View, IsTree}
 use Rattle.fp_host.specs.Calls.{IsFile}
 use Rattle.fp_host.specs.Reads.{comes_first, is_ascending}
 use Rattle.ost_refs.specs.Places.{heads, remotes, place_path, is_place}
-use Rattle.ost_refs.specs.Walks.{IsLevel, AreLevel}
-use Rattle.ost_refs.specs.Found.{place_named, ArePaths, IsTextOf, Puts, Adds, AreFound, Finds}
+use Rattle.fp_small.specs.Walks.{IsLevel, IsTextOf}
+use Rattle.ost_refs.specs.Walks.{AreLevel}
+use Rattle.ost_refs.specs.Found.{place_named, ArePaths, Puts, Adds, AreFound, Finds}
 use Rattle.ost_refs.specs.Lists.{texts_of, ListsRefs}
 use Rattle.ost_refs.specs.declared.place.RefPlace.{RefPlace}
 use Rattle.ost_refs.proofs.Places.{place_same}

@@ -5,7 +5,8 @@ use Rattle.std.proofs.lemmas.List.Elements.{Contains-append_left, Contains-appen
 use Rattle.fp_host.specs.Paths.{Elements}
 use Rattle.fp_host.specs.View.{View}
 use Rattle.fp_small.specs.Naming.{ListsIn}
-use Rattle.ost_refs.specs.Walks.{IsBelow, AreBelow, IsLevel, AreLevel}
+use Rattle.fp_small.specs.Walks.{IsBelow, IsLevel}
+use Rattle.ost_refs.specs.Walks.{AreBelow, AreLevel}
 
 -- ---- what lists have
 

@@ -13,7 +13,7 @@ use Rattle.fp_name.specs.declared.kind.RefKind.{RefKind}
 use Rattle.fp_name.specs.declared.kind.RefKind.TheVariants.{App, Runtime}
 use Rattle.fp_name.proofs.Refs.{parts_are}
 use Rattle.ost_refs.specs.Places.{heads, remotes, ref_below, place_path, is_place}
-use Rattle.ost_refs.specs.Walks.{IsLevel}
+use Rattle.fp_small.specs.Walks.{IsLevel}
 use Rattle.ost_refs.specs.Found.{ref_named, remote_named, place_named}
 use Rattle.ost_refs.specs.declared.place.RefPlace.{RefPlace}
 use Rattle.ost_refs.specs.declared.place.RefPlace.TheVariants.{Head, Remote}

@@ -5,13 +5,13 @@ use Rattle.std.specs.Str.{bytes_eq}
 use Rattle.std.specs.String.{string_cmp}
 use Rattle.std.specs.BTreeMap.{insert_entry}
 use Rattle.std.specs.Map.{values_of}
-use Rattle.fp_host.specs.Paths.{Elements, path_text, elements_of}
+use Rattle.fp_host.specs.Paths.{Elements}
 use Rattle.fp_host.specs.View.{View}
 use Rattle.fp_host.specs.Calls.{IsFile}
 use Rattle.fp_name.specs.Grammar.{is_remote_name}
 use Rattle.fp_name.specs.Refs.{Ref, of_parts, if_ref}
 use Rattle.ost_refs.specs.Places.{heads, remotes, place_path, is_place}
-use Rattle.ost_refs.specs.Walks.{IsLevel}
+use Rattle.fp_small.specs.Walks.{IsLevel, IsTextOf}
 use Rattle.ost_refs.specs.declared.place.RefPlace.{RefPlace}
 use Rattle.ost_refs.specs.declared.place.RefPlace.TheVariants.{Head, Remote}
 
@@ -31,11 +31,6 @@ place_named _ = None
 -- the paths at which refs may stand: four names below refs/heads, or five below refs/remotes
 pub record ArePaths (root : Elements) (v : View) (paths : List Elements) : Type 0 where
   pub each : (q : Elements) → Contains paths q ↔ (IsLevel 4 (heads root) v q ⊎ IsLevel 5 (remotes root) v q)
-
--- the text is that of the path, and is read as it
-pub record IsTextOf (text : List ℕ) (q : Elements) : Type 0 where
-  pub is : text ≡ path_text q
-  pub back : elements_of text ≡ q
 
 -- the place is put among the others, by the text of its path
 abbrev pub Puts : {Z : Type 0} → Elements → Option RefPlace → List (String Z × RefPlace) → List (String Z × RefPlace) → Type 0

@@ -1,7 +1,5 @@
 // The refs of a store in a list.
-ghost use Rattle.std.specs.Prelude.{◌≡◌, IfOk, OnOk, IsErrOf};
-ghost use Rattle.std.specs.String.{string_cmp};
-ghost use Rattle.std.specs.BTreeMap.{IsOrdered, values};
+ghost use Rattle.std.specs.Prelude.{IfOk, OnOk, IsErrOf};
 ghost use Rattle.fp_host.specs.Causes.{IsCounted};
 ghost use Rattle.fp_host.specs.Frame.{AtEnd, Unchanged};
 ghost use Rattle.ost_refs.specs.Lists.{ListsRefs};
@@ -12,6 +10,7 @@ use crate::place::RefPlace;
 use crate::walking::paths_below;
 use fp_base::Items;
 use fp_host::{Host, HostEnd, Path, Stat};
+use fp_small::values_in_order;
 use std::alloc::{AllocError, Global};
 use std::collections::BTreeMap;
 
@@ -36,7 +35,7 @@ pub fn list_refs<H: Host>(
 {
     let paths = paths_of(alloc, host, root)?;
     let found = places_among(alloc, host, &paths)?;
-    Ok(Items::from_vec(in_order(alloc, found)?))
+    Ok(Items::from_vec(values_in_order(alloc, found)?))
 }
 
 /// The paths at which refs may stand.
@@ -109,19 +108,4 @@ fn put_place(
     let text = String::from_str(alloc, path.text())?;
     found.insert(text, place)?;
     Ok(())
-}
-
-/// The places in the order of the texts.
-fn in_order(
-    alloc: Global,
-    mut found: BTreeMap<String, RefPlace>,
-) -> Result<Vec<RefPlace>, AllocError>
-    ensures places { IfOk result (λ places. places.items ≡ values found) }
-    ensures ordered { IsOrdered string_cmp found }
-{
-    let mut places = Vec::with_capacity(alloc, found.len())?;
-    while let Some((_, place)) = found.pop_first() {
-        places.push(place)?;
-    }
-    Ok(places)
 }

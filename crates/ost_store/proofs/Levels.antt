@@ -12,16 +12,11 @@ use Rattle.fp_small.specs.Clear.{IsWithin, Reaches}
 use Rattle.fp_small.proofs.Emptying.{emptied_no_dir}
 use Rattle.ost_model.specs.Stores.{objects_folder}
 use Rattle.ost_store.specs.Names.{CanList}
-use Rattle.ost_store.specs.Walks.{IsBelow, Visits, VisitsAll, AreLeavesWithin, AreLeavesBelow}
+use Rattle.fp_small.specs.Walks.{IsBelow, IsLevel}
+use Rattle.ost_store.specs.Walks.{Visits, VisitsAll, AreLeavesWithin, AreLeavesBelow}
 use Rattle.ost_store.proofs.Lists.{in_none, in_one, in_cases, in_first, in_map, from_map}
 
 -- ---- a walk, level by level
-
--- the path is so many elements longer than that of the folder, and something stands at it and at those between
-abbrev pub IsLevel : ℕ → Elements → View → Elements → Type 0
-IsLevel zero folder v q = q ≡ folder
-IsLevel (suc n) folder v [] = ⊥
-IsLevel (suc n) folder v (x ∷ up) = IsLevel n folder v up × (v.names (x ∷ up) ≢ absent)
 
 -- the walk is at the level n: the files and links of those above are found
 pub record IsAtLevel (n : ℕ) (folder : Elements) (v : View) (level found : List Elements) : Type 0 where

@@ -1,5 +1,5 @@
 -- The object that a path is that of.
-use Rattle.std.proofs.Common.{◌≡◌, ◌≢◌, ◌≤◌, ◌<◌, ℕ, List, [], ◌∷◌, ◌++◌, length, take, drop, codes, get_or, true, false, Option, Some, None, refl, sym, ◌∙◌, ap, subst, arith}
+use Rattle.std.proofs.Common.{◌≡◌, ◌≢◌, ◌<◌, ℕ, List, [], ◌∷◌, ◌++◌, length, take, drop, codes, get_or, true, false, Option, Some, None, refl, sym, ◌∙◌, ap, arith}
 use Rattle.std.proofs.lemmas.List.{drop_at, take-append-drop, drop_all}
 use Rattle.std.proofs.lemmas.Bool.{false≢true}
 use Rattle.fp_name.specs.Hex.{is_digest, hex, unhex}

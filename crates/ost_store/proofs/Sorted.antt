@@ -19,7 +19,8 @@ use Rattle.fp_host.specs.View.{View}
 use Rattle.fp_host.specs.Reads.{comes_first, is_ascending}
 use Rattle.ost_model.specs.Stores.{objects_folder}
 use Rattle.ost_store.specs.Names.{ListsNames}
-use Rattle.ost_store.specs.Walks.{IsTextOf, AreKeyed, AreLeavesBelow}
+use Rattle.fp_small.specs.Walks.{IsTextOf}
+use Rattle.ost_store.specs.Walks.{AreKeyed, AreLeavesBelow}
 use Rattle.ost_store.proofs.Lists.{in_none, in_cases, in_first, in_rest}
 
 -- the text is that of the path

@@ -1,24 +1,23 @@
 -- Names that stay as they are.
-use Rattle.std.proofs.Common.{◌≡◌, ◌≢◌, ◌⊎◌, inl, inr, ℕ, List, [], ◌∷◌, ◌++◌, length, true, Option, Some, None, refl, sym, ◌∙◌, ap, subst, Contains, arith, codes, take, drop}
-use Rattle.fp_host.specs.Paths.{Elements, Slot, absent, dir, file, link, at, IsAbove}
+use Rattle.std.proofs.Common.{◌≡◌, ◌≢◌, inl, inr, ℕ, List, true, Option, Some, None, refl, sym, ◌∙◌, ap, subst, arith}
+use Rattle.fp_host.specs.Paths.{Elements, Slot, absent, dir, file, link}
 use Rattle.fp_host.specs.View.{View, Inode, IsTree}
 use Rattle.fp_host.specs.Calls.{IsLeaf, IsDirty}
-use Rattle.fp_host.specs.Outcome.{Spot, Nothing, holding, spot_of, shows}
+use Rattle.fp_host.specs.Outcome.{Nothing, holding, spot_of, shows}
 use Rattle.fp_host.specs.Frame.{Keeps, NoPath, Only}
 use Rattle.fp_host.proofs.Settled.{at_tree}
 use Rattle.fp_small.specs.Clear.{IsWithin, GoneAt, AbsentAt}
-use Rattle.fp_small.specs.Folders.{ancestors}
 use Rattle.fp_small.specs.Unsynced.{Unsynced}
 use Rattle.fp_small.proofs.Keeping.{files_kept}
 use Rattle.fp_small.proofs.Emptying.{above_longer}
 use Rattle.fp_small.proofs.Replacement.{ancestors_above}
-use Rattle.fp_name.specs.Hex.{is_digest, hex}
+use Rattle.fp_name.specs.Hex.{is_digest}
 use Rattle.fp_base.specs.declared.object.ObjKind.{ObjKind}
 use Rattle.ost_model.specs.declared.object.Object.{Object}
 use Rattle.ost_model.specs.declared.object.Object.TheVariants as objects
-use Rattle.ost_model.specs.Objects.{kind_text, object_path, object_at, store, Named}
+use Rattle.ost_model.specs.Objects.{object_path, object_at, store, Named}
 use Rattle.ost_model.proofs.Stores.{one_name}
-use Rattle.ost_store.specs.Stage.{Stages, NoName, IsOpen, IsFileOf, IsStaged, IsHeld}
+use Rattle.ost_store.specs.Stage.{Stages, NoName, IsOpen, IsStaged, IsHeld}
 use Rattle.ost_store.specs.Stays.{Stays}
 use Rattle.ost_store.specs.Place.{Places, WasPlaced, IsReadyAs}
 

@@ -1,16 +1,12 @@
 -- What is found below a folder, level by level, and put in the order of its texts.
-use Rattle.std.specs.Prelude.{◌≡◌, ◌≢◌, ◌⊎◌, ◌↔◌, ℕ, List, [], ◌∷◌, Contains, String, string_bytes}
+use Rattle.std.specs.Prelude.{◌≡◌, ◌⊎◌, ◌↔◌, List, [], ◌∷◌, Contains, String, string_bytes}
 use Rattle.std.specs.List.{AllByRecursion}
 use Rattle.std.specs.Map.{values_of}
-use Rattle.fp_host.specs.Paths.{Elements, absent, path_text, elements_of, IsAbove}
+use Rattle.fp_host.specs.Paths.{Elements, IsAbove}
 use Rattle.fp_host.specs.View.{View}
 use Rattle.fp_host.specs.Calls.{IsLeaf}
 use Rattle.fp_small.specs.Clear.{IsWithin}
-
--- something stands at the path, directly in one of the folders
-abbrev pub IsBelow : List Elements → View → Elements → Type 0
-IsBelow folders v [] = ⊥
-IsBelow folders v (x ∷ up) = Contains folders up × (v.names (x ∷ up) ≢ absent)
+use Rattle.fp_small.specs.Walks.{IsBelow, IsTextOf}
 
 -- One path was looked at: a file or link is found, and what is in a folder comes next.
 pub record Visits (p : Elements) (v : View) (found next found' next' : List Elements) : Type 0 where
@@ -29,11 +25,6 @@ pub record AreLeavesWithin (folder : Elements) (v : View) (found : List Elements
 -- those below
 pub record AreLeavesBelow (folder : Elements) (v : View) (found : List Elements) : Type 0 where
   pub each : (q : Elements) → Contains found q ↔ (IsAbove folder q × IsLeaf (v.names q))
-
--- the text is that of the path, and is read as it
-pub record IsTextOf (text : List ℕ) (q : Elements) : Type 0 where
-  pub is : text ≡ path_text q
-  pub back : elements_of text ≡ q
 
 -- the paths, by their texts
 pub record AreKeyed {Z : Type 0} (paths : List Elements) (es : List (String Z × Elements)) : Type 0 where

@@ -1,7 +1,5 @@
 // The names of a store in a list.
-ghost use Rattle.std.specs.Prelude.{◌≡◌, IfOk, IsErrOf};
-ghost use Rattle.std.specs.String.{string_cmp};
-ghost use Rattle.std.specs.BTreeMap.{IsOrdered, values};
+ghost use Rattle.std.specs.Prelude.{IfOk, IsErrOf};
 ghost use Rattle.fp_host.specs.Causes.{IsCaused};
 ghost use Rattle.fp_host.specs.Frame.{AtEnd, Unchanged};
 ghost use Rattle.fp_small.specs.Clear.{Reaches};
@@ -12,6 +10,7 @@ ghost use Rattle.ost_store.specs.Walks.{AreKeyed};
 use crate::walking::leaves_below;
 use fp_base::Items;
 use fp_host::{Host, HostEnd, Path};
+use fp_small::values_in_order;
 use std::alloc::{AllocError, Global};
 use std::collections::BTreeMap;
 
@@ -30,7 +29,7 @@ pub fn names<H: Host>(alloc: Global, host: &mut H, root: &Path) -> Result<Items<
     let objects = root.child("objects")?;
     let found = leaves_below(alloc, host, objects)?;
     let keyed = by_text(alloc, found)?;
-    Ok(Items::from_vec(in_order(alloc, keyed)?))
+    Ok(Items::from_vec(values_in_order(alloc, keyed)?))
 }
 
 /// The paths by their texts.
@@ -43,16 +42,4 @@ fn by_text(alloc: Global, paths: Vec<Path>) -> Result<BTreeMap<String, Path>, Al
         keyed.insert(text, path)?;
     }
     Ok(keyed)
-}
-
-/// The paths in the order of the texts.
-fn in_order(alloc: Global, mut keyed: BTreeMap<String, Path>) -> Result<Vec<Path>, AllocError>
-    ensures paths { IfOk result (λ paths. paths.items ≡ values keyed) }
-    ensures ordered { IsOrdered string_cmp keyed }
-{
-    let mut paths = Vec::with_capacity(alloc, keyed.len())?;
-    while let Some((_, path)) = keyed.pop_first() {
-        paths.push(path)?;
-    }
-    Ok(paths)
 }

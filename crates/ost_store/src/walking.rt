@@ -1,14 +1,12 @@
 // The files and links below a folder.
-ghost use Rattle.std.specs.Prelude.{◌≡◌, ◌++◌, ◌∷◌, [], true, map, IfOk, OnOk, IsErrOf};
-ghost use Rattle.std.specs.List.{list_all};
-ghost use Rattle.fp_host.specs.Paths.{is_element};
+ghost use Rattle.std.specs.Prelude.{◌≡◌, ◌++◌, ◌∷◌, [], IfOk, OnOk, IsErrOf};
 ghost use Rattle.fp_host.specs.Causes.{IsCaused, IsCounted};
 ghost use Rattle.fp_host.specs.Frame.{AtEnd, Unchanged};
 ghost use Rattle.fp_small.specs.Clear.{Reaches};
 ghost use Rattle.ost_store.specs.Walks.{Visits, VisitsAll, AreLeavesWithin, AreLeavesBelow};
 
-use fp_base::Text;
 use fp_host::{Host, HostEnd, Path, Stat};
+use fp_small::{add_names, list_of_one};
 use std::alloc::{AllocError, Global};
 
 /// How many levels of paths are looked at: no path below has more elements.
@@ -19,18 +17,6 @@ fn add_path(path: &Path, paths: &mut Vec<Path>) -> Result<(), AllocError>
     ensures { OnOk result (paths.new.items ≡ paths.old.items ++ path.now ∷ []) }
 {
     paths.push(path.copy()?)?;
-    Ok(())
-}
-
-/// Adds the paths of these names in the folder.
-fn add_names(folder: &Path, names: &[Text], paths: &mut Vec<Path>) -> Result<(), AllocError>
-    requires { list_all is_element names.now ≡ true }
-    ensures { OnOk result (paths.new.items ≡ paths.old.items ++ map (λ x. x ∷ folder.now)
-        names.now) }
-{
-    for name in names {
-        paths.push(folder.child(name.as_str())?)?;
-    }
     Ok(())
 }
 
@@ -79,15 +65,6 @@ fn visit_all<H: Host>(
     Ok(next)
 }
 
-/// A list of this path.
-fn alone(alloc: Global, path: Path) -> Result<Vec<Path>, AllocError>
-    ensures { IfOk result (λ paths. paths.items ≡ path ∷ []) }
-{
-    let mut paths = Vec::new(alloc);
-    paths.push(path)?;
-    Ok(paths)
-}
-
 /// The files and links at the path and below. It isn't for what is 128 folders deep.
 fn leaves_within<H: Host>(alloc: Global, host: &mut H, folder: Path) -> Result<Vec<Path>, HostEnd>
     ensures unchanged { Unchanged (H.moments host.old) (H.moments host.new) }
@@ -99,7 +76,7 @@ fn leaves_within<H: Host>(alloc: Global, host: &mut H, folder: Path) -> Result<V
         (Reaches folder 127) (H.faults host.old) (H.faults host.new) }
 {
     let mut found = Vec::new(alloc);
-    let mut level = alone(alloc, folder)?;
+    let mut level = list_of_one(alloc, folder)?;
     for _depth in 0..MOST_ELEMENTS {
         level = visit_all(alloc, host, &level, &mut found)?;
     }

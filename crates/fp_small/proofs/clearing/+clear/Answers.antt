@@ -1,7 +1,7 @@
 use Rattle.std.proofs.Common.{◌≡◌, ◌≢◌, ◌⊎◌, ◌∙◌, ◌-◌, ◌∷◌, [], inl, inr, ℕ, List, Ok, refl, sym, ap, subst, arith}
 use Rattle.std.proofs.lemmas.List.{take_all}
 use Rattle.fp_host.specs.Paths.{dir, absent, IsAbove}
-use Rattle.fp_host.specs.View.{View}
+use Rattle.fp_host.specs.View.{View, IsTree}
 use Rattle.fp_host.specs.Calls.{Can, removes_dir}
 use Rattle.fp_host.specs.Frame.{NoPath}
 use Rattle.fp_host.specs.Reads.{StatOf}
@@ -11,7 +11,7 @@ use Rattle.fp_host.proofs.Ending.{ends_call, ends_on, ends_to, ends_both, ends_f
 use Rattle.fp_small.specs.Naming.{ListsIn}
 use Rattle.fp_small.specs.Clear.{GoneBelow, AbsentBelow, IsCleared, Reaches, ReachesDown}
 use Rattle.fp_small.proofs.Making.{stat_dir, stat_absent, lists_of}
-use Rattle.fp_small.proofs.Emptying.{within_child, AreCleared, none_yet, one_cleared, within_reach, reaches_child, none_left, cleared_absent, unlinked, dir_removed, can_remove}
+use Rattle.fp_small.proofs.Emptying.{within_child, AreCleared, none_yet, one_cleared, within_reach, reaches_child, reaches_no_dir, leaf_no_dir, AreReached, none_reached, one_reached, all_reached, none_left, cleared_absent, unlinked, dir_removed, can_remove}
 use Rattle.fp_small.proofs.clearing.+clear.Goals as goal
 
 pub clear_names-returns-in_err-names-clause-frame : goal.clear_names-returns-in_err-names-clause-frame
@@ -23,6 +23,7 @@ clear_names-loop-name-init g t c =
     record {
       frame = frame_list c.list.ensures.step (frame_start (tree c.args.host.now)) (tree c.args.host.now);
       tells = ends_to (ends_call (tree c.args.host.now) c.in_ok-names.ensures.step) (λ u w s. (subst (ListsIn c.args.path.now u) (sym c.as_slice-name-items.ensures) (lists_of refl s), none_yet c.args.path.now w));
+      reached = ends_in_tree (tree c.list.new.self) (ends_call (tree c.args.host.now) c.in_ok-names.ensures.step) (λ u w is s. (subst IsTree s.same is, none_reached c.args.path.now c.args.depth s.same));
       later = c.list.ensures.fault_has_cause.later;
     }
 
@@ -63,6 +64,12 @@ clear_names-loop-name-preserved g t c =
             (subst (λ r. (x : List (List ℕ)) → (w.names x ≡ v.names x) ⊎ (((x ≡ r) ⊎ IsAbove r x) × (w.names x ≡ absent))) child s.0.names)
             (subst (λ r. IsCleared r w) child s.1),
       ));
+      reached = ends_on (ends_both cleared c.in_ok-clear_within.ensures.reach) c.loop-name.invariant.reached (tree c.loop-name.host) (λ u v w is q s. (
+        q.0,
+        one_reached p c.args.depth c.as_slice-name-items.result.now c.loop-name.name-index c.name-item.result c.loop-name-test.true c.name-item.is c.if-depth-eq0.false q.1
+            (subst (λ r. Reaches r (c.args.depth - 1) v) child s.1)
+            (subst (λ r. (x : List (List ℕ)) → (w.names x ≡ v.names x) ⊎ (((x ≡ r) ⊎ IsAbove r x) × (w.names x ≡ absent))) child s.0.0.names),
+      ));
       later = omega (arith, c.loop-name.invariant.later, c.clear_within.ensures.fault_has_cause.later);
     }
 
@@ -73,6 +80,14 @@ clear_names-returns-clause-on_success g t c =
     let items = c.as_slice-name-items.result.now in
     ends_in_tree (tree c.loop-name.host) (ends_both (ends_frame (tree c.args.host.now) c.loop-name.invariant.frame) c.loop-name.invariant.tells)
     (λ u w is q. none_left is q.1.0 (subst (λ (l : List (List ℕ)). AreCleared p l w) (take_all c.loop-name.name-index items c.loop-name-test.false) q.1.1) q.0.names)
+
+pub clear_names-returns-clause-reach : goal.clear_names-returns-clause-reach
+clear_names-returns-clause-reach g t c =
+    let tree = g.met.H.Host.is_tree in
+    let p = c.args.path.now in
+    let items = c.as_slice-name-items.result.now in
+    ends_to (ends_both c.loop-name.invariant.tells c.loop-name.invariant.reached)
+    (λ u w q. all_reached q.1.0 q.0.0 (subst (λ (l : List (List ℕ)). AreReached p c.args.depth l u w) (take_all c.loop-name.name-index items c.loop-name-test.false) q.1.1))
 
 pub clear_within-returns-in_err-stat-clause-frame : goal.clear_within-returns-in_err-stat-clause-frame
 clear_within-returns-in_err-stat-clause-frame g t c = let tree = g.met.H.Host.is_tree in frame_stat c.stat.ensures.step (frame_start (tree c.args.host.now)) (tree c.args.host.now)
@@ -112,6 +127,25 @@ clear_within-returns-in-Absent-clause-on_success g t c =
     let tree = g.met.H.Host.is_tree in
     let p = c.args.path.now in
     ends_in_tree (tree c.stat.new.self) (ends_call (tree c.args.host.now) c.in_ok-stat.ensures.step) (λ u w is s. cleared_absent is (ap (λ (x : View). x.names p) s.same ∙ stat_absent (subst (λ r. StatOf p (Ok r) u w) c.in-Absent.is s)))
+
+pub clear_within-returns-in-Absent-clause-reach : goal.clear_within-returns-in-Absent-clause-reach
+clear_within-returns-in-Absent-clause-reach g t c =
+    let tree = g.met.H.Host.is_tree in
+    let p = c.args.path.now in
+    ends_in_tree (tree c.stat.new.self) (ends_call (tree c.args.host.now) c.in_ok-stat.ensures.step) (λ u w is s. reaches_no_dir p c.args.depth (subst IsTree s.same is) (λ there. cc (there, stat_absent (subst (λ r. StatOf p (Ok r) u w) c.in-Absent.is s))))
+
+pub clear_within-returns-in_ok-remove_dir-in-Dir-clause-reach : goal.clear_within-returns-in_ok-remove_dir-in-Dir-clause-reach
+clear_within-returns-in_ok-remove_dir-in-Dir-clause-reach g t c =
+    let tree = g.met.H.Host.is_tree in
+    let p = c.args.path.now in
+    let below = ends_on {Q' = λ u w. Reaches p c.args.depth u} c.in_ok-clear_names-in-Dir.ensures.reach (ends_call (tree c.args.host.now) c.in_ok-stat.ensures.step) (tree c.stat.new.self) (λ u v w is q s. subst (Reaches p c.args.depth) q.same s) in
+    ends_on (ends_call (tree c.clear_names.new.host) c.in_ok-remove_dir-in-Dir.ensures.step) below (tree c.clear_names.new.host) (λ u v w is q s. q)
+
+pub clear_within-returns-in_ok-unlink-in-File-clause-reach : goal.clear_within-returns-in_ok-unlink-in-File-clause-reach
+clear_within-returns-in_ok-unlink-in-File-clause-reach g t c =
+    let tree = g.met.H.Host.is_tree in
+    let p = c.args.path.now in
+    ends_on (ends_call (tree c.stat.new.self) c.in_ok-unlink-in-File.ensures.step) (ends_call (tree c.args.host.now) c.stat.ensures.step) (tree c.stat.new.self) (λ u v w is q s. subst (Reaches p c.args.depth) q.same (reaches_no_dir p c.args.depth is (leaf_no_dir (v.names p) s.how.0)))
 
 pub clear_within-returns-in_ok-remove_dir-in-Dir-clause-frame : goal.clear_within-returns-in_ok-remove_dir-in-Dir-clause-frame
 clear_within-returns-in_ok-remove_dir-in-Dir-clause-frame g t c =

@@ -1,0 +1,65 @@
+//! The names in folders, and lists of what they lead to.
+ghost use Rattle.std.specs.Prelude.{◌≡◌, ◌++◌, ◌∷◌, [], true, map, IfOk, OnOk, IsErrOf};
+ghost use Rattle.std.specs.List.{list_all};
+ghost use Rattle.std.specs.String.{string_cmp};
+ghost use Rattle.std.specs.BTreeMap.{IsOrdered, values};
+ghost use Rattle.fp_host.specs.Paths.{is_element};
+ghost use Rattle.fp_host.specs.Causes.{IsCounted};
+ghost use Rattle.fp_host.specs.Frame.{AtEnd, Unchanged};
+ghost use Rattle.fp_small.specs.Naming.{ListsIn};
+
+use fp_base::{Items, Text};
+use fp_host::{Host, HostEnd, Path, Stat};
+use std::alloc::{AllocError, Global};
+use std::collections::BTreeMap;
+
+/// The names directly in the folder; none where it is no folder.
+pub fn names_in<H: Host>(alloc: Global, host: &mut H, folder: &Path) -> Result<Items<Text>, HostEnd>
+    ensures unchanged { Unchanged (H.moments host.old) (H.moments host.new) }
+    ensures tells { IfOk result (λ names. AtEnd (λ u w. ListsIn folder.now u names)
+        (H.moments host.old) (H.moments host.new)) }
+    ensures elements { IfOk result (λ names. list_all is_element names ≡ true) }
+    ensures fault_has_cause { IsCounted (IsErrOf result HostEnd.Fault)
+        (H.moments host.old) (H.faults host.old) (H.faults host.new) }
+{
+    match host.stat(folder)? {
+        Stat::Dir => Ok(host.list(alloc, folder)?),
+        _ => Ok(Items::from_vec(Vec::new(alloc))),
+    }
+}
+
+/// Adds the paths of these names in the folder to the others.
+pub fn add_names(folder: &Path, names: &[Text], paths: &mut Vec<Path>) -> Result<(), AllocError>
+    requires { list_all is_element names.now ≡ true }
+    ensures { OnOk result (paths.new.items ≡ paths.old.items ++ map (λ x. x ∷ folder.now)
+        names.now) }
+{
+    for name in names {
+        paths.push(folder.child(name.as_str())?)?;
+    }
+    Ok(())
+}
+
+/// A list of this item alone.
+pub fn list_of_one<T: Drop>(alloc: Global, item: T) -> Result<Vec<T>, AllocError>
+    ensures { IfOk result (λ items. items.items ≡ item ∷ []) }
+{
+    let mut items = Vec::new(alloc);
+    items.push(item)?;
+    Ok(items)
+}
+
+/// What stands in the map, ascending by the bytes of the keys.
+pub fn values_in_order<T: Drop>(
+    alloc: Global,
+    mut keyed: BTreeMap<String, T>,
+) -> Result<Vec<T>, AllocError>
+    ensures items { IfOk result (λ items. items.items ≡ values keyed) }
+    ensures ordered { IsOrdered string_cmp keyed }
+{
+    let mut items = Vec::with_capacity(alloc, keyed.len())?;
+    while let Some((_, item)) = keyed.pop_first() {
+        items.push(item)?;
+    }
+    Ok(items)
+}
