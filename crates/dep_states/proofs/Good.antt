@@ -24,9 +24,10 @@ use Rattle.fp_small.proofs.ConfigReads.{read_good}
 use Rattle.fp_small.proofs.OldReads.{remotes_good, pins_good}
 use Rattle.fp_small.proofs.Ordered.{bytes_eq-is}
 use Rattle.dep_states.specs.declared.deploy.DeployData.{DeployData}
+use Rattle.dep_states.specs.declared.setup.Setup.{Setup}
 use Rattle.dep_states.specs.Names.{config, remotes_conf, pins_file, is_override, override_path, active}
 use Rattle.dep_states.specs.Deploy.{deploy_of}
-use Rattle.dep_states.specs.Shown.{Seen, away, bad, there, read_of, seen_of, read_file, config_most, small_most, Setup, layout_one, layout_two, config_at, remotes_at, pins_at, settings_at, setup_of, settings_of, row_of, row_in, deploy_at, by_active, ref_seen, row_seen, if_file, named_override, override_at, override_seen, at_name, ref_key, override_key, Shows}
+use Rattle.dep_states.specs.Shown.{Seen, away, bad, there, read_of, seen_of, read_file, config_most, small_most, layout_one, layout_two, config_at, remotes_at, pins_at, settings_at, setup_of, settings_of, row_of, row_in, deploy_at, by_active, ref_seen, row_seen, if_file, named_override, override_at, override_seen, at_name, ref_key, override_key, Shows}
 use Rattle.dep_states.specs.After.{IsGoodRow, IsGoodLayer, IsGood}
 use Rattle.dep_states.proofs.Deploys.{IsRead, deploy_reads}
 use Rattle.dep_states.proofs.Listed.{IsThere}
@@ -35,7 +36,7 @@ use Rattle.dep_states.proofs.Total.{row_there, override_is}
 
 -- ---- files
 
-read_there : {A : Type 0} (o : Option A) (a : A) → read_of o ≡ there a → o ≡ Some a
+pub read_there : {A : Type 0} (o : Option A) (a : A) → read_of o ≡ there a → o ≡ Some a
 read_there None a e = absurd cc
 read_there (Some b) a e = ap Some (there_is e)
 
@@ -54,7 +55,7 @@ file_says {A = A} most read (holds id mode bytes) a e = elim (cases_Bool (leb (l
 
 -- ---- settings
 
-no_settings : IsSettings (record { remotes = []; pins = [] })
+pub no_settings : IsSettings (record { remotes = []; pins = [] })
 no_settings = record { rows = refl; patterns = refl; remotes_ascend = refl; pins_ascend = refl; few_remotes = omega arith; few_pins = omega arith }
 
 no_rows : AreRows []
@@ -75,7 +76,7 @@ pins_said : (spot : Spot) (pins : List (List ℕ)) → pins_at spot ≡ there pi
 unfolding pins_at
 pins_said spot pins e = let f = file_says small_most pins_of spot pins e in pins_good f.0 pins f.1
 
-one_good : (r : Seen (List RemoteRow)) (q : Seen (List (List ℕ))) → ((rows : List RemoteRow) → r ≡ there rows → AreRows rows) → ((pins : List (List ℕ)) → q ≡ there pins → ArePatterns pins)
+pub one_good : (r : Seen (List RemoteRow)) (q : Seen (List (List ℕ))) → ((rows : List RemoteRow) → r ≡ there rows → AreRows rows) → ((pins : List (List ℕ)) → q ≡ there pins → ArePatterns pins)
     → (k : Setup) → layout_one r q ≡ there k → IsSettings k.settings
 one_good away away rows pins k e = subst (λ (s : Setup). IsSettings s.settings) (there_is e) no_settings
 one_good away (there q) rows pins k e = subst (λ (s : Setup). IsSettings s.settings) (there_is e) (both_good [] q no_rows (pins q refl))
@@ -85,7 +86,7 @@ one_good bad q rows pins k e = absurd cc
 one_good away bad rows pins k e = absurd cc
 one_good (there r) bad rows pins k e = absurd cc
 
-two_good : (s : Seen Settings) → ((x : Settings) → s ≡ there x → IsSettings x) → (k : Setup) → layout_two s ≡ there k → IsSettings k.settings
+pub two_good : (s : Seen Settings) → ((x : Settings) → s ≡ there x → IsSettings x) → (k : Setup) → layout_two s ≡ there k → IsSettings k.settings
 two_good away good k e = subst (λ (s : Setup). IsSettings s.settings) (there_is e) no_settings
 two_good bad good k e = absurd cc
 two_good (there x) good k e = subst (λ (s : Setup). IsSettings s.settings) (there_is e) (good x refl)
@@ -102,7 +103,7 @@ settings_said (holds id mode bytes) r q k e = config_said (holds id mode bytes) 
 
 -- ---- rows of refs
 
-row_in_good : (name : Ref) (text : List ℕ) (s : Seen DeployData) (row : RefRow) → is_ref name ≡ true → ((d : DeployData) → s ≡ there d → IsRead d) → row_in name text s ≡ there row → IsGoodRow row
+pub row_in_good : (name : Ref) (text : List ℕ) (s : Seen DeployData) (row : RefRow) → is_ref name ≡ true → ((d : DeployData) → s ≡ there d → IsRead d) → row_in name text s ≡ there row → IsGoodRow row
 row_in_good name text away row good reads e = absurd cc
 row_in_good name text bad row good reads e = absurd cc
 row_in_good name text (there d) row good reads e = elim (cases_Bool (bytes_eq (hex d.commit) text)) [
@@ -131,15 +132,15 @@ row_good disk row is = let e = is.is in let good = is.good in active_good disk r
 
 -- ---- overrides
 
-if_file_is : (r : Result (List Group) KeyFault) (file : List Group) → if_file r ≡ Some file → r ≡ Ok file
+pub if_file_is : (r : Result (List Group) KeyFault) (file : List Group) → if_file r ≡ Some file → r ≡ Ok file
 if_file_is (Ok f) file e = ap Ok (some_is e)
 if_file_is (Err fault) file e = absurd cc
 
-ok_good : (r : Result (List Group) KeyFault) (file : List Group) → r ≡ Ok file → IfOk r (λ f. IsTrue (is_good f)) → is_good file ≡ true
+pub ok_good : (r : Result (List Group) KeyFault) (file : List Group) → r ≡ Ok file → IfOk r (λ f. IsTrue (is_good f)) → is_good file ≡ true
 ok_good (Ok f) file e good = let same : f ≡ file = cc in subst (λ x. is_good x ≡ true) same good
 ok_good (Err fault) file e good = absurd cc
 
-named_good : (name : List ℕ) (s : Seen (List Group)) (row : OverrideRow) → is_override name ≡ true → ((file : List Group) → s ≡ there file → is_good file ≡ true) → named_override name s ≡ there row → IsGoodLayer row
+pub named_good : (name : List ℕ) (s : Seen (List Group)) (row : OverrideRow) → is_override name ≡ true → ((file : List Group) → s ≡ there file → is_good file ≡ true) → named_override name s ≡ there row → IsGoodLayer row
 named_good name away row good reads e = absurd cc
 named_good name bad row good reads e = absurd cc
 named_good name (there file) row good reads e = subst IsGoodLayer (there_is e) (record { name = good; file = reads file refl })

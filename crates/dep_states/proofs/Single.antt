@@ -116,18 +116,18 @@ away_bad e f = cc (e, f)
 bad_there : {A : Type 0} {x : A} → bad ≡ there x → ⊥
 bad_there e = cc
 
-layout_bad_first : (r : Seen _) (q : Seen _) → r ≡ bad → layout_one r q ≡ bad
+pub layout_bad_first : (r : Seen _) (q : Seen _) → r ≡ bad → layout_one r q ≡ bad
 layout_bad_first r q e = subst (λ z. layout_one z q ≡ bad) (sym e) refl
 
-layout_bad_second : (r : Seen _) (q : Seen _) → q ≡ bad → layout_one r q ≡ bad
+pub layout_bad_second : (r : Seen _) (q : Seen _) → q ≡ bad → layout_one r q ≡ bad
 layout_bad_second away q e = subst (λ z. layout_one away z ≡ bad) (sym e) refl
 layout_bad_second bad q e = refl
 layout_bad_second (there x) q e = subst (λ z. layout_one (there x) z ≡ bad) (sym e) refl
 
-in_layout_one : (c r q : Spot) → c ≡ gone → settings_at c r q ≡ layout_one (remotes_at r) (pins_at q)
+pub in_layout_one : (c r q : Spot) → c ≡ gone → settings_at c r q ≡ layout_one (remotes_at r) (pins_at q)
 in_layout_one c r q e = ap (λ z. settings_at z r q) e
 
-ref_if_bad : (disk : Disk) (name : Ref) → ref_seen disk name ≡ bad → is_ref name ≡ true
+pub ref_if_bad : (disk : Disk) (name : Ref) → ref_seen disk name ≡ bad → is_ref name ≡ true
 ref_if_bad disk name e = elim (cases_Bool (is_ref name)) [ inl t ↦ t | inr f ↦ absurd (away_bad refl (rw f at e)) ]
 
 pub damaged_shows_none : (disk : Disk) (p : Elements) (s : State) → Damages disk p → Shows disk s → ⊥

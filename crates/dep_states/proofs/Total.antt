@@ -19,8 +19,9 @@ use Rattle.fp_small.specs.declared.state.OverrideRow.{OverrideRow}
 use Rattle.fp_small.specs.declared.config.Settings.{Settings}
 use Rattle.ost_model.specs.Order.{In}
 use Rattle.dep_states.specs.declared.deploy.DeployData.{DeployData}
+use Rattle.dep_states.specs.declared.setup.Setup.{Setup}
 use Rattle.dep_states.specs.Names.{config, remotes_conf, pins_file, is_override, override_path, active}
-use Rattle.dep_states.specs.Shown.{Seen, away, bad, there, Setup, layout_one, layout_two, config_at, remotes_at, pins_at, settings_at, settings_seen, row_in, deploy_at, by_active, ref_seen, row_seen, named_override, override_at, override_seen, at_name, ref_key, override_key, IsShown}
+use Rattle.dep_states.specs.Shown.{Seen, away, bad, there, layout_one, layout_two, config_at, remotes_at, pins_at, settings_at, settings_seen, row_in, deploy_at, by_active, ref_seen, row_seen, named_override, override_at, override_seen, at_name, ref_key, override_key, IsShown}
 use Rattle.dep_states.specs.Damaged.{Damages, bad_config, bad_remotes, bad_pins, bad_ref, bad_override}
 use Rattle.dep_states.proofs.Changes.{at_replaced, replaced_ascends}
 use Rattle.dep_states.proofs.Listed.{IsThere, refs_listed, IsLayer, overrides_listed}
@@ -77,7 +78,7 @@ module _ {A : Type 0} (name : A → List ℕ) (P : A → Type 0) where
 
 -- ---- rows of refs
 
-row_in_name : (name : Ref) (text : List ℕ) (s : Seen DeployData) (row : RefRow) → row_in name text s ≡ there row → row.name ≡ name
+pub row_in_name : (name : Ref) (text : List ℕ) (s : Seen DeployData) (row : RefRow) → row_in name text s ≡ there row → row.name ≡ name
 row_in_name name text away row e = absurd cc
 row_in_name name text bad row e = absurd cc
 row_in_name name text (there d) row e = elim (cases_Bool (bytes_eq (hex d.commit) text)) [
@@ -160,7 +161,7 @@ away_there a b = cc (a, b)
 
 -- ---- overrides
 
-named_is : (name : List ℕ) (s : Seen (List Group)) (row : OverrideRow) → named_override name s ≡ there row → row.name ≡ name
+pub named_is : (name : List ℕ) (s : Seen (List Group)) (row : OverrideRow) → named_override name s ≡ there row → row.name ≡ name
 named_is name away row e = absurd cc
 named_is name bad row e = absurd cc
 named_is name (there file) row e = sym (ap (λ (r : OverrideRow). r.name) (there_is e))

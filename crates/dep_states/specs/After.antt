@@ -75,6 +75,10 @@ after_op s timestamp (DropOverride name) = record s { overrides = removed overri
 after_op s timestamp Migrate = record s { layout = Two }
 after_op s timestamp (Rollback name commit) = rolled_back s (row_at s name)
 
+-- an operation that brings no commit
+abbrev pub plain : Op → Done
+plain op = record { op = op; timestamp = 0 }
+
 abbrev pub after : State → Done → State
 after s done = after_op s done.timestamp done.op
 
@@ -89,6 +93,21 @@ after_all s (done ∷ more) = after_all (after s done) more
 abbrev pub layout_for : Op → Layout
 layout_for Migrate = One
 layout_for op = Two
+
+-- an operation on what stands in `config`: the pins, the remotes and the layout
+abbrev pub IsOnConfig : Op → Type 0
+IsOnConfig (AddPin pin) = Unit {0}
+IsOnConfig (DropPin pin) = Unit {0}
+IsOnConfig (AddRemote row) = Unit {0}
+IsOnConfig (ModifyRemote row) = Unit {0}
+IsOnConfig (DropRemote name) = Unit {0}
+IsOnConfig Migrate = Unit {0}
+IsOnConfig (Install name remote commit) = ⊥
+IsOnConfig (Update name remote commit) = ⊥
+IsOnConfig (Uninstall name) = ⊥
+IsOnConfig (SetOverride row) = ⊥
+IsOnConfig (DropOverride name) = ⊥
+IsOnConfig (Rollback name commit) = ⊥
 
 -- a row of this ref that is so
 abbrev pub HasRow : State → Ref → (RefRow → Type 0) → Type 0

@@ -19,6 +19,7 @@ use Rattle.fp_small.specs.declared.state.RemoteRow.{RemoteRow}
 use Rattle.fp_small.specs.declared.state.Layout.{Layout}
 use Rattle.fp_small.specs.declared.state.Layout.TheVariants.{One, Two}
 use Rattle.dep_states.specs.declared.deploy.DeployData.{DeployData}
+use Rattle.dep_states.specs.declared.setup.Setup.{Setup}
 use Rattle.dep_states.specs.Names.{config, remotes_conf, pins_file, is_override, override_path, active, text_dir, deploy}
 use Rattle.dep_states.specs.Deploy.{deploy_of}
 
@@ -52,10 +53,6 @@ abbrev pub small_most : ℕ
 small_most = 1024 * 1024
 
 -- ---- the settings: by what stands at three paths
-
-pub record Setup : Type 0 where
-  pub layout : Layout
-  pub settings : Settings
 
 abbrev pub setup : Layout → List RemoteRow → List (List ℕ) → Setup
 setup layout remotes pins = record { layout = layout; settings = record { remotes = remotes; pins = pins } }

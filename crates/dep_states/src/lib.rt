@@ -5,6 +5,8 @@ mod deploy;
 mod deploy_reading;
 pub mod laws;
 mod opened;
+mod setup;
 
 pub use deploy::{DeployData, DeployError};
 pub use opened::Opened;
+pub use setup::Setup;
