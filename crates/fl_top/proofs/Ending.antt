@@ -19,7 +19,7 @@ use Rattle.fl_words.specs.declared.command.Command.TheVariants.{Change as Changi
 use Rattle.fl_words.specs.declared.command.Change.{Change}
 use Rattle.fl_words.specs.declared.command.Shown.{Shown}
 use Rattle.fl_words.specs.declared.command.Shown.TheVariants as things
-use Rattle.fl_top.specs.Answer.{Answer, Piece, lines_of, last_of, joined, ops_in, ops_of, told, refused, changing, listed, listed_text, shown_by, over, of_batch, answer_over, by_read, by_value, by_type, commit_shown, tree_shown, meta_shown, value_shown, over_input}
+use Rattle.fl_top.specs.Answer.{Answer, Piece, lines_of, last_of, joined, ops_in, ops_of, text_answer, refusal_answer, changing, listed, listed_text, shown_by, over, of_batch, answer_over, by_read, by_value, by_type, commit_shown, tree_shown, meta_shown, value_shown, over_input}
 use Rattle.fl_top.specs.Objects.{commit_lines, tree_lines, meta_lines}
 use Rattle.gv_value.specs.Shape.{Shape}
 use Rattle.gv_value.specs.Tree.{Tree}
@@ -214,7 +214,7 @@ if_plain : (b : Bool) (x y : Answer) → IsPlain x → IsPlain y → IsPlain (if
 if_plain true x y first second = first
 if_plain false x y first second = second
 
-told_plain : (text : List ℕ) → IsPlain (told text)
+told_plain : (text : List ℕ) → IsPlain (text_answer text)
 told_plain text r is = absurd (cc is)
 
 read_plain : {A : Type 0} (digest : List ℕ) (kind : ObjKind) (lines : A → List ℕ) (read : Result A Rule) → IsPlain (by_read digest kind lines read)
@@ -246,7 +246,7 @@ unfolding value_shown
 value_plain of bytes = type_plain (type_of of) bytes
 
 input_plain : (f : List ℕ → Answer) (input : List ℕ) → IsPlain (f input) → IsPlain (over_input f input)
-input_plain f input plain = if_plain (nat_le (length input) input_most) (f input) (refused (Limit Input (input_most + 1))) plain (λ r is. one_of_some (Limit Input (input_most + 1)) r is refl)
+input_plain f input plain = if_plain (nat_le (length input) input_most) (f input) (refusal_answer (Limit Input (input_most + 1))) plain (λ r is. one_of_some (Limit Input (input_most + 1)) r is refl)
 
 shown_plain : (thing : Shown) (bytes : List ℕ) → IsPlain (shown_by thing bytes)
 shown_plain things.Commit bytes = commit_plain bytes

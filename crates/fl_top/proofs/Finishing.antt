@@ -21,7 +21,7 @@ use Rattle.fl_words.specs.declared.command.Change.{Change}
 use Rattle.fl_words.specs.declared.batch.BatchError.{BatchError}
 use Rattle.fl_words.specs.declared.batch.BatchError.TheVariants as batch
 use Rattle.fl_words.specs.Batch.{batch_of, IsBadBatch}
-use Rattle.fl_top.specs.Answer.{Answer, answer, answer_to, answer_over, over, refused, over_input, changing, of_batch, IsOver}
+use Rattle.fl_top.specs.Answer.{Answer, answer, answer_to, answer_over, over, refusal_answer, over_input, changing, of_batch, IsOver}
 use Rattle.fl_top.specs.Runs.{Runs, Ran, RunsBy, RanBy, IsGiven, Looks, IsReady, Serves, WasTaken}
 use Rattle.fl_top.specs.Performs.{RunsOver, LooksOver, EndedOver, RunsOn, EndedOn, RanOn, Ended, Closed, IsGivenBy, IsClosedBy, Takes, TakenBy}
 use Rattle.fl_top.specs.Says.{Says, Refuses}
@@ -164,7 +164,7 @@ input_failed {a = a} left before now e r known err stops is = of_input e stops (
     of_input input.NoMemory stops same = absurd (cc same)
 
 -- it is refused
-pub refused_early : (command : Command) (input : List ℕ) (refusal : Refusal) → ((shown : Result State Elements) → refused refusal ≡ answer_over command input shown) → EndsEarly command input (Refused refusal)
+pub refused_early : (command : Command) (input : List ℕ) (refusal : Refusal) → ((shown : Result State Elements) → refusal_answer refusal ≡ answer_over command input shown) → EndsEarly command input (Refused refusal)
 refused_early command input refusal is = record {
   closed = λ shown u. subst (λ (y : Answer). Closed y (Err (Refused refusal)) u u) (is shown) (refl, refused_at_once refusal u);
   same = λ by shown other. sym (is other) ∙ is shown;
@@ -198,8 +198,8 @@ given_all command left input reads given = elim given [
   | inr told ↦ told
 ]
 
-by_length : (f : List ℕ → Answer) (input : List ℕ) (b : Bool) → nat_le (length input) input_most ≡ b → over_input f input ≡ (if b then f input else refused (Limit Input (input_most + 1)))
-by_length f input b is = ap (λ (c : Bool). if c then f input else refused (Limit Input (input_most + 1))) is
+by_length : (f : List ℕ → Answer) (input : List ℕ) (b : Bool) → nat_le (length input) input_most ≡ b → over_input f input ≡ (if b then f input else refusal_answer (Limit Input (input_most + 1)))
+by_length f input b is = ap (λ (c : Bool). if c then f input else refusal_answer (Limit Input (input_most + 1))) is
 
 -- the answer to it, whose bytes were read
 pub read_is : (command : Command) (f : Result State Elements → List ℕ → Answer) → ByInput command f → (left : Option (List ℕ)) (bytes : List ℕ) → IsWhole left bytes → (input : List ℕ) → IsGiven left (Some command) input → (shown : Result State Elements) → f shown bytes ≡ answer_over command input shown
@@ -262,27 +262,27 @@ taken_at command r status old new takes drained = (λ reads answered. drained (t
 
 pub goes_done : {a b : Option Moments} (command : Command) (left : Option (List ℕ)) → IsTold a → Goes a b (RunsOn command left) (EndedOn command left (Ok tt)) → Goes a b (RunsOn command left) (RanOn command left 0)
 goes_done command left known goes = begins known goes (λ u w t r. r) (λ u w t r q. record {
-      ran = λ input given shown counts. ran_done (answer_over command input shown) (r.runs input given shown counts) (q.ended input given shown counts);
-      given = λ input given answered. q.given input given tt;
-    })
+  ran = λ input given shown counts. ran_done (answer_over command input shown) (r.runs input given shown counts) (q.ended input given shown counts);
+  given = λ input given answered. q.given input given tt;
+})
 
 pub goes_fault : {a b : Option Moments} (command : Command) (left : Option (List ℕ)) → IsTold a → Goes a b (RunsOn command left) (EndedOn command left (Err Fault)) → Goes a b (RunsOn command left) (RanOn command left 3)
 goes_fault command left known goes = begins known goes (λ u w t r. r) (λ u w t r q. record {
-      ran = λ input given shown counts. ran_fault (answer_over command input shown) (r.runs input given shown counts);
-      given = λ input given answered. absurd (not_answered 3 (omega arith) answered);
-    })
+  ran = λ input given shown counts. ran_fault (answer_over command input shown) (r.runs input given shown counts);
+  given = λ input given answered. absurd (not_answered 3 (omega arith) answered);
+})
 
 pub goes_input : {a b : Option Moments} (command : Command) (left : Option (List ℕ)) → IsTold a → Goes a b (RunsOn command left) (EndedOn command left (Err InputFault)) → Goes a b (RunsOn command left) (RanOn command left 5)
 goes_input command left known goes = begins known goes (λ u w t r. r) (λ u w t r q. record {
-      ran = λ input given shown counts. ran_input (answer_over command input shown) (r.runs input given shown counts) (q.ended input given shown counts);
-      given = λ input given answered. absurd (not_answered 5 (omega arith) answered);
-    })
+  ran = λ input given shown counts. ran_input (answer_over command input shown) (r.runs input given shown counts) (q.ended input given shown counts);
+  given = λ input given answered. absurd (not_answered 5 (omega arith) answered);
+})
 
 pub goes_memory : {a b : Option Moments} (command : Command) (left : Option (List ℕ)) → IsTold a → Goes a b (RunsOn command left) (EndedOn command left (Err NoMemory)) → Goes a b (RunsOn command left) (RanOn command left 6)
 goes_memory command left known goes = begins known goes (λ u w t r. r) (λ u w t r q. record {
-      ran = λ input given shown counts. ran_memory (answer_over command input shown) (r.runs input given shown counts) (q.ended input given shown counts);
-      given = λ input given answered. absurd (not_answered 6 (omega arith) answered);
-    })
+  ran = λ input given shown counts. ran_memory (answer_over command input shown) (r.runs input given shown counts) (q.ended input given shown counts);
+  given = λ input given answered. absurd (not_answered 6 (omega arith) answered);
+})
 
 pub goes_refused : {a b c : Option Moments} (command : Command) (left : Option (List ℕ)) (r : Refusal) (result : ℕ) → IsTold b → Goes a b (RunsOn command left) (EndedOn command left (Err (Refused r)))
     → Goes b c (Says (refusal_text r)) (Refuses (refusal_text r) 1 result) → Goes a c (RunsOn command left) (RanOn command left result)
@@ -306,8 +306,8 @@ goes_refused command left r result known_b first second =
 answer_is : (words : List (List ℕ)) (command : Command) (input : List ℕ) → command_of words ≡ Some command → (shown : Result State Elements) → answer_over command input shown ≡ answer words input shown
 answer_is words command input is shown = ap (λ (o : Option Command). answer_to words o input shown) (sym is)
 
-no_answer : (words : List (List ℕ)) (index : ℕ) (input : List ℕ) → command_of words ≡ None → index ≡ bad_index words → (shown : Result State Elements) → refused (BadWords index) ≡ answer words input shown
-no_answer words index input none is shown = ap (λ (i : ℕ). refused (BadWords i)) is ∙ ap (λ (o : Option Command). answer_to words o input shown) (sym none)
+no_answer : (words : List (List ℕ)) (index : ℕ) (input : List ℕ) → command_of words ≡ None → index ≡ bad_index words → (shown : Result State Elements) → refusal_answer (BadWords index) ≡ answer words input shown
+no_answer words index input none is shown = ap (λ (i : ℕ). refusal_answer (BadWords i)) is ∙ ap (λ (o : Option Command). answer_to words o input shown) (sym none)
 
 given_to : (words : List (List ℕ)) (command : Command) (left : Option (List ℕ)) (input : List ℕ) → command_of words ≡ Some command → IsGiven left (command_of words) input → IsGiven left (Some command) input
 given_to words command left input is given = subst (λ (o : Option Command). IsGiven left o input) is given
@@ -335,12 +335,12 @@ goes_no_command words left index result known none is goes = begins known goes
       untouched = λ why. s.untouched;
     })
     (λ u w t s e. record {
-      ran = λ input given shown counts. subst (λ (a : Answer). Ran a result u w) (no_answer words index input none is shown) (ran_refused (refused (BadWords index)) (BadWords index) 2 result refl refl (refused_at_once (BadWords index) u) (runs u w s) e);
+      ran = λ input given shown counts. subst (λ (a : Answer). Ran a result u w) (no_answer words index input none is shown) (ran_refused (refusal_answer (BadWords index)) (BadWords index) 2 result refl refl (refused_at_once (BadWords index) u) (runs u w s) e);
       given = λ input given answered. counts_constant (answer words input) (shows u) (λ shown other. sym (no_answer words index input none is other) ∙ no_answer words index input none is shown);
     })
   where
-    runs : (u w : View) → Says (refusal_text (BadWords index)) u w → Runs (refused (BadWords index)) u w
-    runs u w s = refusing (refused (BadWords index)) (BadWords index) refl (begun (refused (BadWords index)) unchanged (λ why. not_touched)) (refused_at_once (BadWords index) u) s
+    runs : (u w : View) → Says (refusal_text (BadWords index)) u w → Runs (refusal_answer (BadWords index)) u w
+    runs u w s = refusing (refusal_answer (BadWords index)) (BadWords index) refl (begun (refusal_answer (BadWords index)) unchanged (λ why. not_touched)) (refused_at_once (BadWords index) u) s
 
 -- want of memory for the words
 pub goes_unread : {a : Option Moments} (words : List (List ℕ)) (left : Option (List ℕ)) → IsTold a → Goes a a (RunsBy words left) (RanBy words left 6)

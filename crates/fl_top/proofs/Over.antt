@@ -12,7 +12,7 @@ use Rattle.dep_states.proofs.Single.{one_result, damaged_shows_none}
 use Rattle.dep_open.specs.Open.{NotShown}
 use Rattle.fl_words.specs.Forms.{command_of, bad_index}
 use Rattle.fl_words.specs.declared.command.Command.{Command}
-use Rattle.fl_top.specs.Answer.{Answer, answer, answer_to, over, refused, IsOver}
+use Rattle.fl_top.specs.Answer.{Answer, answer, answer_to, over, refusal_answer, IsOver}
 use Rattle.fl_top.proofs.Same.{now_left}
 
 -- ---- the answer
@@ -26,7 +26,7 @@ over_given by disk shown other given counts = elim counts [
 pub over_is : (f : State → Answer) (disk : Disk) (shown : Result State Elements) (s : State) → Shows disk s → IsOver (over f) disk shown → over f shown ≡ f s
 over_is f disk shown s is counts = over_given (over f) disk shown (Ok s) is counts
 
-pub over_damaged : (f : State → Answer) (disk : Disk) (shown : Result State Elements) (p : Elements) → IsFirstDamaged disk p → IsOver (over f) disk shown → over f shown ≡ refused (Damaged p)
+pub over_damaged : (f : State → Answer) (disk : Disk) (shown : Result State Elements) (p : Elements) → IsFirstDamaged disk p → IsOver (over f) disk shown → over f shown ≡ refusal_answer (Damaged p)
 over_damaged f disk shown p is counts = over_given (over f) disk shown (Err p) is counts
 
 -- where a path doesn't read, no state is shown
@@ -79,5 +79,5 @@ sound_counts by u sound = let is = sound.shown (shows u) (now_left u) in counts_
 pub words_count : (words : List (List ℕ)) (input : List ℕ) (disk : Disk) → command_of words ≡ None → Counts (answer words input) disk
 words_count words input disk none = counts_constant (answer words input) disk (λ shown other. same other ∙ sym (same shown))
   where
-    same : (shown : Result State Elements) → answer words input shown ≡ refused (BadWords (bad_index words))
+    same : (shown : Result State Elements) → answer words input shown ≡ refusal_answer (BadWords (bad_index words))
     same shown = ap (λ (o : Option Command). answer_to words o input shown) none

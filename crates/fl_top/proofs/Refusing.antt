@@ -12,7 +12,7 @@ use Rattle.fp_small.specs.Order.{has_name}
 use Rattle.dep_states.specs.After.{after_all}
 use Rattle.fl_words.specs.declared.command.Change.{Change}
 use Rattle.fl_words.specs.declared.command.Change.TheVariants.{Pin, Unpin, RemoteAdd, RemoteModify, RemoteDelete}
-use Rattle.fl_top.specs.Answer.{Answer, Piece, ops_of, did, behind, refusal_of, unless, op_of, change_over, in_turn, migrating, changing, is_pinned, IsAtOnce}
+use Rattle.fl_top.specs.Answer.{Answer, Piece, ops_of, op_answer, behind, refusal_of, unless, op_of, change_over, in_turn, migrating, changing, is_pinned, IsAtOnce}
 
 -- each refusal of the answer is one of these
 abbrev pub Refuses : (Refusal → Type 0) → Answer → Type 0
@@ -47,7 +47,7 @@ module _ (P : Refusal → Type 0) where
   of_change holds (RemoteModify row) s q is = of_one (has_name name_of s.remotes row.name) (NoSuchRemote row.name) q (holds.no_remote row.name) is
   of_change holds (RemoteDelete name) s q is = of_one (has_name name_of s.remotes name) (NoSuchRemote name) q (holds.no_remote name) is
 
-  of_unless : (op : Op) (o : Option Refusal) → ((q : Refusal) → o ≡ Some q → P q) → Refuses P (unless o (did op))
+  of_unless : (op : Op) (o : Option Refusal) → ((q : Refusal) → o ≡ Some q → P q) → Refuses P (unless o (op_answer op))
   of_unless op None each r is = absurd (cc is)
   of_unless op (Some q) each r is = each r is
 

@@ -11,7 +11,7 @@ use Rattle.fp_host.proofs.Framed.{IsTold}
 use Rattle.fp_host.proofs.Goes.{begins}
 use Rattle.fp_small.specs.declared.state.State.{State}
 use Rattle.fl_words.specs.declared.command.Command.{Command}
-use Rattle.fl_top.specs.Answer.{Answer, shown_by, told, answer_over}
+use Rattle.fl_top.specs.Answer.{Answer, shown_by, text_answer, answer_over}
 use Rattle.fl_top.specs.Runs.{Runs, Stands, IsGiven, Serves}
 use Rattle.fl_top.specs.Performs.{RunsOn, EndedOn, Closed}
 use Rattle.fl_top.specs.Says.{Says, SaidBy}
@@ -60,7 +60,7 @@ no_fault thing bytes e r shown err fault = of_run e shown (let both : Err (end_o
 
 -- ---- what is printed
 
-runs_shown : (thing : Shown) (left : Option (List ℕ)) (bytes text : List ℕ) → IsWhole left bytes → shown_by thing bytes ≡ told text → (u w : View) → Says text u w → RunsOn (Showing thing) left u w
+runs_shown : (thing : Shown) (left : Option (List ℕ)) (bytes text : List ℕ) → IsWhole left bytes → shown_by thing bytes ≡ text_answer text → (u w : View) → Says text u w → RunsOn (Showing thing) left u w
 runs_shown thing left bytes text whole shown u w said = record {
   runs = λ input given image counts. subst (λ (a : Answer). Runs a u w) (sym shown ∙ shown_is thing left bytes whole input given image) (telling text said);
   changes = change_untouched said.untouched;
@@ -71,7 +71,7 @@ closed_said : (text : List ℕ) (a : Answer) (r : Result (Unit {0}) HostEnd) (e 
 closed_said text a r host.Fault u w is said = tt
 closed_said text a r host.NoMemory u w is said = let same : w ≡ u = subst (λ (x : Result (Unit {0}) HostEnd). SaidBy text x u w) is said in subst (λ (x : View). Stands a u x) (sym same) (stood a unchanged)
 
-pub goes_shown : {a b : Option Moments} (thing : Shown) (left : Option (List ℕ)) (bytes text : List ℕ) → IsTold a → IsWhole left bytes → shown_by thing bytes ≡ told text
+pub goes_shown : {a b : Option Moments} (thing : Shown) (left : Option (List ℕ)) (bytes text : List ℕ) → IsTold a → IsWhole left bytes → shown_by thing bytes ≡ text_answer text
     → Goes a b (Says text) (SaidBy text (Ok tt)) → Goes a b (RunsOn (Showing thing) left) (EndedOn (Showing thing) left (Ok tt))
 goes_shown thing left bytes text known whole shown goes = begins known goes
     (λ u w t says. runs_shown thing left bytes text whole shown u w says)
@@ -80,7 +80,7 @@ goes_shown thing left bytes text known whole shown goes = begins known goes
       given = λ input given by. counts_constant (answer_over (Showing thing) input) (shows u) (λ image other. refl);
     })
 
-pub goes_not_shown : {a b : Option Moments} (thing : Shown) (left : Option (List ℕ)) (bytes text : List ℕ) (s : Result (Unit {0}) HostEnd) (e : HostEnd) (r : Result (Unit {0}) CommandEnd) → IsTold a → IsWhole left bytes → shown_by thing bytes ≡ told text
+pub goes_not_shown : {a b : Option Moments} (thing : Shown) (left : Option (List ℕ)) (bytes text : List ℕ) (s : Result (Unit {0}) HostEnd) (e : HostEnd) (r : Result (Unit {0}) CommandEnd) → IsTold a → IsWhole left bytes → shown_by thing bytes ≡ text_answer text
     → s ≡ Err e → Goes a b (Says text) (SaidBy text s) → IsErrAnd r (λ end. end ≡ end_of_run (end_of_host e)) → Goes a b (RunsOn (Showing thing) left) (EndedOn (Showing thing) left r)
 goes_not_shown {a = a} {b = b} thing left bytes text s e r known whole shown was goes err =
     subst (λ (x : Result (Unit {0}) CommandEnd). Goes a b (RunsOn (Showing thing) left) (EndedOn (Showing thing) left x)) (sym (is_end r (end_of_run (end_of_host e)) err))

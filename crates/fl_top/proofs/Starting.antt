@@ -20,7 +20,7 @@ use Rattle.dep_open.specs.Open.{NotShown, NoName, IsOpened, Opened, StaysUnread}
 use Rattle.dep_open.specs.Tidy.{IsTidy}
 use Rattle.dep_open.specs.declared.open_end.OpenEnd.{OpenEnd}
 use Rattle.dep_open.specs.declared.open_end.OpenEnd.TheVariants as open_end
-use Rattle.fl_top.specs.Answer.{Answer, Piece, lines_of, joined, ops_in, ops_of, over, refused, IsAtOnce}
+use Rattle.fl_top.specs.Answer.{Answer, Piece, lines_of, joined, ops_in, ops_of, over, refusal_answer, IsAtOnce}
 use Rattle.fl_top.specs.Ends.{end_of_open}
 use Rattle.fl_top.specs.Runs.{ShowsAfter, IsPrefix, IsJust, Printed, Runs, Stands}
 use Rattle.fl_top.specs.Performs.{Performs, IsDone, IsHalted, Performed, RunsOver, Completes, Ended, EndedOver}
@@ -169,7 +169,7 @@ done_over f s t {u = u} w opened keeping is = record {
 
 -- ---- where it wasn't opened
 
-damaged : (path : Elements) {u w : View} → Keeping u w → NotShown (shows u) → Completes (refused (Damaged path)) u w
+damaged : (path : Elements) {u w : View} → Keeping u w → NotShown (shows u) → Completes (refusal_answer (Damaged path)) u w
 damaged path {u = u} keeping none = record {
   printed = keeping.printed ∙ sym (append-nil u.printed);
   just = shows_before keeping.follows;
@@ -195,7 +195,7 @@ pub unchanged : {u : View} → Keeping u u
 unchanged = record { printed = refl; follows = follows_refl; names = λ q. refl; files = files_stay }
 
 -- a refusal without a look at the installation
-pub refused_at_once : (refusal : Refusal) (u : View) → Completes (refused refusal) u u
+pub refused_at_once : (refusal : Refusal) (u : View) → Completes (refusal_answer refusal) u u
 refused_at_once refusal u = record {
   printed = sym (append-nil u.printed);
   just = shows_before follows_refl;

@@ -78,14 +78,14 @@ ops_of a = ops_in a.pieces
 abbrev pub nothing : Answer
 nothing = record { pieces = []; refusal = None }
 
-abbrev pub refused : Refusal → Answer
-refused refusal = record { pieces = []; refusal = Some refusal }
+abbrev pub refusal_answer : Refusal → Answer
+refusal_answer refusal = record { pieces = []; refusal = Some refusal }
 
-abbrev pub did : Op → Answer
-did op = record { pieces = record { text = op_text op; op = Some (plain op) } ∷ []; refusal = None }
+abbrev pub op_answer : Op → Answer
+op_answer op = record { pieces = record { text = op_text op; op = Some (plain op) } ∷ []; refusal = None }
 
-abbrev pub told : List ℕ → Answer
-told text = record { pieces = record { text = text; op = None } ∷ []; refusal = None }
+abbrev pub text_answer : List ℕ → Answer
+text_answer text = record { pieces = record { text = text; op = None } ∷ []; refusal = None }
 
 abbrev pub behind : List Piece → Option Refusal → Answer → Answer
 behind pieces None next = record { pieces = pieces ++ next.pieces; refusal = next.refusal }
@@ -123,7 +123,7 @@ refusal_of s (RemoteDelete name) = remote_refusal s.remotes name
 
 abbrev pub unless : Option Refusal → Answer → Answer
 unless None a = a
-unless (Some refusal) a = refused refusal
+unless (Some refusal) a = refusal_answer refusal
 
 -- ---- what commands answer over a state
 
@@ -136,7 +136,7 @@ op_of (RemoteModify row) = ModifyRemote row
 op_of (RemoteDelete name) = DropRemote name
 
 abbrev pub change_over : Change → State → Answer
-change_over change s = unless (refusal_of s change) (did (op_of change))
+change_over change s = unless (refusal_of s change) (op_answer (op_of change))
 
 -- changes one after another, up to the first refusal
 abbrev pub in_turn : List Change → State → Answer
@@ -145,7 +145,7 @@ in_turn (change ∷ changes) s = followed (change_over change s) (in_turn change
 
 -- an installation of layout 1 is migrated before anything else is done with it
 abbrev pub migrating : Layout → Answer
-migrating One = did Migrate
+migrating One = op_answer Migrate
 migrating Two = nothing
 
 abbrev pub changing : List Change → State → Answer
@@ -158,14 +158,14 @@ listed_text listings.Pins s = pins_text s.pins
 listed_text listings.Remotes s = remotes_text s.remotes
 
 abbrev pub listed : Listing → State → Answer
-listed listing s = told (listed_text listing s)
+listed listing s = text_answer (listed_text listing s)
 
 -- ---- what is shown of an input
 
 -- what an object of this kind and digest says, or the first rule that it breaks
 abbrev pub by_read : {A : Type 0} → List ℕ → ObjKind → (A → List ℕ) → Result A Rule → Answer
-by_read digest kind lines (Ok a) = told (head digest (kind_word kind) ++ lines a)
-by_read digest kind lines (Err rule) = refused (MalformedObject digest kind rule)
+by_read digest kind lines (Ok a) = text_answer (head digest (kind_word kind) ++ lines a)
+by_read digest kind lines (Err rule) = refusal_answer (MalformedObject digest kind rule)
 
 unfoldable pub commit_shown : List ℕ → Answer
 commit_shown bytes = by_read (meta_digest bytes) kinds.Commit commit_lines (commit_read bytes)
@@ -178,8 +178,8 @@ meta_shown bytes = by_read (meta_digest bytes) kinds.DirMeta meta_lines (meta_re
 
 -- how many bytes a value's normal form has
 abbrev pub by_value : List ℕ → Option Tree → Answer
-by_value bytes None = refused (MalformedValue (meta_digest bytes))
-by_value bytes (Some value) = told (normal_line (length bytes))
+by_value bytes None = refusal_answer (MalformedValue (meta_digest bytes))
+by_value bytes (Some value) = text_answer (normal_line (length bytes))
 
 abbrev pub by_type : Option Shape → List ℕ → Answer
 by_type None bytes = by_value bytes None
@@ -209,16 +209,16 @@ IsAtOnce (Some _) = ⊥
 
 -- by what the image gives: the state that it shows, or the first path that doesn't read
 abbrev pub over : (State → Answer) → Result State Elements → Answer
-over f (Err path) = refused (Damaged path)
+over f (Err path) = refusal_answer (Damaged path)
 over f (Ok s) = f s
 
 abbrev pub of_batch : Result (List Change) ℕ → Result State Elements → Answer
-of_batch (Err line) shown = refused (BadRecord line)
+of_batch (Err line) shown = refusal_answer (BadRecord line)
 of_batch (Ok changes) shown = over (changing changes) shown
 
 -- the whole input is read before anything is done
 abbrev pub over_input : (List ℕ → Answer) → List ℕ → Answer
-over_input f input = if nat_le (length input) input_most then f input else refused (Limit Input (input_most + 1))
+over_input f input = if nat_le (length input) input_most then f input else refusal_answer (Limit Input (input_most + 1))
 
 abbrev pub answer_over : Command → List ℕ → Result State Elements → Answer
 answer_over (Changing change) input shown = over (changing (change ∷ [])) shown
@@ -227,7 +227,7 @@ answer_over (Showing thing) input shown = over_input (shown_by thing) input
 answer_over Batch input shown = over_input (λ bytes. of_batch (batch_of bytes) shown) input
 
 abbrev pub answer_to : List (List ℕ) → Option Command → List ℕ → Result State Elements → Answer
-answer_to words None input shown = refused (BadWords (bad_index words))
+answer_to words None input shown = refusal_answer (BadWords (bad_index words))
 answer_to words (Some command) input shown = answer_over command input shown
 
 -- The first refusal of these: the words; an input that is too long, and its first bad line; an image that shows no state;

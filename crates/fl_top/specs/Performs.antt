@@ -12,7 +12,7 @@ use Rattle.fl_words.specs.Lines.{op_text}
 use Rattle.dep_open.specs.Open.{NotShown}
 use Rattle.dep_open.specs.Tidy.{IsTidy}
 use Rattle.fl_words.specs.declared.command.Command.{Command}
-use Rattle.fl_top.specs.Answer.{Answer, Piece, joined, ops_in, ops_of, over, answer_over, did, IsOver}
+use Rattle.fl_top.specs.Answer.{Answer, Piece, joined, ops_in, ops_of, over, answer_over, op_answer, IsOver}
 use Rattle.fl_top.specs.Runs.{Printed, Runs, Ran, Stands, IsJust, IsGiven}
 use Rattle.fl_top.specs.Changes.{Changes, OnlyTidied, IsUntouched, HasText}
 use Rattle.fl_top.specs.Input.{IsDrained}
@@ -65,7 +65,7 @@ Performed a s (Err NoMemory) v w = IsHalted a s v w
 -- An operation is done and its line printed; it isn't tidied after it.
 abbrev pub WasDone : Op → State → Result State RunEnd → View → View → Type 0
 WasDone op s (Ok t) v w = (w.printed ≡ v.printed ++ op_text op) × (Opens s v → Opens (after s (plain op)) w) × Changes v w × HasText (after s (plain op)) w
-WasDone op s (Err e) v w = Performed (did op) s (Err e) v w
+WasDone op s (Err e) v w = Performed (op_answer op) s (Err e) v w
 
 -- ---- the same for a run that opens the installation
 

@@ -6,7 +6,7 @@ ghost use Rattle.fp_small.specs.declared.state.Layout.TheVariants.{Two};
 ghost use Rattle.dep_states.specs.After.{after, plain, May, IsOnConfig, IsGood};
 ghost use Rattle.dep_states.specs.Sound.{Opens};
 ghost use Rattle.fl_words.specs.Lines.{op_text};
-ghost use Rattle.fl_top.specs.Answer.{op_of as op_asked, did, migrating, change_over, in_turn, changing, refusal_of, add_pin_refusal, drop_pin_refusal, add_remote_refusal, remote_refusal};
+ghost use Rattle.fl_top.specs.Answer.{op_of as op_asked, op_answer, migrating, change_over, in_turn, changing, refusal_of, add_pin_refusal, drop_pin_refusal, add_remote_refusal, remote_refusal};
 ghost use Rattle.fl_top.specs.Ends.{IsTried};
 ghost use Rattle.fl_top.specs.Performs.{Performs, Performed, WasDone, RunsOver, EndedOver};
 ghost use Rattle.fl_top.specs.Runs.{IsReady};
@@ -144,7 +144,7 @@ fn do_op<H: Host>(alloc: Global, host: &mut H, opened: Opened, op: &Op) -> Resul
     ensures good { IfOk result IsGood }
     ensures layout { IfOk result (λ o. o.layout ≡ Two) }
     ensures any_moment { Goes (H.moments host.old) (H.moments host.new)
-        (Performs (did op.now) opened) (Performed (did op.now) opened result) }
+        (Performs (op_answer op.now) opened) (Performed (op_answer op.now) opened result) }
     ensures fault_has_cause { IsCaused (IsErrOf result RunEnd.Fault) (H.moments host.old)
         (Opens opened) (H.faults host.old) (H.faults host.new) }
 {
@@ -168,7 +168,7 @@ fn do_and_say<H: Host>(
     ensures state { IfOk result (λ o. o ≡ after opened (plain op.now)) }
     ensures good { IfOk result IsGood }
     ensures any_moment { Goes (H.moments host.old) (H.moments host.new)
-        (Performs (did op.now) opened) (WasDone op.now opened result) }
+        (Performs (op_answer op.now) opened) (WasDone op.now opened result) }
     ensures fault_has_cause { IsCaused (IsErrOf result RunEnd.Fault) (H.moments host.old)
         (Opens opened) (H.faults host.old) (H.faults host.new) }
 {
