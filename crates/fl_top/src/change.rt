@@ -1,5 +1,5 @@
 //! What changes the installation.
-ghost use Rattle.std.specs.Prelude.{◌≡◌, OnOk, IfOk, IfErr, IsErrOf};
+ghost use Rattle.std.specs.Prelude.{◌≡◌, None, OnOk, IfOk, IfErr, IsErrOf};
 ghost use Rattle.fp_host.specs.Causes.{IsCaused};
 ghost use Rattle.fp_host.specs.Moments.{Goes};
 ghost use Rattle.fp_small.specs.declared.state.Layout.TheVariants.{Two};
@@ -117,6 +117,27 @@ fn do_change<H: Host>(
         (Opens opened) (H.faults host.old) (H.faults host.new) }
 {
     try_change(opened.state(), change)?;
+    do_unrefused(alloc, host, opened, change)
+}
+
+/// Makes one change that nothing speaks against.
+fn do_unrefused<H: Host>(
+    alloc: Global,
+    host: &mut H,
+    opened: Opened,
+    change: &Change,
+) -> Result<Opened, RunEnd>
+    requires good { IsGood opened }
+    requires layout { opened.layout ≡ Two }
+    requires unrefused { refusal_of opened change.now ≡ None }
+    ensures good { IfOk result IsGood }
+    ensures layout { IfOk result (λ o. o.layout ≡ Two) }
+    ensures any_moment { Goes (H.moments host.old) (H.moments host.new)
+        (Performs (change_over change.now opened) opened) (Performed
+        (change_over change.now opened) opened result) }
+    ensures fault_has_cause { IsCaused (IsErrOf result RunEnd.Fault) (H.moments host.old)
+        (Opens opened) (H.faults host.old) (H.faults host.new) }
+{
     let op = op_of(change)?;
     do_op(alloc, host, opened, &op)
 }
