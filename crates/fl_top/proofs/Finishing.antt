@@ -1,5 +1,5 @@
 -- The last part of a run.
-use Rattle.std.proofs.Common.{◌≡◌, inl, inr, ℕ, List, [], ◌∷◌, Bool, true, false, nat_le, length, ◌≤◌, ◌<◌, ◌+◌, arith, IsErrOf, Option, Some, None, Result, Ok, Err, IsErrAnd, if◌then◌else◌, refl, sym, ◌∙◌, ap, subst}
+use Rattle.std.proofs.Common.{◌≡◌, inl, inr, ℕ, List, Bool, true, false, nat_le, length, ◌≤◌, ◌<◌, ◌+◌, arith, IsErrOf, Option, Some, None, Result, Ok, Err, IsErrAnd, if◌then◌else◌, refl, sym, ◌∙◌, ap, subst}
 use Rattle.std.proofs.lemmas.Result.{err_from_is_err_and}
 use Rattle.fp_host.specs.Paths.{Elements}
 use Rattle.fp_host.specs.View.{View}
@@ -16,7 +16,7 @@ use Rattle.fp_base.specs.declared.what.What.TheVariants.{Input}
 use Rattle.fl_words.specs.Lines.{refusal_text}
 use Rattle.fl_words.specs.Forms.{command_of, bad_index}
 use Rattle.fl_words.specs.declared.command.Command.{Command}
-use Rattle.fl_words.specs.declared.command.Command.TheVariants.{Change as Changing, Batch}
+use Rattle.fl_words.specs.declared.command.Command.TheVariants.{Batch}
 use Rattle.fl_words.specs.declared.command.Change.{Change}
 use Rattle.fl_words.specs.declared.batch.BatchError.{BatchError}
 use Rattle.fl_words.specs.declared.batch.BatchError.TheVariants as batch

@@ -4,8 +4,7 @@ use Rattle.std.specs.Prelude.{codes, IsSome, ◌&&◌, if◌then◌else◌}
 use Rattle.std.specs.Option.{is_some}
 use Rattle.std.proofs.lemmas.Bool.{false≢true, leb-true, leb-false}
 use Rattle.fp_name.specs.Hex.{hex, is_digest}
-use Rattle.fp_small.specs.declared.refusal.Refusal.{Refusal}
-use Rattle.fp_small.specs.declared.refusal.Refusal.TheVariants.{MalformedObject, MalformedValue}
+use Rattle.fp_small.specs.declared.refusal.Refusal.TheVariants.{MalformedValue}
 use Rattle.gv_value.specs.Shape.{Shape, is_type, max_depth}
 use Rattle.gv_value.specs.Tree.{Tree}
 use Rattle.gv_value.specs.TypeText.{type_of}
@@ -29,7 +28,6 @@ use Rattle.ost_object.specs.declared.error.ObjectError.TheVariants as object
 use Rattle.fl_top.specs.Ends.{Prints, end_of_object}
 use Rattle.fl_top.specs.Objects.{head, parent_text, commit_lines, tree_lines, meta_lines, normal_line}
 use Rattle.fl_top.specs.declared.end.RunEnd.{RunEnd}
-use Rattle.fl_top.specs.declared.end.RunEnd.TheVariants.{Refused}
 
 read_told : {A : Type 0} (digest text : List ℕ) (kind : ObjKind) (lines : A → List ℕ) (read : Result A Rule) (a : A) → read ≡ Ok a → text ≡ head digest (kind_word kind) ++ lines a → by_read digest kind lines read ≡ text_answer text
 read_told digest text kind lines read a is said = ap (by_read digest kind lines) is ∙ ap text_answer (sym said)

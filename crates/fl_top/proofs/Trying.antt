@@ -1,5 +1,5 @@
 -- What speaks against an operation.
-use Rattle.std.proofs.Common.{◌≡◌, ◌<◌, ◌≤◌, ℕ, List, Bool, true, false, nat_le, length, Option, Some, None, if◌then◌else◌, Contains, IsTrue, ◌↔◌, refl, sym, ◌∙◌, subst, arith}
+use Rattle.std.proofs.Common.{◌≡◌, ◌<◌, ◌≤◌, ℕ, List, Bool, true, false, nat_le, length, Some, None, if◌then◌else◌, Contains, IsTrue, ◌↔◌, refl, sym, ◌∙◌, arith}
 use Rattle.fp_small.proofs.Ordered.{contains, is_contained, lacks}
 use Rattle.fp_small.specs.Config.{name_of}
 use Rattle.fp_small.specs.Order.{has_name}

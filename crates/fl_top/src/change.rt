@@ -139,6 +139,21 @@ fn do_unrefused<H: Host>(
         (Opens opened) (H.faults host.old) (H.faults host.new) }
 {
     let op = op_of(change)?;
+    do_made(alloc, host, opened, op)
+}
+
+/// Does one operation, and drops it.
+fn do_made<H: Host>(alloc: Global, host: &mut H, opened: Opened, op: Op) -> Result<Opened, RunEnd>
+    requires may { May opened op }
+    requires on_config { IsOnConfig op }
+    requires good { IsGood opened }
+    ensures good { IfOk result IsGood }
+    ensures layout { IfOk result (λ o. o.layout ≡ Two) }
+    ensures any_moment { Goes (H.moments host.old) (H.moments host.new)
+        (Performs (op_answer op) opened) (Performed (op_answer op) opened result) }
+    ensures fault_has_cause { IsCaused (IsErrOf result RunEnd.Fault) (H.moments host.old)
+        (Opens opened) (H.faults host.old) (H.faults host.new) }
+{
     do_op(alloc, host, opened, &op)
 }
 
