@@ -128,14 +128,17 @@ module _ {Z : Type 0} (disk : Disk) (names : List (List ℕ)) (name : List ℕ) 
         finds : (t : List ℕ) → at_name override_key (values_of (insert_entry string_cmp es puts.0 row)) t ≡ (if bytes_eq (override_key row) t then Some row else at_name override_key (values_of es) t)
         finds t = found_put override_key puts.0 row known es so_far.keyed t
 
-        put : (n : List ℕ) → is_override n ≡ true → (other : OverrideRow) → override_seen disk n ≡ there other → Contains names n ⊎ (n ≡ name) → at_name override_key (values_of (insert_entry string_cmp es puts.0 row)) n ≡ Some other
-        put n of_n other seen (inr one) =
+        put_this : (n : List ℕ) (other : OverrideRow) → override_seen disk n ≡ there other → n ≡ name → at_name override_key (values_of (insert_entry string_cmp es puts.0 row)) n ≡ Some other
+        put_this n other seen one =
             let text : n ≡ override_key row = one ∙ sym named in
             let same_row : row ≡ other = same_there is (sym (ap (override_seen disk) one) ∙ seen) in
             finds n ∙ ap (λ t. if bytes_eq (override_key row) t then Some row else at_name override_key (values_of es) t) text
             ∙ ap (λ b. if b then Some row else at_name override_key (values_of es) (override_key row)) (bytes_eq-itself (override_key row)) ∙ ap Some same_row
+
+        put : (n : List ℕ) → is_override n ≡ true → (other : OverrideRow) → override_seen disk n ≡ there other → Contains names n ⊎ (n ≡ name) → at_name override_key (values_of (insert_entry string_cmp es puts.0 row)) n ≡ Some other
+        put n of_n other seen (inr one) = put_this n other seen one
         put n of_n other seen (inl before) = elim (cases_Bool (bytes_eq (override_key row) n)) [
-          | inl t ↦ put n of_n other seen (inr (sym (bytes_eq-is (override_key row) n t) ∙ named))
+          | inl t ↦ put_this n other seen (sym (bytes_eq-is (override_key row) n t) ∙ named)
           | inr f ↦ finds n ∙ ap (λ b. if b then Some row else at_name override_key (values_of es) n) f ∙ so_far.has n of_n before other seen
         ]
 
@@ -220,7 +223,7 @@ away_if disk name none = ap (λ n. if is_override name then override_at name n e
     both true = away_at name
     both false = refl
 
-good_if : (disk : Disk) (name : List ℕ) (s : Seen OverrideRow) → override_seen disk name ≡ s → (s ≡ away → ⊥) → is_override name ≡ true
+pub good_if : (disk : Disk) (name : List ℕ) (s : Seen OverrideRow) → override_seen disk name ≡ s → (s ≡ away → ⊥) → is_override name ≡ true
 good_if disk name s e off = elim (cases_Bool (is_override name)) [ inl t ↦ t | inr f ↦ absurd (off (sym e ∙ ap (λ b. if b then override_at name (disk (override_path name)) else away) f)) ]
 
 pub are_overrides : {Z : Type 0} {v : View} (names : List (List ℕ)) (es : List (String Z × OverrideRow)) (part : Part (List OverrideRow)) → IsTree v → FindsOverrides (shows v) names es part.damaged → part.found ≡ values_of es → ListsIn overrides_folder v names → AreOverrides (shows v) part

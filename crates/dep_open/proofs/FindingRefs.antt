@@ -153,16 +153,19 @@ module _ {Z : Type 0} (disk : Disk) (paths : List Elements) (p : Elements) (es f
         same_there : {x : Seen RefRow} {r s : RefRow} → x ≡ there r → x ≡ there s → r ≡ s
         same_there a b = cc (a, b)
 
-        put : (n : Ref) → is_ref n ≡ true → (other : RefRow) → ref_seen disk n ≡ there other → Contains paths (branch_dir n) ⊎ (n ≡ name) → at_name ref_key (values_of (insert_entry string_cmp es puts.0 row)) (ref_text n) ≡ Some other
-        put n of_n other seen (inr one) =
+        put_this : (n : Ref) (other : RefRow) → ref_seen disk n ≡ there other → n ≡ name → at_name ref_key (values_of (insert_entry string_cmp es puts.0 row)) (ref_text n) ≡ Some other
+        put_this n other seen one =
             let text : ref_text n ≡ ref_key row = ap ref_text (one ∙ sym named) in
             let same : row ≡ other = same_there is (sym (ap (ref_seen disk) one) ∙ seen) in
             finds (ref_text n) ∙ ap (λ t. if bytes_eq (ref_key row) t then Some row else at_name ref_key (values_of es) t) text
             ∙ ap (λ b. if b then Some row else at_name ref_key (values_of es) (ref_key row)) (bytes_eq-itself (ref_key row)) ∙ ap Some same
+
+        put : (n : Ref) → is_ref n ≡ true → (other : RefRow) → ref_seen disk n ≡ there other → Contains paths (branch_dir n) ⊎ (n ≡ name) → at_name ref_key (values_of (insert_entry string_cmp es puts.0 row)) (ref_text n) ≡ Some other
+        put n of_n other seen (inr one) = put_this n other seen one
         put n of_n other seen (inl before) = elim (cases_Bool (bytes_eq (ref_key row) (ref_text n))) [
           | inl t ↦
               let one : n ≡ name = some_is (sym (ref_of-ref_text n of_n) ∙ ap ref_of (sym (bytes_eq-is (ref_key row) (ref_text n) t) ∙ ap ref_text named) ∙ ref_of-ref_text name good) in
-              put n of_n other seen (inr one)
+              put_this n other seen one
           | inr f ↦ finds (ref_text n) ∙ ap (λ b. if b then Some row else at_name ref_key (values_of es) (ref_text n)) f ∙ so_far.has n of_n before other seen
         ]
 
@@ -238,7 +241,7 @@ gone_if {v = v} tree q none = ap (spot_of v.files) (at_tree v tree q ∙ none)
 away_if : (disk : Disk) (name : Ref) → disk (active name) ≡ gone → ref_seen disk name ≡ away
 away_if disk name none = ap (λ n. if is_ref name then by_active disk name n else away) none ∙ both (is_ref name)
   where
-    both : (b : Bool) → (if b then away else away) ≡ away
+    both : (b : Bool) → if◌then◌else◌ {A = Seen RefRow} b away away ≡ away
     both true = refl
     both false = refl
 

@@ -105,3 +105,10 @@ ended v (Err (Damaged p)) host.Fault err is = cc is
 ended v (Err (Damaged p)) host.NoMemory err is = cc is
 ended v (Err Fault) e err is = tt
 ended v (Err NoMemory) e err is = tt
+
+pub open_fault : {U : Type 0} (r : Result State OpenEnd) (s : Result U HostEnd) (e : HostEnd) → s ≡ Err e → IsErrAnd r (λ end. end ≡ open_end e) → IsErrOf r Fault → IsErrOf s host.Fault
+open_fault (Ok x) s e is err end = absurd (cc end)
+open_fault (Err (Damaged p)) s e is err end = absurd (cc end)
+open_fault (Err Fault) s host.Fault is err end = is
+open_fault (Err Fault) s host.NoMemory is err end = absurd (cc err)
+open_fault (Err NoMemory) s e is err end = absurd (cc end)

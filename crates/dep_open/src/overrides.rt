@@ -10,6 +10,7 @@ ghost use Rattle.fp_small.specs.Naming.{ListsIn};
 ghost use Rattle.dep_open.specs.Parts.{seen_in, override_loaded, AreOverrides, AreGoodLayers, AddsOverride, KeepsGoodLayers};
 
 use crate::part::{Part, Seen, add};
+use crate::paths::overrides_path;
 use fp_base::{Items, Text};
 use fp_host::{Host, HostEnd, Path};
 use fp_keyfile::{KeyError, KeyFile};
@@ -33,7 +34,7 @@ pub(crate) fn read_overrides<H: Host>(
     ensures fault_has_cause { IsCounted (IsErrOf result HostEnd.Fault)
         (H.moments host.old) (H.faults host.old) (H.faults host.new) }
 {
-    let folder = Path::root(alloc).child("overrides")?;
+    let folder = overrides_path(alloc)?;
     let names = names_in(alloc, host, &folder)?;
     overrides_among(alloc, host, &folder, names.as_slice())
 }

@@ -11,6 +11,7 @@ ghost use Rattle.dep_states.specs.Shown.{there, by_active, deploy_at, row_in};
 ghost use Rattle.dep_open.specs.Parts.{seen_in, seen_as, text_seen, IsRowOf, AreRefs, AreGoodRows, AreBranches, IsRefAt, AddsRef, KeepsGoodRows};
 
 use crate::part::{Part, Seen, add};
+use crate::paths::{apps_path, runtimes_path};
 use dep_states::{DeployData, DeployError};
 use fp_base::{Items, Text};
 use fp_host::{Host, HostEnd, Path, Stat};
@@ -50,9 +51,8 @@ fn branch_paths<H: Host>(alloc: Global, host: &mut H) -> Result<Vec<Path>, HostE
     ensures fault_has_cause { IsCounted (IsErrOf result HostEnd.Fault)
         (H.moments host.old) (H.faults host.old) (H.faults host.new) }
 {
-    let root = Path::root(alloc);
-    let apps = root.child("app")?;
-    let runtimes = root.child("runtime")?;
+    let apps = apps_path(alloc)?;
+    let runtimes = runtimes_path(alloc)?;
     let mut paths = paths_below(alloc, host, apps, BRANCH_DEPTH)?;
     let mut more = paths_below(alloc, host, runtimes, BRANCH_DEPTH)?;
     paths.append(&mut more)?;
@@ -154,7 +154,7 @@ fn read_text<H: Host>(alloc: Global, host: &mut H, path: &Path) -> Result<Seen<T
     match host.stat(path)? {
         Stat::Absent => Ok(Seen::Away),
         Stat::Link => Ok(Seen::There(host.read_link(alloc, path)?)),
-        Stat::Dir | Stat::File { .. } => Ok(Seen::Bad),
+        _ => Ok(Seen::Bad),
     }
 }
 

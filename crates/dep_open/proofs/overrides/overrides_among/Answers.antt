@@ -1,22 +1,12 @@
-use Rattle.std.proofs.Common.{◌≡◌, ◌∙◌, List, arith, refl, subst, sym}
+use Rattle.std.proofs.Common.{◌≡◌, ◌∙◌, List, ℕ, arith, refl, subst, sym}
 use Rattle.fp_host.specs.Paths.{Elements}
 use Rattle.fp_host.specs.View.{IsTree}
 use Rattle.fp_host.specs.Outcome.{shows}
-use Rattle.fp_host.proofs.Looking.{looks_start, looks_within}
-use Rattle.fp_host.proofs.Ending.{ends_on, ends_looks, ends_both, ends_to, ends_start, ends_in_tree}
+use Rattle.fp_host.proofs.Looking.{looks_within}
+use Rattle.fp_host.proofs.Ending.{ends_on, ends_looks, ends_both, ends_in_tree}
 use Rattle.dep_open.specs.Parts.{AddsOverride, FindsOverrides}
-use Rattle.dep_open.proofs.FindingOverrides.{layers_none, layers_next, good_layers_none, good_layers, are_overrides, whole_names}
+use Rattle.dep_open.proofs.FindingOverrides.{layers_next, good_layers, are_overrides, whole_names}
 use Rattle.dep_open.proofs.overrides.overrides_among.Goals as goal
-
-pub loop-name-init : goal.loop-name-init
-loop-name-init g c =
-    let t = g.met.H.Host.is_tree in
-    record {
-      still = looks_start (t c.args.host.now);
-      good = good_layers_none _ c.new.ensures.empty;
-      tells = ends_to (ends_start (t c.args.host.now)) (λ u w same. layers_none (shows u) _ _ c.new.ensures.empty refl);
-      later = omega arith;
-    }
 
 pub returns-in_err-add_override-clause-unchanged : goal.returns-in_err-add_override-clause-unchanged
 returns-in_err-add_override-clause-unchanged g c = looks_within c.add_override.ensures.unchanged c.loop-name.invariant.still (g.met.H.Host.is_tree c.loop-name.host)
@@ -29,7 +19,8 @@ loop-name-preserved g c =
       good = c.in_ok-add_override.ensures.good c.loop-name.invariant.good;
       tells = ends_on c.in_ok-add_override.ensures.tells (ends_both (ends_looks (t c.args.host.now) c.loop-name.invariant.still) c.loop-name.invariant.tells) (t c.loop-name.host) (λ u v w tree q adds.
           layers_next (shows u) c.args.names.now c.loop-name.name-index c.name-item.result c.loop-name.rows.entries _ c.loop-name.damaged _ c.loop-name-test.true c.name-item.is q.1
-          (subst (λ x. AddsOverride (shows x) c.name-item.result c.loop-name.rows.entries c.loop-name.damaged c.add_override.new.rows.entries c.add_override.new.damaged) q.0.0 adds));
+          (subst (λ (k : List ℕ). AddsOverride (shows u) k c.loop-name.rows.entries c.loop-name.damaged c.add_override.new.rows.entries c.add_override.new.damaged) c.as_str.ensures
+          (subst (λ x. AddsOverride (shows x) c.as_str.result.now c.loop-name.rows.entries c.loop-name.damaged c.add_override.new.rows.entries c.add_override.new.damaged) q.0.0 adds)));
       later = omega (arith, c.loop-name.invariant.later, c.add_override.ensures.fault_has_cause.later);
     }
 

@@ -1,5 +1,4 @@
-use Rattle.std.proofs.Common.{◌∷◌, ◌∙◌, ap, subst, codes}
-use Rattle.fp_host.specs.Paths.{Elements}
+use Rattle.std.proofs.Common.{subst}
 use Rattle.fp_host.proofs.Looking.{looks_within}
 use Rattle.fp_host.proofs.Ending.{ends_on, ends_looks, ends_both}
 use Rattle.ost_refs.specs.Walks.{AreLevel}
@@ -20,5 +19,5 @@ returns-clause-tells g c =
     let t = g.met.H.Host.is_tree in
     ends_on c.in_ok-more.ensures.tells (ends_both (ends_looks (t c.args.host.now) c.paths_below.ensures.unchanged) c.in_ok-paths.ensures.tells) (t c.paths_below.new.host) (λ u v w tree q three.
     both_branches c.in_ok-apps.apps c.in_ok-runtimes.runtimes c.in_ok-paths.paths.items c.in_ok-more.more.items c.append.new.self.items
-    (c.in_ok-apps.ensures ∙ ap (λ (l : Elements). codes "app" ∷ l) c.root.ensures) (c.in_ok-runtimes.ensures ∙ ap (λ (l : Elements). codes "runtime" ∷ l) c.root.ensures) c.in_ok-append.ensures.items
+    c.in_ok-apps.ensures c.in_ok-runtimes.ensures c.in_ok-append.ensures.items
     q.1 (subst (λ x. AreLevel 3 c.in_ok-runtimes.runtimes x c.in_ok-more.more.items) q.0.0 three))

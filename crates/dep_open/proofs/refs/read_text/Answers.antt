@@ -1,4 +1,4 @@
-use Rattle.std.proofs.Common.{◌≡◌, ◌×◌, List, ℕ, Ok, arith, subst, sym}
+use Rattle.std.proofs.Common.{◌≡◌, List, ℕ, Ok, arith, subst, sym}
 use Rattle.fp_host.specs.Paths.{link}
 use Rattle.fp_host.specs.View.{IsTree}
 use Rattle.fp_host.specs.Outcome.{shows}
@@ -6,6 +6,7 @@ use Rattle.fp_host.specs.Reads.{StatOf}
 use Rattle.fp_host.proofs.Cause.{clash_reads}
 use Rattle.fp_host.proofs.Looking.{looks_start, looks_stat, looks_read_link}
 use Rattle.fp_host.proofs.Ending.{ends_call, ends_on, ends_in_tree, call_caused}
+use Rattle.dep_states.specs.Shown.{there}
 use Rattle.dep_open.specs.Parts.{text_seen}
 use Rattle.dep_open.proofs.Linked.{nothing_there, other_there, link_there, stat_link}
 use Rattle.dep_open.proofs.refs.read_text.Goals as goal
@@ -25,7 +26,7 @@ returns-in_err-read_link-in-Link-clause-fault_has_cause g c =
     let t = g.met.H.Host.is_tree in
     let e = c.in_err-read_link-in-Link.ensures in
     call_caused (λ v. Unit {0}) (λ v. (text : List ℕ) × (v.names c.args.path.now ≡ link text)) _ _ _ _ _ (t c.args.host.now) c.stat.ensures.fault_has_cause.later (ends_call (t c.args.host.now) c.in_ok-stat.ensures.step) e.step e.fault_has_cause
-    c.from_residual-in_err-read_link-in-Link.ensures.1 (λ v w step clash can. clash_reads _ _ _ step.tells clash can)
+    c.from_residual-in_err-read_link-in-Link.ensures.1 (λ v w step clash can. clash_reads {T = List ℕ} ((text : List ℕ) × (v.names c.args.path.now ≡ link text)) (λ text. v.names c.args.path.now ≡ link text) _ step.tells clash can)
     (λ u v is q can. subst (λ x. (text : List ℕ) × (x.names c.args.path.now ≡ link text)) (sym q.same) (stat_link (subst (λ r. StatOf c.args.path.now (Ok r) u v) c.in-Link.is q)))
 
 pub returns-in-Absent-clause-unchanged : goal.returns-in-Absent-clause-unchanged
@@ -46,11 +47,13 @@ pub returns-in_ok-read_link-in-Link-clause-tells :
 returns-in_ok-read_link-in-Link-clause-tells g c =
     let t = g.met.H.Host.is_tree in
     ends_on (ends_call (t c.stat.new.self) c.in_ok-read_link-in-Link.ensures.step) (ends_call (t c.args.host.now) c.in_ok-stat.ensures.step) (t c.stat.new.self)
-    (λ u v w tree s reads. sym (subst (λ x. text_seen (shows x c.args.path.now) ≡ _) s.same (link_there tree reads)))
+    (λ u v w tree s reads. sym (subst (λ x. text_seen (shows x c.args.path.now) ≡ there c.in_ok-read_link-in-Link.field-0) s.same (link_there tree reads)))
 
-pub returns-in-Dir-clause-unchanged : goal.returns-in-Dir-clause-unchanged
-returns-in-Dir-clause-unchanged g c = let t = g.met.H.Host.is_tree in looks_stat c.stat.ensures.step (looks_start (t c.args.host.now)) (t c.args.host.now)
-
-pub returns-in-Dir-clause-tells : goal.returns-in-Dir-clause-tells
-returns-in-Dir-clause-tells g c = ends_in_tree (g.met.H.Host.is_tree c.stat.new.self) (ends_call (g.met.H.Host.is_tree c.args.host.now) c.in_ok-stat.ensures.step)
-    (λ u w tree s. sym (other_there (subst IsTree s.same tree) s c.in-Dir.not-Absent c.in-Dir.not-Link))
+pub returns-in_default : goal.returns-in_default
+returns-in_default g c =
+    let t = g.met.H.Host.is_tree in
+    record {
+      unchanged = looks_stat c.stat.ensures.step (looks_start (t c.args.host.now)) (t c.args.host.now);
+      tells = ends_in_tree (t c.stat.new.self) (ends_call (t c.args.host.now) c.in_ok-stat.ensures.step) (λ u w tree s. sym (other_there (subst IsTree s.same tree) s c.in_default.not-Absent c.in_default.not-Link));
+      fault_has_cause = record { later = c.stat.ensures.fault_has_cause.later; fault = λ is. absurd (cc is) };
+    }

@@ -2,21 +2,11 @@ use Rattle.std.proofs.Common.{◌≡◌, ◌∙◌, List, arith, refl, subst, sy
 use Rattle.fp_host.specs.Paths.{Elements}
 use Rattle.fp_host.specs.View.{IsTree}
 use Rattle.fp_host.specs.Outcome.{shows}
-use Rattle.fp_host.proofs.Looking.{looks_start, looks_within}
-use Rattle.fp_host.proofs.Ending.{ends_on, ends_looks, ends_both, ends_to, ends_start, ends_in_tree}
+use Rattle.fp_host.proofs.Looking.{looks_within}
+use Rattle.fp_host.proofs.Ending.{ends_on, ends_looks, ends_both, ends_in_tree}
 use Rattle.dep_open.specs.Parts.{AddsRef, FindsRefs}
-use Rattle.dep_open.proofs.FindingRefs.{finds_none, finds_next, good_none, good_rows, are_refs, whole_list}
+use Rattle.dep_open.proofs.FindingRefs.{finds_next, good_rows, are_refs, whole_list}
 use Rattle.dep_open.proofs.refs.refs_among.Goals as goal
-
-pub loop-path-init : goal.loop-path-init
-loop-path-init g c =
-    let t = g.met.H.Host.is_tree in
-    record {
-      still = looks_start (t c.args.host.now);
-      good = good_none _ c.new.ensures.empty;
-      tells = ends_to (ends_start (t c.args.host.now)) (λ u w same. finds_none (shows u) _ _ c.new.ensures.empty refl);
-      later = omega arith;
-    }
 
 pub returns-in_err-add_ref-clause-unchanged : goal.returns-in_err-add_ref-clause-unchanged
 returns-in_err-add_ref-clause-unchanged g c = looks_within c.add_ref.ensures.unchanged c.loop-path.invariant.still (g.met.H.Host.is_tree c.loop-path.host)
