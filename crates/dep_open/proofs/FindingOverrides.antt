@@ -1,6 +1,6 @@
 -- The overrides that are gathered at names.
-use Rattle.std.proofs.Common.{◌≡◌, ◌≢◌, ◌⊎◌, inl, inr, ℕ, ◌+◌, ◌<◌, ◌≤◌, List, [], ◌∷◌, ◌++◌, length, take, get_or, Bool, true, false, Option, Some, None, Ok, Err, Result, refl, sym, ◌∙◌, ap, subst, Contains}
-use Rattle.std.specs.Prelude.{if◌then◌else◌, String, string_bytes, IfOk, IsTrue}
+use Rattle.std.proofs.Common.{◌≡◌, ◌≢◌, ◌⊎◌, inl, inr, ℕ, ◌+◌, ◌<◌, ◌≤◌, List, [], ◌∷◌, ◌++◌, length, take, get_or, Bool, true, false, Option, Some, None, refl, sym, ◌∙◌, ap, subst, Contains}
+use Rattle.std.specs.Prelude.{if◌then◌else◌, String, string_bytes}
 use Rattle.std.specs.List.Sorted.{IsStrictlySortedBy}
 use Rattle.std.specs.Str.{bytes_eq}
 use Rattle.std.specs.String.{string_cmp}
@@ -9,10 +9,9 @@ use Rattle.std.specs.Map.{keys_of, values_of}
 use Rattle.std.proofs.lemmas.Bool.{cases_Bool, false≢true}
 use Rattle.std.proofs.lemmas.List.{take_more, take_all}
 use Rattle.std.proofs.lemmas.List.Elements.{Contains-append_left, Contains-push, Contains-push_cases}
-use Rattle.fp_host.specs.Paths.{Elements, absent, path_text, elements_of}
+use Rattle.fp_host.specs.Paths.{Elements, path_text, elements_of}
 use Rattle.fp_host.specs.View.{View, IsTree}
 use Rattle.fp_host.specs.Outcome.{Spot, Disk, gone, shows, spot_of}
-use Rattle.fp_host.proofs.Separate.{absent_cases}
 use Rattle.fp_host.proofs.Settled.{at_tree}
 use Rattle.fp_keyfile.specs.declared.group.Group.{Group}
 use Rattle.fp_keyfile.specs.KeyFile.{file_of, is_good}
@@ -31,7 +30,7 @@ use Rattle.dep_states.proofs.Good.{named_good, ok_good, if_file_is, read_there}
 use Rattle.dep_states.proofs.Single.{some_is, some_none, none_some}
 use Rattle.dep_states.proofs.Total.{override_is, named_is}
 use Rattle.dep_open.specs.declared.part.Part.{Part}
-use Rattle.dep_open.specs.Parts.{lesser, seen_as, override_loaded, IsLeast, BadOverride, IsKeyed, Puts, Adds, IsLayerOf, HoldsGoodLayers, AreOverrides, AreGoodLayers, AddsOverride, BadOverrideAt, FindsOverrides}
+use Rattle.dep_open.specs.Parts.{lesser, seen_as, override_loaded, IsLeast, BadOverride, Puts, Adds, IsLayerOf, HoldsGoodLayers, AreOverrides, AreGoodLayers, AddsOverride, BadOverrideAt, FindsOverrides}
 use Rattle.dep_open.proofs.Least.{least_both, least_to, override_back}
 use Rattle.dep_open.proofs.Gathering.{found_put, keyed_put, each_put, ascending}
 use Rattle.dep_open.proofs.SetUp.{file_seen}

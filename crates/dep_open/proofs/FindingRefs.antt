@@ -1,7 +1,6 @@
 -- The refs that are gathered at branch directories.
-use Rattle.std.proofs.Common.{◌≡◌, ◌≢◌, ◌⊎◌, inl, inr, ℕ, ◌+◌, ◌<◌, ◌≤◌, suc, List, [], ◌∷◌, ◌++◌, length, take, get_or, map, Bool, true, false, Option, Some, None, refl, sym, ◌∙◌, ap, subst, Contains, codes}
-use Rattle.std.specs.Prelude.{if◌then◌else◌, String, string_bytes, ◌↔◌}
-use Rattle.std.specs.List.{AllByRecursion}
+use Rattle.std.proofs.Common.{◌≡◌, ◌≢◌, ◌⊎◌, inl, inr, ℕ, ◌+◌, ◌<◌, ◌≤◌, List, [], ◌∷◌, ◌++◌, length, take, get_or, Bool, true, false, Option, Some, None, refl, sym, ◌∙◌, ap, subst, Contains, codes}
+use Rattle.std.specs.Prelude.{if◌then◌else◌, String, string_bytes}
 use Rattle.std.specs.List.Sorted.{IsStrictlySortedBy}
 use Rattle.std.specs.Str.{bytes_eq}
 use Rattle.std.specs.String.{string_cmp}
@@ -10,32 +9,29 @@ use Rattle.std.specs.Map.{keys_of, values_of}
 use Rattle.std.proofs.lemmas.Bool.{cases_Bool}
 use Rattle.std.proofs.lemmas.List.{take_more, take_all}
 use Rattle.std.proofs.lemmas.List.Elements.{Contains-append_left, Contains-append_right, Contains-append_cases, Contains-push, Contains-push_cases}
-use Rattle.fp_host.specs.Paths.{Elements, Slot, absent, path_text, elements_of}
+use Rattle.fp_host.specs.Paths.{Elements, absent, path_text, elements_of}
 use Rattle.fp_host.specs.View.{View, IsTree}
-use Rattle.fp_host.specs.Outcome.{Spot, Disk, gone, folder, holds, points, shows, spot_of}
-use Rattle.fp_host.specs.Reads.{is_ascending}
+use Rattle.fp_host.specs.Outcome.{Disk, gone, shows, spot_of}
 use Rattle.fp_host.proofs.Separate.{absent_cases}
 use Rattle.fp_host.proofs.Settled.{at_tree}
 use Rattle.fp_name.specs.declared.kind.RefKind.{RefKind}
 use Rattle.fp_name.specs.declared.kind.RefKind.TheVariants.{App, Runtime}
-use Rattle.fp_name.specs.Hex.{hex, unhex}
 use Rattle.fp_name.specs.Kinds.{kind_word}
 use Rattle.fp_name.specs.Refs.{Ref, is_ref, ref_of, ref_text}
 use Rattle.fp_name.proofs.Refs.{ref_of-ref_text, ref_of-some}
-use Rattle.fp_name.proofs.HexTexts.{unhex-hex}
 use Rattle.fp_small.proofs.Ordered.{bytes_eq-itself, bytes_eq-is}
 use Rattle.fp_small.specs.Walks.{IsLevel}
 use Rattle.fp_small.specs.declared.state.RefRow.{RefRow}
 use Rattle.ost_refs.specs.Walks.{AreLevel}
 use Rattle.dep_open.proofs.Gathering.{in_none}
 use Rattle.dep_states.specs.Names.{active, branch_dir}
-use Rattle.dep_states.specs.Shown.{Seen, away, bad, there, seen_of, by_active, deploy_at, ref_seen, row_seen, at_name, ref_key}
+use Rattle.dep_states.specs.Shown.{Seen, away, bad, there, seen_of, by_active, ref_seen, row_seen, at_name, ref_key}
 use Rattle.dep_states.specs.After.{IsGoodRow}
 use Rattle.dep_states.proofs.Single.{some_is, some_none, none_some, ref_if_bad}
 use Rattle.dep_states.proofs.Total.{ref_is}
 use Rattle.dep_states.proofs.Worked.{active_same}
 use Rattle.dep_open.specs.declared.part.Part.{Part}
-use Rattle.dep_open.specs.Parts.{lesser, IsLeast, BadRef, IsKeyed, Puts, Adds, IsRowOf, HoldsGoodRows, AreRefs, AreGoodRows, AreBranches, IsRefAt, AddsRef, BadRefAt, FindsRefs}
+use Rattle.dep_open.specs.Parts.{lesser, IsLeast, BadRef, Puts, Adds, IsRowOf, HoldsGoodRows, AreRefs, AreGoodRows, AreBranches, AddsRef, BadRefAt, FindsRefs}
 use Rattle.dep_open.proofs.Least.{least_both, least_to, active_back, branch_back}
 use Rattle.dep_open.proofs.Gathering.{found_put, keyed_put, each_put, ascending}
 

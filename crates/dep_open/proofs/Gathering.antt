@@ -1,5 +1,5 @@
 -- Rows that are gathered place by place.
-use Rattle.std.proofs.Common.{◌≡◌, ◌⊎◌, inl, inr, ℕ, List, [], ◌∷◌, ◌++◌, map, Bool, true, false, Option, Some, None, refl, sym, ◌∙◌, ap, subst, Contains, arith}
+use Rattle.std.proofs.Common.{◌≡◌, inl, inr, ℕ, List, [], ◌∷◌, map, true, false, Option, Some, refl, sym, ◌∙◌, ap, Contains, arith}
 use Rattle.std.specs.Prelude.{if◌then◌else◌, String, string_bytes}
 use Rattle.std.specs.declared.cmp.Ordering.{Ordering}
 use Rattle.std.specs.declared.cmp.Ordering.TheVariants.{Less, Equal, Greater}
@@ -12,14 +12,12 @@ use Rattle.std.specs.String.{string_cmp}
 use Rattle.std.specs.BTreeMap.{insert_entry}
 use Rattle.std.specs.Map.{keys_of, values_of}
 use Rattle.std.proofs.lemmas.Bool.{cases_Bool, and_from, both_ways}
-use Rattle.std.proofs.lemmas.List.Elements.{Contains-append_left, Contains-push, Contains-push_cases}
 use Rattle.std.proofs.lemmas.Map.Text.{is_eq-slice_cmp}
 use Rattle.std.proofs.lemmas.Slice.Eq.{bytes_eq-Decides}
-use Rattle.fp_host.specs.Paths.{Elements, path_text, elements_of}
 use Rattle.fp_host.specs.Reads.{comes_first, is_ascending}
-use Rattle.fp_small.proofs.Ordered.{bytes_eq-itself, bytes_eq-is}
+use Rattle.fp_small.proofs.Ordered.{bytes_eq-is}
 use Rattle.dep_states.specs.Shown.{at_name}
-use Rattle.dep_open.specs.Parts.{IsKeyed, Puts}
+use Rattle.dep_open.specs.Parts.{IsKeyed}
 
 pub in_none : {A : Type 0} (x : A) → Contains [] x → ⊥
 in_none x has = absurd (omega (arith, has.1))

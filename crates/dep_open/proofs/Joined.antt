@@ -1,19 +1,17 @@
 -- The state of its parts, or the first path of them that doesn't read.
-use Rattle.std.proofs.Common.{◌≡◌, ◌≢◌, ◌⊎◌, inl, inr, ℕ, List, Bool, true, false, Option, Some, None, Result, Ok, Err, IsErr, IsErrAnd, IsErrOf, refl, sym, ◌∙◌, ap, subst}
+use Rattle.std.proofs.Common.{◌≡◌, ◌⊎◌, inl, inr, List, Bool, true, false, Option, Some, None, Result, Ok, Err, IsErr, IsErrAnd, IsErrOf, refl, sym, ◌∙◌, subst}
 use Rattle.std.specs.Prelude.{if◌then◌else◌}
 use Rattle.fp_host.specs.Paths.{Elements, path_text, elements_of}
 use Rattle.fp_host.specs.View.{View}
 use Rattle.fp_host.specs.Outcome.{Disk, shows}
 use Rattle.fp_host.specs.declared.host.HostEnd.{HostEnd}
 use Rattle.fp_host.specs.declared.host.HostEnd.TheVariants as host
-use Rattle.fp_name.specs.Refs.{Ref}
 use Rattle.fp_small.specs.declared.state.State.{State}
 use Rattle.fp_small.specs.declared.state.RefRow.{RefRow}
 use Rattle.fp_small.specs.declared.state.OverrideRow.{OverrideRow}
 use Rattle.dep_states.specs.declared.setup.Setup.{Setup}
 use Rattle.dep_states.specs.After.{IsGood}
-use Rattle.dep_states.specs.Names.{is_override, override_path, active}
-use Rattle.dep_states.specs.Shown.{Seen, away, bad, ref_seen, override_at, override_seen, Shows}
+use Rattle.dep_states.specs.Shown.{bad, Shows}
 use Rattle.dep_states.specs.Damaged.{Damages, bad_config, bad_remotes, bad_pins, bad_ref, bad_override, IsFirstDamaged}
 use Rattle.dep_states.specs.Sound.{is_remotes, is_pins}
 use Rattle.dep_states.proofs.Single.{ref_if_bad}
@@ -21,7 +19,7 @@ use Rattle.dep_open.specs.declared.part.Part.{Part}
 use Rattle.dep_open.specs.declared.open_end.OpenEnd.{OpenEnd}
 use Rattle.dep_open.specs.declared.open_end.OpenEnd.TheVariants.{Damaged, Fault, NoMemory}
 use Rattle.dep_open.specs.Ends.{open_end}
-use Rattle.dep_open.specs.Open.{Reads, joined, first_damaged, IsJoined}
+use Rattle.dep_open.specs.Open.{Reads, first_damaged, IsJoined}
 use Rattle.dep_open.specs.Parts.{lesser, IsLeast, BadSetting, BadRef, BadOverride, IsGoodSetup, SetsUp, AreRefs, AreOverrides, AreGoodRows, AreGoodLayers}
 use Rattle.dep_open.proofs.Least.{least_both, active_back, override_back}
 use Rattle.dep_open.proofs.SetUp.{small_back}

@@ -1,11 +1,10 @@
 -- The first of damaged paths by the bytes of their texts.
-use Rattle.std.proofs.Common.{◌≡◌, ◌⊎◌, inl, inr, ℕ, List, [], ◌∷◌, ◌++◌, Bool, true, false, ◌&&◌, Option, Some, None, refl, sym, ◌∙◌, ap, subst, codes}
-use Rattle.std.specs.Prelude.{if◌then◌else◌}
+use Rattle.std.proofs.Common.{◌≡◌, ◌⊎◌, inl, inr, ℕ, List, [], ◌∷◌, ◌++◌, true, false, ◌&&◌, Option, Some, None, refl, sym, ◌∙◌, ap, subst, codes}
 use Rattle.std.specs.List.{list_all, join_with_byte}
 use Rattle.std.specs.Str.{bytes_eq}
 use Rattle.std.proofs.lemmas.Bool.{cases_Bool, and_parts, and_from, or_cases}
 use Rattle.std.proofs.lemmas.Slice.Eq.{bytes_eq-Decides}
-use Rattle.fp_host.specs.Paths.{Elements, is_element, turned_onto, turned, path_text, elements_of}
+use Rattle.fp_host.specs.Paths.{Elements, is_element, turned_onto, path_text, elements_of}
 use Rattle.fp_host.proofs.PathTexts.{child_root, child_below}
 use Rattle.fp_name.specs.Grammar.{is_id, is_arch, is_branch}
 use Rattle.fp_name.specs.Refs.{Ref, is_ref}
@@ -124,13 +123,16 @@ module _ (D E : Elements → Type 0) (back_d : ReadsBack D) (back_e : ReadsBack 
   least_both None (Some q) x y = (inr y.0, λ r either. elim either [ inl d ↦ absurd (x r d) | inr e ↦ y.1 r e ])
   least_both (Some p) None x y = (inl x.0, λ r either. elim either [ inl d ↦ x.1 r d | inr e ↦ absurd (y r e) ])
   least_both (Some p) (Some q) x y = elim (cases_Bool (comes_before (path_text q) (path_text p))) [
-    | inl first ↦ rw first (inr y.0, λ r either. elim either [
-      | inr e ↦ y.1 r e
-      | inl d ↦ elim (x.1 r d) [
-        | inl is ↦ inr (subst (λ z. comes_before (path_text q) (path_text z) ≡ true) (sym is) first)
-        | inr before ↦ inr (before_on (path_text q) (path_text p) (path_text r) first before)
-      ]
-    ])
+    | inl first ↦ rw first (
+      inr y.0,
+      λ r either. elim either [
+        | inr e ↦ y.1 r e
+        | inl d ↦ elim (x.1 r d) [
+          | inl is ↦ inr (subst (λ z. comes_before (path_text q) (path_text z) ≡ true) (sym is) first)
+          | inr before ↦ inr (before_on (path_text q) (path_text p) (path_text r) first before)
+        ]
+      ],
+    )
     | inr off ↦ rw off (inl x.0, λ r either. elim either [ inl d ↦ x.1 r d | inr e ↦ after_first p q r x.0 y.0 off (y.1 r e) e ])
   ]
 

@@ -1,6 +1,6 @@
 -- What `active` leads to.
-use Rattle.std.proofs.Common.{◌≡◌, ◌⊎◌, inl, inr, ℕ, List, [], ◌∷◌, Bool, true, false, Option, Some, None, Ok, Err, Result, refl, sym, ◌∙◌, ap, subst}
-use Rattle.std.specs.Prelude.{if◌then◌else◌, ok_or}
+use Rattle.std.proofs.Common.{◌≡◌, inl, inr, ℕ, List, ◌∷◌, true, Option, Some, None, Ok, Result, refl, sym, ◌∙◌, ap, subst}
+use Rattle.std.specs.Prelude.{ok_or}
 use Rattle.std.specs.Str.{bytes_eq}
 use Rattle.std.proofs.lemmas.Bool.{cases_Bool}
 use Rattle.fp_host.specs.Paths.{Elements, Slot, absent, dir, file, link, is_element}
@@ -25,7 +25,7 @@ use Rattle.fp_small.specs.declared.state.RefRow.{RefRow}
 use Rattle.dep_states.specs.declared.deploy.DeployData.{DeployData}
 use Rattle.dep_states.specs.Deploy.{deploy_of}
 use Rattle.dep_states.specs.Names.{active, branch_dir, text_dir, deploy}
-use Rattle.dep_states.specs.Shown.{Seen, away, bad, there, read_of, small_most, row_of, row_in, deploy_at, by_active}
+use Rattle.dep_states.specs.Shown.{Seen, away, bad, there, small_most, row_in, deploy_at, by_active}
 use Rattle.dep_states.proofs.Deploys.{IsRead, deploy_reads}
 use Rattle.dep_states.proofs.Good.{row_in_good, read_there}
 use Rattle.dep_states.proofs.Total.{row_in_name}

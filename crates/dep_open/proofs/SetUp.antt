@@ -16,9 +16,9 @@ use Rattle.fp_small.specs.declared.loading.Loaded.TheVariants.{Bytes, Absent, To
 use Rattle.fp_small.proofs.ConfigReads.{read_good}
 use Rattle.fp_small.proofs.OldReads.{remotes_good, pins_good}
 use Rattle.dep_states.specs.declared.setup.Setup.{Setup}
-use Rattle.dep_states.specs.Names.{config, remotes_conf, pins_file, override_path, active}
+use Rattle.dep_states.specs.Names.{config, remotes_conf, pins_file}
 use Rattle.dep_states.specs.Shown.{Seen, away, bad, there, read_of, read_file, setup, config_most, small_most, layout_one, layout_two, config_at, remotes_at, pins_at, settings_at, settings_seen}
-use Rattle.dep_states.specs.Damaged.{Damages, bad_config, bad_remotes, bad_pins, bad_ref, bad_override}
+use Rattle.dep_states.specs.Damaged.{bad_config, bad_remotes, bad_pins, bad_ref, bad_override}
 use Rattle.dep_states.specs.Small.{IsSetting}
 use Rattle.dep_states.specs.Sound.{is_remotes, is_pins}
 use Rattle.dep_states.proofs.Good.{read_there, one_good, two_good, no_settings}

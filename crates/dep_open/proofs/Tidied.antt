@@ -1,5 +1,5 @@
 -- An opened installation before it is changed.
-use Rattle.std.proofs.Common.{◌≡◌, ◌≢◌, inl, inr, ℕ, List, [], ◌∷◌, ◌++◌, Option, Some, None, Result, Ok, refl, sym, ◌∙◌, ap, subst}
+use Rattle.std.proofs.Common.{◌≡◌, ◌≢◌, inl, inr, ℕ, [], ◌∷◌, ◌++◌, Option, Some, None, Result, Ok, refl, sym, ◌∙◌, ap, subst}
 use Rattle.fp_host.specs.Paths.{Elements, Slot, absent, dir, file, link, at, IsAbove}
 use Rattle.fp_host.specs.View.{View, Inode, IsTree}
 use Rattle.fp_host.specs.Calls.{syncs, Step, IsNoDir}

@@ -1,5 +1,5 @@
 -- An installation that shows no state.
-use Rattle.std.proofs.Common.{◌≡◌, Option, Ok}
+use Rattle.std.proofs.Common.{Option, Ok}
 use Rattle.fp_host.specs.View.{View}
 use Rattle.fp_host.specs.Moments.{Moments, Goes}
 use Rattle.fp_host.specs.Frame.{AtEnd, Unchanged}

@@ -1,5 +1,5 @@
 -- What is found of the parts of the state.
-use Rattle.std.specs.Prelude.{◌≡◌, ◌⊎◌, ◌↔◌, ◌∷◌, ℕ, List, [], map, Bool, true, false, Option, Some, None, Result, Ok, Err, String, string_bytes, Contains, if◌then◌else◌, codes}
+use Rattle.std.specs.Prelude.{◌≡◌, ◌⊎◌, ◌↔◌, ◌∷◌, ℕ, List, [], map, Bool, true, false, Option, Some, None, String, string_bytes, Contains, if◌then◌else◌, codes}
 use Rattle.std.specs.List.{AllByRecursion}
 use Rattle.std.specs.Map.{values_of}
 use Rattle.std.specs.String.{string_cmp}
@@ -10,7 +10,7 @@ use Rattle.fp_host.specs.Outcome.{Spot, Disk, gone, folder, holds, points}
 use Rattle.fp_host.specs.Reads.{is_ascending}
 use Rattle.fp_keyfile.specs.KeyFile.{file_of}
 use Rattle.fp_name.specs.Refs.{Ref, is_ref, ref_of, ref_text}
-use Rattle.fp_small.specs.Config.{IsSettings, config_of}
+use Rattle.fp_small.specs.Config.{IsSettings}
 use Rattle.fp_small.specs.Old.{remotes_of, pins_of}
 use Rattle.fp_small.specs.Order.{comes_before}
 use Rattle.fp_small.specs.Walks.{IsLevel}

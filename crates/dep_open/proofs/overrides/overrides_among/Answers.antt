@@ -1,10 +1,9 @@
-use Rattle.std.proofs.Common.{◌≡◌, ◌∙◌, List, ℕ, arith, refl, subst, sym}
-use Rattle.fp_host.specs.Paths.{Elements}
+use Rattle.std.proofs.Common.{◌∙◌, List, ℕ, arith, subst}
 use Rattle.fp_host.specs.View.{IsTree}
 use Rattle.fp_host.specs.Outcome.{shows}
 use Rattle.fp_host.proofs.Looking.{looks_within}
 use Rattle.fp_host.proofs.Ending.{ends_on, ends_looks, ends_both, ends_in_tree}
-use Rattle.dep_open.specs.Parts.{AddsOverride, FindsOverrides}
+use Rattle.dep_open.specs.Parts.{AddsOverride}
 use Rattle.dep_open.proofs.FindingOverrides.{layers_next, good_layers, are_overrides, whole_names}
 use Rattle.dep_open.proofs.overrides.overrides_among.Goals as goal
 

@@ -1,11 +1,9 @@
-use Rattle.std.proofs.Common.{◌≡◌, ◌∙◌, ap, sym, subst}
+use Rattle.std.proofs.Common.{◌∙◌, ap, sym}
 use Rattle.std.proofs.lemmas.Result.{IfOk-weaker}
-use Rattle.fp_host.specs.Outcome.{shows}
 use Rattle.fp_host.proofs.Looking.{looks_start, looks_within}
 use Rattle.fp_host.proofs.Ending.{ends_looks, ends_both, ends_on}
-use Rattle.dep_states.specs.Names.{active}
 use Rattle.dep_open.specs.Parts.{seen_in}
-use Rattle.dep_open.proofs.Linked.{by_text, active_there}
+use Rattle.dep_open.proofs.Linked.{active_there}
 use Rattle.dep_open.proofs.refs.read_active.Goals as goal
 
 pub returns-in-There-clause-unchanged : goal.returns-in-There-clause-unchanged

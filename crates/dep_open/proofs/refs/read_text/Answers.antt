@@ -1,4 +1,4 @@
-use Rattle.std.proofs.Common.{◌≡◌, List, ℕ, Ok, arith, subst, sym}
+use Rattle.std.proofs.Common.{◌≡◌, List, ℕ, Ok, subst, sym}
 use Rattle.fp_host.specs.Paths.{link}
 use Rattle.fp_host.specs.View.{IsTree}
 use Rattle.fp_host.specs.Outcome.{shows}

@@ -1,10 +1,9 @@
-use Rattle.std.proofs.Common.{◌≡◌, ◌∙◌, List, arith, refl, subst, sym}
-use Rattle.fp_host.specs.Paths.{Elements}
+use Rattle.std.proofs.Common.{◌∙◌, arith, subst}
 use Rattle.fp_host.specs.View.{IsTree}
 use Rattle.fp_host.specs.Outcome.{shows}
 use Rattle.fp_host.proofs.Looking.{looks_within}
 use Rattle.fp_host.proofs.Ending.{ends_on, ends_looks, ends_both, ends_in_tree}
-use Rattle.dep_open.specs.Parts.{AddsRef, FindsRefs}
+use Rattle.dep_open.specs.Parts.{AddsRef}
 use Rattle.dep_open.proofs.FindingRefs.{finds_next, good_rows, are_refs, whole_list}
 use Rattle.dep_open.proofs.refs.refs_among.Goals as goal
 
