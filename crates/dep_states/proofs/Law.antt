@@ -1,120 +1,115 @@
--- What steps that spare the fixed paths leave.
-use Rattle.std.proofs.Common.{◌≡◌, ◌⊎◌, inl, inr, Result, Ok, refl, sym, ◌∙◌, ap, subst}
+-- The frame law of an installation.
+use Rattle.std.proofs.Common.{◌≡◌, ◌≢◌, ◌⊎◌, inl, inr, ℕ, List, ◌++◌, Bool, true, false, Option, Some, None, refl, sym, ◌∙◌, ap, subst}
+use Rattle.std.specs.Prelude.{if◌then◌else◌}
 use Rattle.fp_host.specs.Paths.{Elements}
-use Rattle.fp_host.specs.View.{View, IsTree}
-use Rattle.fp_host.specs.Outcome.{Spot, Disk, Leaves, Follows, Nothing, IsSettled, gone, folder, holds, points, shows, spot_of}
-use Rattle.fp_host.proofs.Settled.{settled_disk, at_tree}
+use Rattle.fp_host.specs.View.{View}
+use Rattle.fp_host.specs.Outcome.{Spot, gone, folder, holds, points, Disk, Leaves, Follows, Nothing}
+use Rattle.fp_name.specs.Refs.{Ref, is_ref, ref_of}
+use Rattle.fp_small.specs.Places.{repo}
 use Rattle.fp_small.specs.declared.state.State.{State}
-use Rattle.fp_small.specs.declared.state.Layout.TheVariants.{Two}
-use Rattle.dep_states.specs.Names.{config, remotes_conf, pins_file}
-use Rattle.dep_states.specs.Shown.{Shows, seen, state_at, new_state, settings_at, state_of, empty_settings}
-use Rattle.dep_states.specs.Zones.{Allowed}
-use Rattle.dep_states.specs.Sound.{Sound, Opens, IsSound, Fixed, is_config, is_old, IsOld, is_remotes, is_pins, Spares, Spared, HasConfig, OldGone}
+use Rattle.ost_model.specs.Objects.{object_path, store}
+use Rattle.ost_model.specs.Order.{Place, In, order}
+use Rattle.ost_model.specs.Standing.{deploy_name}
+use Rattle.ost_model.proofs.Local.{stands_same}
+use Rattle.dep_states.specs.Names.{config, remotes_conf, pins_file, is_override, override_path, active, text_dir, commit_dir, deploy}
+use Rattle.dep_states.specs.Shown.{away, deploy_at, by_active, ref_seen, row_seen, override_at, override_seen, settings_at, settings_seen, Shows}
+use Rattle.dep_states.specs.Zones.{IsFileOrGone, Allowed}
+use Rattle.dep_states.specs.Sound.{Keeps, Sound, is_remotes, is_pins, Fixed, is_config, is_old, is_active, is_deploy, is_layer, is_inside, is_object, Permits, Opens, IsSound, Spares, Spared, reads_as}
 
-ok_same : {A E : Type 0} {x y : A} {r : Result A E} → r ≡ Ok x → r ≡ Ok y → x ≡ y
-ok_same one two = cc (one, two)
+-- a part that is read only under a test
+if_same : {A : Type 0} (b : Bool) (x y z : A) → (b ≡ true → y ≡ x) → if b then y else z ≡ if b then x else z
+if_same true x y z same = same refl
+if_same false x y z same = refl
 
-pub one_state : (disk : Disk) (s t : State) → Shows disk s → Shows disk t → s ≡ t
-one_state disk s t one two = ok_same one.is two.is
+config_same : (c : Spot) (r r' q q' : Spot) → (c ≡ gone → (r' ≡ r) × (q' ≡ q)) → settings_at c r' q' ≡ settings_at c r q
+config_same gone r r' q q' same = (λ k. settings_at gone ((same refl).0 k) ((same refl).1 k))
+config_same folder r r' q q' same = refl
+config_same (points text) r r' q q' same = refl
+config_same (holds id mode bytes) r r' q q' same = refl
 
-pub same_shown : {disk before : Disk} {s : State} → seen disk ≡ seen before → Shows before s → Shows disk s
-same_shown same shown = record { is = same ∙ shown.is }
+-- each part of Shown depends on the paths that it reads
+module _ (i j : Disk) where
+  pub settings_same : j config ≡ i config → (i config ≡ gone → (j remotes_conf ≡ i remotes_conf) × (j pins_file ≡ i pins_file)) → settings_seen j ≡ settings_seen i
+  settings_same first older = ap (λ c. settings_at c (j remotes_conf) (j pins_file)) first ∙ config_same (i config) (i remotes_conf) (j remotes_conf) (i pins_file) (j pins_file) older
 
--- ---- what is read
+  pub override_same : (name : List ℕ) → (is_override name ≡ true → j (override_path name) ≡ i (override_path name)) → override_seen j name ≡ override_seen i name
+  override_same name same = if_same (is_override name) _ _ away (λ good. ap (override_at name) (same good))
 
--- where something stands at `config`, the files of layout 1 aren't read
-pub in_config : (at_config at_remotes at_pins : Spot) → (at_config ≡ gone → ⊥) → state_at at_config at_remotes at_pins ≡ new_state (settings_at at_config)
-unfolding state_at
-in_config gone at_remotes at_pins here = absurd (here refl)
-in_config folder at_remotes at_pins here = refl
-in_config (points text) at_remotes at_pins here = refl
-in_config (holds id mode bytes) at_remotes at_pins here = refl
+  active_same : (name : Ref) → (n : Spot) → i (active name) ≡ n → ((text : List ℕ) → i (active name) ≡ points text → j (deploy (text_dir name text)) ≡ i (deploy (text_dir name text))) → by_active j name n ≡ by_active i name n
+  active_same name gone here same = refl
+  active_same name folder here same = refl
+  active_same name (holds id mode bytes) here same = refl
+  active_same name (points text) here same = ap (deploy_at name text) (same text here)
 
-pub seen_in_config : (disk : Disk) → (disk config ≡ gone → ⊥) → seen disk ≡ new_state (settings_at (disk config))
-seen_in_config disk here = in_config (disk config) (disk remotes_conf) (disk pins_file) here
+  pub ref_same : (name : Ref) → (is_ref name ≡ true → (j (active name) ≡ i (active name)) × ((text : List ℕ) → i (active name) ≡ points text → j (deploy (text_dir name text)) ≡ i (deploy (text_dir name text)))) → ref_seen j name ≡ ref_seen i name
+  ref_same name same = if_same (is_ref name) _ _ away (λ good. ap (by_active j name) (same good).0 ∙ active_same name (i (active name)) refl (same good).1)
 
--- the same at all three
-pub seen_same : (disk before : Disk) → disk config ≡ before config → disk remotes_conf ≡ before remotes_conf → disk pins_file ≡ before pins_file → seen disk ≡ seen before
-seen_same disk before a b c =
-    ap (λ x. state_at x (disk remotes_conf) (disk pins_file)) a ∙ ap (λ x. state_at (before config) x (disk pins_file)) b ∙ ap (λ x. state_at (before config) (before remotes_conf) x) c
-
--- the same at `config`, where it stands
-pub seen_by_config : (disk before : Disk) → disk config ≡ before config → (before config ≡ gone → ⊥) → seen disk ≡ seen before
-seen_by_config disk before same here =
-    seen_in_config disk (λ none. here (sym same ∙ none)) ∙ ap (λ x. new_state (settings_at x)) same ∙ sym (seen_in_config before here)
-
-gone_or : (spot : Spot) → (spot ≡ gone) ⊎ (spot ≡ gone → ⊥)
-gone_or gone = inl refl
-gone_or folder = inr (λ e. cc e)
-gone_or (points text) = inr (λ e. cc e)
-gone_or (holds id mode bytes) = inr (λ e. cc e)
-
--- ---- what steps leave
-
-pub same_at : {G : Elements → Spot → Type 0} {v : View} {disk before : Disk} → Spares v G → ((p : Elements) → (disk p ≡ before p) ⊎ G p (disk p)) → (p : Elements) → Fixed v p → disk p ≡ before p
-same_at {disk = disk} spares each p fixed = elim (each p) [ inl same ↦ same | inr given ↦ absurd (spares.avoids p (disk p) fixed given) ]
-
-pub spared : {G : Elements → Spot → Type 0} {v : View} {disk before : Disk} → Spares v G → Leaves v before → ((p : Elements) → (disk p ≡ before p) ⊎ G p (disk p)) → seen disk ≡ seen before
-spared {G = G} {v = v} {disk = disk} {before = before} spares left each =
-    let at_config : disk config ≡ before config = same_at spares each config (is_config refl) in
-    elim (gone_or (before config)) [
-      | inl none ↦ seen_same disk before at_config (same_at spares each remotes_conf (is_old (is_remotes refl) before left none)) (same_at spares each pins_file (is_old (is_pins refl) before left none))
-      | inr here ↦ seen_by_config disk before at_config here
-    ]
-
-pub spared_sound : {G : Elements → Spot → Type 0} {disk before : Disk} → ((p : Elements) (spot : Spot) → G p spot → Allowed p spot) → ((p : Elements) → (disk p ≡ before p) ⊎ G p (disk p)) → Sound before → Sound disk
-spared_sound {disk = disk} permits each sound = record { kinds = λ p. elim (each p) [ inl same ↦ subst (Allowed p) (sym same) (sound.kinds p) | inr given ↦ permits p (disk p) given ] }
-
-pub follows_opens : {G : Elements → Spot → Type 0} {old new : View} {s : State} → Spares old G → Follows G old new → Opens s old → Opens s new
-follows_opens spares follows opens = record {
-  shown = λ disk left. let from = follows.from disk left in same_shown (spared spares from.1 from.2) (opens.shown from.0 from.1);
-  sound = λ disk left. let from = follows.from disk left in spared_sound spares.permits from.2 (opens.sound from.0 from.1);
+-- Sound, where the rows that are shown stay, and so do the paths and objects of the commits that are kept
+pub sound_still : (i j : Disk) → ((name : Ref) → ref_seen j name ≡ ref_seen i name)
+    → ((name : Ref) (commit : List ℕ) (rest : Elements) → Keeps i name commit → rest ≢ deploy_name → j (rest ++ commit_dir name commit) ≡ i (rest ++ commit_dir name commit))
+    → ((name : Ref) (commit : List ℕ) (place : Place) → Keeps i name commit → In (order (store repo i) commit) place → j (object_path repo place.digest place.kind) ≡ i (object_path repo place.digest place.kind))
+    → ((p : Elements) → (j p ≡ i p) ⊎ Permits i p (j p)) → Sound i → Sound j
+sound_still i j refs paths objects elsewhere a = record {
+  kinds = λ p. elim (elsewhere p) [ inl same ↦ subst (Allowed p) (sym same) (a.kinds p) | inr given ↦ given.allowed ];
+  commits = λ name commit k. let before = earlier k in
+      stands_same repo i j commit (reads_as name.kind) (commit_dir name commit) (a.commits name commit before) (λ rest off. paths name commit rest before off) (λ place h. objects name commit place before h);
+  deploys = λ name commit k. let before = earlier k in elim (elsewhere (deploy (commit_dir name commit))) [
+    | inl same ↦ subst IsFileOrGone (sym same) (a.deploys name commit before)
+    | inr given ↦ given.deploy name commit before refl
+  ];
 }
+  where
+    earlier : {name : Ref} {commit : List ℕ} → Keeps j name commit → Keeps i name commit
+    earlier k = record { row = k.row; shown = sym (refs _) ∙ k.shown; of_row = k.of_row }
 
-pub follows_sound : {G : Elements → Spot → Type 0} {old new : View} → Spares old G → Follows G old new → IsSound old → IsSound new
-follows_sound spares follows sound = record {
-  shown = λ disk left. let from = follows.from disk left in let was = sound.shown from.0 from.1 in record { state = was.state; shows = same_shown (spared spares from.1 from.2) was.shows };
-  sound = λ disk left. let from = follows.from disk left in spared_sound spares.permits from.2 (sound.sound from.0 from.1);
-}
+module _ (i j : Disk) (fixed : (p : Elements) → Fixed i p → j p ≡ i p) where
+  ref_fixed : (name : Ref) → ref_seen j name ≡ ref_seen i name
+  ref_fixed name = ref_same i j name (λ good. (fixed (active name) (is_active name good refl), λ text at. fixed (deploy (text_dir name text)) (is_deploy name text good at refl)))
 
-pub follows_config : {G : Elements → Spot → Type 0} {old new : View} → Spares old G → Follows G old new → HasConfig old → HasConfig new
-follows_config spares follows has disk left none =
-    let from = follows.from disk left in has from.0 from.1 (sym (same_at spares from.2 config (is_config refl)) ∙ none)
+  row_fixed : (name : Option Ref) → row_seen j name ≡ row_seen i name
+  row_fixed None = refl
+  row_fixed (Some name) = ref_fixed name
+
+  -- Shown depends on the fixed paths alone
+  pub shows_same : {s : State} → Shows i s → Shows j s
+  shows_same a = record {
+    settings = settings_same i j (fixed config (is_config refl)) (λ none. (fixed remotes_conf (is_old none (is_remotes refl)), fixed pins_file (is_old none (is_pins refl)))) ∙ a.settings;
+    refs = λ text. row_fixed (ref_of text) ∙ a.refs text;
+    refs_ascend = a.refs_ascend;
+    overrides = λ name. override_same i j name (λ good. fixed (override_path name) (is_layer name good refl)) ∙ a.overrides name;
+    overrides_ascend = a.overrides_ascend;
+  }
+
+  -- and Sound bears what is permitted elsewhere
+  pub sound_same : ((p : Elements) → (j p ≡ i p) ⊎ Permits i p (j p)) → Sound i → Sound j
+  sound_same elsewhere a = sound_still i j ref_fixed (λ name commit rest k off. fixed (rest ++ commit_dir name commit) (is_inside name commit rest k off refl))
+      (λ name commit place k h. fixed (object_path repo place.digest place.kind) (is_object name commit place k h refl)) elsewhere a
+
+module _ {G : Elements → Spot → Type 0} {u w : View} (spares : Spares u G) (follows : Follows G u w) where
+  pub still : (disk : Disk) (left : Leaves w disk) (p : Elements) → Fixed (follows.from disk left).0 p → disk p ≡ (follows.from disk left).0 p
+  still disk left p f = let b = follows.from disk left in elim (b.2 p) [ inl same ↦ same | inr given ↦ absurd (spares.avoids b.0 b.1 p (disk p) f given) ]
+
+  still_sound : (disk : Disk) (left : Leaves w disk) → Sound (follows.from disk left).0 → Sound disk
+  still_sound disk left was = let b = follows.from disk left in
+      sound_same b.0 disk (still disk left) (λ p. elim (b.2 p) [ inl same ↦ inl same | inr given ↦ inr (spares.permits b.0 b.1 p (disk p) given) ]) was
+
+  -- The frame law: where what is given spares the fixed paths and is permitted where it is given, every outcome goes on
+  -- showing the state, and is Sound.
+  pub frame_law : {s : State} → Opens s u → Opens s w
+  frame_law opens = record {
+    shown = λ disk left. let b = follows.from disk left in shows_same b.0 disk (still disk left) (opens.shown b.0 b.1);
+    sound = λ disk left. let b = follows.from disk left in still_sound disk left (opens.sound b.0 b.1);
+  }
+
+  -- and so where the outcomes show several states
+  pub frame_sound : IsSound u → IsSound w
+  frame_sound sound = record {
+    shown = λ disk left. let b = follows.from disk left in let was = sound.shown b.0 b.1 in record { state = was.state; shows = shows_same b.0 disk (still disk left) was.shows };
+    sound = λ disk left. let b = follows.from disk left in still_sound disk left (sound.sound b.0 b.1);
+  }
 
 pub spares_nothing : (v : View) → Spares v Nothing
-spares_nothing v = record { avoids = λ p spot fixed given. given; permits = λ p spot given. absurd given }
+spares_nothing v = record { avoids = λ disk left p spot fixed given. given; permits = λ disk left p spot given. absurd given }
 
 pub spares_spared : (v : View) → Spares v (Spared v)
-spares_spared v = record { avoids = λ p spot fixed given. given.0 fixed; permits = λ p spot given. given.1 }
-
-pub opens_sound : {s : State} {v : View} → Opens s v → IsSound v
-opens_sound {s = s} opens = record { shown = λ disk left. record { state = s; shows = opens.shown disk left }; sound = opens.sound }
-
--- what stands now is an outcome
-pub now_left : (v : View) → Leaves v (shows v)
-now_left v = record { names = v.names; files = v.files; may_be = λ p. inl refl; rows = λ id. inl refl; seen = λ p. refl }
-
-pub empty_shows : (disk : Disk) → disk config ≡ gone → disk remotes_conf ≡ gone → disk pins_file ≡ gone → Shows disk (state_of Two empty_settings)
-unfolding state_at settings_at
-empty_shows disk a b c = record { is = ap (λ x. state_at x (disk remotes_conf) (disk pins_file)) a ∙ ap (λ x. state_at gone x (disk pins_file)) b ∙ ap (λ x. state_at gone gone x) c }
-
--- ---- the files of layout 1 go
-
-old_is_no_config : (p : Elements) → IsOld p → p ≡ config → ⊥
-old_is_no_config p (is_remotes is) same = cc (sym is ∙ same)
-old_is_no_config p (is_pins is) same = cc (sym is ∙ same)
-
-old_may_go : (p : Elements) (spot : Spot) → IsOld p → spot ≡ gone → Allowed p spot
-old_may_go p spot (is_remotes is) none = subst (Allowed p) (sym none) (subst (λ q. Allowed q gone) (sym is) (record { fits = tt; short = inl refl }))
-old_may_go p spot (is_pins is) none = subst (Allowed p) (sym none) (subst (λ q. Allowed q gone) (sym is) (record { fits = tt; short = inl refl }))
-
-unfixed : (v : View) (p : Elements) → HasConfig v → IsOld p → Fixed v p → ⊥
-unfixed v p has old (is_config is) = old_is_no_config p old is
-unfixed v p has old (is_old same disk left none) = has disk left none
-
-pub old_go : (v : View) → HasConfig v → Spares v OldGone
-old_go v has = record { avoids = λ p spot fixed given. unfixed v p has given.0 fixed; permits = λ p spot given. old_may_go p spot given.0 given.1 }
-
-pub settled_config : (v : View) → IsTree v → IsSettled v → (shows v config ≡ gone → ⊥) → HasConfig v
-settled_config v tree settled here disk left none =
-    here (ap (spot_of v.files) (at_tree v tree config) ∙ sym (settled_disk v tree settled disk left config) ∙ none)
+spares_spared v = record { avoids = λ disk left p spot fixed given. (given disk left).0 fixed; permits = λ disk left p spot given. (given disk left).1 }

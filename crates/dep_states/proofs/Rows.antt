@@ -1,54 +1,47 @@
--- What may stand where.
-use Rattle.std.proofs.Common.{◌≡◌, refl, codes, [], ◌∷◌, Ok, Err}
-use Rattle.fp_host.specs.Outcome.{gone, folder, holds}
-use Rattle.fp_small.specs.Old.{pins_of}
-use Rattle.fp_small.specs.declared.state.Layout.TheVariants.{One, Two}
-use Rattle.dep_states.specs.Names.{config, remotes_conf, pins_file}
-use Rattle.dep_states.specs.Shown.{state_at, settings_at, remotes_at, pins_at, state_of, empty_settings}
-use Rattle.dep_states.specs.Zones.{zone, outward, anything, a_file, a_folder}
+-- Images that are listed row by row.
+use Rattle.std.proofs.Common.{◌≡◌, ◌≢◌, ◌⊎◌, inl, inr, ℕ, List, [], ◌∷◌, Bool, true, false, not, ◌||◌, refl, sym, subst}
+use Rattle.std.specs.List.{AllByRecursion, list_all}
+use Rattle.std.specs.Str.{bytes_eq}
+use Rattle.std.proofs.lemmas.Bool.{cases_Bool, both_ways, and_parts}
+use Rattle.std.proofs.lemmas.Slice.Eq.{bytes_eq-Decides}
+use Rattle.fp_host.specs.Paths.{Elements, path_eq}
+use Rattle.fp_host.specs.Outcome.{Spot, gone}
+use Rattle.fp_host.proofs.Separate.{path_decides}
+use Rattle.dep_states.specs.Samples.{rows_at}
 
-config_row : zone (outward (codes "config" ∷ [])) ≡ a_file
-config_row = refl
+pub text_apart : (a b : List ℕ) → bytes_eq a b ≡ false → a ≢ b
+text_apart a b f e = both_ways (bytes_eq a b) f ((bytes_eq-Decides a b).1 e)
 
-remotes_row : zone (outward (codes "remotes.conf" ∷ [])) ≡ a_file
-remotes_row = refl
+pub not_true : (b : Bool) → not b ≡ true → b ≡ false
+not_true true e = absurd cc
+not_true false e = refl
 
-pins_row : zone (outward (codes "pins" ∷ [])) ≡ a_file
-pins_row = refl
+pub or_cases : (a b : Bool) → (a || b) ≡ true → (a ≡ true) ⊎ (b ≡ true)
+or_cases true b e = inl refl
+or_cases false b e = inr e
 
-repo_row : zone (outward (codes "repo" ∷ [])) ≡ a_folder
-repo_row = refl
+-- what no row has is gone
+pub none_at : (p : Elements) (test : Elements → Bool) (rs : List (Elements × Spot)) → ((q : Elements) → test q ≡ true → p ≢ q) → list_all (λ row. test row.0) rs ≡ true → rows_at rs p ≡ gone
+none_at p test [] apart all = refl
+none_at p test (row ∷ rs) apart all =
+    let a = and_parts (test row.0) (list_all (λ r. test r.0) rs) all in
+    elim (cases_Bool (path_eq p row.0)) [
+      | inl t ↦ absurd (apart row.0 a.0 ((path_decides p row.0).0 t))
+      | inr f ↦ rw f (none_at p test rs apart a.1)
+    ]
 
-tmp_row : zone (outward (codes "tmp" ∷ codes "repo" ∷ [])) ≡ a_folder
-tmp_row = refl
+-- what holds of each row, and of what is gone, holds of each path
+pub each_at : (P : Elements → Spot → Type 0) → ((p : Elements) → P p gone) → (rs : List (Elements × Spot)) → AllByRecursion (λ row. P row.0 row.1) rs → (p : Elements) → P p (rows_at rs p)
+each_at P at_gone [] all p = at_gone p
+each_at P at_gone (row ∷ rs) all p = elim (cases_Bool (path_eq p row.0)) [
+  | inl t ↦ rw t (subst (λ q. P q row.1) (sym ((path_decides p row.0).0 t)) all.0)
+  | inr f ↦ rw f (each_at P at_gone rs all.1 p)
+]
 
-work_row : zone (outward (codes "new0" ∷ codes "tmp" ∷ codes "repo" ∷ [])) ≡ anything
-work_row = refl
+abbrev pub head_of : Elements → List ℕ
+head_of [] = []
+head_of (x ∷ up) = x
 
-other_row : zone (outward (codes "config" ∷ codes "repo" ∷ [])) ≡ anything
-other_row = refl
-
--- ---- what stands at the three files, and what is shown
-
-nothing_row : state_at gone gone gone ≡ Ok (state_of Two empty_settings)
-unfolding state_at settings_at
-nothing_row = refl
-
--- an empty file `pins` alone: layout 1
-pins_alone_row : state_at gone gone (holds 1 420 []) ≡ Ok (state_of One empty_settings)
-unfolding state_at remotes_at pins_at pins_of
-pins_alone_row = refl
-
--- of two that don't read the first by bytes
-two_bad_row : state_at gone folder folder ≡ Err pins_file
-unfolding state_at pins_at
-two_bad_row = refl
-
-remotes_bad_row : state_at gone folder gone ≡ Err remotes_conf
-unfolding state_at remotes_at pins_at
-remotes_bad_row = refl
-
--- beside a `config` the files of layout 1 aren't read
-beside_row : state_at folder folder folder ≡ Err config
-unfolding state_at settings_at
-beside_row = refl
+abbrev pub tail_of : Elements → Elements
+tail_of [] = []
+tail_of (x ∷ up) = up

@@ -1,87 +1,137 @@
--- Worked images are sound, and show what they have to.
-use Rattle.std.proofs.Common.{◌≡◌, ◌⊎◌, ◌≤◌, inl, inr, ℕ, List, [], ◌∷◌, length, Some, Ok, refl, sym, ◌∙◌, ap, subst, arith, if◌then◌else◌, codes}
-use Rattle.std.proofs.lemmas.Bool.{cases_Bool, le-leb}
-use Rattle.fp_host.specs.Paths.{Elements, Slot, absent, dir, path_eq}
-use Rattle.fp_host.specs.View.{View, IsTree}
-use Rattle.fp_host.specs.Outcome.{Spot, Disk, Leaves, IsSettled, gone, folder, holds, spot_of}
+-- A worked image: two refs, one of which was updated, an override, and a `config`.
+use Rattle.std.proofs.Common.{◌≡◌, inl, inr, ℕ, List, [], ◌∷◌, Bool, true, false, Some, None, ◌≢◌, refl, sym, ◌∙◌, ap}
+use Rattle.std.specs.Prelude.{codes, if◌then◌else◌}
+use Rattle.std.specs.Str.{bytes_eq, is_utf8, chars}
+use Rattle.std.specs.List.{AllByRecursion}
+use lib.Utf8.{encode}
+use Rattle.std.proofs.lemmas.Bool.{cases_Bool, both_ways}
+use Rattle.std.proofs.lemmas.Slice.Eq.{bytes_eq-Decides}
+use Rattle.fp_host.specs.Paths.{Elements, path_eq}
+use Rattle.fp_host.specs.Outcome.{Spot, gone, holds}
 use Rattle.fp_host.proofs.Separate.{path_decides}
-use Rattle.fp_host.proofs.Settled.{settled_disk}
-use Rattle.fp_small.specs.Config.{config_of, config_text, IsSettings}
-use Rattle.fp_small.specs.declared.config.Settings.{Settings}
-use Rattle.fp_small.specs.declared.state.Layout.TheVariants.{Two}
-use Rattle.fp_small.proofs.ConfigTexts.{written_back}
-use Rattle.dep_states.specs.Names.{config, remotes_conf, pins_file}
-use Rattle.dep_states.specs.Shown.{Shows, IsShown, state_at, new_state, settings_at, state_of, or_else, read_of, bad, empty_settings, config_most}
-use Rattle.dep_states.specs.Zones.{Zone, anything, a_file, a_folder, zone, outward, Fits, Allowed, IsGone}
-use Rattle.dep_states.specs.Sound.{Sound, IsSound}
-use Rattle.dep_states.specs.Worked.{empty_image, bare_image, image_with_config}
-use Rattle.dep_states.proofs.Law.{empty_shows}
+use Rattle.fp_keyfile.specs.KeyFile.{file_of, with_pair, with_group, keys_at}
+use Rattle.fp_keyfile.specs.Lines.{line_says}
+use Rattle.fp_name.specs.declared.kind.RefKind.{RefKind}
+use Rattle.fp_name.specs.declared.kind.RefKind.TheVariants.{App, Runtime}
+use Rattle.fp_name.specs.Grammar.{is_id, is_arch, is_branch, is_remote_name, is_url}
+use Rattle.fp_name.specs.Pins.{is_pin}
+use Rattle.fp_name.specs.Hex.{hex, unhex, bytes_of}
+use Rattle.fp_name.specs.Kinds.{kind_word}
+use Rattle.fp_name.specs.Refs.{Ref, is_ref, ref_text}
+use Rattle.fp_small.specs.Config.{config_of, is_config, remote_of}
+use Rattle.fp_small.specs.declared.state.RefRow.{RefRow}
+use Rattle.fp_small.specs.declared.state.OverrideRow.{OverrideRow}
+use Rattle.dep_states.specs.Names.{active, override_path, is_override}
+use Rattle.dep_states.specs.Deploy.{deploy_of}
+use Rattle.dep_states.specs.Shown.{away, there, Seen, deploy_at, override_at, config_at, by_active, ref_seen, override_seen, setup_of, at_name, ref_key, override_key, Shows}
+use Rattle.dep_states.specs.Samples.{app, platform, one, two, three, two_text, three_text, app_bytes, platform_bytes, rows_at, rows, config_bytes, layer_bytes, app_row, platform_row, layer, worked_disk, worked_state}
+use Rattle.dep_states.proofs.Listed.{refs_listed, overrides_listed}
 
-nothing_fits : (z : Zone) → Fits z gone
-nothing_fits anything = tt
-nothing_fits a_file = tt
-nothing_fits a_folder = tt
+pub app_reads : deploy_of app_bytes ≡ Some (record { origin = codes "hub"; commit = two; timestamp = 1000; previous = Some (record { commit = one; timestamp = 500 }) })
+unfolding deploy_of unhex bytes_of is_remote_name is_utf8 chars encode
+app_reads = refl
 
-absent_allowed : (p : Elements) → Allowed p gone
-absent_allowed p = record { fits = nothing_fits (zone (outward p)); short = inl refl }
+platform_reads : deploy_of platform_bytes ≡ Some (record { origin = codes "hub"; commit = three; timestamp = 7; previous = None })
+unfolding deploy_of unhex bytes_of is_remote_name is_utf8 chars encode
+platform_reads = refl
 
-root_allowed : Allowed [] folder
-root_allowed = record { fits = tt; short = inr (omega arith) }
+-- ---- its parts
 
-pub empty_sound : Sound empty_image
-empty_sound = record { kinds = absent_allowed }
+app_good : is_ref app ≡ true
+unfolding is_id is_arch is_branch
+app_good = refl
 
-pub bare_sound : Sound bare_image
-bare_sound = record { kinds = kinds }
-  where
-    kinds : (p : Elements) → Allowed p (bare_image p)
-    kinds [] = root_allowed
-    kinds (x ∷ up) = absent_allowed (x ∷ up)
+platform_good : is_ref platform ≡ true
+unfolding is_id is_arch is_branch
+platform_good = refl
 
-pub bare_shows : Shows bare_image (state_of Two empty_settings)
-bare_shows = empty_shows bare_image refl refl refl
+app_there : deploy_at app two_text (holds 3 420 app_bytes) ≡ there app_row
+unfolding deploy_at hex
+app_there = rw app_reads refl
 
-config_allowed : (bytes : List ℕ) → Allowed config (holds 0 420 bytes)
-config_allowed bytes = record { fits = tt; short = inr (omega arith) }
+platform_there : deploy_at platform three_text (holds 4 420 platform_bytes) ≡ there platform_row
+unfolding deploy_at hex
+platform_there = rw platform_reads refl
 
-pub config_sound : (bytes : List ℕ) → Sound (image_with_config bytes)
-config_sound bytes = record { kinds = kinds }
-  where
-    kinds : (p : Elements) → Allowed p (image_with_config bytes p)
-    kinds [] = root_allowed
-    kinds (x ∷ up) = elim (cases_Bool (path_eq (x ∷ up) config)) [
-      | inl is ↦ rw is (subst (λ (q : Elements). Allowed q (holds 0 420 bytes)) (sym ((path_decides (x ∷ up) config).0 is)) (config_allowed bytes))
-      | inr other ↦ rw other (absent_allowed (x ∷ up))
-    ]
+if_good : {A : Type 0} (b : Bool) (x y : A) → b ≡ true → if b then x else y ≡ x
+if_good true x y e = refl
+if_good false x y e = absurd cc
 
-read_whole : (bytes : List ℕ) (s : Settings) → length bytes ≤ config_most → config_of bytes ≡ Some s → settings_at (holds 0 420 bytes) ≡ Some s
-unfolding settings_at
-read_whole bytes s short reads =
-    ap (λ b. or_else empty_settings (if b then read_of (config_of bytes) else bad)) (le-leb (length bytes) config_most short) ∙ ap (λ o. or_else empty_settings (read_of o)) reads
+app_seen : ref_seen worked_disk app ≡ there app_row
+app_seen = if_good (is_ref app) (deploy_at app two_text (holds 3 420 app_bytes)) away app_good ∙ app_there
 
-beside_config : (bytes : List ℕ) → state_at (holds 0 420 bytes) gone gone ≡ new_state (settings_at (holds 0 420 bytes))
-unfolding state_at
-beside_config bytes = refl
+platform_seen : ref_seen worked_disk platform ≡ there platform_row
+platform_seen = if_good (is_ref platform) (deploy_at platform three_text (holds 4 420 platform_bytes)) away platform_good ∙ platform_there
 
-pub config_shows : (s : Settings) → IsSettings s → length (config_text s) ≤ config_most → Shows (image_with_config (config_text s)) (state_of Two s)
-config_shows s good short = record { is = beside_config (config_text s) ∙ ap new_state (read_whole (config_text s) s short (written_back s good)) }
+pub layer_there : (id : ℕ) → override_at (codes "global") (holds id 420 layer_bytes) ≡ there layer
+unfolding override_at file_of line_says with_pair with_group is_utf8 chars encode
+layer_there id = refl
 
--- a view in which the root stands alone, settled
-pub root_alone : (v : View) → IsTree v → IsSettled v → ((x : List ℕ) (up : Elements) → v.names (x ∷ up) ≡ absent) → IsSound v
-root_alone v tree settled none = record { shown = shown; sound = λ disk left. record { kinds = kinds disk left } }
-  where
-    below : (disk : Disk) → Leaves v disk → (x : List ℕ) (up : Elements) → disk (x ∷ up) ≡ gone
-    below disk left x up = settled_disk v tree settled disk left (x ∷ up) ∙ ap (spot_of v.files) (none x up)
+pub config_there : (id : ℕ) → config_at (holds id 420 config_bytes) ≡ there (setup_of worked_state)
+unfolding config_at config_of is_config remote_of file_of line_says with_pair with_group keys_at is_remote_name is_url is_pin is_id is_utf8 chars encode
+config_there id = refl
 
-    shown : (disk : Disk) → Leaves v disk → IsShown disk
-    shown disk left = record { state = state_of Two empty_settings; shows = empty_shows disk (below disk left (codes "config") []) (below disk left (codes "remotes.conf") []) (below disk left (codes "pins") []) }
+-- ---- what isn't there
 
-    kinds : (disk : Disk) → Leaves v disk → (p : Elements) → Allowed p (disk p)
-    kinds disk left [] = subst (Allowed []) (sym (settled_disk v tree settled disk left [] ∙ ap (spot_of v.files) tree.root)) root_allowed
-    kinds disk left (x ∷ up) = subst (Allowed (x ∷ up)) (sym (below disk left x up)) (absent_allowed (x ∷ up))
+pub none_at : (p : Elements) (rs : List (Elements × Spot)) → AllByRecursion (λ row. p ≢ row.0) rs → rows_at rs p ≡ gone
+none_at p [] off = refl
+none_at p (row ∷ rs) off = elim (cases_Bool (path_eq p row.0)) [
+  | inl t ↦ absurd (off.0 ((path_decides p row.0).0 t))
+  | inr f ↦ rw f (none_at p rs off.1)
+]
 
-pub longest : (p : Elements) → length p ≡ 128 → zone (outward p) ≡ anything → Allowed p folder
-longest p long free = record { fits = subst (λ (z : Zone). Fits z folder) (sym free) tt; short = inr (omega (arith, long)) }
+text_apart : (a b : List ℕ) → bytes_eq a b ≡ false → a ≢ b
+text_apart a b f e = both_ways (bytes_eq a b) f ((bytes_eq-Decides a b).1 e)
 
-pub too_long : (p : Elements) → length p ≡ 129 → Allowed p folder → ⊥
-too_long p long allowed = elim allowed.short [ inl none ↦ absurd (cc none) | inr short ↦ absurd (omega (arith, long, short)) ]
+pub word_same : (a b : RefKind) → kind_word a ≡ kind_word b → a ≡ b
+word_same App App e = refl
+word_same Runtime Runtime e = refl
+word_same App Runtime e = absurd (text_apart (codes "app") (codes "runtime") refl e)
+word_same Runtime App e = absurd (text_apart (codes "runtime") (codes "app") refl e)
+
+pub active_same : (a b : Ref) → active a ≡ active b → a ≡ b
+active_same a b e =
+    let branch : a.branch ≡ b.branch = cc in
+    let arch : a.arch ≡ b.arch = cc in
+    let id : a.id ≡ b.id = cc in
+    let word : kind_word a.kind ≡ kind_word b.kind = cc in
+    let kind = word_same a.kind b.kind word in
+    (λ k. record { kind = kind k; id = id k; arch = arch k; branch = branch k })
+
+if_away : (b : Bool) (x : Seen RefRow) → x ≡ away → if b then x else away ≡ away
+if_away true x e = e
+if_away false x e = refl
+
+layer_away : (b : Bool) (x : Seen OverrideRow) → x ≡ away → if b then x else away ≡ away
+layer_away true x e = e
+layer_away false x e = refl
+
+some_none : {A : Type 0} {x : A} → Some x ≡ None → ⊥
+some_none e = cc
+
+others : (name : Ref) → is_ref name ≡ true → at_name ref_key (app_row ∷ platform_row ∷ []) (ref_text name) ≡ None → ref_seen worked_disk name ≡ away
+others name good none =
+    let at_app : active name ≢ active app = λ e. some_none (sym (ap (λ n. at_name ref_key (app_row ∷ platform_row ∷ []) (ref_text n)) (active_same name app e)) ∙ none) in
+    let at_platform : active name ≢ active platform = λ e. some_none (sym (ap (λ n. at_name ref_key (app_row ∷ platform_row ∷ []) (ref_text n)) (active_same name platform e)) ∙ none) in
+    let off : worked_disk (active name) ≡ gone = none_at (active name) rows (λ e. cc, (λ e. cc, (λ e. cc, (λ e. cc, (at_app, (at_platform, (λ e. cc, (λ e. cc, tt)))))))) in
+    if_away (is_ref name) (by_active worked_disk name (worked_disk (active name))) (ap (by_active worked_disk name) off)
+
+no_layer : (name : List ℕ) → override_at name gone ≡ away
+unfolding override_at
+no_layer name = refl
+
+other_layers : (name : List ℕ) → at_name override_key (layer ∷ []) name ≡ None → override_seen worked_disk name ≡ away
+other_layers name none =
+    let at_global : override_path name ≢ override_path (codes "global") = λ e. let same : name ≡ codes "global" = cc in some_none (sym (ap (at_name override_key (layer ∷ [])) same) ∙ none) in
+    let off : worked_disk (override_path name) ≡ gone = none_at (override_path name) rows (λ e. cc, (λ e. cc, (λ e. cc, (at_global, (λ e. cc, (λ e. cc, (λ e. cc, (λ e. cc, tt)))))))) in
+    layer_away (is_override name) (override_at name (worked_disk (override_path name))) (ap (override_at name) off ∙ no_layer name)
+
+-- the image shows the state
+pub worked_shows : Shows worked_disk worked_state
+worked_shows = record {
+  settings = config_there 1;
+  refs = refs_listed worked_disk (app_row ∷ platform_row ∷ []) (record { good = app_good; is = app_seen }, (record { good = platform_good; is = platform_seen }, tt)) others;
+  refs_ascend = refl;
+  overrides = overrides_listed worked_disk (layer ∷ []) (record { is = layer_there 2 }, tt) other_layers;
+  overrides_ascend = refl;
+}

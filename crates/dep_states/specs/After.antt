@@ -1,53 +1,170 @@
 -- What operations make of a state.
-use Rattle.std.specs.Prelude.{◌≡◌, ◌<◌, List, [], ◌∷◌, length, Contains, true, false}
+use Rattle.std.specs.Prelude.{◌≡◌, ◌≢◌, ◌<◌, ◌^◌, ℕ, List, [], ◌∷◌, length, map, Contains, Bool, true, false, Option, Some, None}
+use Rattle.std.specs.List.{AllByRecursion}
+use Rattle.fp_keyfile.specs.KeyFile.{is_good}
+use Rattle.fp_host.specs.Reads.{is_ascending}
+use Rattle.fp_name.specs.Grammar.{is_remote_name}
+use Rattle.fp_name.specs.Hex.{is_digest}
+use Rattle.fp_name.specs.Pins.{is_pin}
+use Rattle.fp_name.specs.Refs.{Ref, is_ref, ref_text}
 use Rattle.fp_small.specs.Config.{IsSettings, is_row, name_of}
 use Rattle.fp_small.specs.Order.{inserted, removed, replaced, has_name}
 use Rattle.fp_small.specs.declared.state.State.{State}
-use Rattle.fp_small.specs.declared.op.Op.{Op}
-use Rattle.fp_small.specs.declared.op.Op.TheVariants.{AddPin, DropPin, AddRemote, ModifyRemote, DropRemote, Migrate}
+use Rattle.fp_small.specs.declared.state.RefRow.{RefRow}
+use Rattle.fp_small.specs.declared.state.Previous.{Previous}
+use Rattle.fp_small.specs.declared.state.OverrideRow.{OverrideRow}
 use Rattle.fp_small.specs.declared.state.Layout.{Layout}
 use Rattle.fp_small.specs.declared.state.Layout.TheVariants.{One, Two}
-use Rattle.fp_name.specs.Pins.{is_pin}
-use Rattle.dep_states.specs.Shown.{settings_of, state_of}
+use Rattle.fp_small.specs.declared.op.Op.{Op}
+use Rattle.fp_small.specs.declared.op.Op.TheVariants.{Install, Update, Uninstall, AddPin, DropPin, AddRemote, ModifyRemote, DropRemote, SetOverride, DropOverride, Migrate, Rollback}
+use Rattle.dep_states.specs.Names.{is_override}
+use Rattle.dep_states.specs.Deploy.{goes_back_to}
+use Rattle.dep_states.specs.Shown.{at_name, ref_key, override_key, settings_of}
 
--- the state after an operation
-abbrev pub after : State → Op → State
-after s (AddPin pin) = record s { pins = inserted (λ p. p) s.pins pin }
-after s (DropPin pin) = record s { pins = removed (λ p. p) s.pins pin }
-after s (AddRemote row) = record s { remotes = inserted name_of s.remotes row }
-after s (ModifyRemote row) = record s { remotes = replaced name_of s.remotes row }
-after s (DropRemote name) = record s { remotes = removed name_of s.remotes name }
-after s Migrate = record s { layout = Two }
+-- an operation, and the timestamp of the commit that an Install or an Update brings (0 with each other operation)
+pub record Done : Type 0 where
+  pub op : Op
+  pub timestamp : ℕ
+
+-- ---- the rows of refs
+
+abbrev pub row_at : State → Ref → Option RefRow
+row_at s name = at_name ref_key s.refs (ref_text name)
+
+abbrev pub with_refs : State → List RefRow → State
+with_refs s rows = record s { refs = rows }
+
+-- the rows of refs ascend
+abbrev pub HasOrder : State → Type 0
+HasOrder s = is_ascending (map ref_key s.refs) ≡ true
+
+-- with the commit of before as the previous one
+abbrev pub moved : Ref → List ℕ → List ℕ → ℕ → RefRow → RefRow
+moved name remote commit timestamp row =
+    record { name = name; origin = remote; commit = commit; timestamp = timestamp; previous = Some (record { commit = row.commit; timestamp = row.timestamp }) }
+
+abbrev pub updated : State → Ref → List ℕ → List ℕ → ℕ → Option RefRow → State
+updated s name remote commit timestamp None = s
+updated s name remote commit timestamp (Some row) = with_refs s (replaced ref_key s.refs (moved name remote commit timestamp row))
+
+-- the commit and the previous one change places
+abbrev pub exchanged : RefRow → Previous → RefRow
+exchanged row p = record { name = row.name; origin = row.origin; commit = p.commit; timestamp = p.timestamp; previous = Some (record { commit = row.commit; timestamp = row.timestamp }) }
+
+abbrev pub back : State → RefRow → Option Previous → State
+back s row None = s
+back s row (Some p) = with_refs s (replaced ref_key s.refs (exchanged row p))
+
+abbrev pub rolled_back : State → Option RefRow → State
+rolled_back s None = s
+rolled_back s (Some row) = back s row row.previous
+
+-- ---- the state after an operation
+
+abbrev pub after_op : State → ℕ → Op → State
+after_op s timestamp (Install name remote commit) = with_refs s (inserted ref_key s.refs (record { name = name; origin = remote; commit = commit; timestamp = timestamp; previous = None }))
+after_op s timestamp (Update name remote commit) = updated s name remote commit timestamp (row_at s name)
+after_op s timestamp (Uninstall name) = with_refs s (removed ref_key s.refs (ref_text name))
+after_op s timestamp (AddPin pin) = record s { pins = inserted (λ p. p) s.pins pin }
+after_op s timestamp (DropPin pin) = record s { pins = removed (λ p. p) s.pins pin }
+after_op s timestamp (AddRemote row) = record s { remotes = inserted name_of s.remotes row }
+after_op s timestamp (ModifyRemote row) = record s { remotes = replaced name_of s.remotes row }
+after_op s timestamp (DropRemote name) = record s { remotes = removed name_of s.remotes name }
+after_op s timestamp (SetOverride row) = record s { overrides = replaced override_key s.overrides row }
+after_op s timestamp (DropOverride name) = record s { overrides = removed override_key s.overrides name }
+after_op s timestamp Migrate = record s { layout = Two }
+after_op s timestamp (Rollback name commit) = rolled_back s (row_at s name)
+
+-- an operation that brings no commit
+abbrev pub plain : Op → Done
+plain op = record { op = op; timestamp = 0 }
+
+abbrev pub after : State → Done → State
+after s done = after_op s done.timestamp done.op
 
 -- the state after operations in turn
-abbrev pub after_all : State → List Op → State
+abbrev pub after_all : State → List Done → State
 after_all s [] = s
-after_all s (op ∷ ops) = after_all (after s op) ops
+after_all s (done ∷ more) = after_all (after s done) more
+
+-- ---- what the refusals leave
 
 -- an installation of layout 1 is migrated before anything else is done with it
 abbrev pub layout_for : Op → Layout
-layout_for (AddPin pin) = Two
-layout_for (DropPin pin) = Two
-layout_for (AddRemote row) = Two
-layout_for (ModifyRemote row) = Two
-layout_for (DropRemote name) = Two
 layout_for Migrate = One
+layout_for op = Two
 
--- what the refusals leave: a pattern or remote that isn't there, below the limit, and one that is
+-- an operation on what stands in `config`: the pins, the remotes and the layout
+abbrev pub IsOnConfig : Op → Type 0
+IsOnConfig (AddPin pin) = Unit {0}
+IsOnConfig (DropPin pin) = Unit {0}
+IsOnConfig (AddRemote row) = Unit {0}
+IsOnConfig (ModifyRemote row) = Unit {0}
+IsOnConfig (DropRemote name) = Unit {0}
+IsOnConfig Migrate = Unit {0}
+IsOnConfig (Install name remote commit) = ⊥
+IsOnConfig (Update name remote commit) = ⊥
+IsOnConfig (Uninstall name) = ⊥
+IsOnConfig (SetOverride row) = ⊥
+IsOnConfig (DropOverride name) = ⊥
+IsOnConfig (Rollback name commit) = ⊥
+
+-- a row of this ref that is so
+abbrev pub HasRow : State → Ref → (RefRow → Type 0) → Type 0
+HasRow s name Is = (row : RefRow) × (row_at s name ≡ Some row) × Is row
+
+abbrev pub HasPrevious : List ℕ → RefRow → Type 0
+HasPrevious commit row = (p : Previous) × (row.previous ≡ Some p) × (p.commit ≡ commit)
+
+abbrev pub IsInstall : State → Ref → List ℕ → List ℕ → Type 0
+IsInstall s name remote commit = (is_ref name ≡ true) × (row_at s name ≡ None) × (has_name name_of s.remotes remote ≡ true) × (is_digest commit ≡ true) × (length s.refs < 4096)
+
+abbrev pub IsUpdate : State → Ref → List ℕ → List ℕ → Type 0
+IsUpdate s name remote commit = HasRow s name (λ row. row.commit ≢ commit) × (has_name name_of s.remotes remote ≡ true) × (is_digest commit ≡ true)
+
 abbrev pub Allows : State → Op → Type 0
+Allows s (Install name remote commit) = IsInstall s name remote commit
+Allows s (Update name remote commit) = IsUpdate s name remote commit
+Allows s (Uninstall name) = row_at s name ≢ None
 Allows s (AddPin pin) = (is_pin pin ≡ true) × (Contains s.pins pin → ⊥) × (length s.pins < 1024)
 Allows s (DropPin pin) = Contains s.pins pin
 Allows s (AddRemote row) = (is_row row ≡ true) × (has_name name_of s.remotes row.name ≡ false) × (length s.remotes < 256)
 Allows s (ModifyRemote row) = (is_row row ≡ true) × (has_name name_of s.remotes row.name ≡ true)
 Allows s (DropRemote name) = has_name name_of s.remotes name ≡ true
+Allows s (SetOverride row) = (is_override row.name ≡ true) × (is_good row.file ≡ true)
+Allows s (DropOverride name) = is_override name ≡ true
 Allows s Migrate = Unit {0}
+Allows s (Rollback name commit) = HasRow s name (HasPrevious commit)
 
 -- the operation may be done on the state
 pub record May (s : State) (op : Op) : Type 0 where
   pub layout : s.layout ≡ layout_for op
   pub allows : Allows s op
 
--- a state whose settings can be written
+-- ---- states that can be written
+
+abbrev pub IsGoodPrevious : Option Previous → Type 0
+IsGoodPrevious None = Unit {0}
+IsGoodPrevious (Some p) = (is_digest p.commit ≡ true) × (p.timestamp < 2 ^ 64)
+
+-- a row that its `deploy` can say
+pub record IsGoodRow (row : RefRow) : Type 0 where
+  pub name : is_ref row.name ≡ true
+  pub origin : is_remote_name row.origin ≡ true
+  pub commit : is_digest row.commit ≡ true
+  pub previous : IsGoodPrevious row.previous
+  pub moves : goes_back_to row.commit row.previous ≡ false
+  pub time : row.timestamp < 2 ^ 64
+
+-- a row that its key file can say
+pub record IsGoodLayer (row : OverrideRow) : Type 0 where
+  pub name : is_override row.name ≡ true
+  pub file : is_good row.file ≡ true
+
+-- a state whose parts can be written, in order
 pub record IsGood (s : State) : Type 0 where
   pub settings : IsSettings (settings_of s)
-  pub rest : s ≡ state_of s.layout (settings_of s)
+  pub rows : AllByRecursion IsGoodRow s.refs
+  pub refs_ascend : is_ascending (map ref_key s.refs) ≡ true
+  pub layers : AllByRecursion IsGoodLayer s.overrides
+  pub overrides_ascend : is_ascending (map override_key s.overrides) ≡ true

@@ -1,58 +1,156 @@
 //! Laws of what images show. Each is the contract of a function that does nothing.
-ghost use Rattle.std.specs.Prelude.{◌≡◌, ◌∷◌, [], codes};
-ghost use Rattle.fp_host.specs.View.{View, IsTree};
-ghost use Rattle.fp_host.specs.Outcome.{Disk, Follows, Nothing, IsSettled, gone, shows};
-ghost use Rattle.fp_small.specs.declared.state.State.{State};
-ghost use Rattle.fp_small.specs.declared.state.Layout.TheVariants.{Two};
-ghost use Rattle.dep_states.specs.Names.{config, remotes_conf, pins_file};
-ghost use Rattle.dep_states.specs.Shown.{Shows, state_of, empty_settings};
-ghost use Rattle.dep_states.specs.Sound.{Opens, Sound, IsSound, Spares, Spared, HasConfig, OldGone};
-ghost use Rattle.dep_states.specs.After.{IsGood};
-ghost use Rattle.std.specs.Prelude.{◌≤◌, List, ℕ, length};
+ghost use Rattle.std.specs.Prelude.{◌≡◌, ◌⊎◌, ◌↔◌, ◌≤◌, ◌++◌, ◌∷◌, ℕ, List, length, map, true, Some, None, Result, Err};
 ghost use Rattle.fp_host.specs.Paths.{Elements, absent};
-ghost use Rattle.fp_host.specs.Outcome.{folder};
+ghost use Rattle.fp_host.specs.View.{View, IsTree};
+ghost use Rattle.fp_host.specs.Outcome.{Disk, Follows, Nothing, IsSettled, gone, folder, shows};
+ghost use Rattle.fp_base.specs.declared.object.ObjKind.{ObjKind};
+ghost use Rattle.fp_host.specs.Reads.{is_ascending};
+ghost use Rattle.fp_name.specs.Hex.{is_digest};
+ghost use Rattle.fp_name.specs.Refs.{Ref, is_ref};
 ghost use Rattle.fp_small.specs.Config.{IsSettings, config_text};
+ghost use Rattle.fp_small.specs.Places.{repo, tmp};
 ghost use Rattle.fp_small.specs.declared.config.Settings.{Settings};
-ghost use Rattle.dep_states.specs.Shown.{config_most};
-ghost use Rattle.dep_states.specs.Worked.{empty_image, bare_image, image_with_config};
+ghost use Rattle.fp_small.specs.declared.op.Op.TheVariants.{Install, Update, Uninstall, SetOverride, DropOverride, Rollback};
+ghost use Rattle.fp_small.specs.declared.state.State.{State};
+ghost use Rattle.fp_small.specs.declared.state.RefRow.{RefRow};
+ghost use Rattle.fp_small.specs.declared.state.OverrideRow.{OverrideRow};
+ghost use Rattle.fp_small.specs.declared.state.Previous.{Previous};
+ghost use Rattle.ost_model.specs.Order.{In};
+ghost use Rattle.ost_model.specs.Stores.{IsStore};
+ghost use Rattle.dep_states.specs.After.{HasOrder, IsGood, row_at, after_op};
+ghost use Rattle.dep_states.specs.Frames.{KeptIn, InDir, IsUnused, ObjectGone, IsNewObject, Pulls};
+ghost use Rattle.dep_states.specs.Small.{IsSetting, IsLayered};
+ghost use Rattle.dep_states.specs.Switch.{IsWith, SwitchesAt, Stages, OpensEither};
+ghost use Rattle.dep_states.specs.Names.{active, config, remotes_conf, pins_file, override_path};
+ghost use Rattle.dep_states.specs.Shown.{there, seen_of, settings_seen, override_seen, at_name, override_key, setup_of, Shows, IsShown, config_most};
 ghost use Rattle.dep_states.specs.Zones.{Allowed, IsFileOrGone, IsFolderOrGone, anything, outward, zone};
+ghost use Rattle.dep_states.specs.Damaged.{Damages, Gives};
+ghost use Rattle.dep_states.specs.Sound.{Keeps, Sound, Fixed, Permits, Opens, IsSound, Spares, Spared, InTmp, OldGone, HasConfig};
+ghost use Rattle.dep_states.specs.Settled.{Settled};
+ghost use Rattle.dep_states.specs.Deployed.{deployed_disk, deployed_state};
+ghost use Rattle.dep_states.specs.Samples.{no_disk, empty_disk, empty_state, config_disk, settings_state, worked_disk, worked_state, damaged_disk, dashed_ref};
 
-/// At most one state is shown.
-pub fn one_state_is_shown()
-    ensures { (disk : Disk) (s t : State) → Shows disk s → Shows disk t → s ≡ t }
+// ---- what is shown
+
+/// An image gives at most one state, or one first path that doesn't read, and not both.
+pub fn one_result_is_given()
+    ensures { (disk : Disk) (a b : Result State Elements) → Gives disk a → Gives disk b → a ≡ b }
 {}
 
-/// What is shown can be written: good names, URLs and patterns, ascending and within the limits.
+/// An image of finitely many names shows a state where nothing in it is damaged.
+pub fn undamaged_images_show_a_state()
+    ensures { (disk : Disk) (names : List Elements)
+        → ((p : Elements) → (disk p ≡ gone → ⊥) → In names p)
+        → ((p : Elements) → Damages disk p → ⊥) → IsShown disk }
+{}
+
+/// Of two refs that don't read, one since its `deploy` is that of another commit, the path is given that comes first by its
+/// bytes: that of `org.x.A-b`, though `org.x.A` is the first of the IDs.
+pub fn the_first_path_is_by_bytes()
+    ensures { Gives damaged_disk (Err (active dashed_ref)) }
+{}
+
+/// What is shown can be written: good names, URLs and patterns, in order and within the limits; rows that a `deploy` can say;
+/// and overrides that a key file can say.
 pub fn what_is_shown_can_be_written()
     ensures { (disk : Disk) (s : State) → Shows disk s → IsGood s }
 {}
 
-/// An image without `config` and the files of layout 1 shows the empty state, in layout 2.
-pub fn the_empty_state_is_shown()
-    ensures { (disk : Disk) → disk config ≡ gone → disk remotes_conf ≡ gone → disk pins_file ≡ gone
-        → Shows disk (state_of Two empty_settings) }
+/// An image keeps just the commits that the state which it shows keeps.
+pub fn the_state_tells_what_is_kept()
+    ensures { (disk : Disk) (s : State) (name : Ref) (commit : List ℕ) → is_ref name ≡ true → Shows disk s
+        → Keeps disk name commit ↔ KeptIn s name commit }
 {}
+
+// ---- worked images
+
+/// The root alone shows the empty state of layout 2, is sound, and is settled.
+pub fn the_empty_image_is_sound()
+    ensures shown { Shows empty_disk empty_state }
+    ensures sound { Sound empty_disk }
+    ensures settled { Settled empty_disk }
+{}
+
+/// An image with a `config`, two refs, one of them with a previous commit, and an override shows its state.
+pub fn the_worked_image_shows_its_state()
+    ensures { Shows worked_disk worked_state }
+{}
+
+/// An image with one deployed ref, its objects and its ref file shows it, is sound, and is settled.
+pub fn the_deployed_image_is_sound()
+    ensures shown { Shows deployed_disk deployed_state }
+    ensures sound { Sound deployed_disk }
+    ensures settled { Settled deployed_disk }
+{}
+
+/// Sound images: one without even a root; and the root with a `config` as it is written, which shows its settings.
+pub fn sound_images()
+    ensures nothing { Sound no_disk }
+    ensures written { (s : Settings) → IsSettings s → length (config_text s) ≤ config_most
+        → Sound (config_disk (config_text s)) × Shows (config_disk (config_text s)) (settings_state s) }
+{}
+
+/// A view in which the root stands alone is sound where every stop leaves what stands.
+pub fn a_bare_view_is_sound()
+    ensures { (v : View) → IsTree v → IsSettled v
+        → ((x : List ℕ) (up : Elements) → v.names (x ∷ up) ≡ absent) → IsSound v }
+{}
+
+/// A path of 128 elements that is for nothing else may be a folder, and one of 129 may not.
+pub fn paths_have_a_longest()
+    ensures longest { (p : Elements) → length p ≡ 128 → zone (outward p) ≡ anything → Allowed p folder }
+    ensures too_long { (p : Elements) → length p ≡ 129 → Allowed p folder → ⊥ }
+{}
+
+// ---- steps
 
 /// A step that gives nothing to any path leaves what was shown before, and leaves it sound.
 pub fn steps_that_give_nothing()
-    ensures opens { (old new : View) (s : State) → Follows Nothing old new → Opens s old → Opens s
-        new }
+    ensures opens { (old new : View) (s : State) → Follows Nothing old new → Opens s old → Opens s new }
     ensures sound { (old new : View) → Follows Nothing old new → IsSound old → IsSound new }
 {}
 
-/// A step that gives nothing to a fixed path, and elsewhere only what may stand there, leaves what was shown before, and
-/// leaves it sound. `config` stays, too.
+/// A step that gives nothing to a fixed path, and elsewhere only what may stand there, leaves what was shown before, and leaves
+/// it sound. `config` stays, too.
 pub fn steps_that_spare()
-    ensures opens { (old new : View) (s : State) → Follows (Spared old) old new → Opens s old →
-        Opens s new }
+    ensures opens { (old new : View) (s : State) → Follows (Spared old) old new → Opens s old → Opens s new }
     ensures sound { (old new : View) → Follows (Spared old) old new → IsSound old → IsSound new }
-    ensures config { (old new : View) → Follows (Spared old) old new → HasConfig old → HasConfig
-        new }
+    ensures config { (old new : View) → Follows (Spared old) old new → HasConfig old → HasConfig new }
+{}
+
+/// Anything below `repo/tmp` may come and go.
+pub fn work_may_come_and_go()
+    ensures { (v : View) → Spares v InTmp }
 {}
 
 /// Where no stop leaves the installation without `config`, the files of layout 1 may go.
 pub fn old_files_may_go()
     ensures { (v : View) → HasConfig v → Spares v OldGone }
+{}
+
+/// What is in the folder of a commit that the state doesn't keep may come and go.
+pub fn unkept_folders_may_change()
+    ensures { (s : State) (v : View) (name : Ref) (commit : List ℕ) → is_digest commit ≡ true → Opens s v
+        → (KeptIn s name commit → ⊥) → Spares v (InDir name commit) }
+{}
+
+/// An object that no kept commit uses may go.
+pub fn unused_objects_may_go()
+    ensures { (v : View) (d : List ℕ) (kind : ObjKind) → IsUnused v d kind → Spares v (ObjectGone d kind) }
+{}
+
+/// An object may come to a name that is absent. So a pull, which works below `repo/tmp` and brings new objects, leaves what was
+/// shown before, and leaves it sound. Pulls one after another are a pull.
+pub fn new_objects_may_come()
+    ensures spares { (s : State) (v : View) → Opens s v → Spares v (IsNewObject v) }
+    ensures pulls { (s : State) (u w : View) → Opens s u → Pulls InTmp u w → Opens s w }
+    ensures nothing { (u : View) → Pulls InTmp u u }
+    ensures one_after_another { (u v w : View) → Pulls InTmp u v → Pulls InTmp v w → Pulls InTmp u w }
+{}
+
+/// Where all is settled, every stop leaves what stands.
+pub fn what_is_settled_is_opened()
+    ensures { (s : State) (v : View) → IsTree v → IsSettled v → Shows (shows v) s → Sound (shows v) → Opens s v }
 {}
 
 /// Where all is settled and `config` stands, no stop leaves the installation without it.
@@ -65,34 +163,88 @@ pub fn opened_is_sound()
     ensures { (s : State) (v : View) → Opens s v → IsSound v }
 {}
 
-/// In a sound image `config` and the files of layout 1 are absent or files, and `repo` and `repo/tmp` are absent or folders.
+/// In a sound image `config` and the files of layout 1 are absent or files, `repo` and `repo/tmp` are absent or folders, and the
+/// objects are what their names say.
 pub fn what_a_sound_image_holds()
     ensures config { (disk : Disk) → Sound disk → IsFileOrGone (disk config) }
     ensures remotes { (disk : Disk) → Sound disk → IsFileOrGone (disk remotes_conf) }
     ensures pins { (disk : Disk) → Sound disk → IsFileOrGone (disk pins_file) }
-    ensures repo { (disk : Disk) → Sound disk → IsFolderOrGone (disk (codes "repo" ∷ [])) }
-    ensures tmp { (disk : Disk) → Sound disk → IsFolderOrGone
-        (disk (codes "tmp" ∷ codes "repo" ∷ [])) }
+    ensures repo { (disk : Disk) → Sound disk → IsFolderOrGone (disk repo) }
+    ensures tmp { (disk : Disk) → Sound disk → IsFolderOrGone (disk tmp) }
+    ensures store { (disk : Disk) → Sound disk → IsStore repo disk }
 {}
 
-/// Sound images: the empty one; the root alone, which shows the empty state of layout 2; and the root with a `config` as it is
-/// written, which shows its settings.
-pub fn sound_images()
-    ensures nothing { Sound empty_image }
-    ensures root { Sound bare_image × Shows bare_image (state_of Two empty_settings) }
-    ensures written { (s : Settings) → IsSettings s → length (config_text s) ≤ config_most
-        → Sound (image_with_config (config_text s)) × Shows (image_with_config (config_text s)) (state_of Two s) }
+// ---- small files
+
+/// An image that differs from another in the files of the settings alone, and elsewhere in what may stand there, shows the state
+/// with the settings that are read of it, and is sound.
+pub fn settings_may_change()
+    ensures shown { (i j : Disk) (s t : State) → ((p : Elements) → Fixed i p → (IsSetting p → ⊥) → j p ≡ i p)
+        → settings_seen j ≡ there (setup_of t) → t.refs ≡ s.refs → t.overrides ≡ s.overrides → Shows i s
+        → Shows j t }
+    ensures sound { (i j : Disk) → ((p : Elements) → Fixed i p → (IsSetting p → ⊥) → j p ≡ i p)
+        → ((p : Elements) → (j p ≡ i p) ⊎ Permits i p (j p)) → Sound i → Sound j }
 {}
 
-/// A view in which the root stands alone is sound where every stop leaves what stands.
-pub fn a_bare_view_is_sound()
-    ensures { (v : View) → IsTree v → IsSettled v → ((x : List ℕ) (up : Elements) → v.names
-        (x ∷ up) ≡ absent) → IsSound v }
+/// An image that differs from another in one override alone, and elsewhere in what may stand there, shows the state with the
+/// override that is read of it, or without one, and is sound.
+pub fn an_override_may_change()
+    ensures shown { (i j : Disk) (s t : State) (layer : List ℕ)
+        → ((p : Elements) → Fixed i p → (p ≡ override_path layer → ⊥) → j p ≡ i p)
+        → IsLayered s layer t → override_seen j layer ≡ seen_of (at_name override_key t.overrides layer)
+        → Shows i s → Shows j t }
+    ensures sound { (i j : Disk) (layer : List ℕ)
+        → ((p : Elements) → Fixed i p → (p ≡ override_path layer → ⊥) → j p ≡ i p)
+        → ((p : Elements) → (j p ≡ i p) ⊎ Permits i p (j p)) → Sound i → Sound j }
 {}
 
-/// A path of 128 elements that is for nothing else may be a folder, and one of 129 may not.
-pub fn paths_have_a_longest()
-    ensures longest { (p : Elements) → length p ≡ 128 → zone (outward p) ≡ anything → Allowed p
-        folder }
-    ensures too_long { (p : Elements) → length p ≡ 129 → Allowed p folder → ⊥ }
+/// Setting an override, or dropping it, changes that one.
+pub fn operations_change_one_override()
+    ensures set { (s : State) (row : OverrideRow) (time : ℕ) → is_ascending (map override_key s.overrides) ≡ true
+        → IsLayered s row.name (after_op s time (SetOverride row)) }
+    ensures drop { (s : State) (name : List ℕ) (time : ℕ) → is_ascending (map override_key s.overrides) ≡ true
+        → IsLayered s name (after_op s time (DropOverride name)) }
+{}
+
+// ---- operations on refs
+
+/// What the operations on refs make of a state: the row of that ref changes, and no other.
+pub fn operations_change_one_row()
+    ensures install { (s : State) (name : Ref) (remote commit : List ℕ) (time : ℕ) → HasOrder s
+        → row_at s name ≡ None
+        → IsWith s name
+        (Some (record { name = name; origin = remote; commit = commit; timestamp = time; previous = None }))
+        (after_op s time (Install name remote commit)) }
+    ensures update { (s : State) (name : Ref) (remote commit : List ℕ) (time : ℕ) (row : RefRow) → HasOrder s
+        → row_at s name ≡ Some row
+        → IsWith s name
+        (Some (record {
+          name = name;
+          origin = remote;
+          commit = commit;
+          timestamp = time;
+          previous = Some (record { commit = row.commit; timestamp = row.timestamp });
+        }))
+        (after_op s time (Update name remote commit)) }
+    ensures uninstall { (s : State) (name : Ref) (time : ℕ) → HasOrder s
+        → IsWith s name None (after_op s time (Uninstall name)) }
+    ensures rollback { (s : State) (commit : List ℕ) (time : ℕ) (row : RefRow) (p : Previous) → HasOrder s
+        → row_at s row.name ≡ Some row → row.previous ≡ Some p
+        → IsWith s row.name
+        (Some (record {
+          name = row.name;
+          origin = row.origin;
+          commit = p.commit;
+          timestamp = p.timestamp;
+          previous = Some (record { commit = row.commit; timestamp = row.timestamp });
+        }))
+        (after_op s time (Rollback row.name commit)) }
+{}
+
+/// The rename of a link from `repo/tmp` onto `active`: where its commit stands beside the state, each outcome shows the state of
+/// before or the one with the new row, and is sound.
+pub fn a_switch_is_old_or_new()
+    ensures { (u w : View) (s t : State) (name : Ref) (row : RefRow) (rest : Elements) → is_ref name ≡ true
+        → IsWith s name (Some row) t → Follows (SwitchesAt name row (rest ++ tmp)) u w → Stages s name row u
+        → OpensEither s t w }
 {}

@@ -1,7 +1,12 @@
 //! What an installation shows, and when it is sound.
 #![tactic(auto)]
 
+mod deploy;
+mod deploy_reading;
 pub mod laws;
 mod opened;
+mod setup;
 
+pub use deploy::{DeployData, DeployError};
 pub use opened::Opened;
+pub use setup::Setup;

@@ -1,6 +1,6 @@
 -- Worked rows, closed by computing.
 use Rattle.std.proofs.Common.{◌≡◌, ℕ, true, List, [], ◌∷◌, Some, None, Ok, Err, refl}
-use Rattle.std.specs.Prelude.{codes}
+use Rattle.std.specs.Prelude.{codes, replicate}
 use Rattle.std.specs.Fmt.{digits}
 use Rattle.std.specs.List.{list_all}
 use Rattle.std.specs.Str.Lossy.{utf8_lossy}
@@ -8,10 +8,13 @@ use Rattle.std.proofs.lemmas.Str.{utf8_lossy-IsUtf8}
 use Rattle.fp_name.specs.Bytes.{is_dotted}
 use Rattle.fp_name.proofs.Bytes.{Utf8-from_dotted}
 use Rattle.fp_name.specs.Grammar.{is_id, is_branch}
+use Rattle.fp_name.specs.Hex.{hex}
 use Rattle.fp_name.specs.Pins.{is_pin}
+use Rattle.fp_name.specs.Refs.{Ref}
+use Rattle.fp_name.specs.declared.kind.RefKind.TheVariants.{App}
 use Rattle.fp_small.specs.declared.refusal.Refusal.TheVariants.{BadWords, PinExists, NoSuchPin, Limit, BadRecord, Damaged}
 use Rattle.fp_base.specs.declared.what.What.TheVariants.{Pins, Input}
-use Rattle.fp_small.specs.declared.op.Op.TheVariants.{AddPin, DropPin, Migrate}
+use Rattle.fp_small.specs.declared.op.Op.TheVariants.{Install, Update, Uninstall, AddPin, DropPin, DropOverride, Migrate, Rollback}
 use Rattle.fl_words.specs.declared.command.Command.TheVariants.{Change as Changing, List as Listed, Show as Showing, Batch}
 use Rattle.fl_words.specs.declared.command.Change.TheVariants.{Pin, Unpin}
 use Rattle.fl_words.specs.declared.command.Listing.TheVariants as listings
@@ -83,6 +86,9 @@ damaged_line = refl
 pub escaped_line : refusal_text (Damaged ((98 ∷ 92 ∷ []) ∷ (97 ∷ 10 ∷ []) ∷ [])) ≡ codes "error: damaged a\\0a/b\\5c\n"
 escaped_line = refl
 
+abbrev name : Ref
+name = record { kind = App; id = codes "org.x.App"; arch = codes "x86_64"; branch = codes "stable" }
+
 pub pinned_line : op_text (AddPin (codes "app/*/*/*")) ≡ codes "pinned app/*/*/*\n"
 pinned_line = refl
 
@@ -91,6 +97,24 @@ unpinned_line = refl
 
 pub migrated_line : op_text Migrate ≡ codes "migrated layout 2\n"
 migrated_line = refl
+
+pub uninstalled_line : op_text (Uninstall name) ≡ codes "uninstalled app/org.x.App/x86_64/stable\n"
+uninstalled_line = refl
+
+pub rolled_back_line : op_text (Rollback name (replicate 32 17)) ≡ codes "rolled back app/org.x.App/x86_64/stable 1111111111111111111111111111111111111111111111111111111111111111\n"
+unfolding hex
+rolled_back_line = refl
+
+pub installed_line : op_text (Install name (codes "hub") (replicate 32 17)) ≡ codes "installed app/org.x.App/x86_64/stable 1111111111111111111111111111111111111111111111111111111111111111\n"
+unfolding hex
+installed_line = refl
+
+pub updated_line : op_text (Update name (codes "hub") (replicate 32 17)) ≡ codes "updated app/org.x.App/x86_64/stable 1111111111111111111111111111111111111111111111111111111111111111\n"
+unfolding hex
+updated_line = refl
+
+pub reset_line : op_text (DropOverride (codes "global")) ≡ codes "override reset global\n"
+reset_line = refl
 
 pub record_line : refusal_text (BadRecord 2) ≡ codes "error: record 2\n"
 unfolding digits

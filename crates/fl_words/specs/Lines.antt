@@ -6,12 +6,12 @@ use Rattle.fp_base.specs.declared.object.ObjKind.{ObjKind}
 use Rattle.fp_base.specs.declared.object.ObjKind.TheVariants.{Commit, DirTree, DirMeta, File}
 use Rattle.fp_host.specs.Paths.{path_text}
 use Rattle.fp_name.specs.Hex.{hex}
-use Rattle.fp_name.specs.Refs.{ref_text}
+use Rattle.fp_name.specs.Refs.{Ref, ref_text}
 use Rattle.fp_small.specs.declared.refusal.Refusal.{Refusal}
 use Rattle.fp_small.specs.declared.refusal.Refusal.TheVariants as refusals
 use Rattle.fp_small.specs.declared.op.Op.{Op}
 use Rattle.fp_small.specs.declared.state.RemoteRow.{RemoteRow}
-use Rattle.fp_small.specs.declared.op.Op.TheVariants.{AddPin, DropPin, AddRemote, ModifyRemote, DropRemote, Migrate}
+use Rattle.fp_small.specs.declared.op.Op.TheVariants.{Install, Update, Uninstall, AddPin, DropPin, AddRemote, ModifyRemote, DropRemote, SetOverride, DropOverride, Migrate, Rollback}
 use Rattle.fl_words.specs.PrintedWords.{kind_word, rule_word, what_word, side_word, metadata_rule_word, frame_rule_word}
 
 -- ---- a text that we didn't make
@@ -88,14 +88,24 @@ refusal_text (refusals.BadMessage side index rule) = line_of (codes "error: mess
 refusal_text (refusals.Damaged path) = line_of (codes "error: damaged" ∷ escaped (path_text path) ∷ [])
 refusal_text (refusals.NoPrevious name) = line_of (codes "error: no previous" ∷ ref_text name ∷ [])
 
+-- some words, a ref and the commit that it is at now
+abbrev pub commit_text : List ℕ → Ref → List ℕ → List ℕ
+commit_text words name commit = line_of (words ∷ ref_text name ∷ hex commit ∷ [])
+
 -- the line that acknowledges an operation
 abbrev pub op_text : Op → List ℕ
+op_text (Install name remote commit) = commit_text (codes "installed") name commit
+op_text (Update name remote commit) = commit_text (codes "updated") name commit
+op_text (Uninstall name) = line_of (codes "uninstalled" ∷ ref_text name ∷ [])
 op_text (AddPin pin) = line_of (codes "pinned" ∷ pin ∷ [])
 op_text (DropPin pin) = line_of (codes "unpinned" ∷ pin ∷ [])
 op_text (AddRemote row) = line_of (codes "remote added" ∷ row.name ∷ [])
 op_text (ModifyRemote row) = line_of (codes "remote modified" ∷ row.name ∷ [])
 op_text (DropRemote name) = line_of (codes "remote deleted" ∷ name ∷ [])
+op_text (SetOverride row) = line_of (codes "override set" ∷ row.name ∷ [])
+op_text (DropOverride name) = line_of (codes "override reset" ∷ name ∷ [])
 op_text Migrate = line_of (codes "migrated layout 2" ∷ [])
+op_text (Rollback name commit) = commit_text (codes "rolled back") name commit
 
 -- a line for each pattern
 abbrev pub pins_text : List (List ℕ) → List ℕ

@@ -86,6 +86,19 @@ pub(crate) fn ref_line(alloc: Global, words: &str, name: &RefName) -> Result<Tex
     line_of_two(alloc, words, name.as_str())
 }
 
+/// The line of some words, a ref and a commit.
+fn commit_line(
+    alloc: Global,
+    words: &str,
+    name: &RefName,
+    commit: &Digest,
+) -> Result<Text, AllocError>
+    ensures { IfOk result (λ t. t ≡ line_of (words.now ∷ ref_text name.now ∷ hex commit.now ∷ [])) }
+{
+    let digits = digits_of(alloc, commit)?;
+    line_of_three(alloc, words, name.as_str(), digits.as_str())
+}
+
 /// The hexadecimal digits of a digest.
 pub fn digits_of(alloc: Global, digest: &Digest) -> Result<String, AllocError>
     ensures digits { IfOk result (λ t. string_bytes t ≡ hex digest.now) }
@@ -110,12 +123,18 @@ pub fn op_line(alloc: Global, op: &Op) -> Result<Text, AllocError>
     ensures { IfOk result (λ t. t ≡ op_text op.now) }
 {
     match op {
+        Op::Install { name, commit, .. } => commit_line(alloc, "installed", name, commit),
+        Op::Update { name, commit, .. } => commit_line(alloc, "updated", name, commit),
+        Op::Uninstall { name } => ref_line(alloc, "uninstalled", name),
         Op::AddPin(pin) => line_of_two(alloc, "pinned", pin.as_str()),
         Op::DropPin(pin) => line_of_two(alloc, "unpinned", pin.as_str()),
         Op::AddRemote(row) => line_of_two(alloc, "remote added", row.name.as_str()),
         Op::ModifyRemote(row) => line_of_two(alloc, "remote modified", row.name.as_str()),
         Op::DropRemote(name) => line_of_two(alloc, "remote deleted", name.as_str()),
+        Op::SetOverride(row) => line_of_two(alloc, "override set", row.name.as_str()),
+        Op::DropOverride(name) => line_of_two(alloc, "override reset", name.as_str()),
         Op::Migrate => Text::from_str(alloc, "migrated layout 2\n"),
+        Op::Rollback { name, commit } => commit_line(alloc, "rolled back", name, commit),
     }
 }
 

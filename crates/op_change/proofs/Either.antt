@@ -1,11 +1,16 @@
 -- Replacing `config`: the state of before or the one after.
-use Rattle.std.proofs.Common.{◌≡◌, ◌⊎◌, ◌≤◌, inl, inr, ℕ, List, [], ◌∷◌, length, Option, Some, None, Contains, refl, sym, ◌∙◌, ap, subst, arith, if◌then◌else◌, Ok}
+use Rattle.std.proofs.Common.{◌≡◌, ◌≢◌, ◌⊎◌, ◌≤◌, inl, inr, ℕ, List, [], ◌∷◌, ◌++◌, length, Option, Some, None, Contains, refl, sym, ◌∙◌, ap, subst, arith, if◌then◌else◌, Ok, codes}
+use Rattle.std.specs.Prelude.{map}
+use Rattle.std.specs.List.{AllByRecursion}
 use Rattle.std.proofs.lemmas.Bool.{le-leb}
 use Rattle.std.proofs.lemmas.List.Elements.{Contains-push_cases}
 use Rattle.fp_host.specs.Paths.{Elements, Slot, absent, dir, file, link}
 use Rattle.fp_host.specs.View.{View, Inode, IsTree}
-use Rattle.fp_host.specs.Outcome.{Spot, Disk, gone, folder, holds, spot_of, holding, shows}
+use Rattle.fp_host.specs.Reads.{is_ascending}
+use Rattle.fp_host.specs.Outcome.{Spot, Disk, Leaves, gone, folder, holds, spot_of, holding, shows}
 use Rattle.fp_host.proofs.Settled.{at_tree}
+use Rattle.fp_name.specs.Kinds.{kind_word}
+use Rattle.fp_name.specs.Refs.{Ref}
 use Rattle.fp_small.specs.Places.{repo, tmp}
 use Rattle.fp_small.specs.Folders.{IsFree}
 use Rattle.fp_small.specs.Move.{IsNew, HasNew}
@@ -14,15 +19,20 @@ use Rattle.fp_small.specs.Config.{config_of, config_text, IsSettings}
 use Rattle.fp_small.specs.declared.config.Settings.{Settings}
 use Rattle.fp_small.specs.declared.state.State.{State}
 use Rattle.fp_small.specs.declared.op.Op.{Op}
-use Rattle.fp_small.specs.declared.op.Op.TheVariants.{AddPin, DropPin, AddRemote, ModifyRemote, DropRemote, Migrate}
-use Rattle.fp_small.specs.declared.state.Layout.{Layout}
+use Rattle.fp_small.specs.declared.op.Op.TheVariants.{Install, Update, Uninstall, AddPin, DropPin, AddRemote, ModifyRemote, DropRemote, SetOverride, DropOverride, Migrate, Rollback}
 use Rattle.fp_small.specs.declared.state.Layout.TheVariants.{Two}
-use Rattle.dep_states.specs.Names.{config, remotes_conf, pins_file}
-use Rattle.dep_states.specs.Shown.{Shows, new_state, settings_at, settings_of, state_of, or_else, read_of, bad, empty_settings, config_most}
+use Rattle.ost_model.specs.Objects.{object_path}
+use Rattle.dep_states.specs.Names.{config, remotes_conf, pins_file, commit_dir, deploy}
+use Rattle.dep_states.specs.Shown.{Seen, bad, there, read_of, config_at, config_most, layout_two, settings_at, settings_seen, settings_of, setup_of, ref_key, override_key, Shows}
+use Rattle.dep_states.specs.Small.{IsSetting}
 use Rattle.dep_states.specs.Zones.{Allowed, IsFileOrGone, IsFolderOrGone}
-use Rattle.dep_states.specs.Sound.{Opens, IsOld, is_remotes, is_pins}
-use Rattle.dep_states.specs.After.{after, May, IsGood}
-use Rattle.dep_states.proofs.Law.{same_shown, seen_same, seen_in_config, now_left}
+use Rattle.dep_states.specs.Sound.{Sound, Fixed, Permits, Opens, IsOld, is_remotes, is_pins}
+use Rattle.dep_states.specs.After.{after, plain, May, IsOnConfig, IsGoodRow, IsGoodLayer, IsGood}
+use Rattle.dep_states.proofs.Deployed.{top}
+use Rattle.dep_states.proofs.Law.{shows_same}
+use Rattle.dep_states.proofs.Small.{shows_settings, sound_settings}
+use Rattle.dep_states.proofs.Sparing.{word_apart, fixed_in_repo}
+use Rattle.dep_states.proofs.Switching.{none_in_tmp}
 use Rattle.fp_host.specs.Moments.{Moments, Goes}
 use Rattle.fp_host.specs.Frame.{AtEnd}
 use Rattle.fp_host.proofs.Goes.{begins}
@@ -32,35 +42,47 @@ use Rattle.fp_small.proofs.Remoting as remotes
 use Rattle.op_change.specs.Applied.{IsOneOf, Applies, WasApplied}
 use Rattle.op_change.proofs.Sizes.{config_fits}
 
+-- what stands now is an outcome
+now_left : (v : View) → Leaves v (shows v)
+now_left v = record { names = v.names; files = v.files; may_be = λ p. inl refl; rows = λ id. inl refl; seen = λ p. refl }
+
 -- ---- what is written is shown
 
-new_shown : (id : ℕ) (bytes : List ℕ) (s : Settings) → length bytes ≤ config_most → config_of bytes ≡ Some s → settings_at (holds id 420 bytes) ≡ Some s
-unfolding settings_at
+new_shown : (id : ℕ) (bytes : List ℕ) (s : Settings) → length bytes ≤ config_most → config_of bytes ≡ Some s → config_at (holds id 420 bytes) ≡ there (record { layout = Two; settings = s })
+unfolding config_at
 new_shown id bytes s short reads =
-    ap (λ b. or_else empty_settings (if b then read_of (config_of bytes) else bad)) (le-leb (length bytes) config_most short) ∙ ap (λ o. or_else empty_settings (read_of o)) reads
+    ap (λ b. layout_two (if b then read_of (config_of bytes) else bad)) (le-leb (length bytes) config_most short) ∙ ap (λ o. layout_two (read_of o)) reads
 
 -- what is written says the state
 abbrev pub ReadsBack : State → Type 0
 ReadsBack t = config_of (config_text (settings_of t)) ≡ Some (settings_of t)
 
--- a state that `config` can say
-pub record IsNext (t : State) : Type 0 where
+-- a state in layout 2 whose settings `config` can say, with the refs and the overrides of another
+pub record IsNext (s t : State) : Type 0 where
   pub settings : IsSettings (settings_of t)
-  pub rest : t ≡ state_of Two (settings_of t)
+  pub layout : t.layout ≡ Two
+  pub refs : t.refs ≡ s.refs
+  pub overrides : t.overrides ≡ s.overrides
 
-pub next_good : {t : State} → IsNext t → IsGood t
-next_good {t = t} next =
-    let layout : t.layout ≡ Two = ap (λ (s : State). s.layout) next.rest in
-    record { settings = next.settings; rest = next.rest ∙ ap (λ (l : Layout). state_of l (settings_of t)) (sym layout) }
+pub next_good : {s t : State} → IsGood s → IsNext s t → IsGood t
+next_good good next = record {
+  settings = next.settings;
+  rows = subst (λ rows. AllByRecursion IsGoodRow rows) (sym next.refs) good.rows;
+  refs_ascend = ap (λ rows. is_ascending (map ref_key rows)) next.refs ∙ good.refs_ascend;
+  layers = subst (λ rows. AllByRecursion IsGoodLayer rows) (sym next.overrides) good.layers;
+  overrides_ascend = ap (λ rows. is_ascending (map override_key rows)) next.overrides ∙ good.overrides_ascend;
+}
 
 -- a new `config` stands
 pub is_there : (disk : Disk) (bytes : List ℕ) → IsNew bytes (disk config) → disk config ≡ gone → ⊥
 is_there disk bytes new none = cc (sym new.1 ∙ none)
 
-pub shows_new : (disk : Disk) (t : State) → IsNext t → ReadsBack t → IsNew (config_text (settings_of t)) (disk config) → Shows disk t
-shows_new disk t next reads new =
-    let at_config = ap settings_at new.1 ∙ new_shown new.0 (config_text (settings_of t)) (settings_of t) (config_fits (settings_of t) next.settings) reads in
-    record { is = seen_in_config disk (is_there disk (config_text (settings_of t)) new) ∙ ap new_state at_config ∙ ap (λ x. Ok x) (sym next.rest) }
+-- the settings are read of it
+pub settings_new : (disk : Disk) (s t : State) → IsNext s t → ReadsBack t → IsNew (config_text (settings_of t)) (disk config) → settings_seen disk ≡ there (setup_of t)
+settings_new disk s t next reads new =
+    ap (λ c. settings_at c (disk remotes_conf) (disk pins_file)) new.1
+    ∙ new_shown new.0 (config_text (settings_of t)) (settings_of t) (config_fits (settings_of t) next.settings) reads
+    ∙ ap (λ l. there (record { layout = l; settings = settings_of t })) (sym next.layout)
 
 -- ---- `config` is no other path
 
@@ -133,55 +155,95 @@ given_new u bytes spot given = elim given [
   | inr other ↦ elim other [ inl made ↦ absurd (no_folder made.0) | inr work ↦ absurd (no_staging u work) ]
 ]
 
--- the files of layout 1 stay
-no_old : (u : View) (bytes : List ℕ) (p : Elements) (spot : Spot) → IsOld p → ReplacesAt config bytes u p spot → ⊥
-no_old u bytes p spot old given = elim given [
-  | inl new ↦ old_no_config p old new.0
-  | inr other ↦ elim other [ inl made ↦ old_no_folder p old made.0 | inr work ↦ old_no_work u p old work ]
+-- what is given but `config` isn't fixed
+folder_unfixed : (i : Disk) (p : Elements) → Contains (folders_of config) p → Fixed i p → ⊥
+folder_unfixed i p has fixed = elim (which p has) [
+  | inl is ↦ let o = fixed_in_repo fixed (ap top (sym is)) in cc (is ∙ o.is)
+  | inr is ↦ let o = fixed_in_repo fixed (ap top (sym is)) in cc (is ∙ o.is)
 ]
 
-old_same : (u : View) (bytes : List ℕ) (disk before : Disk) (p : Elements) → IsOld p → (disk p ≡ before p) ⊎ ReplacesAt config bytes u p (disk p) → disk p ≡ before p
-old_same u bytes disk before p old each = elim each [ inl same ↦ same | inr given ↦ absurd (no_old u bytes p (disk p) old given) ]
+unfixed : (u : View) (bytes : List ℕ) (i : Disk) (p : Elements) (spot : Spot) → ReplacesAt config bytes u p spot → Fixed i p → (p ≡ config → ⊥) → ⊥
+unfixed u bytes i p spot given fixed off = elim given [
+  | inl new ↦ off new.0
+  | inr other ↦ elim other [ inl made ↦ folder_unfixed i p made.0 fixed | inr work ↦ none_in_tmp (_ ∷ []) work.is fixed ]
+]
+
+-- and no `deploy`
+given_top : (u : View) (bytes : List ℕ) (p : Elements) (spot : Spot) → ReplacesAt config bytes u p spot → (top p ≡ codes "config") ⊎ (top p ≡ codes "repo")
+given_top u bytes p spot given = elim given [
+  | inl new ↦ inl (ap top new.0)
+  | inr other ↦ inr (elim other [
+    | inl made ↦ elim (which p made.0) [ inl is ↦ ap top (sym is) | inr is ↦ ap top (sym is) ]
+    | inr work ↦ ap top work.is
+  ])
+]
+
+no_record : (u : View) (bytes : List ℕ) (p : Elements) (spot : Spot) → ReplacesAt config bytes u p spot → (name : Ref) (commit : List ℕ) → p ≡ deploy (commit_dir name commit) → ⊥
+no_record u bytes p spot given name commit at = elim (given_top u bytes p spot given) [
+  | inl is ↦ word_apart name.kind (codes "config") refl refl (sym (ap top at) ∙ is)
+  | inr is ↦ word_apart name.kind (codes "repo") refl refl (sym (ap top at) ∙ is)
+]
+
+pub replaces_permits : (u : View) (bytes : List ℕ) (i : Disk) (p : Elements) (spot : Spot) → ReplacesAt config bytes u p spot → Permits i p spot
+replaces_permits u bytes i p spot given = record { allowed = replaces_allowed u bytes p spot given; deploy = λ name commit kept at. absurd (no_record u bytes p spot given name commit at) }
 
 -- ---- at every moment, and in the end
 
-pub either : {s t : State} {u w : View} → IsNext t → ReadsBack t → Replaces config (config_text (settings_of t)) u w → Opens s u → IsOneOf s t w
-either {s = s} {t = t} {u = u} {w = w} good reads replaces opens =
-    let bytes = config_text (settings_of t) in
-    record {
-      shown = λ disk left.
-          let from = replaces.keeps.follows.from disk left in
-          elim (from.2 config) [
-            | inl same ↦ inl (same_shown (seen_same disk from.0 same (old_same u bytes disk from.0 remotes_conf (is_remotes refl) (from.2 remotes_conf)) (old_same u bytes disk from.0 pins_file (is_pins refl) (from.2 pins_file))) (opens.shown from.0 from.1))
-            | inr given ↦ inr (shows_new disk t good reads (given_new u bytes (disk config) given))
-          ];
-      sound = λ disk left.
-          let from = replaces.keeps.follows.from disk left in
-          record {
-            kinds = λ p. elim (from.2 p) [
-              | inl same ↦ subst (Allowed p) (sym same) ((opens.sound from.0 from.1).kinds p)
-              | inr given ↦ replaces_allowed u bytes p (disk p) given
-            ];
-          };
-    }
+module _ {s t : State} {u w : View} (next : IsNext s t) (reads : ReadsBack t) (replaces : Replaces config (config_text (settings_of t)) u w) (opens : Opens s u) where
+  abbrev bytes : List ℕ
+  bytes = config_text (settings_of t)
 
-pub opens_after : {s t : State} {u w : View} → IsNext t → ReadsBack t → Replaces config (config_text (settings_of t)) u w → WasReplaced config (config_text (settings_of t)) u w → Opens s u → Opens t w
-opens_after {t = t} good reads replaces was opens = record {
-  shown = λ disk left. shows_new disk t good reads (was.new.each disk left);
-  sound = (either good reads replaces opens).sound;
-}
+  module _ (disk : Disk) (left : Leaves w disk) where
+    abbrev before : Disk
+    before = (replaces.keeps.follows.from disk left).0
 
-pub applies : {s : State} {op : Op} {t : State} {u w : View} → t ≡ after s op → IsNext t → ReadsBack t → Replaces config (config_text (settings_of t)) u w → Applies s op u w
-applies {s = s} {w = w} is good reads replaces = record {
-  either = λ opens. subst (λ x. IsOneOf s x w) is (either good reads replaces opens);
+    abbrev was : Leaves u before
+    was = (replaces.keeps.follows.from disk left).1
+
+    abbrev step : (p : Elements) → (disk p ≡ before p) ⊎ ReplacesAt config bytes u p (disk p)
+    step = (replaces.keeps.follows.from disk left).2
+
+    still : (p : Elements) → Fixed before p → (IsSetting p → ⊥) → disk p ≡ before p
+    still p fixed off = elim (step p) [ inl same ↦ same | inr given ↦ absurd (unfixed u bytes before p (disk p) given fixed (λ is. off (inl is))) ]
+
+    elsewhere : (p : Elements) → (disk p ≡ before p) ⊎ Permits before p (disk p)
+    elsewhere p = elim (step p) [ inl same ↦ inl same | inr given ↦ inr (replaces_permits u bytes before p (disk p) given) ]
+
+    sound_there : Sound disk
+    sound_there = sound_settings still elsewhere (opens.sound before was)
+
+    new_there : IsNew bytes (disk config) → Shows disk t
+    new_there new = shows_settings still (settings_new disk s t next reads new) next.refs next.overrides (opens.shown before was)
+
+    old_there : disk config ≡ before config → Shows disk s
+    old_there same = shows_same before disk (λ p fixed. elim (step p) [
+      | inl is ↦ is
+      | inr given ↦ elim given [
+        | inl new ↦ ap disk new.0 ∙ same ∙ sym (ap before new.0)
+        | inr other ↦ absurd (elim other [ inl made ↦ folder_unfixed before p made.0 fixed | inr work ↦ none_in_tmp (_ ∷ []) work.is fixed ])
+      ]
+    ]) (opens.shown before was)
+
+    either_there : Shows disk s ⊎ Shows disk t
+    either_there = elim (step config) [ inl same ↦ inl (old_there same) | inr given ↦ inr (new_there (given_new u bytes (disk config) given)) ]
+
+  pub either : IsOneOf s t w
+  either = record { shown = either_there; sound = sound_there }
+
+  pub opens_after : WasReplaced config bytes u w → Opens t w
+  opens_after was_replaced = record { shown = λ disk left. new_there disk left (was_replaced.new.each disk left); sound = sound_there }
+
+pub applies : {s : State} {op : Op} {t : State} {u w : View} → t ≡ after s (plain op) → IsNext s t → ReadsBack t → Replaces config (config_text (settings_of t)) u w → Applies s op u w
+applies {s = s} {w = w} is next reads replaces = record {
+  either = λ opens. subst (λ x. IsOneOf s x w) is (either next reads replaces opens);
   names = replaces.keeps.names;
   files = replaces.files;
   printed = replaces.keeps.printed;
 }
 
-pub was_applied : {s : State} {op : Op} {t : State} {u w : View} → t ≡ after s op → IsNext t → ReadsBack t → Replaces config (config_text (settings_of t)) u w → WasReplaced config (config_text (settings_of t)) u w → WasApplied s op u w
-was_applied {t = t} {w = w} is good reads replaces was = record {
-  opens = λ opens. subst (λ x. Opens x w) is (opens_after good reads replaces was opens);
+pub was_applied : {s : State} {op : Op} {t : State} {u w : View} → t ≡ after s (plain op) → IsNext s t → ReadsBack t → Replaces config (config_text (settings_of t)) u w → WasReplaced config (config_text (settings_of t)) u w → WasApplied s op u w
+was_applied {t = t} {w = w} is next reads replaces was = record {
+  opens = λ opens. subst (λ x. Opens x w) is (opens_after next reads replaces opens was);
   text = subst (λ x. HasNew config (config_text (settings_of x)) w) is was.new;
   config = λ disk left. is_there disk (config_text (settings_of t)) (was.new.each disk left);
   settled = was.settled;
@@ -226,23 +288,26 @@ can_replace v tree opens =
 
 -- ---- what the state after is
 
-in_two : (s : State) → s.layout ≡ Two → IsGood s → s ≡ state_of Two (settings_of s)
-in_two s two good = good.rest ∙ ap (λ layout. state_of layout (settings_of s)) two
-
-pub next_after : (s : State) (op : Op) → May s op → IsGood s → IsNext (after s op)
-next_after s (AddPin pin) may good = record { settings = added (settings_of s) pin good.settings may.allows.0 may.allows.1 may.allows.2; rest = ap (λ x. after x (AddPin pin)) (in_two s may.layout good) }
-next_after s (DropPin pin) may good = record { settings = dropped (settings_of s) pin good.settings; rest = ap (λ x. after x (DropPin pin)) (in_two s may.layout good) }
-next_after s (AddRemote row) may good = record { settings = remotes.added (settings_of s) row good.settings may.allows.0 may.allows.1 may.allows.2; rest = ap (λ x. after x (AddRemote row)) (in_two s may.layout good) }
-next_after s (ModifyRemote row) may good = record { settings = remotes.modified (settings_of s) row good.settings may.allows.0 may.allows.1; rest = ap (λ x. after x (ModifyRemote row)) (in_two s may.layout good) }
-next_after s (DropRemote name) may good = record { settings = remotes.dropped (settings_of s) name good.settings; rest = ap (λ x. after x (DropRemote name)) (in_two s may.layout good) }
-next_after s Migrate may good = record { settings = good.settings; rest = ap (λ x. after x Migrate) good.rest }
+pub next_after : (s : State) (op : Op) → May s op → IsOnConfig op → IsGood s → IsNext s (after s (plain op))
+next_after s (AddPin pin) may on good = record { settings = added (settings_of s) pin good.settings may.allows.0 may.allows.1 may.allows.2; layout = may.layout; refs = refl; overrides = refl }
+next_after s (DropPin pin) may on good = record { settings = dropped (settings_of s) pin good.settings; layout = may.layout; refs = refl; overrides = refl }
+next_after s (AddRemote row) may on good = record { settings = remotes.added (settings_of s) row good.settings may.allows.0 may.allows.1 may.allows.2; layout = may.layout; refs = refl; overrides = refl }
+next_after s (ModifyRemote row) may on good = record { settings = remotes.modified (settings_of s) row good.settings may.allows.0 may.allows.1; layout = may.layout; refs = refl; overrides = refl }
+next_after s (DropRemote name) may on good = record { settings = remotes.dropped (settings_of s) name good.settings; layout = may.layout; refs = refl; overrides = refl }
+next_after s Migrate may on good = record { settings = good.settings; layout = refl; refs = refl; overrides = refl }
+next_after s (Install name remote commit) may on good = absurd on
+next_after s (Update name remote commit) may on good = absurd on
+next_after s (Uninstall name) may on good = absurd on
+next_after s (SetOverride row) may on good = absurd on
+next_after s (DropOverride name) may on good = absurd on
+next_after s (Rollback name commit) may on good = absurd on
 
 -- ---- what the parts of the call tell of it
 
-pub moments_applied : {a b : Option Moments} {s : State} {op : Op} {t : State} → ((m : Moments) → a ≡ Some m → IsTree m.now) → t ≡ after s op → IsNext t → ReadsBack t
+pub moments_applied : {a b : Option Moments} {s : State} {op : Op} {t : State} → ((m : Moments) → a ≡ Some m → IsTree m.now) → t ≡ after s (plain op) → IsNext s t → ReadsBack t
     → Goes a b (Replaces config (config_text (settings_of t))) (Replaces config (config_text (settings_of t))) → Goes a b (Applies s op) (Applies s op)
-moments_applied tree is good reads goes = begins tree goes (λ u w here replaces. applies is good reads replaces) (λ u w here replaces end. applies is good reads replaces)
+moments_applied tree is next reads goes = begins tree goes (λ u w here replaces. applies is next reads replaces) (λ u w here replaces end. applies is next reads replaces)
 
-pub ends_applied : {a b : Option Moments} {s : State} {op : Op} {t : State} → ((m : Moments) → a ≡ Some m → IsTree m.now) → t ≡ after s op → IsNext t → ReadsBack t
+pub ends_applied : {a b : Option Moments} {s : State} {op : Op} {t : State} → ((m : Moments) → a ≡ Some m → IsTree m.now) → t ≡ after s (plain op) → IsNext s t → ReadsBack t
     → Goes a b (Replaces config (config_text (settings_of t))) (Replaces config (config_text (settings_of t))) → AtEnd (WasReplaced config (config_text (settings_of t))) a b → AtEnd (WasApplied s op) a b
-ends_applied tree is good reads goes done = ends_to (ends_both (ends_goes tree goes) done) (λ u w both. was_applied is good reads both.0 both.1)
+ends_applied tree is next reads goes done = ends_to (ends_both (ends_goes tree goes) done) (λ u w both. was_applied is next reads both.0 both.1)

@@ -8,7 +8,7 @@ ghost use Rattle.fp_small.specs.Replace.{Replaces, WasReplaced, CanReplace};
 ghost use Rattle.dep_states.specs.Names.{config};
 ghost use Rattle.dep_states.specs.Shown.{settings_of};
 ghost use Rattle.dep_states.specs.Sound.{Opens};
-ghost use Rattle.dep_states.specs.After.{after, May, IsGood};
+ghost use Rattle.dep_states.specs.After.{after, plain, May, IsOnConfig, IsGood};
 ghost use Rattle.op_change.specs.Applied.{Applies, WasApplied};
 
 use dep_states::Opened;
@@ -19,9 +19,9 @@ use fp_small::{
 };
 use std::alloc::{AllocError, Global};
 
-/// Does one operation on an opened installation: every stop leaves the state of before or the one after, and once it is
-/// done, the one after. A migration writes `config`, and leaves the files of layout 1 where they are. Whatever the end but
-/// Ok, the installation is opened again before anything else is done with it.
+/// Does one operation on the pins, the remotes or the layout of an opened installation: every stop leaves the state of before
+/// or the one after, and once it is done, the one after. A migration writes `config`, and leaves the files of layout 1 where
+/// they are. Whatever the end but Ok, the installation is opened again before anything else is done with it.
 pub fn apply<H: Host>(
     alloc: Global,
     host: &mut H,
@@ -29,8 +29,9 @@ pub fn apply<H: Host>(
     op: &Op,
 ) -> Result<Opened, HostEnd>
     requires may { May opened op.now }
+    requires here { IsOnConfig op.now }
     requires good { IsGood opened }
-    ensures state { IfOk result (λ o. o ≡ after opened op.now) }
+    ensures state { IfOk result (λ o. o ≡ after opened (plain op.now)) }
     ensures good { IfOk result IsGood }
     // A stop at any moment leaves the one state or the other.
     ensures any_moment { Always (Applies opened op.now) (H.moments host.old) (H.moments host.new) }
@@ -48,7 +49,8 @@ pub fn apply<H: Host>(
 
 /// The state after the operation.
 fn changed(state: State, op: &Op) -> Result<State, AllocError>
-    ensures { IfOk result (λ s. s ≡ after state op.now) }
+    requires { IsOnConfig op.now }
+    ensures { IfOk result (λ s. s ≡ after state (plain op.now)) }
 {
     let mut pins = state.pins.into_vec();
     let mut remotes = state.remotes.into_vec();
@@ -63,6 +65,12 @@ fn changed(state: State, op: &Op) -> Result<State, AllocError>
         }
         Op::DropRemote(name) => remove_remote(&mut remotes, name),
         Op::Migrate => layout = Layout::Two,
+        Op::Install { .. }
+        | Op::Update { .. }
+        | Op::Uninstall { .. }
+        | Op::SetOverride(_)
+        | Op::DropOverride(_)
+        | Op::Rollback { .. } => unreachable!(),
     }
     Ok(State {
         layout,

@@ -1,4 +1,4 @@
-use Rattle.dep_states.proofs.Law.{opens_sound}
+use Rattle.dep_states.proofs.Usual.{opens_sound}
 use Rattle.dep_states.proofs.laws.opened_is_sound.Goals as goal
 
 pub returns : goal.returns

@@ -1,4 +1,4 @@
-use Rattle.dep_states.proofs.Worked.{longest, too_long}
+use Rattle.dep_states.proofs.Images.{longest, too_long}
 use Rattle.dep_states.proofs.laws.paths_have_a_longest.Goals as goal
 
 pub returns-clause-longest : goal.returns-clause-longest

@@ -1,4 +1,5 @@
-use Rattle.std.proofs.Common.{[], ◌∷◌, codes}
+use Rattle.dep_states.proofs.Usual.{sound_store}
+use Rattle.fp_small.specs.Places.{repo, tmp}
 use Rattle.dep_states.specs.Names.{config, remotes_conf, pins_file}
 use Rattle.dep_states.proofs.laws.what_a_sound_image_holds.Goals as goal
 
@@ -12,7 +13,10 @@ pub returns-clause-pins : goal.returns-clause-pins
 returns-clause-pins c = λ disk sound. (sound.kinds pins_file).fits
 
 pub returns-clause-repo : goal.returns-clause-repo
-returns-clause-repo c = λ disk sound. (sound.kinds (codes "repo" ∷ [])).fits
+returns-clause-repo c = λ disk sound. (sound.kinds repo).fits
 
 pub returns-clause-tmp : goal.returns-clause-tmp
-returns-clause-tmp c = λ disk sound. (sound.kinds (codes "tmp" ∷ codes "repo" ∷ [])).fits
+returns-clause-tmp c = λ disk sound. (sound.kinds tmp).fits
+
+pub returns-clause-store : goal.returns-clause-store
+returns-clause-store c = sound_store

@@ -1,0 +1,87 @@
+-- The file `deploy`: a normal value of type `(sstm(st))`.
+use Rattle.std.specs.Prelude.{◌≡◌, ⊤, ℕ, List, Bool, false, Option, Some, None, option_map, option_and_then, Result, Ok, Err, if◌then◌else◌}
+use Rattle.std.specs.Str.{bytes_eq}
+use Rattle.fp_name.specs.Grammar.{is_remote_name}
+use Rattle.fp_name.specs.Hex.{unhex}
+use Rattle.fp_small.specs.declared.state.Previous.{Previous}
+use Rattle.gv_value.specs.declared.basic.Basic.TheVariants as basics
+use Rattle.gv_value.specs.Shape.{Shape, basic, maybe, tuple, no_shapes, shape}
+use Rattle.gv_value.specs.Tree.{Content, Tree, no_trees, tree}
+use Rattle.gv_value.specs.Reading.{value_of}
+use Rattle.ost_model.specs.Fields.{text_in}
+use Rattle.dep_states.specs.declared.deploy.DeployData.{DeployData}
+use Rattle.dep_states.specs.declared.deploy.DeployError.{DeployError}
+use Rattle.dep_states.specs.declared.deploy.DeployError.TheVariants as errors
+
+abbrev pub text_shape : Shape
+text_shape = basic basics.Str
+
+abbrev pub time_shape : Shape
+time_shape = basic basics.Uint64
+
+-- `(sstm(st))`: origin, commit, timestamp, and the previous commit with its timestamp
+abbrev pub deploy_shape : Shape
+deploy_shape = tuple (shape text_shape (shape text_shape (shape time_shape (shape
+    (maybe (tuple (shape text_shape (shape time_shape no_shapes)))) no_shapes))))
+
+-- a digest, as 64 hexadecimal digits
+abbrev pub digest_in : Tree → Option (List ℕ)
+digest_in v = option_and_then unhex (text_in v)
+
+-- of type `t`: little endian here, unlike the numbers of objects
+abbrev pub time_in : Tree → Option ℕ
+time_in (Tree.leaf basics.Uint64 (Content.number n)) = Some n
+time_in _ = None
+
+abbrev pub if_remote_name : List ℕ → Option (List ℕ)
+if_remote_name text = if is_remote_name text then Some text else None
+
+abbrev pub origin_in : Tree → Option (List ℕ)
+origin_in v = option_and_then if_remote_name (text_in v)
+
+abbrev pub previous_from : Option (List ℕ) → Option ℕ → Option (Option Previous)
+previous_from commit time = option_and_then (λ c. option_map (λ t. Some (record { commit = c; timestamp = t })) time) commit
+
+-- nothing, or a commit with its timestamp
+abbrev pub previous_in : Tree → Option (Option Previous)
+previous_in Tree.nothing = Some None
+previous_in (Tree.just (Tree.tuple (tree commit (tree time no_trees)))) = previous_from (digest_in commit) (time_in time)
+previous_in _ = None
+
+-- the previous commit is another one
+abbrev pub goes_back_to : List ℕ → Option Previous → Bool
+goes_back_to commit None = false
+goes_back_to commit (Some p) = bytes_eq p.commit commit
+
+abbrev pub if_moves : DeployData → Option DeployData
+if_moves d = if goes_back_to d.commit d.previous then None else Some d
+
+abbrev pub deploy_from : Option (List ℕ) → Option (List ℕ) → Option ℕ → Option (Option Previous) → Option DeployData
+deploy_from origin commit time previous = option_and_then (λ o. option_and_then (λ c. option_and_then (λ t. option_and_then (λ p.
+    if_moves (record { origin = o; commit = c; timestamp = t; previous = p }))
+    previous) time) commit) origin
+
+abbrev pub deploy_in : Tree → Option DeployData
+deploy_in (Tree.tuple (tree origin (tree commit (tree time (tree previous no_trees))))) =
+    deploy_from (origin_in origin) (digest_in commit) (time_in time) (previous_in previous)
+deploy_in _ = None
+
+-- what the bytes of a `deploy` say, where they read
+unfoldable pub deploy_of : List ℕ → Option DeployData
+deploy_of bytes = option_and_then deploy_in (value_of deploy_shape bytes)
+
+-- ---- what reading answers; nothing is said of want of memory
+
+abbrev pub Misses : {Y : Type 0} → DeployError → Option Y → Type 0
+Misses errors.Bad there = there ≡ None
+Misses errors.NoMemory there = ⊤
+
+-- what was returned, seen by a view, is what is there
+abbrev pub Finds : {X Y : Type 0} → (X → Y) → Result X DeployError → Option Y → Type 0
+Finds view (Ok x) there = there ≡ Some (view x)
+Finds view (Err e) there = Misses e there
+
+-- what was returned is what is there
+abbrev pub Says : {X : Type 0} → Result X DeployError → Option X → Type 0
+Says (Ok x) there = there ≡ Some x
+Says (Err e) there = Misses e there

@@ -1,0 +1,166 @@
+// What the value of a `deploy` says.
+ghost use Rattle.std.specs.Prelude.{◌≡◌, option_copied, IfOk};
+ghost use Rattle.gv_value.specs.Reading.{value_of};
+ghost use Rattle.gv_value.specs.Tree.{tuple, just};
+ghost use Rattle.gv_value.specs.Views.{shape_of, plain, plains};
+ghost use Rattle.ost_model.specs.Fields.{text_in};
+ghost use Rattle.dep_states.specs.Deploy.{deploy_shape, deploy_in, origin_in, digest_in, time_in, previous_in, goes_back_to, if_moves, Finds, Says};
+
+use crate::deploy::{DeployData, DeployError};
+use fp_name::{Digest, NameFault, RemoteName};
+use fp_small::Previous;
+use gv_decode::{DecodeError, decode};
+use gv_value::{GvType, GvValue, TypeError};
+use std::alloc::{AllocError, Global};
+
+/// The type of a `deploy`: origin, commit, timestamp, and the commit before with its timestamp.
+pub(crate) fn deploy_type(alloc: Global) -> Result<GvType, AllocError>
+    ensures { IfOk result (λ of. shape_of of ≡ deploy_shape) }
+{
+    match GvType::parse(alloc, b"(sstm(st))") {
+        Ok(of) => Ok(of),
+        Err(TypeError::NoMemory) => Err(AllocError),
+        Err(TypeError::Bad) => unreachable!(),
+    }
+}
+
+/// The value of a type that bytes are.
+pub(crate) fn value_in(alloc: Global, of: &GvType, bytes: &[u8]) -> Result<GvValue, DeployError>
+    ensures { Finds plain result (value_of (shape_of of.now) bytes.now) }
+{
+    match decode(alloc, of, bytes) {
+        Ok(value) => Ok(value),
+        Err(DecodeError::TooLong) => Err(DeployError::Bad),
+        Err(DecodeError::NotNormal) => Err(DeployError::Bad),
+        Err(DecodeError::NoMemory) => Err(DeployError::NoMemory),
+    }
+}
+
+/// What a value says as a `deploy`.
+pub(crate) fn data_in(alloc: Global, value: &GvValue) -> Result<DeployData, DeployError>
+    ensures { Says result (deploy_in (plain value.now)) }
+{
+    match value {
+        GvValue::Tuple(members) => data_of(alloc, members),
+        _ => Err(DeployError::Bad),
+    }
+}
+
+/// The same by the value's members.
+fn data_of(alloc: Global, members: &[GvValue]) -> Result<DeployData, DeployError>
+    ensures { Says result (deploy_in (tuple (plains members.now))) }
+{
+    match members {
+        [origin, commit, time, previous] => {
+            let data = DeployData {
+                origin: origin_in(alloc, origin)?,
+                commit: digest_in(commit)?,
+                timestamp: time_in(time)?,
+                previous: previous_in(previous)?,
+            };
+            if_moves(data)
+        }
+        _ => Err(DeployError::Bad),
+    }
+}
+
+/// The data, where the previous commit is another one.
+fn if_moves(read: DeployData) -> Result<DeployData, DeployError>
+    ensures { Says result (if_moves read) }
+{
+    if goes_back_to(&read.commit, &read.previous) {
+        return Err(DeployError::Bad);
+    }
+    Ok(read)
+}
+
+/// Whether the previous commit is this one.
+pub(crate) fn goes_back_to(commit: &Digest, previous: &Option<Previous>) -> bool
+    ensures { result ≡ goes_back_to commit.now previous.now }
+{
+    match previous {
+        Some(previous) => previous.commit == *commit,
+        None => false,
+    }
+}
+
+/// The text of a value.
+fn text_in(value: &GvValue) -> Option<&str>
+    ensures { option_copied result ≡ text_in (plain value.now) }
+{
+    match value {
+        GvValue::Str(text) => Some(text.as_str()),
+        _ => None,
+    }
+}
+
+/// The remote's name that a value is.
+fn origin_in(alloc: Global, value: &GvValue) -> Result<RemoteName, DeployError>
+    ensures { Says result (origin_in (plain value.now)) }
+{
+    let Some(text) = text_in(value) else {
+        return Err(DeployError::Bad);
+    };
+    match RemoteName::parse(alloc, text.as_bytes()) {
+        Ok(name) => Ok(name),
+        Err(NameFault::Bad) => Err(DeployError::Bad),
+        Err(NameFault::NoMemory) => Err(DeployError::NoMemory),
+    }
+}
+
+/// The digest whose digits a value is.
+fn digest_in(value: &GvValue) -> Result<Digest, DeployError>
+    ensures { Says result (digest_in (plain value.now)) }
+{
+    let Some(text) = text_in(value) else {
+        return Err(DeployError::Bad);
+    };
+    match Digest::parse(text.as_bytes()) {
+        Ok(digest) => Ok(digest),
+        Err(_) => Err(DeployError::Bad),
+    }
+}
+
+/// The timestamp that a value is, little endian.
+fn time_in(value: &GvValue) -> Result<u64, DeployError>
+    ensures { Says result (time_in (plain value.now)) }
+{
+    match value {
+        GvValue::Uint64(time) => Ok(*time),
+        _ => Err(DeployError::Bad),
+    }
+}
+
+/// The commit before, where there is one.
+fn previous_in(value: &GvValue) -> Result<Option<Previous>, DeployError>
+    ensures { Says result (previous_in (plain value.now)) }
+{
+    match value {
+        GvValue::Maybe(None) => Ok(None),
+        GvValue::Maybe(Some(inner)) => previous_inside(inner),
+        _ => Err(DeployError::Bad),
+    }
+}
+
+/// The same where there is a value.
+fn previous_inside(value: &GvValue) -> Result<Option<Previous>, DeployError>
+    ensures { Says result (previous_in (just (plain value.now))) }
+{
+    match value {
+        GvValue::Tuple(members) => previous_of(members),
+        _ => Err(DeployError::Bad),
+    }
+}
+
+/// The same by the value's members.
+fn previous_of(members: &[GvValue]) -> Result<Option<Previous>, DeployError>
+    ensures { Says result (previous_in (just (tuple (plains members.now)))) }
+{
+    match members {
+        [commit, time] => Ok(Some(Previous {
+            commit: digest_in(commit)?,
+            timestamp: time_in(time)?,
+        })),
+        _ => Err(DeployError::Bad),
+    }
+}

@@ -1,0 +1,9 @@
+// The settings of an installation, and how it keeps them.
+use fp_small::{Layout, Settings};
+
+/// The settings of an installation, and how it keeps them.
+#[derive(Drop)]
+pub struct Setup {
+    pub layout: Layout,
+    pub settings: Settings,
+}
