@@ -10,10 +10,20 @@ use Rattle.ost_model.specs.Binding.{binding_name}
 abbrev pub text_of : List ℕ → Tree
 text_of text = Tree.leaf basics.Str (Content.text text)
 
--- the one entry `ostree.ref-binding`, a variant of type `as`: the list of the ref
+-- a list of one text
+abbrev pub one_text : List ℕ → Tree
+one_text text = Tree.array (tree (text_of text) no_trees)
+
+-- the list of the ref, as a variant of type `as`
+abbrev pub refs_of : Ref → Tree
+refs_of r = Tree.variant (Shape.array (Shape.basic basics.Str)) (one_text (ref_text r))
+
+abbrev pub binding_entry_of : Ref → Tree
+binding_entry_of r = Tree.entry (text_of binding_name) (refs_of r)
+
+-- the one entry `ostree.ref-binding`
 abbrev pub bound_to : Ref → Tree
-bound_to r = Tree.array (tree (Tree.entry (text_of binding_name)
-    (Tree.variant (Shape.array (Shape.basic basics.Str)) (Tree.array (tree (text_of (ref_text r)) no_trees)))) no_trees)
+bound_to r = Tree.array (tree (binding_entry_of r) no_trees)
 
 -- no parent, nothing related, no body
 abbrev pub commit_of_tree : Ref → List ℕ → ℕ → List ℕ → List ℕ → CommitView

@@ -11,7 +11,7 @@ use std::error::Error;
 use std::fmt;
 
 /// An object, with the digest that names it.
-#[derive(Debug, Drop)]
+#[derive(Drop)]
 pub struct BuiltObject {
     pub digest: Digest,
     pub kind: ObjKind,

@@ -1,6 +1,6 @@
 //! Commits that are built from rows.
 
-ghost use Rattle.std.specs.Prelude.{◌≡◌, List, None, IfOk, IfErr, OnOk};
+ghost use Rattle.std.specs.Prelude.{◌≡◌, ◌∷◌, ◌++◌, List, [], None, IfOk, IfErr, OnOk};
 ghost use Rattle.std.specs.BTreeMap.{IsOrdered};
 ghost use Rattle.std.specs.Ordering.{nat_cmp};
 ghost use Rattle.std.specs.Cmp.Lexicographic.{slice_cmp};
@@ -11,7 +11,7 @@ ghost use Rattle.ost_commit.specs.Refusals.{first_refused, AreGoodRows};
 ghost use Rattle.ost_commit.specs.Built.{BuiltCommit, IsBuildFault};
 ghost use Rattle.ost_commit.specs.Digests.{AreDigests};
 ghost use Rattle.ost_commit.specs.Folders.{Gathers};
-ghost use Rattle.ost_commit.specs.Tables.{AreContents, AreUsable, IsFaultOfTables, AreObjectsOf};
+ghost use Rattle.ost_commit.specs.Tables.{AreContents, AreUsable, IsFaultOfTables, AreObjectsOf, built_meta};
 ghost use Rattle.ost_commit.specs.Trees.{AreGatheredFor};
 
 use crate::built::{BuildError, Built, BuiltObject};
@@ -99,22 +99,28 @@ fn gathered(
     ensures files_ordered { IsOrdered (slice_cmp nat_cmp) contents }
     ensures trees_ordered { IsOrdered (slice_cmp nat_cmp) trees }
 {
-    let digest = meta_digest(commit.as_slice());
     let mut objects = Items::new(alloc);
     add_all(&mut objects, contents, ObjKind::File)?;
     add_all(&mut objects, trees, ObjKind::DirTree)?;
-    objects.push(BuiltObject {
-        digest: meta_digest(meta.as_slice()),
-        kind: ObjKind::DirMeta,
-        object: Object::Meta(meta),
-    })?;
+    add_meta(&mut objects, meta, ObjKind::DirMeta)?;
+    let commit = add_meta(&mut objects, commit, ObjKind::Commit)?;
+    Ok(Built { commit, objects })
+}
+
+/// Adds a metadata object, and answers its digest.
+fn add_meta(
+    objects: &mut Items<BuiltObject>,
+    bytes: Blob,
+    kind: ObjKind,
+) -> Result<Digest, AllocError>
+    ensures objects { OnOk result (objects.new ≡ objects.old ++ built_meta kind bytes ∷ []) }
+    ensures digest { IfOk result (λ digest. digest ≡ digest_of_meta bytes) }
+{
+    let digest = meta_digest(bytes.as_slice());
     objects.push(BuiltObject {
         digest,
-        kind: ObjKind::Commit,
-        object: Object::Meta(commit),
+        kind,
+        object: Object::Meta(bytes),
     })?;
-    Ok(Built {
-        commit: digest,
-        objects,
-    })
+    Ok(digest)
 }

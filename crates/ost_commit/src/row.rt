@@ -7,7 +7,7 @@ use fp_base::{Blob, Text};
 use fp_host::Path;
 
 /// One row of a tree. The directories above its path are made where they are absent.
-#[derive(Debug, Drop)]
+#[derive(Drop)]
 pub enum TreeRow {
     /// A directory.
     Dir(Path),

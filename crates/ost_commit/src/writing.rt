@@ -6,7 +6,7 @@ ghost use Rattle.gv_value.specs.Shape.{Shape};
 ghost use Rattle.ost_model.specs.Types.{text_shape, dictionary_shape};
 ghost use Rattle.ost_model.specs.Readers.{commit_read, tree_read, meta_read};
 ghost use Rattle.ost_object.specs.Views.{commit_view, tree_view, tree_at};
-ghost use Rattle.ost_commit.specs.Commits.{text_of, bound_to as binding_of, commit_of_tree};
+ghost use Rattle.ost_commit.specs.Commits.{text_of, one_text, refs_of, binding_entry_of, bound_to as binding_of, commit_of_tree};
 ghost use Rattle.ost_commit.specs.Shows.{plain_meta};
 ghost use Rattle.ost_commit.specs.Writing.{IsWantOfRoom};
 
@@ -93,9 +93,25 @@ fn binding_bytes(alloc: Global, name: &RefName) -> Result<Blob, BuildError>
     ensures says { IfOk result (λ bytes. tree_at dictionary_shape bytes ≡ binding_of name.now) }
     ensures error { IfErr result IsWantOfRoom }
 {
-    let of = dictionary_type(alloc)?;
     let value = bound_to(alloc, name)?;
-    match encode(alloc, &of, &value) {
+    dictionary_bytes(alloc, &value)
+}
+
+/// The bytes of the value of a commit's metadata.
+fn dictionary_bytes(alloc: Global, value: &GvValue) -> Result<Blob, BuildError>
+    ensures says { IfOk result (λ bytes. tree_at dictionary_shape bytes ≡ plain value.now) }
+    ensures error { IfErr result IsWantOfRoom }
+{
+    let of = dictionary_type(alloc)?;
+    encoded(alloc, &of, value)
+}
+
+/// The bytes of a value of a type.
+fn encoded(alloc: Global, of: &GvType, value: &GvValue) -> Result<Blob, BuildError>
+    ensures says { IfOk result (λ bytes. tree_at (shape_of of.now) bytes ≡ plain value.now) }
+    ensures error { IfErr result IsWantOfRoom }
+{
+    match encode(alloc, of, value) {
         Ok(bytes) => Ok(bytes),
         Err(EncodeError::NoMemory) => Err(BuildError::NoMemory),
         Err(_) => Err(BuildError::TooLarge),
@@ -106,11 +122,50 @@ fn binding_bytes(alloc: Global, name: &RefName) -> Result<Blob, BuildError>
 fn bound_to(alloc: Global, name: &RefName) -> Result<GvValue, AllocError>
     ensures { IfOk result (λ value. plain value ≡ binding_of name.now) }
 {
-    let refs = GvValue::Array(vec![in alloc; text_as_value(alloc, name.as_str())?]?);
-    let value = GvValue::Variant(Box::new(alloc, texts_type(alloc)?)?, Box::new(alloc, refs)?);
-    let key = text_as_value(alloc, REF_BINDING)?;
-    let entry = GvValue::Entry(Box::new(alloc, key)?, Box::new(alloc, value)?);
+    let entry = binding_entry(alloc, name)?;
     Ok(GvValue::Array(vec![in alloc; entry]?))
+}
+
+/// The entry of the metadata that says the ref.
+fn binding_entry(alloc: Global, name: &RefName) -> Result<GvValue, AllocError>
+    ensures { IfOk result (λ value. plain value ≡ binding_entry_of name.now) }
+{
+    let key = boxed_text(alloc, REF_BINDING)?;
+    let value = boxed_refs(alloc, name)?;
+    Ok(GvValue::Entry(key, value))
+}
+
+/// A text as a value, in a box.
+fn boxed_text(alloc: Global, text: &str) -> Result<Box<GvValue>, AllocError>
+    ensures { IfOk result (λ value. plain value.value ≡ text_of text.now) }
+{
+    let value = text_as_value(alloc, text)?;
+    Ok(Box::new(alloc, value)?)
+}
+
+/// The list of the ref, as a variant in a box.
+fn boxed_refs(alloc: Global, name: &RefName) -> Result<Box<GvValue>, AllocError>
+    ensures { IfOk result (λ value. plain value.value ≡ refs_of name.now) }
+{
+    let value = refs_as_value(alloc, name)?;
+    Ok(Box::new(alloc, value)?)
+}
+
+/// The list of the ref, as a variant.
+fn refs_as_value(alloc: Global, name: &RefName) -> Result<GvValue, AllocError>
+    ensures { IfOk result (λ value. plain value ≡ refs_of name.now) }
+{
+    let of = Box::new(alloc, texts_type(alloc)?)?;
+    let refs = Box::new(alloc, list_of(alloc, name.as_str())?)?;
+    Ok(GvValue::Variant(of, refs))
+}
+
+/// The list of one text.
+fn list_of(alloc: Global, text: &str) -> Result<GvValue, AllocError>
+    ensures { IfOk result (λ value. plain value ≡ one_text text.now) }
+{
+    let value = text_as_value(alloc, text)?;
+    Ok(GvValue::Array(vec![in alloc; value]?))
 }
 
 /// A text as a value.
