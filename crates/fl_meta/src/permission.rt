@@ -158,8 +158,7 @@ impl Mention {
     /// A mention of its own.
     pub fn new(alloc: Global, list: PermList, name: &str, value: Value) -> Result<Self, AllocError>
         ensures { IfOk result (λ m. m ≡ record {
-          permission = record
-              { list = list; name = name.now };
+          permission = record { list = list; name = name.now };
           value = value;
         }) }
     {

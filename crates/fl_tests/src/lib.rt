@@ -12,4 +12,6 @@ mod meta;
 #[cfg(test)]
 mod overrides;
 #[cfg(test)]
+mod reasons;
+#[cfg(test)]
 mod words;

@@ -1,14 +1,15 @@
 -- Which words can go on to be a command, and where words go wrong.
-use Rattle.std.proofs.Common.{◌≡◌, ℕ, ◌+◌, ◌<◌, ◌≤◌, suc, Bool, true, false, cond, List, [], ◌∷◌, ◌++◌, length, take, drop, map, Option, Some, None, refl, ap, sym, ◌∙◌, rules, arith, add-one, inl, inr, subst}
-use Rattle.std.proofs.lemmas.Bool.{cases_lt, cases_Bool}
+use Rattle.std.proofs.Common.{◌≡◌, ℕ, ◌+◌, ◌<◌, ◌≤◌, suc, zero, Bool, true, false, cond, List, [], ◌∷◌, ◌++◌, length, take, drop, map, Option, Some, refl, rules, arith, add-one, inl, inr}
+use Rattle.std.proofs.lemmas.Bool.{cases_lt, leb-true, le-leb}
 use Rattle.std.specs.Prelude.{IsSome, max}
 use Rattle.std.specs.List.{find}
 use Rattle.std.specs.Option.{option_map}
 use Rattle.fl_words.specs.declared.command.Command.{Command}
 use Rattle.fl_words.specs.declared.forms.Form.{Form}
-use Rattle.fl_words.specs.Forms.{forms, slots_of, made, reach, reads, command_of, most, bad_index}
+use Rattle.fl_words.specs.Forms.{Place, forms, slots_of, made, reach, reads, most, bad_index}
+use Rattle.fl_words.specs.Reasons.{begins}
 use Rattle.fl_words.specs.Words.{Begins}
-use Rattle.fl_words.proofs.Reaching.{reads_fit, fit_reads, sample, completed, far, reach-within}
+use Rattle.fl_words.proofs.Reaching.{AllFit, reads_fit, fit_reads, sample, samples_fit, completed, far, reach-within}
 
 -- the command of words, by these forms alone
 abbrev command_by : List Form → List (List ℕ) → Option Command
@@ -54,3 +55,18 @@ most-within (f ∷ fs) words = omega (arith, reach-within (slots_of f) words, mo
 
 pub bad_index-within : (words : List (List ℕ)) → bad_index words ≤ length words
 bad_index-within words = most-within forms words
+
+-- ---- the forms that words begin
+
+begun : (places : List Place) (words : List (List ℕ)) (n : ℕ) → n ≤ reach places words → AllFit places (take n words ++ map sample (drop n places))
+begun places words zero h = samples_fit places
+begun places words (suc i) h = completed places words i (omega (arith, h))
+
+-- so many words begin the form where others may follow them in it, and only there
+pub on_to_form : (words : List (List ℕ)) (n : ℕ) (form : Form) → begins words n form ≡ true → (more : List (List ℕ)) × (reads (take n words ++ more) form ≡ true)
+on_to_form words n form h =
+    let more = map sample (drop n (slots_of form)) in
+    (more, fit_reads (take n words ++ more) form (begun (slots_of form) words n (leb-true n (reach (slots_of form) words) h)))
+
+pub from_form : (words more : List (List ℕ)) (n : ℕ) (form : Form) → n ≤ length words → reads (take n words ++ more) form ≡ true → begins words n form ≡ true
+from_form words more n form within is = le-leb n (reach (slots_of form) words) (far (slots_of form) words more n within (reads_fit (take n words ++ more) form is))

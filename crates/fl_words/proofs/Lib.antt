@@ -1,6 +1,7 @@
 pub mod Batches
 pub mod Beginnings
 pub mod Escapes
+pub mod FirstWords
 pub mod LineWords
 pub mod Reaching
 pub mod ReadBack

@@ -1,7 +1,12 @@
 -- Worked rows, closed by computing.
-use Rattle.std.proofs.Common.{◌≡◌, [], ◌∷◌, Some, Ok, Err, refl}
+use Rattle.std.proofs.Common.{◌≡◌, ℕ, true, List, [], ◌∷◌, Some, None, Ok, Err, refl}
 use Rattle.std.specs.Prelude.{codes, replicate}
 use Rattle.std.specs.Fmt.{digits}
+use Rattle.std.specs.List.{list_all}
+use Rattle.std.specs.Str.Lossy.{utf8_lossy}
+use Rattle.std.proofs.lemmas.Str.{utf8_lossy-IsUtf8}
+use Rattle.fp_name.specs.Bytes.{is_dotted}
+use Rattle.fp_name.proofs.Bytes.{Utf8-from_dotted}
 use Rattle.fp_name.specs.Grammar.{is_id, is_branch}
 use Rattle.fp_name.specs.Hex.{hex}
 use Rattle.fp_name.specs.Pins.{is_pin}
@@ -18,6 +23,7 @@ use Rattle.fl_words.specs.Types.{is_type_text}
 use Rattle.fl_words.specs.Forms.{command_of, bad_index}
 use Rattle.fl_words.specs.Batch.{batch_change, batch_of}
 use Rattle.fl_words.specs.Lines.{refusal_text, op_text}
+use Rattle.fl_words.specs.Reasons.{reason_text, batch_reason_text}
 
 pub pin_all : command_of (codes "pin" ∷ codes "app/*/*/*" ∷ []) ≡ Some (Changing (Pin (codes "app/*/*/*")))
 unfolding is_pin
@@ -186,3 +192,26 @@ two_spaces = refl
 pub space_behind : batch_of (codes "pin app/*/*/* \n") ≡ Err 1
 unfolding batch_of batch_change is_pin
 space_behind = refl
+
+-- ---- reasons
+
+pub bad_pattern : reason_text (codes "pin" ∷ codes "app/*/*" ∷ []) ≡ codes "fpk: 'app/*/*' is no pattern: KIND/ID/ARCH/BRANCH\nusage: fpk pin PATTERN\n"
+unfolding is_pin
+bad_pattern = refl
+
+pub none_listed : reason_text (codes "list" ∷ []) ≡ codes "fpk: a word is missing\nusage: fpk list --remotes\nusage: fpk list --pins\n"
+none_listed = refl
+
+pub one_more_word : reason_text (codes "batch" ∷ codes "x" ∷ []) ≡ codes "fpk: 'x' is one word too many\nusage: fpk batch\n"
+one_more_word = refl
+
+as_they_are : (word : List ℕ) → list_all is_dotted word ≡ true → utf8_lossy word ≡ word
+as_they_are word plain = utf8_lossy-IsUtf8 word (Utf8-from_dotted word plain)
+
+pub bad_line : batch_reason_text (codes "pin app/*/*/*\nunpin app\n") ≡ Some (codes "fpk: line 2: 'app' is no pattern: KIND/ID/ARCH/BRANCH\nusage: unpin PATTERN\n")
+unfolding batch_of batch_change is_pin digits
+bad_line = rw (as_they_are (codes "unpin") refl, as_they_are (codes "app") refl) refl
+
+pub no_bad_line : batch_reason_text (codes "pin app/*/*/*\n") ≡ None
+unfolding batch_of batch_change is_pin
+no_bad_line = refl

@@ -1,6 +1,6 @@
 -- The forms of words. A row says what stands at each place of a command line; P is the pattern of a pin, N the name of a remote
 -- and U its URL, and T the type string of a type of GVariant.
-use Rattle.std.specs.Prelude.{ℕ, ◌+◌, ◌==◌, ◌&&◌, List, [], ◌∷◌, length, max, slice_index_or, Bool, false, Option, codes, if◌then◌else◌}
+use Rattle.std.specs.Prelude.{ℕ, ◌+◌, ◌==◌, ◌&&◌, List, [], ◌∷◌, length, max, slice_index_or, Bool, Option, codes, if◌then◌else◌}
 use Rattle.std.specs.List.{find}
 use Rattle.std.specs.Option.{option_map}
 use Rattle.std.specs.Str.{bytes_eq}

@@ -5,3 +5,4 @@ pub mod Words
 pub mod Reading
 pub mod Lines
 pub mod Batch
+pub mod Reasons

@@ -39,8 +39,8 @@ impl From<AllocError> for BatchError {
     }
 }
 
-/// The most words that a command has.
-const MOST_WORDS: usize = 3;
+/// The most words that a change has.
+pub(crate) const MOST_WORDS: usize = 3;
 
 /// The changes that a batch asks for, one by each line. `BadRecord` comes exactly where a line asks for none.
 pub fn read_batch(alloc: Global, bytes: &[u8]) -> Result<Items<Change>, BatchError>
@@ -139,7 +139,7 @@ fn space_place(bytes: &[u8]) -> Option<usize>
 }
 
 /// The first word, and what stands after the space that ends it.
-fn first_word(text: &[u8]) -> (&[u8], Option<&[u8]>)
+pub(crate) fn first_word(text: &[u8]) -> (&[u8], Option<&[u8]>)
     ensures words { words_in text.now ≡ result.0.now ∷ words_left result.1 }
     ensures shorter { IfSome result.1 (λ rest. length rest.now < length text.now) }
 {

@@ -2,6 +2,7 @@
 ghost use Rattle.std.specs.Prelude.{◌≡◌, IfOk, IfErr, map, string_bytes};
 ghost use Rattle.fl_words.specs.Forms.{place_of, forms, slots_of, made};
 ghost use Rattle.fl_words.specs.Reading.{IsMisfit};
+ghost use Rattle.fl_words.specs.Reasons.{change_forms};
 
 use crate::command::{Change, Command, Listing, Shown, WordsError};
 use crate::values::{name_at, pattern_at, remote_in, type_at};
@@ -57,6 +58,19 @@ impl Form {
             Form::ShowDirTree,
             Form::ShowDirMeta,
             Form::ShowValue,
+        ]
+    }
+
+    /// The forms of what changes the installation, which the lines of a batch are of.
+    pub fn changes() -> &'static [Form]
+        ensures { result.now ≡ change_forms }
+    {
+        &[
+            Form::Pin,
+            Form::Unpin,
+            Form::RemoteAdd,
+            Form::RemoteModify,
+            Form::RemoteDelete,
         ]
     }
 

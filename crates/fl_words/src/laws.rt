@@ -1,9 +1,11 @@
 //! What holds of all words, by their definitions. Nothing is done here: each contract is a law.
-ghost use Rattle.std.specs.Prelude.{◌≡◌, ◌<◌, ◌≤◌, ◌+◌, ℕ, List, Some, Ok, true, not, length, take};
+ghost use Rattle.std.specs.Prelude.{◌≡◌, ◌<◌, ◌≤◌, ◌+◌, ◌++◌, ℕ, List, Some, Ok, true, not, length, take};
 ghost use Rattle.std.specs.List.{list_all};
 ghost use Rattle.fl_words.specs.Batch.{batch_of};
-ghost use Rattle.fl_words.specs.Forms.{command_of, bad_index};
+ghost use Rattle.fl_words.specs.declared.forms.Form.{Form};
+ghost use Rattle.fl_words.specs.Forms.{command_of, bad_index, reads};
 ghost use Rattle.fl_words.specs.Lines.{is_control, escaped};
+ghost use Rattle.fl_words.specs.Reasons.{begins};
 ghost use Rattle.fl_words.specs.Words.{Begins, words_of, is_change, is_command};
 
 use crate::command::{Change, Command};
@@ -23,6 +25,14 @@ pub fn bad_index_is_least()
     ensures there { (words : List (List ℕ)) → bad_index words < length words → ¬ Begins
         (take (bad_index words + 1) words) }
     ensures within { (words : List (List ℕ)) → bad_index words ≤ length words }
+{}
+
+/// A form's usage is told exactly where the words before the wrong one can go on to be words of the form.
+pub fn usage_is_of_forms_begun()
+    ensures told { (words : List (List ℕ)) (n : ℕ) (form : Form) → begins words n form ≡ true →
+        (more : List (List ℕ)) × (reads (take n words ++ more) form ≡ true) }
+    ensures only { (words more : List (List ℕ)) (n : ℕ) (form : Form) → n ≤ length words → reads
+        (take n words ++ more) form ≡ true → begins words n form ≡ true }
 {}
 
 /// What is printed of a text has no control byte, and tells the text: no two are printed alike.

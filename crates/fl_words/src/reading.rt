@@ -1,6 +1,6 @@
 //! Reading the words of a command line.
 ghost use Rattle.std.specs.Prelude.{◌≡◌, Some, IfOk, IfErr, map, string_bytes};
-ghost use Rattle.fl_words.specs.Forms.{place_of, command_of, reach as reach_of};
+ghost use Rattle.fl_words.specs.Forms.{place_of, command_of, most, reach as reach_of};
 ghost use Rattle.fl_words.specs.Reading.{IsNoCommand};
 
 use crate::command::{Command, WordsError};
@@ -27,6 +27,20 @@ pub fn read_words(alloc: Global, words: &[String]) -> Result<Command, WordsError
     Err(WordsError::BadWords {
         index: furthest as u64,
     })
+}
+
+/// The most words that begin one of the forms.
+pub(crate) fn furthest(alloc: Global, forms: &[Form], words: &[String]) -> Result<usize, AllocError>
+    ensures { IfOk result (λ count. count ≡ most (map string_bytes words.now) forms.now) }
+{
+    let mut furthest = 0;
+    for form in forms {
+        let reached = reach(alloc, form.slots(), words)?;
+        if reached > furthest {
+            furthest = reached;
+        }
+    }
+    Ok(furthest)
 }
 
 /// How many words, from the first on, may stand at their places.

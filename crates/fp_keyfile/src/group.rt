@@ -53,8 +53,7 @@ impl Group {
     ) -> Result<Self, AllocError>
         ensures { IfOk result (λ g. g ≡ record {
           name = name.now;
-          pairs = record
-              { key = key.now; value = value.now } ∷ [];
+          pairs = record { key = key.now; value = value.now } ∷ [];
         }) }
     {
         let mut pairs = Items::new(alloc);

@@ -4,6 +4,7 @@
 ghost use Rattle.std.specs.Prelude.{◌≡◌};
 
 use fl_top::run;
+use fl_words::{batch_reason, reason};
 use fp_realhost::{DirRemotes, HostDir, StdinSource};
 use std::alloc::Global;
 use std::env::{self, VarError};
@@ -99,10 +100,19 @@ fn run_on(
         return out_of_memory(rt);
     };
     let mut remotes = DirRemotes::new(rt, alloc);
-    let mut input = StdinSource::new(rt);
+    let mut input = input_of(rt, alloc, words);
     let status = run(rt, alloc, words, &mut input, &mut host, &mut remotes);
     match status {
-        2 => complain(rt, HELP, 2),
+        1 => {
+            if let Some(bytes) = input.kept() {
+                explain_batch(rt, alloc, bytes);
+            }
+            1
+        }
+        2 => {
+            explain(rt, alloc, words);
+            2
+        }
         3 => {
             if let Some(error) = host.last_error() {
                 let _said = eprintln!(rt; "fpk: {error}");
@@ -118,6 +128,36 @@ fn run_on(
         6 => out_of_memory(rt),
         _ => status,
     }
+}
+
+/// The standard input, which is kept where a line of it may have to be explained.
+fn input_of<'a, R: Input>(rt: &'a R, alloc: Global, words: &[String]) -> StdinSource<'a, R> {
+    match words {
+        [word] if word.as_str() == "batch" => StdinSource::keeping(rt, alloc),
+        _ => StdinSource::new(rt),
+    }
+}
+
+/// Says on standard error why words are no command, and how the commands are written that they begin.
+fn explain(rt: &impl Eprint, alloc: Global, words: &[String]) {
+    match reason(alloc, words) {
+        Ok(text) => say(rt, text.as_str()),
+        Err(_) => say(rt, OUT_OF_MEMORY),
+    }
+}
+
+/// Says on standard error why a line of a batch asks for no change, where there is such a line.
+fn explain_batch(rt: &impl Eprint, alloc: Global, bytes: &[u8]) {
+    match batch_reason(alloc, bytes) {
+        Ok(Some(text)) => say(rt, text.as_str()),
+        Ok(None) => {}
+        Err(_) => say(rt, OUT_OF_MEMORY),
+    }
+}
+
+/// Says lines on standard error.
+fn say(rt: &impl Eprint, lines: &str) {
+    let _said = eprint!(rt; "{lines}");
 }
 
 /// Prints what was asked for.
@@ -136,6 +176,10 @@ fn complain(rt: &impl Eprint, text: &str, status: u8) -> u8
     status
 }
 
+/// What is said where memory runs out.
+const OUT_OF_MEMORY: &str = "fpk: out of memory\n";
+
 fn out_of_memory(rt: &impl Eprint) -> u8 {
-    complain(rt, "fpk: out of memory", 6)
+    say(rt, OUT_OF_MEMORY);
+    6
 }

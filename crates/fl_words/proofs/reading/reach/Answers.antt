@@ -1,5 +1,5 @@
-use Rattle.std.proofs.Common.{◌≡◌, ◌+◌, drop, map, string_bytes, sym, ◌∙◌, arith}
-use Rattle.fl_words.specs.Forms.{place_of, reach}
+use Rattle.std.proofs.Common.{drop, map, string_bytes, arith}
+use Rattle.fl_words.specs.Forms.{place_of}
 use Rattle.fl_words.proofs.Reaching.{reach_end}
 use Rattle.fl_words.proofs.reading.reach.Goals as goal
 

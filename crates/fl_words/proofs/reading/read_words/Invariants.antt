@@ -1,4 +1,4 @@
-use Rattle.std.proofs.Common.{◌≡◌, ◌≤◌, length, drop, map, string_bytes}
+use Rattle.std.proofs.Common.{◌≡◌, drop, map, string_bytes}
 use Rattle.std.specs.Prelude.{max}
 use Rattle.std.specs.List.{find}
 use Rattle.fl_words.specs.Forms.{forms, reads, most}

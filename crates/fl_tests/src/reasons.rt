@@ -1,0 +1,202 @@
+//! Why words are no command, and why a line of a batch asks for no change.
+
+use fl_words::{batch_reason, reason};
+use fp_base::Text;
+use std::alloc::{AllocError, Global};
+use std::test::Fail;
+
+/// What is said of words.
+fn explained(alloc: Global, words: &[&str]) -> Result<Text, AllocError> {
+    let mut owned = Vec::new(alloc);
+    for word in words {
+        owned.push(String::from_str(alloc, word)?)?;
+    }
+    reason(alloc, &owned)
+}
+
+/// The usage of all commands.
+const USAGE: &str = "\
+usage: fpk pin PATTERN
+usage: fpk unpin PATTERN
+usage: fpk remote-add NAME URL
+usage: fpk remote-modify NAME URL
+usage: fpk remote-delete NAME
+usage: fpk list --remotes
+usage: fpk list --pins
+usage: fpk batch
+usage: fpk show commit
+usage: fpk show dirtree
+usage: fpk show dirmeta
+usage: fpk show value TYPE
+";
+
+/// Words that are no command, and what is said of them.
+const REASONS: [(&[&str], &str); 10] = [
+    (
+        &["pin", "app/*/*"],
+        "fpk: 'app/*/*' is no pattern: KIND/ID/ARCH/BRANCH\nusage: fpk pin PATTERN\n",
+    ),
+    (
+        &["unpin"],
+        "fpk: a word is missing\nusage: fpk unpin PATTERN\n",
+    ),
+    (
+        &["remote-add", "a/b", "file:///lab"],
+        "fpk: 'a/b' is no name of a remote\nusage: fpk remote-add NAME URL\n",
+    ),
+    (
+        &["remote-modify", "lab", "/lab"],
+        "fpk: '/lab' is no URL of a remote: file:///PATH\nusage: fpk remote-modify NAME URL\n",
+    ),
+    (
+        &["list", "pins"],
+        "fpk: 'pins' isn't known here\nusage: fpk list --remotes\nusage: fpk list --pins\n",
+    ),
+    (
+        &["list", "--pins", "x", "y"],
+        "fpk: 'x' is one word too many\nusage: fpk list --pins\n",
+    ),
+    (
+        &["show", "value", "si"],
+        "fpk: 'si' is no type of GVariant\nusage: fpk show value TYPE\n",
+    ),
+    (
+        &["batch", "a\nb\\c"],
+        "fpk: 'a\\0ab\\5cc' is one word too many\nusage: fpk batch\n",
+    ),
+    (
+        &["batch", "\u{e9}"],
+        "fpk: '\u{e9}' is one word too many\nusage: fpk batch\n",
+    ),
+    (
+        &["batch", ""],
+        "fpk: '' is one word too many\nusage: fpk batch\n",
+    ),
+];
+
+/// The first of the words of which something else is said.
+fn first_other_words<'a>(
+    alloc: Global,
+    rows: &'a [(&'a [&'a str], &'a str)],
+) -> Result<Option<&'a [&'a str]>, AllocError> {
+    for (words, want) in rows {
+        if explained(alloc, words)?.as_str() != *want {
+            return Ok(Some(*words));
+        }
+    }
+    Ok(None)
+}
+
+/// Whether the usage of all commands is told where the first word is none, or is missing.
+fn all_usage_is_told(alloc: Global) -> Result<bool, AllocError> {
+    let unknown = format!(in alloc; "fpk: 'pins' isn't known here\n{USAGE}")?;
+    let missing = format!(in alloc; "fpk: a word is missing\n{USAGE}")?;
+    Ok(
+        explained(alloc, &["pins", "app/*/*/*"])?.as_str() == unknown.as_str()
+            && explained(alloc, &[])?.as_str() == missing.as_str(),
+    )
+}
+
+/// Whether a word of 1 MiB is told whole, and of 1,100 words the first that is wrong.
+fn long_words_are_told(alloc: Global) -> Result<bool, AllocError> {
+    let long = "a".repeat(alloc, 1 << 20)?;
+    let want = format!(in alloc; "fpk: '{long}' is one word too many\nusage: fpk show commit\n")?;
+    let mut words = Vec::new(alloc);
+    words.push("show")?;
+    words.push("commit")?;
+    words.push(long.as_str())?;
+    for _ in 0..1_100 {
+        words.push("x")?;
+    }
+    Ok(explained(alloc, &words)?.as_str() == want.as_str())
+}
+
+#[test]
+fn reasons(rt: HostRuntime) -> Result<(), Fail> {
+    assert_eq!(rt; first_other_words(rt.alloc(), &REASONS)?, None);
+    assert!(rt; all_usage_is_told(rt.alloc())? && long_words_are_told(rt.alloc())?);
+    Ok(())
+}
+
+/// Batches, and what is said of the first line that asks for no change.
+const LINES: [(&[u8], Option<&str>); 8] = [
+    (b"", None),
+    (b"pin app/*/*/*\nunpin app/*/*/*", None),
+    (
+        b"pin app/*/*/*\npin app/*/*\npin x",
+        Some("fpk: line 2: 'app/*/*' is no pattern: KIND/ID/ARCH/BRANCH\nusage: pin PATTERN\n"),
+    ),
+    (
+        b"pin app/*/*/* \n",
+        Some("fpk: line 1: '' is one word too many\nusage: pin PATTERN\n"),
+    ),
+    (
+        b"remote-add lab file:///lab a b c d e f",
+        Some("fpk: line 1: 'a' is one word too many\nusage: remote-add NAME URL\n"),
+    ),
+    (
+        b"remote-delete",
+        Some("fpk: line 1: a word is missing\nusage: remote-delete NAME\n"),
+    ),
+    (
+        b"unpin app/*/*/\xff\x01\n",
+        Some(
+            "fpk: line 1: 'app/*/*/\u{fffd}\\01' is no pattern: KIND/ID/ARCH/BRANCH\n\
+            usage: unpin PATTERN\n",
+        ),
+    ),
+    (
+        b"pin app/*/*/*\n\nlist --pins\n",
+        Some(
+            "fpk: line 2: '' isn't known here\n\
+            usage: pin PATTERN\n\
+            usage: unpin PATTERN\n\
+            usage: remote-add NAME URL\n\
+            usage: remote-modify NAME URL\n\
+            usage: remote-delete NAME\n",
+        ),
+    ),
+];
+
+/// Whether this is said of a batch.
+fn is_said(alloc: Global, bytes: &[u8], want: Option<&str>) -> Result<bool, AllocError> {
+    match (batch_reason(alloc, bytes)?, want) {
+        (None, None) => Ok(true),
+        (Some(text), Some(want)) => Ok(text.as_str() == want),
+        _ => Ok(false),
+    }
+}
+
+/// The first of the batches of which something else is said.
+fn first_other_line<'a>(
+    alloc: Global,
+    rows: &'a [(&'a [u8], Option<&'a str>)],
+) -> Result<Option<&'a [u8]>, AllocError> {
+    for (bytes, want) in rows {
+        if !is_said(alloc, bytes, *want)? {
+            return Ok(Some(*bytes));
+        }
+    }
+    Ok(None)
+}
+
+/// Whether a line of 100,000 spaces is told by its first word, and line 1,101 by its number.
+fn long_batches_are_told(alloc: Global) -> Result<bool, AllocError> {
+    let spaces = " ".repeat(alloc, 100_000)?;
+    let line = format!(in alloc; "remote-delete lab{spaces}")?;
+    let want = "fpk: line 1: '' is one word too many\nusage: remote-delete NAME\n";
+    let many = "remote-delete lab\n".repeat(alloc, 1_100)?;
+    let lines = format!(in alloc; "{many}remote-delete a/b")?;
+    let wanted = "fpk: line 1101: 'a/b' is no name of a remote\nusage: remote-delete NAME\n";
+    Ok(
+        is_said(alloc, line.as_bytes(), Some(want))?
+            && is_said(alloc, lines.as_bytes(), Some(wanted))?,
+    )
+}
+
+#[test]
+fn lines(rt: HostRuntime) -> Result<(), Fail> {
+    assert_eq!(rt; first_other_line(rt.alloc(), &LINES)?, None);
+    assert!(rt; long_batches_are_told(rt.alloc())?);
+    Ok(())
+}
