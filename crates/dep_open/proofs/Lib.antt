@@ -1,4 +1,10 @@
-pub mod Said
+pub mod Least
+pub mod Gathering
+pub mod SetUp
+pub mod FindingRefs
+pub mod FindingOverrides
+pub mod Linked
+pub mod Joined
 pub mod Synced
 pub mod Tidied
 pub mod Unread

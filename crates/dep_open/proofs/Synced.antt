@@ -7,12 +7,11 @@ use Rattle.fp_host.specs.Outcome.{Disk, Leaves, IsSettled, spot_of, shows}
 use Rattle.fp_host.proofs.Follow.{follows_sync}
 use Rattle.fp_host.proofs.Kept.{tree_sync}
 use Rattle.fp_host.proofs.Settled.{at_tree, settled_disk}
-use Rattle.fp_small.specs.Config.{IsSettings}
 use Rattle.fp_small.specs.declared.state.State.{State}
-use Rattle.dep_states.specs.Names.{config, remotes_conf, pins_file}
-use Rattle.dep_states.specs.Shown.{Shows, settings_of}
+use Rattle.dep_states.specs.Shown.{Shows}
 use Rattle.dep_states.specs.Sound.{IsSound, Opens}
-use Rattle.dep_states.proofs.Law.{follows_sound, spares_nothing, same_shown, seen_same}
+use Rattle.dep_states.proofs.Good.{shown_good}
+use Rattle.dep_states.proofs.Law.{shows_same, frame_sound, spares_nothing}
 use Rattle.dep_open.specs.Open.{IsOpened, Reads, Opened}
 use Rattle.dep_open.specs.Ends.{open_end}
 use Rattle.dep_open.specs.declared.open_end.OpenEnd.{OpenEnd}
@@ -29,16 +28,16 @@ stands v tree disk left q = settled_disk (done syncs v) (tree_sync v tree) (sync
 
 opens_synced : (v : View) (s : State) → IsTree v → Shows (shows v) s → IsSound v → Opens s (done syncs v)
 opens_synced v s tree shown sound = record {
-  shown = λ disk left. same_shown (seen_same disk (shows v) (stands v tree disk left config) (stands v tree disk left remotes_conf) (stands v tree disk left pins_file)) shown;
-  sound = (follows_sound (spares_nothing v) (follows_sync v) sound).sound;
+  shown = λ disk left. shows_same (shows v) disk (λ p fixed. stands v tree disk left p) shown;
+  sound = (frame_sound (spares_nothing v) (follows_sync v) sound).sound;
 }
 
-opened : (v : View) (s : State) → IsTree v → Shows (shows v) s → IsSettings (settings_of s) → IsOpened s v (done syncs v)
-opened v s tree shown good = record { shown = shown; good = good; settled = synced v; opens = λ sound. opens_synced v s tree shown sound }
+opened : (v : View) (s : State) → IsTree v → Shows (shows v) s → IsOpened s v (done syncs v)
+opened v s tree shown = record { shown = shown; good = (shown_good (shows v) s shown).settings; settled = synced v; opens = λ sound. opens_synced v s tree shown sound }
 
 pub opened_ok : (s t : State) (u v w : View) → t ≡ s → IsTree v → v ≡ u → Reads u (Ok s) → Step syncs (Ok tt) v w → IsOpened t u w
 opened_ok s t u v w same tree is reads step =
-    subst (λ r. IsOpened r u w) (sym same) (subst (λ x. IsOpened s x w) is (subst (IsOpened s v) (sym step.how.1) (opened v s tree (subst (λ x. Shows (shows x) s) (sym is) reads.0) reads.1)))
+    subst (λ r. IsOpened r u w) (sym same) (subst (λ x. IsOpened s x w) is (subst (IsOpened s v) (sym step.how.1) (opened v s tree (subst (λ x. Shows (shows x) s) (sym is) reads))))
 
 -- a host's end tells nothing of the state
 pub ended : (r : Result State OpenEnd) (e : HostEnd) (u w : View) → IsErr r → IsErrAnd r (λ end. end ≡ open_end e) → Opened r u w

@@ -1,10 +1,10 @@
 -- An opened installation before it is changed.
-use Rattle.std.proofs.Common.{◌≡◌, ◌≢◌, inl, inr, ℕ, Option, Some, None, Result, Ok, refl, sym, ◌∙◌, ap, subst}
+use Rattle.std.proofs.Common.{◌≡◌, ◌≢◌, inl, inr, ℕ, [], ◌∷◌, ◌++◌, Option, Some, None, Result, Ok, refl, sym, ◌∙◌, ap, subst}
 use Rattle.fp_host.specs.Paths.{Elements, Slot, absent, dir, file, link, at, IsAbove}
 use Rattle.fp_host.specs.View.{View, Inode, IsTree}
 use Rattle.fp_host.specs.Calls.{syncs, Step, IsNoDir}
 use Rattle.fp_host.specs.Reads.{StatOf}
-use Rattle.fp_host.specs.Outcome.{Spot, gone, holding, spot_of, Nothing, IsSettled, shows}
+use Rattle.fp_host.specs.Outcome.{Spot, Leaves, gone, holding, spot_of, Nothing, IsSettled, shows}
 use Rattle.fp_host.specs.Frame.{Keeps, Frame, NoPath}
 use Rattle.fp_host.specs.Moments.{Moments, Goes, Makes}
 use Rattle.fp_host.specs.declared.host.HostError.{HostError}
@@ -22,9 +22,11 @@ use Rattle.fp_small.specs.declared.state.State.{State}
 use Rattle.fp_small.proofs.Keeping.{files_stay, files_on, files_kept}
 use Rattle.fp_small.proofs.Making.{stat_there}
 use Rattle.dep_states.specs.Names.{config, remotes_conf, pins_file}
-use Rattle.dep_states.specs.Zones.{Zone, anything, a_file, a_folder, Fits, Allowed, IsFileOrGone}
-use Rattle.dep_states.specs.Sound.{Sound, Opens, Fixed, is_config, is_old, IsOld, is_remotes, is_pins, Spares, HasConfig, OldGone}
-use Rattle.dep_states.proofs.Law.{follows_opens, follows_sound, follows_config, spares_nothing, old_go, settled_config, now_left}
+use Rattle.dep_states.specs.Zones.{IsFileOrGone}
+use Rattle.dep_states.specs.Sound.{Sound, Opens, IsOld, Spares, HasConfig, OldGone}
+use Rattle.dep_states.proofs.Law.{frame_law, frame_sound, spares_nothing}
+use Rattle.dep_states.proofs.Switching.{none_in_tmp, permits_gone}
+use Rattle.dep_states.proofs.Usual.{old_go, keeps_config, settled_config}
 use Rattle.dep_open.specs.Open.{NoName}
 use Rattle.dep_open.specs.Tidy.{TakenAway, left_work, old_file, Tidies, IsTidy, HasNoOld, OldAbsent, TakesOld, CanTakeOld}
 use Rattle.dep_open.proofs.Synced.{synced}
@@ -61,6 +63,10 @@ module _ {v : View} (tree : IsTree v) (q : Elements) where
   pub no_dir_by : IsFileOrGone (shows v q) → IsNoDir (v.names q)
   no_dir_by fits = no_dir_of (v.names q) (subst IsFileOrGone shown_at fits)
 
+-- what stands now is an outcome
+now_left : (v : View) → Leaves v (shows v)
+now_left v = record { names = v.names; files = v.files; may_be = λ p. inl refl; rows = λ id. inl refl; seen = λ p. refl }
+
 -- ---- an installation that opens
 
 module _ {s : State} {v : View} (tree : IsTree v) (opens : Opens s v) where
@@ -75,13 +81,10 @@ module _ {s : State} {v : View} (tree : IsTree v) (opens : Opens s v) where
 
 -- ---- what is below `repo/tmp` may go
 
-fits_gone : (z : Zone) → Fits z gone
-fits_gone anything = tt
-fits_gone a_file = tt
-fits_gone a_folder = tt
-
-gone_allowed : (p : Elements) (spot : Spot) → spot ≡ gone → Allowed p spot
-gone_allowed p spot is = subst (Allowed p) (sym is) (record { fits = fits_gone _; short = inl refl })
+above_is : (t q : Elements) → IsAbove t q → (rest : Elements) × (q ≡ rest ++ t)
+above_is t [] above = absurd above
+above_is t (x ∷ up) (inl same) = (x ∷ [], ap (λ (l : Elements). x ∷ l) (sym same))
+above_is t (x ∷ up) (inr above) = let more = above_is t up above in (x ∷ more.0, ap (λ (l : Elements). x ∷ l) more.1)
 
 no_work : (p : Elements) → p ≡ config → IsAbove tmp p → ⊥
 no_work p is above = not_below (subst (IsAbove tmp) is above)
@@ -90,24 +93,11 @@ no_work p is above = not_below (subst (IsAbove tmp) is above)
     not_below (inl root) = cc root
     not_below (inr none) = none
 
-no_old_work : (p : Elements) → IsOld p → IsAbove tmp p → ⊥
-no_old_work p (is_remotes is) above = at_remotes (subst (IsAbove tmp) is above)
-  where
-    at_remotes : IsAbove tmp remotes_conf → ⊥
-    at_remotes (inl root) = cc root
-    at_remotes (inr none) = none
-no_old_work p (is_pins is) above = at_pins (subst (IsAbove tmp) is above)
-  where
-    at_pins : IsAbove tmp pins_file → ⊥
-    at_pins (inl root) = cc root
-    at_pins (inr none) = none
-
-fixed_no_work : (v : View) (p : Elements) → Fixed v p → IsAbove tmp p → ⊥
-fixed_no_work v p (is_config is) above = no_work p is above
-fixed_no_work v p (is_old old disk left none) above = no_old_work p old above
-
 work_goes : (v : View) → Spares v (GoneBelow tmp)
-work_goes v = record { avoids = λ p spot fixed given. fixed_no_work v p fixed given.0; permits = λ p spot given. gone_allowed p spot given.1 }
+work_goes v = record {
+  avoids = λ disk left p spot fixed given. let below = above_is tmp p given.0 in none_in_tmp below.0 below.1 fixed;
+  permits = λ disk left p spot given. permits_gone p spot given.1;
+}
 
 -- ---- step by step
 
@@ -116,8 +106,8 @@ tidies_start = record { opens = λ o. o; sound = λ o. o; printed = refl; names 
 
 tidies_keeps : {G : Elements → Spot → Type 0} {W : Elements → Slot → Type 0} {s : State} {u v w : View} → Spares v G → ((q : Elements) (e : Slot) → W q e → TakenAway u q × (e ≡ absent)) → Tidies s u v → Keeps G W NoPath v w → Tidies s u w
 tidies_keeps spares taken first keeps = record {
-  opens = λ o. follows_opens spares keeps.follows (first.opens o);
-  sound = λ o. follows_sound spares keeps.follows (first.sound o);
+  opens = λ o. frame_law spares keeps.follows (first.opens o);
+  sound = λ o. frame_sound spares keeps.follows (first.sound o);
   printed = keeps.printed ∙ first.printed;
   names = λ q. elim (keeps.names q) [
     | inl same ↦ elim (first.names q) [ inl was ↦ inl (same ∙ was) | inr away ↦ inr (away.0, same ∙ away.1) ]
@@ -146,7 +136,7 @@ firm_sync {u = u} {w = w} tree next step = record {
 pub firm_empty : {s : State} {u v w : View} → IsTree w → Firm s u v → Keeps (GoneBelow tmp) (AbsentBelow tmp) NoPath v w → Firm s u w
 firm_empty {v = v} next first keeps = record {
   tidies = tidies_keeps (work_goes v) (λ q e put. (left_work put.0, put.1)) first.tidies keeps;
-  has = λ some. follows_config (work_goes v) keeps.follows (first.has (λ none. elim (keeps.names config) [ inl same ↦ some (same ∙ none) | inr put ↦ no_work config refl put.0 ]));
+  has = λ some. keeps_config (work_goes v) keeps.follows (first.has (λ none. elim (keeps.names config) [ inl same ↦ some (same ∙ none) | inr put ↦ no_work config refl put.0 ]));
   tree = next;
 }
 

@@ -1,4 +1,4 @@
 pub mod Open
 pub mod Ends
-pub mod Loads
+pub mod Parts
 pub mod Tidy

@@ -1,15 +1,20 @@
 -- An installation that is opened.
-use Rattle.std.specs.Prelude.{◌≡◌, Result, Ok, Err}
+use Rattle.std.specs.Prelude.{◌≡◌, List, Option, Some, None, Result, Ok, Err}
 use Rattle.fp_host.specs.Paths.{Elements, Slot}
 use Rattle.fp_host.specs.View.{View}
-use Rattle.fp_host.specs.Outcome.{Disk, shows, gone, IsSettled}
+use Rattle.fp_host.specs.Outcome.{Disk, shows, IsSettled}
 use Rattle.fp_small.specs.Config.{IsSettings}
 use Rattle.fp_small.specs.declared.state.State.{State}
-use Rattle.dep_states.specs.Names.{remotes_conf, pins_file}
-use Rattle.dep_states.specs.Shown.{Shows, settings_of, seen, state_at}
+use Rattle.fp_small.specs.declared.state.RefRow.{RefRow}
+use Rattle.fp_small.specs.declared.state.OverrideRow.{OverrideRow}
+use Rattle.dep_states.specs.declared.setup.Setup.{Setup}
+use Rattle.dep_states.specs.Shown.{Shows, settings_of}
+use Rattle.dep_states.specs.Damaged.{IsFirstDamaged}
 use Rattle.dep_states.specs.Sound.{IsSound, Opens}
+use Rattle.dep_open.specs.declared.part.Part.{Part}
 use Rattle.dep_open.specs.declared.open_end.OpenEnd.{OpenEnd}
 use Rattle.dep_open.specs.declared.open_end.OpenEnd.TheVariants.{Damaged, Fault, NoMemory}
+use Rattle.dep_open.specs.Parts.{lesser}
 
 -- it shows no state
 abbrev pub NotShown : Disk → Type 0
@@ -21,7 +26,7 @@ NoName q e = ⊥
 
 -- this is the first path that doesn't read
 abbrev pub IsDamagedAt : View → Elements → Type 0
-IsDamagedAt v p = seen (shows v) ≡ Err p
+IsDamagedAt v p = IsFirstDamaged (shows v) p
 
 -- where the one view shows no state, nothing changes
 abbrev pub StaysUnread : View → View → Type 0
@@ -29,17 +34,27 @@ StaysUnread u w = NotShown (shows u) → w ≡ u
 
 -- what is read of the present view
 abbrev pub Reads : View → Result State OpenEnd → Type 0
-Reads v (Ok s) = Shows (shows v) s × IsSettings (settings_of s)
+Reads v (Ok s) = Shows (shows v) s
 Reads v (Err (Damaged p)) = IsDamagedAt v p
 Reads v (Err Fault) = Unit {0}
 Reads v (Err NoMemory) = Unit {0}
 
--- what is read of it where there is no `config`
-abbrev pub ReadsOld : View → Result State OpenEnd → Type 0
-ReadsOld v (Ok s) = (state_at gone (shows v remotes_conf) (shows v pins_file) ≡ Ok s) × IsSettings (settings_of s)
-ReadsOld v (Err (Damaged p)) = state_at gone (shows v remotes_conf) (shows v pins_file) ≡ Err p
-ReadsOld v (Err Fault) = Unit {0}
-ReadsOld v (Err NoMemory) = Unit {0}
+-- ---- the state of its parts
+
+abbrev pub joined : Setup → List RefRow → List OverrideRow → State
+joined setup refs overrides = record { layout = setup.layout; refs = refs; remotes = setup.settings.remotes; pins = setup.settings.pins; overrides = overrides }
+
+-- the first of the parts' first paths that don't read
+abbrev pub first_damaged : Option Elements → Option Elements → Option Elements → Option Elements
+first_damaged a b c = lesser (lesser a b) c
+
+abbrev pub IsJoined : Part Setup → Part (List RefRow) → Part (List OverrideRow) → Result State OpenEnd → Type 0
+IsJoined a b c (Ok s) = (first_damaged a.damaged b.damaged c.damaged ≡ None) × (s ≡ joined a.found b.found c.found)
+IsJoined a b c (Err (Damaged p)) = first_damaged a.damaged b.damaged c.damaged ≡ Some p
+IsJoined a b c (Err Fault) = ⊥
+IsJoined a b c (Err NoMemory) = ⊥
+
+-- ---- opened
 
 -- All that stands is settled; where each stop before would have left a sound installation, each stop leaves this state.
 pub record IsOpened (s : State) (u w : View) : Type 0 where

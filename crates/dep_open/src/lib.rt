@@ -3,8 +3,12 @@
 
 mod open_end;
 mod opening;
+mod overrides;
+mod part;
+mod paths;
 mod reading;
-mod saying;
+mod refs;
+mod settings;
 mod tidying;
 
 pub use open_end::OpenEnd;

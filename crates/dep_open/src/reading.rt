@@ -2,24 +2,22 @@
 ghost use Rattle.std.specs.Prelude.{◌≡◌, IfOk, IsErrOf};
 ghost use Rattle.fp_host.specs.Causes.{IsCounted};
 ghost use Rattle.fp_host.specs.Frame.{AtEnd, Unchanged};
-ghost use Rattle.dep_states.specs.Names.{config, remotes_conf, pins_file};
 ghost use Rattle.dep_states.specs.After.{IsGood};
-ghost use Rattle.dep_open.specs.Open.{Reads, ReadsOld};
+ghost use Rattle.dep_open.specs.Open.{Reads, IsJoined};
 
 use crate::open_end::OpenEnd;
-use crate::saying::{is_absent, read_new, read_old};
-use fp_host::{Host, Path};
-use fp_small::{State, load};
-use std::alloc::{AllocError, Global};
-
-/// `config` has at most 2 MiB.
-const CONFIG_MOST: u64 = 2 * 1024 * 1024;
-
-/// Each file of layout 1 has at most 1 MiB.
-const OLD_MOST: u64 = 1024 * 1024;
+use crate::overrides::read_overrides;
+use crate::part::{Part, lesser};
+use crate::refs::read_refs;
+use crate::settings::read_settings;
+use dep_states::Setup;
+use fp_base::Items;
+use fp_host::Host;
+use fp_small::{OverrideRow, RefRow, State};
+use std::alloc::Global;
 
 /// Reads the state that the present view shows, and changes nothing. `Damaged` comes exactly where it shows none, with the
-/// first path that doesn't read.
+/// first path by its bytes that doesn't read.
 pub fn read_state<H: Host>(alloc: Global, host: &mut H) -> Result<State, OpenEnd>
     ensures unchanged { Unchanged (H.moments host.old) (H.moments host.new) }
     ensures good { IfOk result IsGood }
@@ -27,46 +25,28 @@ pub fn read_state<H: Host>(alloc: Global, host: &mut H) -> Result<State, OpenEnd
     ensures fault_has_cause { IsCounted (IsErrOf result OpenEnd.Fault)
         (H.moments host.old) (H.faults host.old) (H.faults host.new) }
 {
-    let path = config_path(alloc)?;
-    let loaded = load(alloc, host, &path, CONFIG_MOST)?;
-    if is_absent(&loaded) {
-        return load_old(alloc, host);
+    let settings = read_settings(alloc, host)?;
+    let refs = read_refs(alloc, host)?;
+    let overrides = read_overrides(alloc, host)?;
+    joined(settings, refs, overrides)
+}
+
+/// The state of these parts, or the first path of them that doesn't read.
+fn joined(
+    settings: Part<Setup>,
+    refs: Part<Items<RefRow>>,
+    overrides: Part<Items<OverrideRow>>,
+) -> Result<State, OpenEnd>
+    ensures { IsJoined settings refs overrides result }
+{
+    match lesser(lesser(settings.damaged, refs.damaged), overrides.damaged) {
+        Some(path) => Err(OpenEnd::Damaged(path)),
+        None => Ok(State {
+            layout: settings.found.layout,
+            refs: refs.found,
+            remotes: settings.found.settings.remotes,
+            pins: settings.found.settings.pins,
+            overrides: overrides.found,
+        }),
     }
-    read_new(alloc, loaded, path)
-}
-
-/// Reads the state where there is no `config`, and changes nothing.
-fn load_old<H: Host>(alloc: Global, host: &mut H) -> Result<State, OpenEnd>
-    ensures unchanged { Unchanged (H.moments host.old) (H.moments host.new) }
-    ensures good { IfOk result IsGood }
-    ensures tells { AtEnd (λ u w. ReadsOld u result) (H.moments host.old) (H.moments host.new) }
-    ensures fault_has_cause { IsCounted (IsErrOf result OpenEnd.Fault)
-        (H.moments host.old) (H.faults host.old) (H.faults host.new) }
-{
-    let pins_path = pins_path(alloc)?;
-    let remotes_path = remotes_path(alloc)?;
-    let pins = load(alloc, host, &pins_path, OLD_MOST)?;
-    let remotes = load(alloc, host, &remotes_path, OLD_MOST)?;
-    read_old(alloc, pins, pins_path, remotes, remotes_path)
-}
-
-/// The path of `config`.
-pub(crate) fn config_path(alloc: Global) -> Result<Path, AllocError>
-    ensures { IfOk result (λ p. p ≡ config) }
-{
-    Path::root(alloc).child("config")
-}
-
-/// The path of the remotes in layout 1.
-pub(crate) fn remotes_path(alloc: Global) -> Result<Path, AllocError>
-    ensures { IfOk result (λ p. p ≡ remotes_conf) }
-{
-    Path::root(alloc).child("remotes.conf")
-}
-
-/// The path of the pins in layout 1.
-pub(crate) fn pins_path(alloc: Global) -> Result<Path, AllocError>
-    ensures { IfOk result (λ p. p ≡ pins_file) }
-{
-    Path::root(alloc).child("pins")
 }

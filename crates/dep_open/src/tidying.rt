@@ -8,7 +8,7 @@ ghost use Rattle.fp_small.specs.Clear.{GoneBelow, AbsentBelow, IsEmptied, CanEmp
 ghost use Rattle.dep_states.specs.Sound.{Opens};
 ghost use Rattle.dep_open.specs.Tidy.{Tidies, IsTidy, TakesOld, HasNoOld, CanTakeOld};
 
-use crate::reading::{config_path, pins_path, remotes_path};
+use crate::paths::{config_path, pins_path, remotes_path};
 use dep_states::Opened;
 use fp_host::{Host, HostEnd, Path, Stat};
 use fp_small::{clear_below, take_away};

@@ -99,7 +99,7 @@ active_name disk name folder row e = absurd cc
 active_name disk name (holds id mode bytes) row e = absurd cc
 active_name disk name (points text) row e = deploy_name name text _ row e
 
-ref_is : (disk : Disk) (name : Ref) (row : RefRow) → ref_seen disk name ≡ there row → (is_ref name ≡ true) × (row.name ≡ name)
+pub ref_is : (disk : Disk) (name : Ref) (row : RefRow) → ref_seen disk name ≡ there row → (is_ref name ≡ true) × (row.name ≡ name)
 ref_is disk name row e = elim (cases_Bool (is_ref name)) [
   | inl t ↦ (t, active_name disk name (disk (active name)) row (rw t at e))
   | inr f ↦ absurd (no_there (rw f at e))

@@ -16,3 +16,4 @@ mod ConfigRows
 mod OldRows
 mod SmallFiles
 pub mod OldReads
+pub mod Bare

@@ -66,7 +66,7 @@ module _ (v : View) (p : Elements) (x : Slot) where
     | inr off ↦ subst (λ (l : List Slot). Contains l e) (sym (set_other v.earlier p (v.earlier p ++ x ∷ []) q off)) has
   ]
 
-put_none : (p : Elements) (e : Slot) (v : View) → MakesNoFile v (put p e v)
+pub put_none : (p : Elements) (e : Slot) (v : View) → MakesNoFile v (put p e v)
 put_none p e v = record { unsynced = record { earlier = pushed v p (v.names p); dirty = λ id f h. refl; rows = λ id h. h }; none = λ id h. h }
 
 may_put_none : (p : Elements) (e : Slot) (v : View) → MakesNoFile v (may_put p e v)
@@ -99,7 +99,7 @@ grow_none (file k) bytes v = record {
       | inr off ↦ file_other v.files k (grown (v.files k) bytes) id off ∙ is
     ]
 
-with_file_one : (k mode : ℕ) (v : View) → v.files k ≡ None → MakesOneFile v (with_file k mode v)
+pub with_file_one : (k mode : ℕ) (v : View) → v.files k ≡ None → MakesOneFile v (with_file k mode v)
 with_file_one k mode v free = record {
   unsynced = record {
     earlier = λ q e h. h;

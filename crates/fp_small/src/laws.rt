@@ -2,14 +2,25 @@
 //! does nothing.
 
 ghost use Rattle.std.specs.Prelude.{◌≡◌, ◌≢◌, ◌↔◌, ◌⊎◌, ◌<◌, ℕ, List, length, true, false, Some, Contains};
-ghost use Rattle.std.specs.Prelude.{map, not, ◌∷◌};
+ghost use Rattle.std.specs.Prelude.{map, not, ◌∷◌, [], None, codes};
 ghost use Rattle.std.specs.List.{filter};
 ghost use Rattle.std.specs.List.Sorted.{IsPermutation};
 ghost use Rattle.std.specs.Str.{bytes_eq};
+ghost use Rattle.fp_host.specs.Paths.{Elements, absent, IsAbove};
+ghost use Rattle.fp_host.specs.Outcome.{IsSettled};
+ghost use Rattle.fp_host.specs.View.{View, IsTree};
+ghost use Rattle.fp_host.specs.Calls.{makes_dir, creates, appends, syncs, done, CanCreate};
 ghost use Rattle.fp_host.specs.Reads.{is_ascending};
 ghost use Rattle.fp_keyfile.specs.KeyFile.{are_distinct};
 ghost use Rattle.fp_name.specs.Pins.{is_pin};
 ghost use Rattle.fp_small.specs.Order.{inserted, removed, replaced, has_name, sorted_by};
+ghost use Rattle.fp_small.specs.Unsynced.{Unsynced, MakesNoFile, MakesOneFile};
+ghost use Rattle.fp_small.specs.Files.{MakesFile};
+ghost use Rattle.fp_small.specs.Stage.{IsReady};
+ghost use Rattle.fp_small.specs.Folders.{AreFree};
+ghost use Rattle.fp_small.specs.Places.{IsBare};
+ghost use Rattle.fp_small.specs.Replace.{CanReplace};
+ghost use Rattle.fp_small.specs.Clear.{CanClear, CanEmpty};
 ghost use Rattle.fp_small.specs.Config.{IsSettings, config_of, config_text, is_row, name_of};
 ghost use Rattle.fp_small.specs.Old.{remotes_of, pins_of, AreRows, ArePatterns};
 ghost use Rattle.fp_small.specs.declared.config.Settings.{Settings};
@@ -84,4 +95,35 @@ pub fn rows_of_remotes()
         (inserted name_of rows row) }
     ensures dropped { (rows : List RemoteRow) (name : List ℕ) → removed name_of rows name ≡ filter
         (λ row. not (bytes_eq row.name name)) rows }
+{}
+
+/// What is done until the next sync leaves unsynced what was: after a folder is made no file is new, and after a file is
+/// created that one alone. What is unsynced and settled in the end was settled before: so nothing that syncs leaves unsynced
+/// what a stop could bring back or tear.
+pub fn unsynced_views()
+    ensures folder { (v : View) (p : Elements) → MakesNoFile v (done (makes_dir p) v) }
+    ensures file { (v : View) (p : Elements) (id mode : ℕ) → v.files id ≡ None
+        → MakesOneFile v (done (creates p mode id) v) }
+    ensures settled { (u w : View) → IsTree u → Unsynced u w → IsSettled w → IsSettled u }
+{}
+
+/// A file that is created, written and synced is the one file that was made, and its name may be given to it.
+pub fn made_files()
+    ensures made { (v : View) (p : Elements) (bytes : List ℕ) (id : ℕ) → CanCreate p 420 v
+        → v.files id ≡ None
+        → MakesFile p bytes v (done syncs (done (appends p bytes) (done (creates p 420 id) v))) }
+    ensures ready { (v : View) (p : Elements) (bytes : List ℕ) (id : ℕ) → CanCreate p 420 v
+        → v.files id ≡ None
+        → IsReady p bytes (done syncs (done (appends p bytes) (done (creates p 420 id) v))) }
+{}
+
+/// Where nothing stands but the root, folders may be made, a file may be written anew in the root, and each path may be
+/// cleared. No folder may be emptied that has a path of 129 elements below it.
+pub fn bare_views()
+    ensures folders { (v : View) (paths : List Elements) → IsBare v → AreFree paths v }
+    ensures file { (v : View) (name : List ℕ) → IsBare v → name ≢ codes "repo"
+        → CanReplace (name ∷ []) v }
+    ensures cleared { (v : View) (x : List ℕ) (up : Elements) → IsBare v → CanClear (x ∷ up) v }
+    ensures too_deep { (v : View) (p q : Elements) → IsAbove p q → v.names q ≢ absent
+        → length q ≡ 129 → CanEmpty p v → ⊥ }
 {}

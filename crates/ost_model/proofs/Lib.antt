@@ -6,4 +6,5 @@ pub mod Pending
 pub mod Good
 mod Rows
 mod Examples
-mod Sample
+pub mod Sample
+pub mod Supplied

@@ -9,59 +9,59 @@ use Rattle.sha2.specs.Sha256.{sha256, digest_bytes, hash_after, compress, rounds
 use Rattle.ost_model.specs.declared.object.Object.{Object}
 use Rattle.ost_model.specs.declared.object.Object.TheVariants as objects
 use Rattle.ost_model.specs.Contents.{meta_digest, file_digest, header}
-use Rattle.ost_model.specs.Objects.{Have, missing}
+use Rattle.ost_model.specs.Objects.{Have, missing, name_fault}
 use Rattle.ost_model.specs.Order.{Place, order, first_fault, first_walk_fault}
 use Rattle.ost_model.specs.Look.{nothing, directory, file_at, look, look_places, look_fault}
 
 -- the commit
-abbrev commit_bytes : List ℕ
+abbrev pub commit_bytes : List ℕ
 commit_bytes = 0 ∷ 0 ∷ 0 ∷ 0 ∷ 0 ∷ 0 ∷ 0 ∷ 0 ∷ 0 ∷ 0 ∷ 0 ∷ 0 ∷ 0 ∷ 0 ∷ 0 ∷ 0 ∷ 187 ∷ 151 ∷ 62 ∷ 229 ∷ 40 ∷ 220 ∷ 60 ∷ 129 ∷ 220 ∷ 130 ∷ 239 ∷ 79 ∷ 195 ∷ 76 ∷ 218 ∷ 232 ∷ 31 ∷ 94 ∷ 40 ∷ 223 ∷ 88 ∷ 255 ∷ 6 ∷ 166 ∷ 89 ∷ 198 ∷ 225 ∷ 213 ∷ 230 ∷ 110 ∷ 218 ∷ 12 ∷ 68 ∷ 106 ∷ 14 ∷ 241 ∷ 27 ∷ 124 ∷ 193 ∷ 103 ∷ 243 ∷ 182 ∷ 3 ∷ 229 ∷ 133 ∷ 199 ∷ 238 ∷ 238 ∷ 182 ∷ 117 ∷ 250 ∷ 164 ∷ 18 ∷ 213 ∷ 236 ∷ 115 ∷ 246 ∷ 41 ∷ 136 ∷ 235 ∷ 11 ∷ 108 ∷ 84 ∷ 136 ∷ 48 ∷ 2 ∷ 1 ∷ 0 ∷ 0 ∷ 0 ∷ []
 
-abbrev commit : List ℕ
+abbrev pub commit : List ℕ
 commit = 209 ∷ 97 ∷ 186 ∷ 122 ∷ 101 ∷ 39 ∷ 156 ∷ 29 ∷ 124 ∷ 25 ∷ 74 ∷ 124 ∷ 219 ∷ 85 ∷ 224 ∷ 8 ∷ 168 ∷ 146 ∷ 107 ∷ 104 ∷ 56 ∷ 132 ∷ 140 ∷ 74 ∷ 208 ∷ 98 ∷ 49 ∷ 157 ∷ 143 ∷ 108 ∷ 126 ∷ 202 ∷ []
 
 -- the root
-abbrev tree_bytes : List ℕ
+abbrev pub tree_bytes : List ℕ
 tree_bytes = 97 ∷ 0 ∷ 204 ∷ 112 ∷ 13 ∷ 70 ∷ 244 ∷ 7 ∷ 198 ∷ 197 ∷ 171 ∷ 45 ∷ 93 ∷ 222 ∷ 71 ∷ 67 ∷ 102 ∷ 169 ∷ 40 ∷ 183 ∷ 57 ∷ 130 ∷ 119 ∷ 230 ∷ 17 ∷ 98 ∷ 231 ∷ 248 ∷ 236 ∷ 6 ∷ 244 ∷ 105 ∷ 240 ∷ 126 ∷ 2 ∷ 35 ∷ 100 ∷ 0 ∷ 110 ∷ 52 ∷ 11 ∷ 156 ∷ 255 ∷ 179 ∷ 122 ∷ 152 ∷ 156 ∷ 165 ∷ 68 ∷ 230 ∷ 187 ∷ 120 ∷ 10 ∷ 44 ∷ 120 ∷ 144 ∷ 29 ∷ 63 ∷ 179 ∷ 55 ∷ 56 ∷ 118 ∷ 133 ∷ 17 ∷ 163 ∷ 6 ∷ 23 ∷ 175 ∷ 160 ∷ 29 ∷ 68 ∷ 106 ∷ 14 ∷ 241 ∷ 27 ∷ 124 ∷ 193 ∷ 103 ∷ 243 ∷ 182 ∷ 3 ∷ 229 ∷ 133 ∷ 199 ∷ 238 ∷ 238 ∷ 182 ∷ 117 ∷ 250 ∷ 164 ∷ 18 ∷ 213 ∷ 236 ∷ 115 ∷ 246 ∷ 41 ∷ 136 ∷ 235 ∷ 11 ∷ 108 ∷ 84 ∷ 136 ∷ 34 ∷ 2 ∷ 68 ∷ 36 ∷ []
 
-abbrev tree : List ℕ
+abbrev pub tree : List ℕ
 tree = 187 ∷ 151 ∷ 62 ∷ 229 ∷ 40 ∷ 220 ∷ 60 ∷ 129 ∷ 220 ∷ 130 ∷ 239 ∷ 79 ∷ 195 ∷ 76 ∷ 218 ∷ 232 ∷ 31 ∷ 94 ∷ 40 ∷ 223 ∷ 88 ∷ 255 ∷ 6 ∷ 166 ∷ 89 ∷ 198 ∷ 225 ∷ 213 ∷ 230 ∷ 110 ∷ 218 ∷ 12 ∷ []
 
 -- of the mode 040755
-abbrev meta_bytes : List ℕ
+abbrev pub meta_bytes : List ℕ
 meta_bytes = 0 ∷ 0 ∷ 0 ∷ 0 ∷ 0 ∷ 0 ∷ 0 ∷ 0 ∷ 0 ∷ 0 ∷ 65 ∷ 237 ∷ []
 
-abbrev meta : List ℕ
+abbrev pub meta : List ℕ
 meta = 68 ∷ 106 ∷ 14 ∷ 241 ∷ 27 ∷ 124 ∷ 193 ∷ 103 ∷ 243 ∷ 182 ∷ 3 ∷ 229 ∷ 133 ∷ 199 ∷ 238 ∷ 238 ∷ 182 ∷ 117 ∷ 250 ∷ 164 ∷ 18 ∷ 213 ∷ 236 ∷ 115 ∷ 246 ∷ 41 ∷ 136 ∷ 235 ∷ 11 ∷ 108 ∷ 84 ∷ 136 ∷ []
 
 -- the digest of a directory with nothing in it
-abbrev empty_tree : List ℕ
+abbrev pub empty_tree : List ℕ
 empty_tree = 110 ∷ 52 ∷ 11 ∷ 156 ∷ 255 ∷ 179 ∷ 122 ∷ 152 ∷ 156 ∷ 165 ∷ 68 ∷ 230 ∷ 187 ∷ 120 ∷ 10 ∷ 44 ∷ 120 ∷ 144 ∷ 29 ∷ 63 ∷ 179 ∷ 55 ∷ 56 ∷ 118 ∷ 133 ∷ 17 ∷ 163 ∷ 6 ∷ 23 ∷ 175 ∷ 160 ∷ 29 ∷ []
 
 -- and of an empty file whose permission bits are 0644
-abbrev empty_file : List ℕ
+abbrev pub empty_file : List ℕ
 empty_file = 204 ∷ 112 ∷ 13 ∷ 70 ∷ 244 ∷ 7 ∷ 198 ∷ 197 ∷ 171 ∷ 45 ∷ 93 ∷ 222 ∷ 71 ∷ 67 ∷ 102 ∷ 169 ∷ 40 ∷ 183 ∷ 57 ∷ 130 ∷ 119 ∷ 230 ∷ 17 ∷ 98 ∷ 231 ∷ 248 ∷ 236 ∷ 6 ∷ 244 ∷ 105 ∷ 240 ∷ 126 ∷ []
 
 -- these objects, with this one for the file
-abbrev with_file : Option Object → Have
+abbrev pub with_file : Option Object → Have
 with_file o d kinds.Commit = if bytes_eq d commit then Some (objects.Meta commit_bytes) else None
 with_file o d kinds.DirTree = if bytes_eq d tree then Some (objects.Meta tree_bytes) else (if bytes_eq d empty_tree then Some (objects.Meta (0 ∷ [])) else None)
 with_file o d kinds.DirMeta = if bytes_eq d meta then Some (objects.Meta meta_bytes) else None
 with_file o d kinds.File = if bytes_eq d empty_file then o else None
 
-abbrev have : Have
+abbrev pub have : Have
 have = with_file (Some (objects.File 0x1A4 []))
 
-abbrev place : List ℕ → ObjKind → ℕ → Place
+abbrev pub place : List ℕ → ObjKind → ℕ → Place
 place d kind depth = record { digest = d; kind = kind; depth = depth }
 
-the_order : order have commit
+pub the_order : order have commit
     ≡ place commit kinds.Commit 0 ∷ place tree kinds.DirTree 0 ∷ place meta kinds.DirMeta 0 ∷ place empty_file kinds.File 0
     ∷ place empty_tree kinds.DirTree 1 ∷ place meta kinds.DirMeta 1 ∷ []
 unfolding is_utf8 chars encode
 the_order = refl
 
-no_fault : first_fault have commit ≡ None
+pub no_fault : first_fault have commit ≡ None
 unfolding meta_digest file_digest header sha256 digest_bytes hash_after compress rounds schedule first_words is_utf8 chars encode
 no_fault = refl
 
@@ -123,3 +123,8 @@ without_the_tree d kinds.File = None
 path_with_fault : look_fault without_the_tree commit (codes "a" ∷ []) ≡ Some (place tree kinds.DirTree 0, missing)
 unfolding meta_digest sha256 digest_bytes hash_after compress rounds schedule first_words is_utf8 chars encode
 path_with_fault = refl
+
+-- the dirmeta is what its digest says
+pub meta_named : name_fault meta kinds.DirMeta (Some (objects.Meta meta_bytes)) ≡ None
+unfolding meta_digest sha256 digest_bytes hash_after compress rounds schedule first_words
+meta_named = refl

@@ -2,15 +2,18 @@
 use Rattle.std.specs.Prelude.{◌≡◌, ◌⊎◌, true, ℕ, suc, List, [], ◌∷◌, ◌++◌, ◌+◌, ◌≤◌, length, Bool, Option, Some, None}
 use Rattle.fp_host.specs.Paths.{Elements}
 use Rattle.fp_name.specs.Hex.{is_digest}
-use Rattle.fp_host.specs.Outcome.{Disk, gone}
+use Rattle.fp_host.specs.Outcome.{Disk, gone, shows}
+use Rattle.fp_host.specs.Moments.{Moments}
+use Rattle.fp_host.specs.Remote.{Holdings}
 use Rattle.fp_base.specs.declared.object.ObjKind.{ObjKind}
 use Rattle.fp_base.specs.declared.object.ObjKind.TheVariants as kinds
 use Rattle.ost_model.specs.Fields.{DirRow, TreeView, CommitView}
-use Rattle.ost_model.specs.Objects.{Have, Fault, Named, object_path, object_fault, or_else}
+use Rattle.ost_model.specs.Objects.{Have, Fault, Named, object_path, object_fault, or_else, store, supply}
 use Rattle.ost_model.specs.Order.{Place, Agree, order, first_fault, first_walk_fault, first_of, tree_at, commit_at}
 use Rattle.ost_model.specs.Look.{look, look_fault, directory, file_at, Reached, FileReached}
 use Rattle.ost_model.specs.Standing.{Stands, SameBelow, SameObjects}
 use Rattle.ost_model.specs.Stores.{objects_folder, IsStore, SameStore, KeepsStore}
+use Rattle.ost_model.specs.Remotes.{remote, Supplies, Stores}
 use Rattle.ost_model.specs.Walk.{Open, open_places, pending, opened, heads, own_places, Walked}
 
 -- the order of a commit depends on the objects of the order alone
@@ -116,3 +119,17 @@ abbrev pub WalkFindsTheFirst : Type 0
 WalkFindsTheFirst = (have : Have) (test : ℕ → Place → Option Fault) (commit : List ℕ) (done : List Place) (left : List Open)
     (next more : List Place) (p : Place) (f : Fault) → Walked have test commit done left → pending have left ≡ next ++ more
     → first_of test (length done) next ≡ Some (p, f) → first_of test 0 (order have commit) ≡ Some (p, f)
+
+-- a host that tells what it holds stores objects, and with remotes that tell what they hold it supplies some
+abbrev pub HostsStore : Type 0
+HostsStore = (root : Elements) (m : Moments) → Stores root (Some m) (store root (shows m.now))
+
+abbrev pub HostsSupply : Type 0
+HostsSupply = (root : Elements) (url : Option (List ℕ)) (m : Moments) (held : Holdings)
+    → Supplies root url (Some m) (Some held) (supply (store root (shows m.now)) (remote held url))
+
+-- and there is a remote that supplies a commit without a fault to a store that has nothing
+abbrev pub ACommitIsSupplied : Type 0
+ACommitIsSupplied = (m : Moments) (url : List ℕ) → ((d : List ℕ) (kind : ObjKind) → store [] (shows m.now) d kind ≡ None)
+    → (held : Holdings) × (have : Have) × (commit : List ℕ) × Supplies [] (Some url) (Some m) (Some held) have
+    × (is_digest commit ≡ true) × (first_fault have commit ≡ None)

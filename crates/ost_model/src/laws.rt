@@ -1,5 +1,5 @@
 //! Laws of stores and commits. Each is the contract of a function that does nothing.
-ghost use Rattle.ost_model.specs.Laws.{OrderIsLocal, FaultIsLocal, LookIsLocal, DirsAreReached, FilesAreReached, PathsHaveNoFault, StandingIsLocal, StoreIsLocal, StoreGoesOn, NothingIsAStore, ObjectsAreNamed, ObjectsAreNoFolders, NamesAreApart, GoodTreesAreRead, GoodCommitsAreRead, WalkFaultsAreFaults, FirstOfTwo, OpensWithHeads, OpensAsRead, WalkGoesOn, WalkEnds, WalkFindsTheFirst};
+ghost use Rattle.ost_model.specs.Laws.{OrderIsLocal, FaultIsLocal, LookIsLocal, DirsAreReached, FilesAreReached, PathsHaveNoFault, StandingIsLocal, StoreIsLocal, StoreGoesOn, NothingIsAStore, ObjectsAreNamed, ObjectsAreNoFolders, NamesAreApart, GoodTreesAreRead, GoodCommitsAreRead, WalkFaultsAreFaults, FirstOfTwo, OpensWithHeads, OpensAsRead, WalkGoesOn, WalkEnds, WalkFindsTheFirst, HostsStore, HostsSupply, ACommitIsSupplied};
 
 /// The order of a commit and its first fault depend on the objects of that order alone, and so does what is found in the
 /// commit, where it has no fault.
@@ -63,4 +63,12 @@ pub fn walks_meet_the_order()
     ensures goes_on { WalkGoesOn }
     ensures ends { WalkEnds }
     ensures first { WalkFindsTheFirst }
+{}
+
+/// What is asked of a host and of remotes can be met: each host that tells what it holds stores objects, and with such remotes
+/// it supplies some. There is a remote from which an empty store is supplied with a commit without a fault.
+pub fn objects_are_supplied()
+    ensures stores { HostsStore }
+    ensures supplies { HostsSupply }
+    ensures commit { ACommitIsSupplied }
 {}

@@ -9,3 +9,4 @@ mod Staged
 mod Stored
 pub mod Said
 pub mod Staying
+mod Samples

@@ -1,14 +1,15 @@
 //! Laws of the words that the contracts use, for crates that build on them. Each is the contract of a function that
 //! does nothing.
 
-ghost use Rattle.std.specs.Prelude.{◌≡◌, ◌≢◌, ℕ, List, true, Some, None};
-ghost use Rattle.fp_host.specs.Paths.{Elements, IsAbove};
+ghost use Rattle.std.specs.Prelude.{◌≡◌, ◌≢◌, ℕ, List, ◌∷◌, ◌++◌, true, Some, None};
+ghost use Rattle.fp_host.specs.Paths.{Elements, absent, IsAbove};
 ghost use Rattle.fp_host.specs.View.{View, IsTree};
-ghost use Rattle.fp_host.specs.Calls.{syncs, done};
-ghost use Rattle.fp_host.specs.Outcome.{Nothing, shows};
+ghost use Rattle.fp_host.specs.Calls.{creates, appends, syncs, done, CanCreate};
+ghost use Rattle.fp_host.specs.Outcome.{Nothing, shows, IsSettled};
 ghost use Rattle.fp_host.specs.Frame.{Keeps, NoPath, Only};
 ghost use Rattle.fp_name.specs.Hex.{is_digest};
 ghost use Rattle.fp_base.specs.declared.object.ObjKind.{ObjKind};
+ghost use Rattle.fp_base.specs.declared.object.ObjKind.TheVariants as kinds;
 ghost use Rattle.ost_model.specs.declared.object.Object.{Object};
 ghost use Rattle.ost_model.specs.Objects.{object_path, name_fault, store, Named};
 ghost use Rattle.ost_model.specs.Stores.{objects_folder};
@@ -97,4 +98,20 @@ pub fn names_left_are_true()
         → LeavesObject root d kind u → LeavesObject root d kind w }
     ensures store { (root p : Elements) (u w : View) → Keeps (GoneAt p) (AbsentAt p) NoPath u w →
         LeavesStore root u → LeavesStore root w }
+{}
+
+/// What is asked of views can be met. Where nothing stands below `objects` and all is settled, every stop leaves a store whose
+/// names are true; and where every stop does, each object's name leaves that object or nothing. There is a dirmeta that is
+/// ready to be placed once it is created, written and synced.
+pub fn views_can_have_stores()
+    ensures empty { (root : Elements) (v : View) → IsTree v → IsSettled v
+        → ((rest : Elements) (xx : List ℕ) → v.names (rest ++ (xx ∷ objects_folder root)) ≡ absent)
+        → LeavesStore root v }
+    ensures object { (root : Elements) (d : List ℕ) (kind : ObjKind) (v : View)
+        → is_digest d ≡ true → LeavesStore root v → LeavesObject root d kind v }
+    ensures ready { (d : List ℕ) × (bytes : List ℕ) × ((t : Elements) (id : ℕ) (v : View)
+        → CanCreate t 420 v → v.files id ≡ None
+        → IsTree (done syncs (done (appends t bytes) (done (creates t 420 id) v)))
+        → IsReadyAs d kinds.DirMeta t
+        (done syncs (done (appends t bytes) (done (creates t 420 id) v)))) }
 {}

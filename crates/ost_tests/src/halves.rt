@@ -1,6 +1,6 @@
 //! What no contract says: digests that `sha256sum` gives, and that both halves are at work at one time.
 
-use crate::meeting::Meeting;
+use crate::holding::HoldingGate;
 use fp_base::Blob;
 use fp_name::Digest;
 use par_digest::{Item, digests, digests_gated};
@@ -153,36 +153,39 @@ fn digests_of_items(rt: HostRuntime) -> Result<(), Fail> {
     Ok(())
 }
 
-/// Whether both halves of so many items met, or neither was begun where the items aren't cut.
-fn is_met(gate: &Meeting, count: usize) -> bool {
+/// Whether both halves of so many items were at work, or nothing was told where the items aren't cut.
+fn is_as_due(gate: &HoldingGate, count: usize) -> bool {
     if count > 16 {
-        gate.both_met()
+        gate.both_worked()
     } else {
         gate.is_untouched()
     }
 }
 
-/// The first of the counts whose halves aren't at work at one time.
+/// The first of the counts where this half, held until the other one is done, isn't at work beside it.
 fn first_apart(
     rt: &(impl Threads + Sync),
     alloc: Global,
+    held: u32,
     counts: &[(usize, &str)],
 ) -> Result<Option<usize>, AllocError> {
     for (count, name) in counts {
-        let gate = Meeting::new();
         let items = numbered(alloc, *count)?;
+        let gate = HoldingGate::new(held, digests(rt, alloc, &items)?);
         let all = digests_gated(rt, alloc, &items, &gate)?;
-        if !is_written(&digest_of_all(all.as_slice()), name) || !is_met(&gate, *count) {
+        if !is_written(&digest_of_all(all.as_slice()), name) || !is_as_due(&gate, *count) {
             return Ok(Some(*count));
         }
     }
     Ok(None)
 }
 
-/// One thread alone would look for the other's flag until it gives up. Only the first cut is told.
+/// The second half is held until the first one is done, and then the other way round, so neither waits for the other's
+/// thread. Only the first cut is told.
 #[test]
 fn both_halves_are_at_work(rt: HostRuntime) -> Result<(), Fail> {
-    assert_eq!(rt; first_apart(&rt, rt.alloc(), &COUNTS)?, None);
+    assert_eq!(rt; first_apart(&rt, rt.alloc(), 1, &COUNTS)?, None);
+    assert_eq!(rt; first_apart(&rt, rt.alloc(), 0, &COUNTS)?, None);
     Ok(())
 }
 

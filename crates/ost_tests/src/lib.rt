@@ -6,11 +6,11 @@ mod content;
 #[cfg(test)]
 mod halves;
 #[cfg(test)]
+mod holding;
+#[cfg(test)]
 mod made_contents;
 #[cfg(test)]
 mod made_objects;
-#[cfg(test)]
-mod meeting;
 #[cfg(test)]
 mod object;
 #[cfg(test)]

@@ -1,0 +1,119 @@
+// The overrides.
+ghost use Rattle.std.specs.Prelude.{◌≡◌, true, IfOk, OnOk, IsErrOf};
+ghost use Rattle.fp_host.specs.Causes.{IsCounted};
+ghost use Rattle.fp_host.specs.Frame.{AtEnd, Unchanged};
+ghost use Rattle.fp_host.specs.Outcome.{shows};
+ghost use Rattle.fp_host.specs.Paths.{is_element};
+ghost use Rattle.std.specs.List.{list_all};
+ghost use Rattle.dep_states.specs.Names.{is_override as names_override, overrides_folder};
+ghost use Rattle.fp_small.specs.Naming.{ListsIn};
+ghost use Rattle.dep_open.specs.Parts.{seen_in, override_loaded, AreOverrides, AreGoodLayers, AddsOverride, KeepsGoodLayers};
+
+use crate::part::{Part, Seen, add};
+use crate::paths::overrides_path;
+use fp_base::{Items, Text};
+use fp_host::{Host, HostEnd, Path};
+use fp_keyfile::{KeyError, KeyFile};
+use fp_name::is_id;
+use fp_small::{Loaded, OverrideRow, load, names_in, values_in_order};
+use std::alloc::{AllocError, Global};
+use std::collections::BTreeMap;
+
+/// An override has at most 1 MiB.
+const OVERRIDE_MOST: u64 = 1024 * 1024;
+
+/// Reads the overrides that the present view shows, and changes nothing.
+pub(crate) fn read_overrides<H: Host>(
+    alloc: Global,
+    host: &mut H,
+) -> Result<Part<Items<OverrideRow>>, HostEnd>
+    ensures unchanged { Unchanged (H.moments host.old) (H.moments host.new) }
+    ensures good { IfOk result (λ part. AreGoodLayers part.found) }
+    ensures tells { IfOk result (λ part. AtEnd (λ u w. AreOverrides (shows u) part)
+        (H.moments host.old) (H.moments host.new)) }
+    ensures fault_has_cause { IsCounted (IsErrOf result HostEnd.Fault)
+        (H.moments host.old) (H.faults host.old) (H.faults host.new) }
+{
+    let folder = overrides_path(alloc)?;
+    let names = names_in(alloc, host, &folder)?;
+    overrides_among(alloc, host, &folder, names.as_slice())
+}
+
+/// The overrides that have these names.
+fn overrides_among<H: Host>(
+    alloc: Global,
+    host: &mut H,
+    folder: &Path,
+    names: &[Text],
+) -> Result<Part<Items<OverrideRow>>, HostEnd>
+    requires folder { folder.now ≡ overrides_folder }
+    requires elements { list_all is_element names.now ≡ true }
+    ensures unchanged { Unchanged (H.moments host.old) (H.moments host.new) }
+    ensures good { IfOk result (λ part. AreGoodLayers part.found) }
+    ensures tells { IfOk result (λ part. AtEnd (λ u w. ListsIn overrides_folder u names.now
+        → AreOverrides (shows u) part) (H.moments host.old) (H.moments host.new)) }
+    ensures fault_has_cause { IsCounted (IsErrOf result HostEnd.Fault)
+        (H.moments host.old) (H.faults host.old) (H.faults host.new) }
+{
+    let mut rows = BTreeMap::new(alloc);
+    let mut damaged = None;
+    for name in names {
+        add_override(alloc, host, folder, name.as_str(), &mut rows, &mut damaged)?;
+    }
+    Ok(Part {
+        found: Items::from_vec(values_in_order(alloc, rows)?),
+        damaged,
+    })
+}
+
+/// Adds what stands at this name, where it is that of an override.
+fn add_override<H: Host>(
+    alloc: Global,
+    host: &mut H,
+    folder: &Path,
+    name: &str,
+    rows: &mut BTreeMap<String, OverrideRow>,
+    damaged: &mut Option<Path>,
+) -> Result<(), HostEnd>
+    requires folder { folder.now ≡ overrides_folder }
+    requires element { is_element name.now ≡ true }
+    ensures unchanged { Unchanged (H.moments host.old) (H.moments host.new) }
+    ensures good { OnOk result (KeepsGoodLayers rows.old.entries rows.new.entries) }
+    ensures tells { OnOk result (AtEnd (λ u w. AddsOverride (shows u) name.now rows.old.entries
+        damaged.old rows.new.entries damaged.new) (H.moments host.old) (H.moments host.new)) }
+    ensures fault_has_cause { IsCounted (IsErrOf result HostEnd.Fault)
+        (H.moments host.old) (H.faults host.old) (H.faults host.new) }
+{
+    if !is_override(name) {
+        return Ok(());
+    }
+    let path = folder.child(name)?;
+    let loaded = load(alloc, host, &path, OVERRIDE_MOST)?;
+    let seen = override_in(alloc, loaded, name)?;
+    Ok(add(alloc, name, path, seen, rows, damaged)?)
+}
+
+/// Whether this names an override: `global`, or an application's ID.
+fn is_override(name: &str) -> bool
+    ensures { result ≡ names_override name.now }
+{
+    name == "global" || is_id(name)
+}
+
+/// What a loaded override says.
+fn override_in(alloc: Global, loaded: Loaded, name: &str) -> Result<Seen<OverrideRow>, AllocError>
+    ensures { IfOk result (λ seen. seen_in seen ≡ override_loaded name.now loaded) }
+{
+    match loaded {
+        Loaded::Absent => Ok(Seen::Away),
+        Loaded::TooLong(_) | Loaded::NotFile => Ok(Seen::Bad),
+        Loaded::Bytes(bytes) => match KeyFile::parse(alloc, bytes.as_slice()) {
+            Ok(file) => Ok(Seen::There(OverrideRow {
+                name: Text::from_str(alloc, name)?,
+                file,
+            })),
+            Err(KeyError::Fault(_)) => Ok(Seen::Bad),
+            Err(KeyError::NoMemory) => Err(AllocError),
+        },
+    }
+}

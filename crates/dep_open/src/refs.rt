@@ -1,0 +1,220 @@
+// The refs that are deployed.
+ghost use Rattle.std.specs.Prelude.{◌≡◌, true, IfOk, OnOk, IsErrOf};
+ghost use Rattle.fp_host.specs.Causes.{IsCounted};
+ghost use Rattle.fp_host.specs.Frame.{AtEnd, Unchanged};
+ghost use Rattle.fp_host.specs.Outcome.{shows};
+ghost use Rattle.fp_name.specs.Hex.{hex};
+ghost use Rattle.fp_name.specs.Refs.{is_ref};
+ghost use Rattle.dep_states.specs.Deploy.{deploy_of};
+ghost use Rattle.dep_states.specs.Names.{active, branch_dir, text_dir, deploy};
+ghost use Rattle.dep_states.specs.Shown.{there, by_active, deploy_at, row_in};
+ghost use Rattle.dep_open.specs.Parts.{seen_in, seen_as, text_seen, IsRowOf, AreRefs, AreGoodRows, AreBranches, IsRefAt, AddsRef, KeepsGoodRows};
+
+use crate::part::{Part, Seen, add};
+use crate::paths::{apps_path, runtimes_path};
+use dep_states::{DeployData, DeployError};
+use fp_base::{Items, Text};
+use fp_host::{Host, HostEnd, Path, Stat};
+use fp_name::{Digest, NameFault, RefName};
+use fp_small::{Loaded, RefRow, load, values_in_order};
+use ost_refs::paths_below;
+use std::alloc::{AllocError, Global};
+use std::collections::BTreeMap;
+
+/// How many elements a branch directory's path has below `app` and `runtime`.
+const BRANCH_DEPTH: usize = 3;
+
+/// A `deploy` has at most 1 MiB.
+const DEPLOY_MOST: u64 = 1024 * 1024;
+
+/// Reads the refs that the present view shows, and changes nothing.
+pub(crate) fn read_refs<H: Host>(
+    alloc: Global,
+    host: &mut H,
+) -> Result<Part<Items<RefRow>>, HostEnd>
+    ensures unchanged { Unchanged (H.moments host.old) (H.moments host.new) }
+    ensures good { IfOk result (λ part. AreGoodRows part.found) }
+    ensures tells { IfOk result (λ part. AtEnd (λ u w. AreRefs (shows u) part)
+        (H.moments host.old) (H.moments host.new)) }
+    ensures fault_has_cause { IsCounted (IsErrOf result HostEnd.Fault)
+        (H.moments host.old) (H.faults host.old) (H.faults host.new) }
+{
+    let paths = branch_paths(alloc, host)?;
+    refs_among(alloc, host, &paths)
+}
+
+/// The paths at which branch directories may stand.
+fn branch_paths<H: Host>(alloc: Global, host: &mut H) -> Result<Vec<Path>, HostEnd>
+    ensures unchanged { Unchanged (H.moments host.old) (H.moments host.new) }
+    ensures tells { IfOk result (λ paths. AtEnd (λ u w. AreBranches u paths.items)
+        (H.moments host.old) (H.moments host.new)) }
+    ensures fault_has_cause { IsCounted (IsErrOf result HostEnd.Fault)
+        (H.moments host.old) (H.faults host.old) (H.faults host.new) }
+{
+    let apps = apps_path(alloc)?;
+    let runtimes = runtimes_path(alloc)?;
+    let mut paths = paths_below(alloc, host, apps, BRANCH_DEPTH)?;
+    let mut more = paths_below(alloc, host, runtimes, BRANCH_DEPTH)?;
+    paths.append(&mut more)?;
+    Ok(paths)
+}
+
+/// The refs whose branch directories are among these paths.
+fn refs_among<H: Host>(
+    alloc: Global,
+    host: &mut H,
+    paths: &[Path],
+) -> Result<Part<Items<RefRow>>, HostEnd>
+    ensures unchanged { Unchanged (H.moments host.old) (H.moments host.new) }
+    ensures good { IfOk result (λ part. AreGoodRows part.found) }
+    ensures tells { IfOk result (λ part. AtEnd (λ u w. AreBranches u paths.now
+        → AreRefs (shows u) part) (H.moments host.old) (H.moments host.new)) }
+    ensures fault_has_cause { IsCounted (IsErrOf result HostEnd.Fault)
+        (H.moments host.old) (H.faults host.old) (H.faults host.new) }
+{
+    let mut rows = BTreeMap::new(alloc);
+    let mut damaged = None;
+    for path in paths {
+        add_ref(alloc, host, path, &mut rows, &mut damaged)?;
+    }
+    Ok(Part {
+        found: Items::from_vec(values_in_order(alloc, rows)?),
+        damaged,
+    })
+}
+
+/// Adds what stands at the ref whose branch directory this is, where it is one.
+fn add_ref<H: Host>(
+    alloc: Global,
+    host: &mut H,
+    path: &Path,
+    rows: &mut BTreeMap<String, RefRow>,
+    damaged: &mut Option<Path>,
+) -> Result<(), HostEnd>
+    ensures unchanged { Unchanged (H.moments host.old) (H.moments host.new) }
+    ensures good { OnOk result (KeepsGoodRows rows.old.entries rows.new.entries) }
+    ensures tells { OnOk result (AtEnd (λ u w. AddsRef (shows u) path.now rows.old.entries
+        damaged.old rows.new.entries damaged.new) (H.moments host.old) (H.moments host.new)) }
+    ensures fault_has_cause { IsCounted (IsErrOf result HostEnd.Fault)
+        (H.moments host.old) (H.faults host.old) (H.faults host.new) }
+{
+    let Some(name) = ref_at(alloc, path)? else {
+        return Ok(());
+    };
+    let active = path.child("active")?;
+    let key = name.write()?;
+    let seen = read_active(alloc, host, path, &active, name)?;
+    Ok(add(alloc, key.as_str(), active, seen, rows, damaged)?)
+}
+
+/// The ref whose branch directory this is.
+fn ref_at(alloc: Global, path: &Path) -> Result<Option<RefName>, AllocError>
+    ensures { IfOk result (IsRefAt path.now) }
+{
+    match RefName::parse(alloc, path.text().as_bytes()) {
+        Ok(name) => Ok(Some(name)),
+        Err(NameFault::Bad) => Ok(None),
+        Err(NameFault::NoMemory) => Err(AllocError),
+    }
+}
+
+/// What stands at the ref with this branch directory and this path of its `active`.
+fn read_active<H: Host>(
+    alloc: Global,
+    host: &mut H,
+    folder: &Path,
+    link: &Path,
+    name: RefName,
+) -> Result<Seen<RefRow>, HostEnd>
+    requires folder { folder.now ≡ branch_dir name }
+    requires link { link.now ≡ active name }
+    requires good { is_ref name ≡ true }
+    ensures unchanged { Unchanged (H.moments host.old) (H.moments host.new) }
+    ensures good { IfOk result (λ seen. IsRowOf name (seen_in seen)) }
+    ensures tells { IfOk result (λ seen. AtEnd (λ u w. seen_in seen ≡ by_active (shows u) name
+        (shows u (active name))) (H.moments host.old) (H.moments host.new)) }
+    ensures fault_has_cause { IsCounted (IsErrOf result HostEnd.Fault)
+        (H.moments host.old) (H.faults host.old) (H.faults host.new) }
+{
+    match read_text(alloc, host, link)? {
+        Seen::Away => Ok(Seen::Away),
+        Seen::Bad => Ok(Seen::Bad),
+        Seen::There(text) => read_commit(alloc, host, folder, &text, name),
+    }
+}
+
+/// The text of the link at this path.
+fn read_text<H: Host>(alloc: Global, host: &mut H, path: &Path) -> Result<Seen<Text>, HostEnd>
+    ensures unchanged { Unchanged (H.moments host.old) (H.moments host.new) }
+    ensures tells { IfOk result (λ seen. AtEnd (λ u w. seen_in seen ≡ text_seen (shows u path.now))
+        (H.moments host.old) (H.moments host.new)) }
+    ensures fault_has_cause { IsCounted (IsErrOf result HostEnd.Fault)
+        (H.moments host.old) (H.faults host.old) (H.faults host.new) }
+{
+    match host.stat(path)? {
+        Stat::Absent => Ok(Seen::Away),
+        Stat::Link => Ok(Seen::There(host.read_link(alloc, path)?)),
+        _ => Ok(Seen::Bad),
+    }
+}
+
+/// What stands at the ref whose `active` has this text.
+fn read_commit<H: Host>(
+    alloc: Global,
+    host: &mut H,
+    folder: &Path,
+    text: &Text,
+    name: RefName,
+) -> Result<Seen<RefRow>, HostEnd>
+    requires folder { folder.now ≡ branch_dir name }
+    requires good { is_ref name ≡ true }
+    ensures unchanged { Unchanged (H.moments host.old) (H.moments host.new) }
+    ensures good { IfOk result (λ seen. IsRowOf name (seen_in seen)) }
+    ensures tells { IfOk result (λ seen. AtEnd (λ u w. seen_in seen ≡ deploy_at name text.now
+        (shows u (deploy (text_dir name text.now)))) (H.moments host.old) (H.moments host.new)) }
+    ensures fault_has_cause { IsCounted (IsErrOf result HostEnd.Fault)
+        (H.moments host.old) (H.faults host.old) (H.faults host.new) }
+{
+    let Ok(commit) = Digest::parse(text.as_str().as_bytes()) else {
+        return Ok(Seen::Bad);
+    };
+    let deploy = folder.child(text.as_str())?.child("deploy")?;
+    let loaded = load(alloc, host, &deploy, DEPLOY_MOST)?;
+    Ok(read_deploy(alloc, loaded, name, commit)?)
+}
+
+/// The row that a loaded `deploy` says, in the folder of this commit.
+fn read_deploy(
+    alloc: Global,
+    loaded: Loaded,
+    name: RefName,
+    commit: Digest,
+) -> Result<Seen<RefRow>, AllocError>
+    ensures { IfOk result (λ seen. seen_in seen ≡ row_in name (hex commit) (seen_as deploy_of loaded)) }
+{
+    match loaded {
+        Loaded::Bytes(bytes) => match DeployData::read(alloc, bytes.as_slice()) {
+            Ok(read) => Ok(row_of(name, commit, read)),
+            Err(DeployError::Bad) => Ok(Seen::Bad),
+            Err(DeployError::NoMemory) => Err(AllocError),
+        },
+        _ => Ok(Seen::Bad),
+    }
+}
+
+/// The row of a `deploy` in the folder of this commit.
+fn row_of(name: RefName, commit: Digest, read: DeployData) -> Seen<RefRow>
+    ensures { seen_in result ≡ row_in name (hex commit) (there read) }
+{
+    if read.commit.digits() == commit.digits() {
+        Seen::There(RefRow {
+            name,
+            origin: read.origin,
+            commit: read.commit,
+            timestamp: read.timestamp,
+            previous: read.previous,
+        })
+    } else {
+        Seen::Bad
+    }
+}

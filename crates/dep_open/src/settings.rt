@@ -1,0 +1,202 @@
+// The settings of an installation, as its files say.
+ghost use Rattle.std.specs.Prelude.{◌≡◌, [], Some, None, IfOk, IsErrOf};
+ghost use Rattle.fp_host.specs.Causes.{IsCounted};
+ghost use Rattle.fp_host.specs.Frame.{AtEnd, Unchanged};
+ghost use Rattle.fp_host.specs.Outcome.{shows};
+ghost use Rattle.fp_small.specs.Config.{config_of};
+ghost use Rattle.fp_small.specs.Old.{remotes_of, pins_of};
+ghost use Rattle.dep_states.specs.Names.{config, remotes_conf, pins_file};
+ghost use Rattle.dep_states.specs.Shown.{setup, layout_two};
+ghost use Rattle.fp_small.specs.declared.state.Layout.TheVariants.{Two};
+ghost use Rattle.dep_open.specs.Parts.{seen_in, is_away, seen_as, IsSetUp, IsSetUpOld, SetsUp, SetsUpOld, IsGoodSetup, found_or};
+
+use crate::part::{Part, Seen};
+use crate::paths::{config_path, pins_path, remotes_path};
+use dep_states::Setup;
+use fp_base::Items;
+use fp_host::{Host, HostEnd, Path};
+use fp_name::PinPattern;
+use fp_small::{
+    ConfigFault, Layout, Loaded, RemoteRow, Settings, load, read_config, read_pins, read_remotes,
+};
+use std::alloc::{AllocError, Global};
+
+/// `config` has at most 2 MiB.
+const CONFIG_MOST: u64 = 2 * 1024 * 1024;
+
+/// Each file of layout 1 has at most 1 MiB.
+const OLD_MOST: u64 = 1024 * 1024;
+
+/// Reads the settings that the present view shows, and changes nothing.
+pub(crate) fn read_settings<H: Host>(alloc: Global, host: &mut H) -> Result<Part<Setup>, HostEnd>
+    ensures unchanged { Unchanged (H.moments host.old) (H.moments host.new) }
+    ensures good { IfOk result IsGoodSetup }
+    ensures tells { IfOk result (λ part. AtEnd (λ u w. SetsUp (shows u) part)
+        (H.moments host.old) (H.moments host.new)) }
+    ensures fault_has_cause { IsCounted (IsErrOf result HostEnd.Fault)
+        (H.moments host.old) (H.faults host.old) (H.faults host.new) }
+{
+    let path = config_path(alloc)?;
+    let loaded = load(alloc, host, &path, CONFIG_MOST)?;
+    if is_absent(&loaded) {
+        return load_old(alloc, host);
+    }
+    Ok(read_new(alloc, loaded, path)?)
+}
+
+/// Reads the settings where there is no `config`, and changes nothing.
+fn load_old<H: Host>(alloc: Global, host: &mut H) -> Result<Part<Setup>, HostEnd>
+    ensures unchanged { Unchanged (H.moments host.old) (H.moments host.new) }
+    ensures good { IfOk result IsGoodSetup }
+    ensures tells { IfOk result (λ part. AtEnd (λ u w. SetsUpOld (shows u) part)
+        (H.moments host.old) (H.moments host.new)) }
+    ensures fault_has_cause { IsCounted (IsErrOf result HostEnd.Fault)
+        (H.moments host.old) (H.faults host.old) (H.faults host.new) }
+{
+    let pins_path = pins_path(alloc)?;
+    let remotes_path = remotes_path(alloc)?;
+    let pins = load(alloc, host, &pins_path, OLD_MOST)?;
+    let remotes = load(alloc, host, &remotes_path, OLD_MOST)?;
+    Ok(read_old(alloc, pins, pins_path, remotes, remotes_path)?)
+}
+
+/// Whether nothing stood where this was loaded.
+fn is_absent(loaded: &Loaded) -> bool
+    ensures { result ≡ is_away loaded.now }
+{
+    match loaded {
+        Loaded::Absent => true,
+        _ => false,
+    }
+}
+
+/// What a `config` says.
+fn read_new(alloc: Global, loaded: Loaded, path: Path) -> Result<Part<Setup>, AllocError>
+    requires { path ≡ config }
+    ensures { IfOk result (IsSetUp (layout_two (seen_as config_of loaded)) config) }
+{
+    match settings_in(alloc, loaded)? {
+        Seen::There(settings) => Ok(whole(Layout::Two, settings)),
+        Seen::Away => Ok(whole(Layout::Two, no_settings(alloc))),
+        Seen::Bad => Ok(broken(alloc, path)),
+    }
+}
+
+/// What the files of layout 1 say: where both are absent, the empty settings of layout 2.
+fn read_old(
+    alloc: Global,
+    pins: Loaded,
+    pins_path: Path,
+    remotes: Loaded,
+    remotes_path: Path,
+) -> Result<Part<Setup>, AllocError>
+    requires pins { pins_path ≡ pins_file }
+    requires remotes { remotes_path ≡ remotes_conf }
+    ensures { IfOk result (IsSetUpOld pins remotes) }
+{
+    let pins = pins_in(alloc, pins)?;
+    let remotes = remotes_in(alloc, remotes)?;
+    match (pins, remotes) {
+        (Seen::Bad, _) => Ok(broken(alloc, pins_path)),
+        (_, Seen::Bad) => Ok(broken(alloc, remotes_path)),
+        (Seen::Away, Seen::Away) => Ok(whole(Layout::Two, no_settings(alloc))),
+        (pins, remotes) => Ok(whole(
+            Layout::One,
+            Settings {
+                remotes: found_or(remotes, Items::new(alloc)),
+                pins: found_or(pins, Items::new(alloc)),
+            },
+        )),
+    }
+}
+
+/// What is there, or else the other.
+fn found_or<T: Drop>(seen: Seen<T>, other: T) -> T
+    ensures { result ≡ found_or (seen_in seen) other }
+{
+    match seen {
+        Seen::There(found) => found,
+        _ => other,
+    }
+}
+
+/// Settings that were read.
+fn whole(layout: Layout, settings: Settings) -> Part<Setup>
+    ensures found { result.found ≡ setup layout settings.remotes settings.pins }
+    ensures whole { result.damaged ≡ None }
+{
+    Part {
+        found: Setup { layout, settings },
+        damaged: None,
+    }
+}
+
+/// The path of a file that doesn't read, and no settings.
+fn broken(alloc: Global, path: Path) -> Part<Setup>
+    ensures found { result.found ≡ setup Two [] [] }
+    ensures path { result.damaged ≡ Some path }
+{
+    Part {
+        found: Setup {
+            layout: Layout::Two,
+            settings: no_settings(alloc),
+        },
+        damaged: Some(path),
+    }
+}
+
+/// No remotes and no pins.
+fn no_settings(alloc: Global) -> Settings
+    ensures remotes { result.remotes ≡ [] }
+    ensures pins { result.pins ≡ [] }
+{
+    Settings {
+        remotes: Items::new(alloc),
+        pins: Items::new(alloc),
+    }
+}
+
+/// What a loaded `config` says.
+fn settings_in(alloc: Global, loaded: Loaded) -> Result<Seen<Settings>, AllocError>
+    ensures { IfOk result (λ seen. seen_in seen ≡ seen_as config_of loaded) }
+{
+    match loaded {
+        Loaded::Absent => Ok(Seen::Away),
+        Loaded::TooLong(_) | Loaded::NotFile => Ok(Seen::Bad),
+        Loaded::Bytes(bytes) => match read_config(alloc, bytes.as_slice()) {
+            Ok(found) => Ok(Seen::There(found)),
+            Err(ConfigFault::Bad) => Ok(Seen::Bad),
+            Err(ConfigFault::NoMemory) => Err(AllocError),
+        },
+    }
+}
+
+/// What a loaded `remotes.conf` says.
+fn remotes_in(alloc: Global, loaded: Loaded) -> Result<Seen<Items<RemoteRow>>, AllocError>
+    ensures { IfOk result (λ seen. seen_in seen ≡ seen_as remotes_of loaded) }
+{
+    match loaded {
+        Loaded::Absent => Ok(Seen::Away),
+        Loaded::TooLong(_) | Loaded::NotFile => Ok(Seen::Bad),
+        Loaded::Bytes(bytes) => match read_remotes(alloc, bytes.as_slice()) {
+            Ok(found) => Ok(Seen::There(found)),
+            Err(ConfigFault::Bad) => Ok(Seen::Bad),
+            Err(ConfigFault::NoMemory) => Err(AllocError),
+        },
+    }
+}
+
+/// What a loaded `pins` says.
+fn pins_in(alloc: Global, loaded: Loaded) -> Result<Seen<Items<PinPattern>>, AllocError>
+    ensures { IfOk result (λ seen. seen_in seen ≡ seen_as pins_of loaded) }
+{
+    match loaded {
+        Loaded::Absent => Ok(Seen::Away),
+        Loaded::TooLong(_) | Loaded::NotFile => Ok(Seen::Bad),
+        Loaded::Bytes(bytes) => match read_pins(alloc, bytes.as_slice()) {
+            Ok(found) => Ok(Seen::There(found)),
+            Err(ConfigFault::Bad) => Ok(Seen::Bad),
+            Err(ConfigFault::NoMemory) => Err(AllocError),
+        },
+    }
+}

@@ -1,0 +1,40 @@
+-- A commit that was built from rows.
+use Rattle.std.specs.Prelude.{◌≡◌, ℕ, List, Some, None}
+use Rattle.std.specs.List.{AllByRecursion}
+use Rattle.fp_host.specs.Paths.{Elements}
+use Rattle.fp_name.specs.Refs.{Ref}
+use Rattle.ost_model.specs.Fields.{DirRow}
+use Rattle.ost_model.specs.Order.{commit_at, first_fault}
+use Rattle.ost_model.specs.Look.{look, directory}
+use Rattle.ost_commit.specs.declared.row.TreeRow.{TreeRow}
+use Rattle.ost_commit.specs.declared.built.Built.{Built}
+use Rattle.ost_commit.specs.declared.built.BuildError.{BuildError}
+use Rattle.ost_commit.specs.declared.built.BuildError.TheVariants as error
+use Rattle.ost_commit.specs.Rows.{says}
+use Rattle.ost_commit.specs.Refusals.{first_refused}
+use Rattle.ost_commit.specs.Tables.{Collide}
+use Rattle.ost_commit.specs.Objects.{have_of, IsNamed, AreApart, Holds}
+use Rattle.ost_commit.specs.Commits.{commit_of_tree}
+use Rattle.ost_commit.specs.Shows.{found_said, meta_at, plain_meta}
+
+pub record BuiltCommit (rows : List TreeRow) (r : Ref) (subject : List ℕ) (timestamp : ℕ) (built : Built) : Type 0 where
+  -- the digests of the root's dirtree and dirmeta
+  pub root : List ℕ
+  pub meta : List ℕ
+  pub commit : commit_at (have_of built.objects) built.commit ≡ Some (commit_of_tree r subject timestamp root meta)
+  -- at each path stands just what the rows say
+  pub paths : (path : Elements) → found_said (look (have_of built.objects) built.commit path) ≡ says rows path
+  pub directories : (path : Elements) (e : DirRow) → look (have_of built.objects) built.commit path ≡ directory e
+      → meta_at (have_of built.objects) e.meta ≡ Some plain_meta
+  pub contents : AllByRecursion (Holds (have_of built.objects)) rows
+  -- the objects are whole, and each is there once
+  pub whole : first_fault (have_of built.objects) built.commit ≡ None
+  pub named : AllByRecursion IsNamed built.objects
+  pub apart : AreApart built.objects
+
+-- why rows make no commit
+abbrev pub IsBuildFault : List TreeRow → BuildError → Type 0
+IsBuildFault rows (error.Row n) = first_refused rows ≡ Some n
+IsBuildFault rows error.Collision = (first_refused rows ≡ None) × Collide
+IsBuildFault rows error.TooLarge = first_refused rows ≡ None
+IsBuildFault rows error.NoMemory = Unit {0}

@@ -1,0 +1,148 @@
+-- The directories of a tree, as they are gathered row by row.
+use Rattle.std.specs.Prelude.{◌≡◌, ◌<◌, ◌≤◌, ◌+◌, ℕ, zero, suc, List, [], ◌∷◌, length, drop, slice_set, Bool, true, false, ◌||◌, not, Option, Some, None, if◌then◌else◌}
+use Rattle.std.specs.Str.{bytes_eq}
+use Rattle.std.specs.Ordering.{nat_cmp}
+use Rattle.std.specs.Cmp.Lexicographic.{slice_cmp}
+use Rattle.std.specs.BTreeMap.{is_at}
+use Rattle.std.specs.Map.{lookup}
+use Rattle.fp_host.specs.Paths.{Elements, path_eq, is_element}
+use Rattle.ost_commit.specs.declared.row.TreeRow.{TreeRow}
+use Rattle.ost_commit.specs.declared.tree.Child.{Child}
+use Rattle.ost_commit.specs.declared.tree.Child.TheVariants as child
+use Rattle.ost_commit.specs.declared.tree.Folder.{Folder}
+use Rattle.ost_commit.specs.declared.tree.Tree.{Tree}
+use Rattle.ost_commit.specs.Rows.{Said, no_entry, a_directory, row_path, put_by, said_by, is_above, first_said}
+use Rattle.ost_commit.specs.Refusals.{is_nothing, is_content, is_clear, new_names, may_stand, is_taken}
+use Rattle.ost_commit.specs.Shows.{IsTree}
+
+-- the element at a place
+abbrev pub At : {A : Type 0} → List A → ℕ → A → Type 0
+At [] i a = ⊥
+At (x ∷ xs) zero a = x ≡ a
+At (x ∷ xs) (suc i) a = At xs i a
+
+-- what has the name in a directory of these entries
+abbrev pub child_in : List (List ℕ × Child) → List ℕ → Option Child
+child_in es x = lookup (is_at (slice_cmp nat_cmp x)) es
+
+-- the directory that a child is
+abbrev pub folder_place : Child → Option ℕ
+folder_place (child.Content k) = None
+folder_place (child.Folder j) = Some j
+
+-- what the row of this place puts
+abbrev pub put_at : List TreeRow → ℕ → Said
+put_at [] k = no_entry
+put_at (r ∷ rs) zero = put_by r
+put_at (r ∷ rs) (suc k) = put_at rs k
+
+abbrev pub child_said : List TreeRow → Option Child → Said
+child_said rows None = no_entry
+child_said rows (Some (child.Content k)) = put_at rows k
+child_said rows (Some (child.Folder j)) = a_directory
+
+-- the same, and an entry where nothing was said
+abbrev pub with_entry : (Elements → Said) → Elements → Said → Elements → Said
+with_entry said p entry q = first_said (said q) (if path_eq q p then entry else no_entry)
+
+-- the same, and a directory at the path and at each above it where nothing was said
+abbrev pub with_above : (Elements → Said) → Elements → Elements → Said
+with_above said p q = first_said (said q) (if path_eq q p || is_above q p then a_directory else no_entry)
+
+-- the same, and what a row says
+abbrev pub with_row : (Elements → Said) → TreeRow → Elements → Said
+with_row said r q = first_said (said q) (said_by r q)
+
+-- A directory for each path that is said to be one by these entries: the root is the first, each comes before those in it, and
+-- each name in one is what is said there. A file or link names its row.
+pub record Gathers (rows : List TreeRow) (said : Elements → Said) (folders : List Folder) : Type 0 where
+  pub tree : IsTree said
+  pub root : (f : Folder) × At folders 0 f × (f.path ≡ [])
+  pub path : (i : ℕ) (f : Folder) → At folders i f → said f.path ≡ a_directory
+  pub shallow : (i : ℕ) (f : Folder) → At folders i f → length f.path ≤ 64
+  pub each : (i : ℕ) (f : Folder) (x : List ℕ) → At folders i f → child_said rows (child_in f.children.entries x) ≡ said (x ∷ f.path)
+  pub below : (i : ℕ) (f : Folder) (x : List ℕ) (j : ℕ) → At folders i f → child_in f.children.entries x ≡ Some (child.Folder j)
+      → (i < j) × ((g : Folder) × At folders j g × (g.path ≡ x ∷ f.path))
+  pub apart : (i j : ℕ) (f g : Folder) → At folders i f → At folders j g → f.path ≡ g.path → i ≡ j
+  pub inside : (i : ℕ) (f : Folder) (x : List ℕ) (k : ℕ) → At folders i f → child_in f.children.entries x ≡ Some (child.Content k)
+      → (k < length rows) × (is_content (put_at rows k) ≡ true)
+  pub named : (i : ℕ) (f : Folder) (x : List ℕ) (c : Child) → At folders i f → child_in f.children.entries x ≡ Some c → is_element x ≡ true
+
+-- they are gathered by some rows
+pub record AreGathered (folders : List Folder) : Type 0 where
+  pub rows : List TreeRow
+  pub said : Elements → Said
+  pub gathers : Gathers rows said folders
+
+-- the directory of this place has this path
+pub record FolderAt (folders : List Folder) (i : ℕ) (path : Elements) : Type 0 where
+  pub folder : Folder
+  pub at : At folders i folder
+  pub is : folder.path ≡ path
+
+abbrev pub new_at : (Elements → Said) → Elements → ℕ
+new_at said p = if is_nothing (said p) then 1 else 0
+
+-- the root is no name
+abbrev pub new_root_at : (Elements → Said) → Elements → ℕ
+new_root_at said [] = 0
+new_root_at said (x ∷ up) = new_at said (x ∷ up)
+
+-- the second has the name x besides, for this child
+pub record HasNew (f g : Folder) (x : List ℕ) (c : Child) : Type 0 where
+  pub path : g.path ≡ f.path
+  pub children : (y : List ℕ) → child_in g.children.entries y ≡ (if bytes_eq x y then Some c else child_in f.children.entries y)
+
+-- so has the directory of this place
+pub record PutsChild (i : ℕ) (x : List ℕ) (c : Child) (old new : Tree) : Type 0 where
+  pub folders : (f : Folder) → At old.folders.items i f → (g : Folder) × HasNew f g x c × (new.folders.items ≡ slice_set old.folders.items i g)
+  pub names : new.names ≡ old.names + 1
+
+-- the directory of the path is that of this place, and may be new
+pub record Entered (rows : List TreeRow) (said : Elements → Said) (path : Elements) (old new : Tree) (j : ℕ) : Type 0 where
+  pub clear : is_content (said path) ≡ false
+  pub gathers : Gathers rows (with_entry said path a_directory) new.folders.items
+  pub at : FolderAt new.folders.items j path
+  pub names : new.names ≡ old.names + new_at said path
+
+-- or a file or link stands there
+abbrev pub Enters : List TreeRow → (Elements → Said) → Elements → Tree → Tree → Option ℕ → Type 0
+Enters rows said path old new None = is_content (said path) ≡ true
+Enters rows said path old new (Some j) = Entered rows said path old new j
+
+-- the directory of the path is that of this place, and it and those above it may be new
+pub record Reached (rows : List TreeRow) (said : Elements → Said) (path : Elements) (old new : Tree) (j : ℕ) : Type 0 where
+  pub clear : is_content (said path) ≡ false
+  pub above : is_clear said path ≡ true
+  pub gathers : Gathers rows (with_above said path) new.folders.items
+  pub at : FolderAt new.folders.items j path
+  pub names : new.names ≡ old.names + new_names said path
+
+-- the directory above the path is so reached, or a file or link stands above it
+abbrev pub Reaches : List TreeRow → (Elements → Said) → Elements → Tree → Tree → Option ℕ → Type 0
+Reaches rows said path old new None = is_clear said path ≡ false
+Reaches rows said path old new (Some j) = Reached rows said (drop 1 path) old new j
+
+-- a directory was taken, which may have been one before
+pub record TakesFolder (rows : List TreeRow) (said : Elements → Said) (path : Elements) (old new : Tree) (taken : Bool) : Type 0 where
+  pub is : taken ≡ not (is_content (said path))
+  pub gathers : taken ≡ true → Gathers rows (with_entry said path a_directory) new.folders.items
+  pub names : taken ≡ true → new.names ≡ old.names + new_root_at said path
+
+-- a file or link was taken, where nothing stood before
+pub record TakesContent (rows : List TreeRow) (said : Elements → Said) (path : Elements) (entry : Said) (old new : Tree) (taken : Bool) : Type 0 where
+  pub is : taken ≡ is_nothing (said path)
+  pub gathers : taken ≡ true → Gathers rows (with_entry said path entry) new.folders.items
+  pub names : taken ≡ true → new.names ≡ old.names + 1
+
+-- a row was put into the directory above its path, where it may stand
+pub record PutsRow (rows : List TreeRow) (said : Elements → Said) (r : TreeRow) (old new : Tree) (taken : Bool) : Type 0 where
+  pub is : taken ≡ may_stand r (said (row_path r))
+  pub gathers : taken ≡ true → Gathers rows (with_entry said (row_path r) (put_by r)) new.folders.items
+  pub names : taken ≡ true → new.names ≡ old.names + new_root_at said (row_path r)
+
+-- the row is taken exactly where it may be
+pub record Takes (rows : List TreeRow) (said : Elements → Said) (r : TreeRow) (old new : Tree) (taken : Bool) : Type 0 where
+  pub is : taken ≡ is_taken said old.names r
+  pub gathers : taken ≡ true → Gathers rows (with_row said r) new.folders.items
+  pub names : taken ≡ true → new.names ≡ old.names + new_names said (row_path r)

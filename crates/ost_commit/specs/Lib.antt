@@ -1,0 +1,12 @@
+pub mod Rows
+pub mod Refusals
+pub mod Objects
+pub mod Shows
+pub mod Commits
+pub mod Built
+pub mod Digests
+pub mod Tables
+pub mod Folders
+pub mod Entries
+pub mod Trees
+pub mod Writing

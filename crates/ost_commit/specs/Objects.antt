@@ -1,0 +1,38 @@
+-- The objects of what was built.
+use Rattle.std.specs.Prelude.{◌≡◌, List, [], ◌∷◌, Bool, true, false, ◌&&◌, Some, None, if◌then◌else◌}
+use Rattle.std.specs.Str.{bytes_eq}
+use Rattle.fp_base.specs.declared.object.ObjKind.{ObjKind}
+use Rattle.fp_base.specs.declared.object.ObjKind.TheVariants as kinds
+use Rattle.ost_model.specs.declared.object.Object.TheVariants as objects
+use Rattle.ost_model.specs.Contents.{file_digest, link_digest}
+use Rattle.ost_model.specs.Objects.{Have, name_fault}
+use Rattle.ost_commit.specs.declared.row.TreeRow.{TreeRow}
+use Rattle.ost_commit.specs.declared.row.TreeRow.TheVariants as row
+use Rattle.ost_commit.specs.declared.built.BuiltObject.{BuiltObject}
+
+abbrev pub is_kind : ObjKind → ObjKind → Bool
+is_kind kinds.Commit kinds.Commit = true
+is_kind kinds.DirTree kinds.DirTree = true
+is_kind kinds.DirMeta kinds.DirMeta = true
+is_kind kinds.File kinds.File = true
+is_kind _ _ = false
+
+-- the object of this digest and this kind
+abbrev pub have_of : List BuiltObject → Have
+have_of [] d kind = None
+have_of (o ∷ os) d kind = if bytes_eq o.digest d && is_kind o.kind kind then Some o.object else have_of os d kind
+
+-- it is the one that its digest names
+abbrev pub IsNamed : BuiltObject → Type 0
+IsNamed o = name_fault o.digest o.kind (Some o.object) ≡ None
+
+-- each digest and kind stands once
+abbrev pub AreApart : List BuiltObject → Type 0
+AreApart [] = Unit {0}
+AreApart (o ∷ os) = (have_of os o.digest o.kind ≡ None) × AreApart os
+
+-- what a row puts into the store
+abbrev pub Holds : Have → TreeRow → Type 0
+Holds have (row.Dir path) = Unit {0}
+Holds have (row.File path mode bytes) = have (file_digest mode bytes) kinds.File ≡ Some (objects.File mode bytes)
+Holds have (row.Link path target) = have (link_digest target) kinds.File ≡ Some (objects.Link target)

@@ -1,0 +1,80 @@
+-- Objects of one kind by their digests, as they are gathered.
+use Rattle.std.specs.Prelude.{◌≡◌, ◌≢◌, ◌⊎◌, ℕ, List, [], ◌∷◌, ◌++◌, map, Option, Some, None}
+use Rattle.std.specs.Ordering.{nat_cmp}
+use Rattle.std.specs.Cmp.Lexicographic.{slice_cmp}
+use Rattle.std.specs.BTreeMap.{is_at}
+use Rattle.std.specs.Map.{lookup}
+use Rattle.std.specs.List.{AllByRecursion}
+use Rattle.fp_base.specs.declared.object.ObjKind.{ObjKind}
+use Rattle.fp_base.specs.declared.object.ObjKind.TheVariants as kinds
+use Rattle.ost_model.specs.declared.object.Object.{Object}
+use Rattle.ost_model.specs.declared.object.Object.TheVariants as objects
+use Rattle.ost_model.specs.Objects.{object_fault, digest_of}
+use Rattle.ost_model.specs.Contents.{file_digest, link_digest, meta_digest}
+use Rattle.ost_commit.specs.declared.row.TreeRow.{TreeRow}
+use Rattle.ost_commit.specs.declared.row.TreeRow.TheVariants as row
+use Rattle.ost_commit.specs.declared.built.BuiltObject.{BuiltObject}
+use Rattle.ost_commit.specs.declared.built.BuildError.{BuildError}
+use Rattle.ost_commit.specs.declared.built.BuildError.TheVariants as error
+
+abbrev pub object_in : List (List ℕ × Object) → List ℕ → Option Object
+object_in table d = lookup (is_at (slice_cmp nat_cmp d)) table
+
+-- the object came to its digest, and all that was there stayed
+pub record PutsObject (old new : List (List ℕ × Object)) (d : List ℕ) (object : Object) : Type 0 where
+  pub there : object_in new d ≡ Some object
+  pub kept : (q : List ℕ) (o : Object) → object_in old q ≡ Some o → object_in new q ≡ Some o
+  pub only : (q : List ℕ) (o : Object) → object_in new q ≡ Some o → (object_in old q ≡ Some o) ⊎ ((q ≡ d) × (o ≡ object))
+
+-- another object has this digest
+pub record IsOtherThere (table : List (List ℕ × Object)) (d : List ℕ) (object : Object) : Type 0 where
+  pub other : Object
+  pub there : object_in table d ≡ Some other
+  pub apart : other ≢ object
+
+-- why an object doesn't come to its digest: for want of memory, or because another has it
+abbrev pub IsFaultOfPut : List (List ℕ × Object) → List ℕ → Object → BuildError → Type 0
+IsFaultOfPut table d object (error.Row n) = ⊥
+IsFaultOfPut table d object error.Collision = IsOtherThere table d object
+IsFaultOfPut table d object error.TooLarge = ⊥
+IsFaultOfPut table d object error.NoMemory = Unit {0}
+
+-- the object of a row's file or link is in the table
+abbrev pub HasRow : List (List ℕ × Object) → TreeRow → Type 0
+HasRow table (row.Dir path) = Unit {0}
+HasRow table (row.File path mode bytes) = object_in table (file_digest mode bytes) ≡ Some (objects.File mode bytes)
+HasRow table (row.Link path target) = object_in table (link_digest target) ≡ Some (objects.Link target)
+
+-- each object of the table may be used
+pub record AreUsable (kind : ObjKind) (table : List (List ℕ × Object)) : Type 0 where
+  pub each : (d : List ℕ) (o : Object) → object_in table d ≡ Some o → object_fault d kind (Some o) ≡ None
+
+abbrev pub built_of : ObjKind → List ℕ × Object → BuiltObject
+built_of kind e = record { digest = e.0; kind = kind; object = e.1 }
+
+abbrev pub built_meta : ObjKind → List ℕ → BuiltObject
+built_meta kind bytes = record { digest = meta_digest bytes; kind = kind; object = objects.Meta bytes }
+
+-- files and links, dirtrees, the dirmeta and the commit
+abbrev pub AreObjectsOf : List (List ℕ × Object) → List (List ℕ × Object) → List ℕ → List ℕ → List BuiltObject → Type 0
+AreObjectsOf contents trees meta commit os =
+    os ≡ map (built_of kinds.File) contents ++ (map (built_of kinds.DirTree) trees ++ (built_meta kinds.DirMeta meta ∷ built_meta kinds.Commit commit ∷ []))
+
+-- two different objects with one digest
+pub record Collide : Type 0 where
+  pub first : Object
+  pub second : Object
+  pub apart : first ≢ second
+  pub same : digest_of first ≡ digest_of second
+
+-- why no table is made: for want of memory, because objects are too large, or because two have one digest
+abbrev pub IsFaultOfTables : BuildError → Type 0
+IsFaultOfTables (error.Row n) = ⊥
+IsFaultOfTables error.Collision = Collide
+IsFaultOfTables error.TooLarge = Unit {0}
+IsFaultOfTables error.NoMemory = Unit {0}
+
+-- the objects of rows, and no others
+pub record AreContents (rows : List TreeRow) (table : List (List ℕ × Object)) : Type 0 where
+  pub there : AllByRecursion (HasRow table) rows
+  pub usable : AreUsable kinds.File table

@@ -1,0 +1,225 @@
+//! The dirtrees of a tree, from the deepest to the root.
+
+ghost use Rattle.std.specs.Prelude.{◌≡◌, ◌<◌, ◌+◌, ◌∷◌, ◌++◌, List, [], map, length, IfOk, IfErr, OnOk};
+ghost use Rattle.fp_base.specs.declared.object.ObjKind.TheVariants as kinds;
+ghost use Rattle.fp_host.specs.Paths.{Elements};
+ghost use Rattle.ost_object.specs.Views.{tree_view, file_row, dir_row};
+ghost use Rattle.ost_commit.specs.Rows.{Said};
+ghost use Rattle.ost_commit.specs.Digests.{AreDigests};
+ghost use Rattle.ost_commit.specs.Folders.{Gathers};
+ghost use Rattle.ost_commit.specs.Entries.{tree_rows};
+ghost use Rattle.ost_commit.specs.Tables.{AreUsable, IsFaultOfTables};
+ghost use Rattle.ost_commit.specs.Trees.{names_of, child_places, places_in, IsAmong, AreAmong, AddsEntry, AddsTree};
+ghost use Rattle.ost_commit.specs.Trees.{AreGatheredFor, IsRootWritten};
+ghost use Rattle.ost_commit.specs.Writing.{IsWantOfRoom};
+
+use crate::built::BuildError;
+use crate::objects::{Table, put};
+use crate::row::TreeRow;
+use crate::tree::{Child, Folder};
+use crate::writing::dirtree_bytes;
+use fp_base::{Items, Text};
+use fp_name::Digest;
+use ost_content::meta_digest;
+use ost_model::Object;
+use ost_object::{DirEntry, DirTree, FileEntry};
+use std::alloc::{AllocError, Global};
+use std::collections::BTreeMap;
+
+/// The most objects of a commit, repeats counted.
+const MOST_PLACES: usize = 200_000;
+
+/// A directory that is done: its dirtree, and how many objects it has with all below it, repeats counted.
+#[derive(Clone, Copy)]
+pub(crate) struct Done {
+    pub(crate) tree: Digest,
+    pub(crate) places: usize,
+}
+
+/// The dirtrees of a tree.
+#[derive(Drop)]
+pub(crate) struct Dirtrees {
+    pub(crate) trees: Table,
+    pub(crate) root: Digest,
+}
+
+/// The dirtrees of the directories, the first of which is the root and each of which comes before those in it.
+pub(crate) fn dirtrees_of(
+    alloc: Global,
+    mut folders: Vec<Folder>,
+    contents: &[Digest],
+    meta: Digest,
+) -> Result<Dirtrees, BuildError>
+    requires gathered { AreGatheredFor folders.items contents.now }
+    ensures written { IfOk result (λ made. (rows : List TreeRow) (said : Elements → Said)
+        → Gathers rows said folders.items → AreDigests rows contents.now
+        → IsRootWritten rows said contents.now meta made) }
+    ensures usable { IfOk result (λ made. AreUsable kinds.DirTree made.trees.entries) }
+    ensures error { IfErr result IsFaultOfTables }
+{
+    let mut trees = Table::new(alloc);
+    let nothing = Done {
+        tree: Digest::from_bytes([0; 32]),
+        places: 0,
+    };
+    let mut done = vec![in alloc; nothing; folders.len()]?;
+    while let Some(folder) = folders.pop() {
+        if folder.children.len() >= MOST_PLACES {
+            return Err(BuildError::TooLarge);
+        }
+        let at = folders.len();
+        done[at] = add_dirtree(alloc, &mut trees, folder.children, contents, meta, &done)?;
+    }
+    Ok(Dirtrees {
+        trees,
+        root: done[0].tree,
+    })
+}
+
+/// Adds the dirtree of a directory, after those of the directories in it.
+fn add_dirtree(
+    alloc: Global,
+    trees: &mut Table,
+    children: BTreeMap<Text, Child>,
+    contents: &[Digest],
+    meta: Digest,
+    done: &[Done],
+) -> Result<Done, BuildError>
+    requires among { AreAmong (length contents.now) (length done.now) children.entries }
+    requires usable { AreUsable kinds.DirTree trees.old.entries }
+    ensures adds { IfOk result (AddsTree contents.now meta done.now children.entries
+        trees.old.entries trees.new.entries) }
+    ensures usable { OnOk result (AreUsable kinds.DirTree trees.new.entries) }
+    ensures error { IfErr result IsFaultOfTables }
+{
+    let listing = listing_of(alloc, children, contents, meta, done)?;
+    let bytes = dirtree_bytes(alloc, &listing.tree)?;
+    let digest = meta_digest(bytes.as_slice());
+    match put(trees, digest, Object::Meta(bytes)) {
+        Ok(()) => Ok(Done {
+            tree: digest,
+            places: listing.places,
+        }),
+        Err(error) => Err(error),
+    }
+}
+
+/// The names in a directory with their digests, and how many objects it has with all below it, repeats counted.
+#[derive(Drop)]
+struct Listing {
+    tree: DirTree,
+    places: usize,
+}
+
+/// The names in a directory.
+fn listing_of(
+    alloc: Global,
+    mut children: BTreeMap<Text, Child>,
+    contents: &[Digest],
+    meta: Digest,
+    done: &[Done],
+) -> Result<Listing, BuildError>
+    requires { AreAmong (length contents.now) (length done.now) children.entries }
+    ensures tree { IfOk result (λ listing. tree_view listing.tree
+        ≡ tree_rows (names_of contents.now meta done.now) children.entries) }
+    ensures places { IfOk result (λ listing. listing.places
+        ≡ 2 + places_in done.now children.entries) }
+    ensures few { IfOk result (λ listing. listing.places < 200000) }
+    ensures error { IfErr result IsWantOfRoom }
+{
+    let mut listing = Listing::new(alloc);
+    while let Some((name, child)) = children.pop_first() {
+        listing.add(name, child, contents, meta, done)?;
+    }
+    Ok(listing)
+}
+
+impl Listing {
+    /// No names. There is a dirtree, and a dirmeta.
+    fn new(alloc: Global) -> Listing
+        ensures tree { tree_view result.tree ≡ record { files = []; dirs = [] } }
+        ensures places { result.places ≡ 2 }
+    {
+        Listing {
+            tree: DirTree {
+                files: Items::new(alloc),
+                dirs: Items::new(alloc),
+            },
+            places: 2,
+        }
+    }
+
+    /// Adds a name, which comes after those that are there.
+    fn add(
+        &mut self,
+        name: Text,
+        child: Child,
+        contents: &[Digest],
+        meta: Digest,
+        done: &[Done],
+    ) -> Result<(), BuildError>
+        requires among { IsAmong (length contents.now) (length done.now) child }
+        requires few { self.old.places < 200000 }
+        ensures adds { OnOk result (AddsEntry (names_of contents.now meta done.now) name child
+            self.old.tree self.new.tree) }
+        ensures places { OnOk result (self.new.places
+            ≡ self.old.places + child_places done.now child) }
+        ensures few { OnOk result (self.new.places < 200000) }
+        ensures error { IfErr result IsWantOfRoom }
+    {
+        match child {
+            Child::Content(row) => self.add_file(name, contents[row]),
+            Child::Folder(at) => self.add_dir(name, done[at], meta),
+        }
+    }
+
+    /// Adds a file or a link.
+    fn add_file(&mut self, name: Text, digest: Digest) -> Result<(), BuildError>
+        requires { self.old.places < 200000 }
+        ensures files { OnOk result (map file_row self.new.tree.files
+            ≡ map file_row self.old.tree.files ++ record { name = name; digest = digest } ∷ []) }
+        ensures dirs { OnOk result (self.new.tree.dirs ≡ self.old.tree.dirs) }
+        ensures places { OnOk result (self.new.places ≡ self.old.places + 1) }
+        ensures few { OnOk result (self.new.places < 200000) }
+        ensures error { IfErr result IsWantOfRoom }
+    {
+        self.count(1)?;
+        self.tree.files.push(FileEntry { name, digest })?;
+        Ok(())
+    }
+
+    /// Adds a directory.
+    fn add_dir(&mut self, name: Text, done: Done, meta: Digest) -> Result<(), BuildError>
+        requires { self.old.places < 200000 }
+        ensures files { OnOk result (self.new.tree.files ≡ self.old.tree.files) }
+        ensures dirs { OnOk result (map dir_row self.new.tree.dirs
+            ≡ map dir_row self.old.tree.dirs
+            ++ record { name = name; tree = done.tree; meta = meta } ∷ []) }
+        ensures places { OnOk result (self.new.places ≡ self.old.places + done.places) }
+        ensures few { OnOk result (self.new.places < 200000) }
+        ensures error { IfErr result IsWantOfRoom }
+    {
+        self.count(done.places)?;
+        self.tree.dirs.push(DirEntry {
+            name,
+            tree: done.tree,
+            meta,
+        })?;
+        Ok(())
+    }
+
+    /// Counts so many objects.
+    fn count(&mut self, more: usize) -> Result<(), BuildError>
+        requires { self.old.places < 200000 }
+        ensures places { OnOk result (self.new.places ≡ self.old.places + more) }
+        ensures few { OnOk result (self.new.places < 200000) }
+        ensures tree { self.new.tree ≡ self.old.tree }
+        ensures error { IfErr result IsWantOfRoom }
+    {
+        if more >= MOST_PLACES - self.places {
+            return Err(BuildError::TooLarge);
+        }
+        self.places += more;
+        Ok(())
+    }
+}

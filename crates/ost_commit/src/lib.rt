@@ -1,0 +1,15 @@
+//! Commits that are built from the rows of a tree, as OSTree builds them.
+#![tactic(auto)]
+
+mod built;
+mod committing;
+mod contents;
+mod directories;
+mod objects;
+mod row;
+mod tree;
+mod writing;
+
+pub use built::{BuildError, Built, BuiltObject};
+pub use committing::commit_tree;
+pub use row::TreeRow;

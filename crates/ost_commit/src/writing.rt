@@ -1,0 +1,210 @@
+//! Metadata objects, as they are written.
+
+ghost use Rattle.std.specs.Prelude.{◌≡◌, IfOk, IfErr, Ok};
+ghost use Rattle.gv_value.specs.Views.{shape_of, plain};
+ghost use Rattle.gv_value.specs.Shape.{Shape};
+ghost use Rattle.ost_model.specs.Types.{text_shape, dictionary_shape};
+ghost use Rattle.ost_model.specs.Readers.{commit_read, tree_read, meta_read};
+ghost use Rattle.ost_object.specs.Views.{commit_view, tree_view, tree_at};
+ghost use Rattle.ost_commit.specs.Commits.{text_of, one_text, refs_of, binding_entry_of, bound_to as binding_of, commit_of_tree};
+ghost use Rattle.ost_commit.specs.Shows.{plain_meta};
+ghost use Rattle.ost_commit.specs.Writing.{IsWantOfRoom};
+
+use crate::built::BuildError;
+use fp_base::{Blob, Text};
+use fp_name::{Digest, RefName};
+use gv_encode::{EncodeError, encode};
+use gv_value::{GvType, GvValue, TypeError};
+use ost_object::{
+    Commit, DirMeta, DirTree, ObjectError, write_commit, write_dirmeta, write_dirtree,
+};
+use std::alloc::{AllocError, Global};
+
+/// The mode of each directory.
+const DIRECTORY_MODE: u32 = 0o040755;
+
+/// The key of a commit's metadata under which it says its refs.
+const REF_BINDING: &str = "ostree.ref-binding";
+
+/// What there is of a commit besides its root.
+#[derive(Clone, Copy)]
+pub(crate) struct Heading<'a> {
+    pub(crate) name: &'a RefName,
+    pub(crate) subject: &'a str,
+    pub(crate) timestamp: u64,
+}
+
+/// The digests of a directory's dirtree and dirmeta.
+#[derive(Clone, Copy)]
+pub(crate) struct Root {
+    pub(crate) tree: Digest,
+    pub(crate) meta: Digest,
+}
+
+/// The bytes of each directory's dirmeta.
+pub(crate) fn dirmeta_bytes(alloc: Global) -> Result<Blob, BuildError>
+    ensures reads { IfOk result (λ bytes. meta_read bytes ≡ Ok plain_meta) }
+    ensures error { IfErr result IsWantOfRoom }
+{
+    let meta = DirMeta {
+        mode: DIRECTORY_MODE,
+    };
+    written(write_dirmeta(alloc, &meta))
+}
+
+/// The bytes of a dirtree.
+pub(crate) fn dirtree_bytes(alloc: Global, tree: &DirTree) -> Result<Blob, BuildError>
+    ensures reads { IfOk result (λ bytes. tree_read bytes ≡ Ok (tree_view tree.now)) }
+    ensures error { IfErr result IsWantOfRoom }
+{
+    written(write_dirtree(alloc, tree))
+}
+
+/// The bytes of the commit of a root.
+pub(crate) fn commit_bytes(alloc: Global, heading: Heading, root: Root) -> Result<Blob, BuildError>
+    ensures reads { IfOk result (λ bytes. commit_read bytes ≡ Ok (commit_of_tree heading.entry.name.now
+        heading.entry.subject.now heading.entry.timestamp root.tree root.meta)) }
+    ensures error { IfErr result IsWantOfRoom }
+{
+    let commit = commit_of(alloc, heading, root)?;
+    written(write_commit(alloc, &commit))
+}
+
+/// The commit of a root.
+fn commit_of(alloc: Global, heading: Heading, root: Root) -> Result<Commit, BuildError>
+    ensures says { IfOk result (λ commit. commit_view commit ≡ commit_of_tree heading.entry.name.now
+        heading.entry.subject.now heading.entry.timestamp root.tree root.meta) }
+    ensures error { IfErr result IsWantOfRoom }
+{
+    Ok(Commit {
+        metadata: binding_bytes(alloc, heading.name)?,
+        parent: None,
+        related: Blob::from_slice(alloc, &[])?,
+        subject: Text::from_str(alloc, heading.subject)?,
+        body: Text::from_str(alloc, "")?,
+        timestamp: heading.timestamp,
+        tree: root.tree,
+        meta: root.meta,
+    })
+}
+
+/// The bytes of the metadata of a commit that is bound to the ref.
+fn binding_bytes(alloc: Global, name: &RefName) -> Result<Blob, BuildError>
+    ensures says { IfOk result (λ bytes. tree_at dictionary_shape bytes ≡ binding_of name.now) }
+    ensures error { IfErr result IsWantOfRoom }
+{
+    let value = bound_to(alloc, name)?;
+    dictionary_bytes(alloc, &value)
+}
+
+/// The bytes of the value of a commit's metadata.
+fn dictionary_bytes(alloc: Global, value: &GvValue) -> Result<Blob, BuildError>
+    ensures says { IfOk result (λ bytes. tree_at dictionary_shape bytes ≡ plain value.now) }
+    ensures error { IfErr result IsWantOfRoom }
+{
+    let of = dictionary_type(alloc)?;
+    encoded(alloc, &of, value)
+}
+
+/// The bytes of a value of a type.
+fn encoded(alloc: Global, of: &GvType, value: &GvValue) -> Result<Blob, BuildError>
+    ensures says { IfOk result (λ bytes. tree_at (shape_of of.now) bytes ≡ plain value.now) }
+    ensures error { IfErr result IsWantOfRoom }
+{
+    match encode(alloc, of, value) {
+        Ok(bytes) => Ok(bytes),
+        Err(EncodeError::NoMemory) => Err(BuildError::NoMemory),
+        Err(_) => Err(BuildError::TooLarge),
+    }
+}
+
+/// The metadata of a commit that is bound to the ref.
+fn bound_to(alloc: Global, name: &RefName) -> Result<GvValue, AllocError>
+    ensures { IfOk result (λ value. plain value ≡ binding_of name.now) }
+{
+    let entry = binding_entry(alloc, name)?;
+    Ok(GvValue::Array(vec![in alloc; entry]?))
+}
+
+/// The entry of the metadata that says the ref.
+fn binding_entry(alloc: Global, name: &RefName) -> Result<GvValue, AllocError>
+    ensures { IfOk result (λ value. plain value ≡ binding_entry_of name.now) }
+{
+    let key = boxed_text(alloc, REF_BINDING)?;
+    let value = boxed_refs(alloc, name)?;
+    Ok(GvValue::Entry(key, value))
+}
+
+/// A text as a value, in a box.
+fn boxed_text(alloc: Global, text: &str) -> Result<Box<GvValue>, AllocError>
+    ensures { IfOk result (λ value. plain value.value ≡ text_of text.now) }
+{
+    let value = text_as_value(alloc, text)?;
+    Ok(Box::new(alloc, value)?)
+}
+
+/// The list of the ref, as a variant in a box.
+fn boxed_refs(alloc: Global, name: &RefName) -> Result<Box<GvValue>, AllocError>
+    ensures { IfOk result (λ value. plain value.value ≡ refs_of name.now) }
+{
+    let value = refs_as_value(alloc, name)?;
+    Ok(Box::new(alloc, value)?)
+}
+
+/// The list of the ref, as a variant.
+fn refs_as_value(alloc: Global, name: &RefName) -> Result<GvValue, AllocError>
+    ensures { IfOk result (λ value. plain value ≡ refs_of name.now) }
+{
+    let of = Box::new(alloc, texts_type(alloc)?)?;
+    let refs = Box::new(alloc, list_of(alloc, name.as_str())?)?;
+    Ok(GvValue::Variant(of, refs))
+}
+
+/// The list of one text.
+fn list_of(alloc: Global, text: &str) -> Result<GvValue, AllocError>
+    ensures { IfOk result (λ value. plain value ≡ one_text text.now) }
+{
+    let value = text_as_value(alloc, text)?;
+    Ok(GvValue::Array(vec![in alloc; value]?))
+}
+
+/// A text as a value.
+fn text_as_value(alloc: Global, text: &str) -> Result<GvValue, AllocError>
+    ensures { IfOk result (λ value. plain value ≡ text_of text.now) }
+{
+    Ok(GvValue::Str(Text::from_str(alloc, text)?))
+}
+
+/// The type of a list of texts.
+fn texts_type(alloc: Global) -> Result<GvType, AllocError>
+    ensures { IfOk result (λ of. shape_of of ≡ Shape.array text_shape) }
+{
+    match GvType::parse(alloc, b"as") {
+        Ok(of) => Ok(of),
+        Err(TypeError::NoMemory) => Err(AllocError),
+        Err(TypeError::Bad) => unreachable!(),
+    }
+}
+
+/// The type of a commit's metadata.
+fn dictionary_type(alloc: Global) -> Result<GvType, AllocError>
+    ensures { IfOk result (λ of. shape_of of ≡ dictionary_shape) }
+{
+    match GvType::parse(alloc, b"a{sv}") {
+        Ok(of) => Ok(of),
+        Err(TypeError::NoMemory) => Err(AllocError),
+        Err(TypeError::Bad) => unreachable!(),
+    }
+}
+
+/// The bytes of an object; it is too large where no bytes read as it.
+fn written(bytes: Result<Blob, ObjectError>) -> Result<Blob, BuildError>
+    ensures bytes { IfOk result (λ b. bytes ≡ Ok b) }
+    ensures error { IfErr result IsWantOfRoom }
+{
+    match bytes {
+        Ok(bytes) => Ok(bytes),
+        Err(ObjectError::Malformed(_)) => Err(BuildError::TooLarge),
+        Err(ObjectError::NoMemory) => Err(BuildError::NoMemory),
+    }
+}

@@ -1,0 +1,205 @@
+-- Objects that are found unused.
+use Rattle.std.proofs.Common.{◌≡◌, ◌⊎◌, inl, inr, ◌<◌, ◌+◌, ℕ, suc, Bool, true, false, ◌&&◌, List, [], ◌∷◌, ◌++◌, map, take, drop, get_or, length, Option, Some, None, Result, Ok, Err, refl, sym, ◌∙◌, ap, subst, Contains, arith, append_assoc, append-nil}
+use Rattle.std.specs.Prelude.{◌↔◌, is_some, IfOk}
+use Rattle.fp_host.specs.declared.host.HostEnd.{HostEnd}
+use Rattle.std.proofs.Math.Seq.{take-suc, take-length, drop-cons}
+use Rattle.std.proofs.lemmas.Bool.{and_parts, and_from, both_ways}
+use Rattle.std.proofs.lemmas.List.{map-append, drop_all}
+use Rattle.std.proofs.lemmas.List.Elements.{Contains-append_left, Contains-push, Contains-push_cases}
+use Rattle.fp_host.specs.Paths.{Elements, Slot, absent, dir, file, link, elements_of, path_text, IsAbove}
+use Rattle.fp_host.specs.View.{View, IsTree}
+use Rattle.fp_host.specs.Calls.{IsLeaf}
+use Rattle.fp_host.specs.Outcome.{Spot, gone, folder, spot_of, shows}
+use Rattle.fp_host.proofs.Settled.{at_tree}
+use Rattle.fp_host.specs.Reads.{comes_first, is_ascending}
+use Rattle.fp_host.specs.Frame.{AtEnd, Unchanged}
+use Rattle.fp_host.specs.Moments.{Moments}
+use Rattle.fp_host.proofs.Framed.{IsTold}
+use Rattle.fp_host.proofs.Ending.{ends_on, ends_both, ends_looks}
+use Rattle.fp_small.proofs.Ordered.{before_on}
+use Rattle.fp_name.specs.Hex.{is_digest}
+use Rattle.fp_base.specs.declared.object.ObjKind.{ObjKind}
+use Rattle.fp_base.specs.declared.object.ObjKind.TheVariants as kinds
+use Rattle.ost_model.specs.Objects.{object_path, object_at, store}
+use Rattle.ost_model.specs.Stores.{objects_folder}
+use Rattle.ost_model.specs.Used.{IsUsed}
+use Rattle.ost_model.proofs.Stores.{one_name}
+use Rattle.ost_store.specs.Names.{ListsNames, IsNamed}
+use Rattle.ost_store.specs.Reads.{IsThere}
+use Rattle.ost_store.proofs.Lists.{in_none}
+use Rattle.ost_prune.specs.Prune.{path_in, text_in, IsUnused, ListsUnused}
+use Rattle.ost_prune.specs.Texts.{AreUsedTexts}
+use Rattle.ost_prune.specs.Finding.{IsUnusedAt, PicksUnused, with_found}
+
+abbrev Object : Type 0
+Object = List ℕ × ObjKind
+
+-- ---- one name
+
+module _ (root : Elements) (keep : List (List ℕ)) (path : Elements) (v : View) {has : List ℕ → Bool} (used : AreUsedTexts root keep v has) (back : elements_of (path_text path) ≡ path) where
+  pub used_there : has (path_text path) ≡ true → IsUnusedAt root keep path v None
+  used_there there o name is =
+      let text : path_text path ≡ text_in root o = ap path_text name in
+      is.unused (used.alone o is.digits (ap elements_of (sym text) ∙ back ∙ name) (ap has (sym text) ∙ there))
+
+  pub none_named : IsNamed root path None → IsUnusedAt root keep path v None
+  none_named none o name is = none o.0 o.1 is.digits name
+
+  pub object_there : (o : Object) → IsNamed root path (Some o) → IsThere root o.0 o.1 v true → has (path_text path) ≡ false → IsUnusedAt root keep path v (Some o)
+  object_there o named there off = (
+    record {
+      digits = named.0;
+      there = sym there.is;
+      unused = λ is. both_ways (has (path_text path)) off (ap has (ap path_text named.1) ∙ used.used o is);
+    },
+    named.1,
+  )
+
+  pub object_away : (o : Object) → IsNamed root path (Some o) → IsThere root o.0 o.1 v false → IsUnusedAt root keep path v None
+  object_away o named away p name is =
+      let same = one_name root p.0 o.0 p.1 o.1 is.digits named.0 (sym name ∙ named.1) in
+      let object : p ≡ o = (λ i. (same.0 i, same.1 i)) in
+      both_ways (is_some (store root (shows v) o.0 o.1)) (sym away.is) (sym (ap (λ (x : Object). is_some (store root (shows v) x.0 x.1)) object) ∙ is.there)
+
+-- ---- lists that ascend
+
+-- without one in the middle
+less_one : (xs : List (List ℕ)) (y : List ℕ) (ys : List (List ℕ)) → is_ascending (xs ++ y ∷ ys) ≡ true → is_ascending (xs ++ ys) ≡ true
+less_one [] y ys h = (and_parts (comes_first y ys) (is_ascending ys) h).1
+less_one (x ∷ []) y ys h =
+    let a = and_parts (comes_first x (y ∷ ys)) (is_ascending (y ∷ ys)) h in
+    let b = and_parts (comes_first y ys) (is_ascending ys) a.1 in
+    and_from (comes_first x ys) (is_ascending ys) (over ys a.0 b.0) b.1
+  where
+    over : (zs : List (List ℕ)) → comes_first x (y ∷ []) ≡ true → comes_first y zs ≡ true → comes_first x zs ≡ true
+    over [] first second = refl
+    over (z ∷ zs) first second = before_on x y z first second
+less_one (x ∷ w ∷ xs) y ys h =
+    let a = and_parts (comes_first x (w ∷ (xs ++ y ∷ ys))) (is_ascending (w ∷ (xs ++ y ∷ ys))) h in
+    and_from (comes_first x (w ∷ (xs ++ ys))) (is_ascending (w ∷ (xs ++ ys))) a.0 (less_one (w ∷ xs) y ys a.1)
+
+-- ---- name after name
+
+-- what was found among the first i names
+pub record PicksSoFar (root : Elements) (keep : List (List ℕ)) (paths : List Elements) (i : ℕ) (v : View) (found : List Object) : Type 0 where
+  pub each : (o : Object) → Contains found o ↔ (IsUnused root keep v o × Contains (take i paths) (path_in root o))
+  pub ascending : is_ascending (map path_text paths) ≡ true → is_ascending (map (text_in root) found ++ map path_text (drop i paths)) ≡ true
+
+pub none_picked : (root : Elements) (keep : List (List ℕ)) (paths : List Elements) (v : View) (found : List Object) → found ≡ [] → PicksSoFar root keep paths 0 v found
+none_picked root keep paths v found none = subst (PicksSoFar root keep paths 0 v) (sym none) (record {
+  each = λ o. (λ has. absurd (in_none o has), λ both. absurd (in_none (path_in root o) both.1));
+  ascending = λ h. h;
+})
+
+module _ (root : Elements) (keep : List (List ℕ)) (paths : List Elements) (i : ℕ) (path : Elements) (v : View) (found : List Object) (low : i < length paths) (is : path ≡ get_or paths i path) (before : PicksSoFar root keep paths i v found) where
+  taken : take (i + 1) paths ≡ take i paths ++ path ∷ []
+  taken =
+      let more : i + 1 ≡ suc i = omega arith in
+      ap (λ (k : ℕ). take k paths) more ∙ take-suc paths i path low ∙ ap (λ (x : Elements). take i paths ++ x ∷ []) (sym is)
+
+  dropped : drop i paths ≡ path ∷ drop (i + 1) paths
+  dropped =
+      let more : suc i ≡ i + 1 = omega arith in
+      drop-cons paths i path low ∙ ap (λ (x : Elements). x ∷ drop (suc i) paths) (sym is) ∙ ap (λ (k : ℕ). path ∷ drop k paths) more
+
+  pub not_picked : IsUnusedAt root keep path v None → PicksSoFar root keep paths (i + 1) v found
+  not_picked none = record {
+    each = λ o. (
+      λ has. let b = (before.each o).0 has in (b.0, subst (λ (l : List Elements). Contains l (path_in root o)) (sym taken) (Contains-append_left (take i paths) (path ∷ []) (path_in root o) b.1)),
+      λ both. elim (Contains-push_cases (take i paths) path (path_in root o) (subst (λ (l : List Elements). Contains l (path_in root o)) taken both.1)) [
+        | inl earlier ↦ (before.each o).1 (both.0, earlier)
+        | inr same ↦ absurd (none o same both.0)
+      ],
+    );
+    ascending = λ h. less_one (map (text_in root) found) (path_text path) (map path_text (drop (i + 1) paths)) (subst (λ (l : List Elements). is_ascending (map (text_in root) found ++ map path_text l) ≡ true) dropped (before.ascending h));
+  }
+
+  module _ (o : Object) (unused : IsUnusedAt root keep path v (Some o)) {found' : List Object} (pushed : found' ≡ found ++ o ∷ []) where
+    picked_list : PicksSoFar root keep paths (i + 1) v (found ++ o ∷ [])
+    picked_list = record {
+      each = λ p. (
+        λ has. elim (Contains-push_cases found o p has) [
+          | inl earlier ↦ let b = (before.each p).0 earlier in (b.0, subst (λ (l : List Elements). Contains l (path_in root p)) (sym taken) (Contains-append_left (take i paths) (path ∷ []) (path_in root p) b.1))
+          | inr same ↦ subst (λ (x : Object). IsUnused root keep v x × Contains (take (i + 1) paths) (path_in root x)) same
+              (unused.0, subst (λ (l : List Elements). Contains l (path_in root o)) (sym taken) (subst (Contains (take i paths ++ path ∷ [])) unused.1 (Contains-push (take i paths) path)))
+        ],
+        λ both. elim (Contains-push_cases (take i paths) path (path_in root p) (subst (λ (l : List Elements). Contains l (path_in root p)) taken both.1)) [
+          | inl earlier ↦ Contains-append_left found (o ∷ []) p ((before.each p).1 (both.0, earlier))
+          | inr same ↦
+              let one = one_name root o.0 p.0 o.1 p.1 unused.0.digits both.0.digits (sym unused.1 ∙ same) in
+              let object : o ≡ p = (λ j. (one.0 j, one.1 j)) in
+              subst (Contains (found ++ o ∷ [])) object (Contains-push found o)
+        ],
+      );
+      ascending = λ h.
+          let text : path_text path ≡ text_in root o = ap path_text unused.1 in
+          let all : map (text_in root) found ++ map path_text (drop i paths) ≡ map (text_in root) (found ++ o ∷ []) ++ map path_text (drop (i + 1) paths) =
+          ap (λ (l : List Elements). map (text_in root) found ++ map path_text l) dropped
+          ∙ ap (λ (t : List ℕ). map (text_in root) found ++ (t ∷ map path_text (drop (i + 1) paths))) text
+          ∙ sym (append_assoc (map (text_in root) found) (text_in root o ∷ []) (map path_text (drop (i + 1) paths)))
+          ∙ ap (λ (l : List (List ℕ)). l ++ map path_text (drop (i + 1) paths)) (sym (map-append (text_in root) found (o ∷ []))) in
+          subst (λ (l : List (List ℕ)). is_ascending l ≡ true) all (before.ascending h);
+    }
+
+    pub picked_one : PicksSoFar root keep paths (i + 1) v found'
+    picked_one = subst (PicksSoFar root keep paths (i + 1) v) (sym pushed) picked_list
+
+pub next_picked : (root : Elements) (keep : List (List ℕ)) (paths : List Elements) (i : ℕ) (path : Elements) (v : View) (found : List Object) → i < length paths → path ≡ get_or paths i path → PicksSoFar root keep paths i v found
+    → (o : Option Object) {found' : List Object} → found' ≡ with_found found o → IsUnusedAt root keep path v o → PicksSoFar root keep paths (i + 1) v found'
+next_picked root keep paths i path v found low is before None pushed none = subst (PicksSoFar root keep paths (i + 1) v) (sym pushed) (not_picked root keep paths i path v found low is before none)
+next_picked root keep paths i path v found low is before (Some o) pushed unused = picked_one root keep paths i path v found low is before o unused pushed
+
+pub all_picked : (root : Elements) (keep : List (List ℕ)) (paths : List Elements) (i : ℕ) (v : View) (found : List Object) → length paths ≡ i → PicksSoFar root keep paths i v found → PicksUnused root keep paths v found
+all_picked root keep paths i v found is so_far = record {
+  each = λ o. subst (λ (l : List Elements). Contains found o ↔ (IsUnused root keep v o × Contains l (path_in root o))) (ap (λ (k : ℕ). take k paths) (sym is) ∙ take-length paths) (so_far.each o);
+  ascending = λ h. subst (λ (l : List (List ℕ)). is_ascending l ≡ true) (ap (λ (l : List Elements). map (text_in root) found ++ map path_text l) (drop_all i paths (omega (arith, is))) ∙ append-nil (map (text_in root) found)) (so_far.ascending h);
+}
+
+-- ---- all names
+
+pub none_gone : (kind : ObjKind) → is_some (object_at kind gone) ≡ false
+none_gone kinds.Commit = refl
+none_gone kinds.DirTree = refl
+none_gone kinds.DirMeta = refl
+none_gone kinds.File = refl
+
+none_folder : (kind : ObjKind) → is_some (object_at kind folder) ≡ false
+none_folder kinds.Commit = refl
+none_folder kinds.DirTree = refl
+none_folder kinds.DirMeta = refl
+none_folder kinds.File = refl
+
+leaf_of : (v : View) (kind : ObjKind) (e : Slot) → is_some (object_at kind (spot_of v.files e)) ≡ true → IsLeaf e
+leaf_of v kind absent there = both_ways (is_some (object_at kind gone)) (none_gone kind) there
+leaf_of v kind dir there = both_ways (is_some (object_at kind folder)) (none_folder kind) there
+leaf_of v kind (file id) there = tt
+leaf_of v kind (link text) there = tt
+
+-- where an object is there, a file or link has its name
+object_leaf : (root : Elements) (d : List ℕ) (kind : ObjKind) (v : View) → IsTree v → is_some (store root (shows v) d kind) ≡ true → IsLeaf (v.names (object_path root d kind))
+object_leaf root d kind v tree there = leaf_of v kind (v.names (object_path root d kind)) (ap (λ (e : Slot). is_some (object_at kind (spot_of v.files e))) (sym (at_tree v tree (object_path root d kind))) ∙ there)
+
+pub all_unused : (root : Elements) (keep : List (List ℕ)) (paths : List Elements) (v : View) (found : List Object) → IsTree v → ListsNames root v paths → PicksUnused root keep paths v found → ListsUnused root keep v found
+all_unused root keep paths v found tree names picks = record {
+  each = λ o. (
+    λ has. ((picks.each o).0 has).0,
+    λ is. (picks.each o).1 (is, (names.leaves.each (path_in root o)).1 (inr (inl refl), object_leaf root o.0 o.1 v tree is.there)),
+  );
+  ascending = picks.ascending names.ascending;
+}
+
+-- ---- over the moments
+
+if_ok_to : {T E : Type 0} {P Q : T → Type 0} (r : Result T E) → ((t : T) → P t → Q t) → IfOk r P → IfOk r Q
+if_ok_to (Ok t) step is = step t is
+if_ok_to (Err e) step is = is
+
+pub found_all : {T : Type 0} {a b c : Option Moments} (d : Option Moments) {root : Elements} {keep : List (List ℕ)} {has : List ℕ → Bool} {paths l : List Elements} (items : T → List Object) (r : Result T HostEnd) → l ≡ paths
+    → IsTold a → IsTold b → IsTold c → Unchanged a b → AtEnd (λ u w. AreUsedTexts root keep u has) a b → Unchanged b c → AtEnd (λ u w. ListsNames root u paths) b c
+    → IfOk r (λ t. AtEnd (λ u w. AreUsedTexts root keep u has → PicksUnused root keep l u (items t)) c d) → IfOk r (λ t. AtEnd (λ u w. ListsUnused root keep u (items t)) a d)
+found_all {a = a} {c = c} d {root = root} {keep = keep} {has = has} {paths = paths} {l = l} items r same_paths told between before still used again names picks =
+    let known : AtEnd (λ u w. (w ≡ u) × (AreUsedTexts root keep u has × ListsNames root u paths)) a c =
+    ends_on (ends_both (ends_looks between again) names) (ends_both (ends_looks told still) used) between
+    (λ u v w tree q s. (s.0.0 ∙ q.0.0, (q.1, subst (λ (x : View). ListsNames root x paths) q.0.0 s.1))) in
+    if_ok_to r (λ t picked. ends_on picked known before
+    (λ u v w tree q p. all_unused root keep l u (items t) (subst IsTree q.0 tree) (subst (λ (x : List Elements). ListsNames root u x) (sym same_paths) q.1.1) (subst (λ (x : View). AreUsedTexts root keep x has → PicksUnused root keep l x (items t)) q.0 p q.1.0))) picks

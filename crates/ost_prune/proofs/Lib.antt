@@ -1,0 +1,4 @@
+mod Used
+mod Found
+mod Removed
+mod Pruned

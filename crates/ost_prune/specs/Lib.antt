@@ -1,0 +1,4 @@
+pub mod Prune
+pub mod Texts
+pub mod Finding
+pub mod Removing

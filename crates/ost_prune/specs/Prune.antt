@@ -1,0 +1,61 @@
+-- Objects that no commit uses, and a store from which they are taken away.
+use Rattle.std.specs.Prelude.{◌≡◌, ◌↔◌, ℕ, List, length, map, true, is_some, None, Contains}
+use Rattle.fp_host.specs.Paths.{Elements, Slot, absent, path_text}
+use Rattle.fp_host.specs.View.{View}
+use Rattle.fp_host.specs.Outcome.{Spot, gone, shows}
+use Rattle.fp_host.specs.Frame.{Keeps, NoPath}
+use Rattle.fp_host.specs.Reads.{is_ascending}
+use Rattle.fp_name.specs.Hex.{is_digest}
+use Rattle.fp_base.specs.declared.object.ObjKind.{ObjKind}
+use Rattle.ost_model.specs.Objects.{object_path, store}
+use Rattle.ost_model.specs.Order.{first_fault}
+use Rattle.ost_model.specs.Used.{IsUsed}
+use Rattle.ost_store.specs.Names.{CanList}
+
+-- the path of the object in the store at root, and its text
+abbrev pub path_in : Elements → List ℕ × ObjKind → Elements
+path_in root object = object_path root object.0 object.1
+
+abbrev pub text_in : Elements → List ℕ × ObjKind → List ℕ
+text_in root object = path_text (path_in root object)
+
+-- the object is there, and no commit to keep uses it
+pub record IsUnused (root : Elements) (keep : List (List ℕ)) (v : View) (object : List ℕ × ObjKind) : Type 0 where
+  pub digits : is_digest object.0 ≡ true
+  pub there : is_some (store root (shows v) object.0 object.1) ≡ true
+  pub unused : IsUsed (store root (shows v)) keep object → ⊥
+
+-- the path is the name of such an object
+pub record IsUnusedName (root : Elements) (keep : List (List ℕ)) (v : View) (q : Elements) : Type 0 where
+  pub object : List ℕ × ObjKind
+  pub unused : IsUnused root keep v object
+  pub name : q ≡ path_in root object
+
+-- a stop may leave nothing there
+abbrev pub PrunesAt : Elements → List (List ℕ) → View → Elements → Spot → Type 0
+PrunesAt root keep u q spot = IsUnusedName root keep u q × (spot ≡ gone)
+
+-- and the name may come to be absent
+abbrev pub PrunesName : Elements → List (List ℕ) → View → Elements → Slot → Type 0
+PrunesName root keep u q e = IsUnusedName root keep u q × (e ≡ absent)
+
+-- The names of objects that no commit to keep uses may go, and nothing else changes.
+pub record Prunes (root : Elements) (keep : List (List ℕ)) (u w : View) : Type 0 where
+  pub keeps : Keeps (PrunesAt root keep u) (PrunesName root keep u) NoPath u w
+
+-- these are the objects that no commit to keep uses, each once, ascending by the texts of their paths
+pub record ListsUnused (root : Elements) (keep : List (List ℕ)) (v : View) (objects : List (List ℕ × ObjKind)) : Type 0 where
+  pub each : (object : List ℕ × ObjKind) → Contains objects object ↔ IsUnused root keep v object
+  pub ascending : is_ascending (map (text_in root) objects) ≡ true
+
+-- So many objects were there that no commit to keep uses, and they are gone.
+pub record WasPruned (root : Elements) (keep : List (List ℕ)) (number : ℕ) (u w : View) : Type 0 where
+  pub objects : List (List ℕ × ObjKind)
+  pub all : ListsUnused root keep u objects
+  pub count : number ≡ length objects
+  pub gone : (object : List ℕ × ObjKind) → IsUnused root keep u object → w.names (path_in root object) ≡ absent
+
+-- where it may be done: the orders of the commits have no fault in the store, and no path below `objects` is too long
+pub record CanPrune (root : Elements) (keep : List (List ℕ)) (v : View) : Type 0 where
+  pub whole : (commit : List ℕ) → Contains keep commit → first_fault (store root (shows v)) commit ≡ None
+  pub short : CanList root v

@@ -1,0 +1,10 @@
+//! Objects that no commit uses are taken out of a store.
+#![tactic(auto)]
+
+mod finding;
+pub mod laws;
+mod pruning;
+mod removing;
+mod texts;
+
+pub use pruning::prune;
