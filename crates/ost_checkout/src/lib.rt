@@ -1,0 +1,12 @@
+//! A commit is laid out as a folder, from the objects of a store.
+#![tactic(auto)]
+
+mod ends;
+mod laying;
+mod listing;
+mod placing;
+mod reading;
+mod rows;
+
+pub use ends::CheckoutEnd;
+pub use laying::checkout;
