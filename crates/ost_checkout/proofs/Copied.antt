@@ -1,11 +1,10 @@
 -- What one name holds comes to another.
-use Rattle.std.proofs.Common.{◌≡◌, ◌≢◌, ◌⊎◌, inl, inr, ℕ, List, [], ◌∷◌, Bool, true, false, Option, Some, None, Result, Ok, Err, refl, sym, ◌∙◌, ap, subst}
-use Rattle.fp_host.specs.Paths.{Elements, Slot, absent, dir, file, link, at, is_link_text}
-use Rattle.fp_host.specs.View.{View, Inode, IsTree}
-use Rattle.fp_host.specs.Calls.{Can, HasFolder, IsFile, IsLeaf, makes_link, links, Step}
-use Rattle.fp_host.specs.Outcome.{Spot, points, Disk, Leaves, shows, spot_of}
-use Rattle.fp_host.specs.Frame.{Keeps, AtEnd, NoPath}
-use Rattle.fp_host.specs.Moments.{Moments, Goes, Makes, Always}
+use Rattle.std.proofs.Common.{◌≡◌, ◌≢◌, ◌⊎◌, inl, inr, ℕ, List, Option, Result, Ok, Err, refl, sym, ◌∙◌, ap, subst}
+use Rattle.fp_host.specs.Paths.{Elements, Slot, absent, dir, file, link, is_link_text}
+use Rattle.fp_host.specs.View.{View, IsTree}
+use Rattle.fp_host.specs.Calls.{Can, IsFile, IsLeaf, makes_link, links, Step}
+use Rattle.fp_host.specs.Outcome.{Spot, points, shows, spot_of}
+use Rattle.fp_host.specs.Moments.{Moments, Makes, Always}
 use Rattle.fp_host.specs.Reads.{StatOf, LinkOf, IsStat}
 use Rattle.fp_host.specs.declared.host.HostError.{HostError}
 use Rattle.fp_host.specs.declared.host.HostError.TheVariants.{Clash}
@@ -18,7 +17,7 @@ use Rattle.fp_host.proofs.Follow.{called}
 use Rattle.fp_host.proofs.Framed.{IsTold, keeps_same, keeps_call, given_left}
 use Rattle.fp_host.proofs.Goes.{stays, begins, goes_on, makes_goes}
 use Rattle.ost_checkout.specs.Checkout.{MayBeLeft}
-use Rattle.ost_checkout.specs.Placing.{CopiesAt, CopiesName, Copies, WasCopied, CanCopyLink, CanCopyObject}
+use Rattle.ost_checkout.specs.Placing.{Copies, WasCopied, CanCopyLink, CanCopyObject}
 
 -- what stands is what some stop leaves
 pub shown_left : (v : View) (p : Elements) (spot : Spot) → shows v p ≡ spot → MayBeLeft v p spot

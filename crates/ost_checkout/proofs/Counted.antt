@@ -1,5 +1,5 @@
 -- How many rows a commit has, against the objects of its order.
-use Rattle.std.proofs.Common.{◌≡◌, ◌⊎◌, inl, inr, ◌<◌, ◌≤◌, ◌+◌, ◌-◌, ℕ, zero, suc, Bool, true, false, leb, List, [], ◌∷◌, ◌++◌, map, drop, get_or, length, Option, Some, None, if◌then◌else◌, refl, sym, ◌∙◌, ap, subst, arith, append_assoc, append-nil, length-append}
+use Rattle.std.proofs.Common.{◌≡◌, ◌⊎◌, inl, inr, ◌<◌, ◌≤◌, ◌+◌, ◌-◌, ℕ, suc, Bool, true, false, leb, List, [], ◌∷◌, ◌++◌, map, drop, length, Option, Some, None, if◌then◌else◌, refl, sym, ◌∙◌, ap, subst, arith, append_assoc, append-nil, length-append}
 use Rattle.std.proofs.Math.Seq.{drop-cons}
 use Rattle.std.proofs.lemmas.Bool.{leb-false}
 use Rattle.std.proofs.lemmas.List.{length-map, drop-append-le}
@@ -8,7 +8,7 @@ use Rattle.fp_base.specs.declared.object.ObjKind.TheVariants as kinds
 use Rattle.ost_model.specs.Fields.{FileRow, DirRow, CommitView, TreeView}
 use Rattle.ost_model.specs.Objects.{Have, Fault, too_many, too_deep, object_fault}
 use Rattle.ost_model.specs.Order.{Place, In, order, commit_place, below_commit, commit_at, tree_at, file_places, first_of, first_fault, place_fault, found_at}
-use Rattle.ost_model.specs.Walk.{Open, open_at, open_places, open_tree, open_meta, opened, own_places, pending, heads}
+use Rattle.ost_model.specs.Walk.{Open, open_at, open_places, open_tree, opened, own_places, pending}
 use Rattle.ost_model.proofs.Pending.{with_heads, as_read}
 use Rattle.ost_model.proofs.Places.{in_left, in_right, faultless, found_none, or_none}
 use Rattle.ost_checkout.specs.declared.rows.Row.{Row}

@@ -1,12 +1,11 @@
 -- Rows that are added one by one.
-use Rattle.std.proofs.Common.{◌≡◌, inl, inr, ◌<◌, ◌+◌, ℕ, suc, Bool, true, List, [], ◌∷◌, ◌++◌, map, take, get_or, length, refl, sym, ◌∙◌, ap, subst, Contains, arith, append_assoc}
+use Rattle.std.proofs.Common.{◌≡◌, inl, inr, ◌<◌, ◌+◌, ℕ, suc, Bool, true, List, [], ◌∷◌, ◌++◌, map, take, get_or, length, sym, ◌∙◌, ap, subst, Contains, arith, append_assoc}
 use Rattle.std.specs.List.{list_all}
 use Rattle.std.proofs.Math.Seq.{take-suc, take-length}
 use Rattle.std.proofs.lemmas.Bool.{and_parts}
 use Rattle.std.proofs.lemmas.List.{map-append}
 use Rattle.std.proofs.lemmas.List.Elements.{Contains-get_or}
-use Rattle.fp_host.specs.Paths.{Elements, is_element}
-use Rattle.ost_model.specs.Fields.{FileRow, DirRow}
+use Rattle.fp_host.specs.Paths.{is_element}
 use Rattle.ost_model.specs.Readers.{file_name, dir_name}
 use Rattle.ost_object.specs.declared.dirtree.FileEntry.{FileEntry}
 use Rattle.ost_object.specs.declared.dirtree.DirEntry.{DirEntry}

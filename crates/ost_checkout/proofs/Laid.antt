@@ -1,15 +1,14 @@
 -- A commit that is laid out.
-use Rattle.std.proofs.Common.{◌≡◌, ◌≢◌, ◌⊎◌, inl, inr, ℕ, Bool, true, false, ◌||◌, List, [], ◌∷◌, ◌++◌, map, length, Option, Some, None, Result, refl, sym, ◌∙◌, ap, subst, Contains}
+use Rattle.std.proofs.Common.{◌≡◌, ◌⊎◌, inl, inr, ℕ, true, false, ◌||◌, List, [], ◌∷◌, ◌++◌, Option, Some, None, refl, sym, ◌∙◌, ap, subst, Contains}
 use Rattle.std.specs.Prelude.{is_some, codes}
 use Rattle.std.specs.List.{list_any}
 use Rattle.std.proofs.lemmas.Bool.{cases_Bool, both_ways}
 use Rattle.std.proofs.lemmas.List.{append_cancel_right}
-use Rattle.fp_host.specs.Paths.{Elements, Slot, absent, dir, file, link, path_eq, IsAbove}
-use Rattle.fp_host.specs.View.{View, Inode, IsTree}
-use Rattle.fp_host.specs.Calls.{HasFolder}
-use Rattle.fp_host.specs.Outcome.{Spot, gone, folder, shows, spot_of}
+use Rattle.fp_host.specs.Paths.{Elements, Slot, absent, dir, path_eq, IsAbove}
+use Rattle.fp_host.specs.View.{View, IsTree}
+use Rattle.fp_host.specs.Outcome.{Spot, Disk, Leaves, shows, spot_of}
 use Rattle.fp_host.specs.Frame.{Keeps, AtEnd, Unchanged, NoPath}
-use Rattle.fp_host.specs.Moments.{Moments, Goes, Always}
+use Rattle.fp_host.specs.Moments.{Moments, Always}
 use Rattle.fp_host.proofs.Separate.{path_decides}
 use Rattle.fp_host.proofs.Settled.{at_tree}
 use Rattle.fp_host.proofs.Framed.{IsTold, keeps_same, keeps_to}
@@ -19,7 +18,7 @@ use Rattle.fp_small.specs.Clear.{IsWithin}
 use Rattle.fp_base.specs.declared.object.ObjKind.{ObjKind}
 use Rattle.fp_base.specs.declared.object.ObjKind.TheVariants as kinds
 use Rattle.ost_model.specs.Objects.{Have, object_path, object_at, object_fault, store}
-use Rattle.ost_model.specs.Order.{Place, In, order, first_fault}
+use Rattle.ost_model.specs.Order.{order}
 use Rattle.ost_model.specs.Look.{Found, nothing, directory, file_at, look}
 use Rattle.ost_model.specs.Standing.{expected, deploy_name}
 use Rattle.ost_model.proofs.Places.{faultless}
@@ -29,11 +28,11 @@ use Rattle.ost_store.proofs.Staying.{shown_stays}
 use Rattle.ost_checkout.specs.declared.rows.Row.{Row}
 use Rattle.ost_checkout.specs.declared.rows.Entry.{Entry}
 use Rattle.ost_checkout.specs.declared.rows.Entry.TheVariants as entries
-use Rattle.ost_checkout.specs.Checkout.{SpotOf, SlotOf, MayBeLeft, ChecksOutAt, ChecksOutName, IsApart, ChecksOut, IsCheckedOut, WasCheckedOut, HasReserved, CanCheckOut}
+use Rattle.ost_checkout.specs.Checkout.{SpotOf, SlotOf, ChecksOutAt, ChecksOutName, IsApart, ChecksOut, IsCheckedOut, WasCheckedOut, HasReserved, CanCheckOut}
 use Rattle.ost_model.specs.declared.object.Object.{Object}
-use Rattle.ost_checkout.specs.Rows.{path_of, paths_of, IsFoundAs, IsRowOf, IsLadder, AreRows}
+use Rattle.ost_checkout.specs.Rows.{path_of, paths_of, IsFoundAs, IsLadder, AreRows}
 use Rattle.ost_checkout.specs.Listing.{HasRows}
-use Rattle.ost_checkout.specs.Placing.{EntrySpot, EntrySlot, EntryThere, IsRowAt, IsRowName, Fits, PutsRows, WasPut, WerePut, CanPutRows}
+use Rattle.ost_checkout.specs.Placing.{EntrySpot, EntrySlot, EntryThere, IsRowAt, IsRowName, Fits, PutsRows, WerePut, CanPutRows}
 
 -- ---- rows are what is found
 
@@ -250,3 +249,14 @@ checked_out {root = root} {commit = commit} {to = to} {rows = rows} p named off 
       whole = λ apart. laid_out (subst IsTree q.0.0 tree) s.0 apart q.1 (subst (λ (x : View). PutsRows root rows x w) q.0.0 s.1.0) (subst (λ (x : View). Fits root rows → WerePut root rows x w) q.0.0 s.1.1);
       no_deploy = not_reserved root u p named q.1 off;
     })
+
+-- ---- outside the folder
+
+pub outside_name : {root : Elements} {commit : List ℕ} {to : Elements} {u w : View} (q : Elements) → IsApart root to → ChecksOut root commit to u w → (IsWithin to q → ⊥) → w.names q ≡ u.names q
+outside_name {to = to} q apart out off = elim ((out.keeps apart).names q) [ inl same ↦ same | inr put ↦ absurd (off (subst (IsWithin to) (sym put.at) (below put.rest to))) ]
+
+pub outside_stop : {root : Elements} {commit : List ℕ} {to : Elements} {u w : View} → IsApart root to → ChecksOut root commit to u w → (disk : Disk) → Leaves w disk
+    → (before : Disk) × Leaves u before × ((q : Elements) → (IsWithin to q → ⊥) → disk q ≡ before q)
+outside_stop {to = to} apart out disk left =
+    let b = (out.keeps apart).follows.from disk left in
+    (b.0, b.1, λ q off. elim (b.2 q) [ inl same ↦ same | inr given ↦ absurd (off (subst (IsWithin to) (sym given.at) (below given.rest to))) ])

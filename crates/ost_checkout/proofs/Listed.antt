@@ -1,22 +1,21 @@
 -- The paths of a commit, directory by directory.
-use Rattle.std.proofs.Common.{◌≡◌, ◌≢◌, ◌⊎◌, inl, inr, ◌<◌, ◌≤◌, ◌+◌, ℕ, zero, suc, List, [], ◌∷◌, ◌++◌, map, take, drop, get_or, length, Option, Some, None, refl, sym, ◌∙◌, ap, subst, Contains, arith, append_assoc, append-nil, length-append}
+use Rattle.std.proofs.Common.{◌≡◌, ◌⊎◌, inl, inr, ◌<◌, ◌+◌, ℕ, zero, suc, List, [], ◌∷◌, ◌++◌, map, take, length, Some, refl, sym, ◌∙◌, ap, subst, Contains, arith, append_assoc, append-nil, length-append}
 use Rattle.std.proofs.Math.Seq.{take-suc, take-length}
 use Rattle.std.proofs.lemmas.List.{map-append, append_cancel_right, take-append-le}
 use Rattle.std.proofs.lemmas.List.Elements.{Contains-append_cases, Contains-append_left, Contains-append_right, Contains-push, Contains-push_cases, Contains-get_or}
 use Rattle.fp_host.specs.Paths.{Elements}
-use Rattle.fp_host.specs.View.{View}
 use Rattle.fp_base.specs.declared.object.ObjKind.TheVariants as kinds
 use Rattle.ost_model.specs.Fields.{FileRow, DirRow, TreeView}
 use Rattle.ost_model.specs.Objects.{Have}
 use Rattle.ost_model.specs.Order.{tree_at}
 use Rattle.ost_model.specs.Look.{Found, nothing, directory, file_at, entry_in, next, look}
-use Rattle.ost_store.proofs.Lists.{in_none, in_cases, in_first, in_rest, in_one, in_map, from_map}
+use Rattle.ost_store.proofs.Lists.{in_none, in_first, in_rest, in_one, in_map, from_map}
 use Rattle.ost_checkout.specs.declared.rows.Row.{Row}
 use Rattle.ost_checkout.specs.declared.rows.Entry.{Entry}
 use Rattle.ost_checkout.specs.declared.rows.Entry.TheVariants as entries
 use Rattle.ost_checkout.specs.Rows.{row_of_file, row_of_dir, rows_in, path_of, paths_of, IsDir, IsFoundAs, IsRowOf, HasParent, AreSteps, IsLadder, AreRows}
 use Rattle.ost_checkout.specs.Listing.{IsAt}
-use Rattle.ost_checkout.proofs.Names.{HasNames, AreDifferent, in_folder, tree_names, inner_paths, inner_differ, child_dir, child_file, child_path}
+use Rattle.ost_checkout.proofs.Names.{HasNames, AreDifferent, tree_names, inner_differ, child_dir, child_file, child_path}
 
 -- ---- rows that stand one in another
 

@@ -1,12 +1,11 @@
 -- The names in a dirtree that reads.
-use Rattle.std.proofs.Common.{◌≡◌, ◌≢◌, ◌⊎◌, inl, inr, ℕ, Bool, true, false, ◌&&◌, ◌||◌, List, [], ◌∷◌, ◌++◌, map, Option, Some, None, Result, Ok, Err, refl, sym, ◌∙◌, ap, subst, Contains}
-use Rattle.std.specs.Prelude.{if◌then◌else◌, option_and_then, not}
+use Rattle.std.proofs.Common.{◌≡◌, inl, inr, ℕ, Bool, true, false, ◌&&◌, ◌||◌, List, [], ◌∷◌, ◌++◌, map, Option, Some, None, Result, Ok, Err, refl, sym, ◌∙◌, ap, subst, Contains}
+use Rattle.std.specs.Prelude.{option_and_then, not}
 use Rattle.std.specs.List.{list_all, list_any}
 use Rattle.std.specs.Str.{bytes_eq}
 use Rattle.std.proofs.lemmas.Bool.{and_parts, cases_Bool, both_ways, cond-true, cond-false, false_from_ne_true}
 use Rattle.std.proofs.lemmas.List.{map-append}
 use Rattle.std.proofs.lemmas.List.Elements.{Contains-append_cases, Contains-append_left, Contains-append_right}
-use Rattle.std.proofs.lemmas.Slice.Eq.{bytes_eq-Decides}
 use Rattle.fp_host.specs.Paths.{Elements, is_element}
 use Rattle.fp_host.specs.Reads.{comes_first, is_ascending}
 use Rattle.fp_small.specs.Order.{comes_before}
@@ -20,9 +19,8 @@ use Rattle.ost_model.specs.Types.{tree_shape}
 use Rattle.ost_model.specs.Fields.{FileRow, DirRow, TreeView, tree_in}
 use Rattle.ost_model.specs.Readers.{first_broken, file_name, dir_name, file_names, dir_names, has_long, has_both_long, name_tests, shares, tree_breaks, tree_of, tree_read, judged, kept, if_read}
 use Rattle.ost_model.specs.Order.{read_as}
-use Rattle.ost_model.specs.Look.{Found, nothing, directory, file_at, find_dir, find_file, either, entry_in}
+use Rattle.ost_model.specs.Look.{nothing, directory, file_at, find_dir, find_file, either, entry_in}
 use Rattle.ost_store.proofs.Lists.{in_none, in_cases, in_first, in_rest, in_map, from_map}
-use Rattle.ost_checkout.specs.declared.rows.Row.{Row}
 use Rattle.ost_checkout.specs.Reading.{HasGoodNames}
 use Rattle.ost_checkout.specs.Rows.{row_of_file, row_of_dir, rows_in, path_of, paths_of}
 

@@ -1,10 +1,10 @@
 -- Rows that come to their paths.
-use Rattle.std.proofs.Common.{◌≡◌, ◌≢◌, ◌⊎◌, inl, inr, ◌<◌, ◌+◌, ℕ, suc, List, [], ◌∷◌, ◌++◌, map, take, drop, length, true, Option, Some, None, Result, Ok, Err, refl, sym, ◌∙◌, ap, subst, Contains, arith}
+use Rattle.std.proofs.Common.{◌≡◌, inl, inr, ◌<◌, ◌+◌, ℕ, List, [], ◌∷◌, take, drop, length, true, Option, Result, Ok, sym, ◌∙◌, ap, subst, Contains}
 use Rattle.std.specs.Prelude.{is_some}
 use Rattle.std.proofs.lemmas.List.{take-append-drop}
 use Rattle.std.proofs.lemmas.List.Elements.{Contains-append_left, Contains-push, Contains-push_cases}
 use Rattle.fp_host.specs.Paths.{Elements, Slot, absent, dir, file, link}
-use Rattle.fp_host.specs.View.{View, Inode, IsTree}
+use Rattle.fp_host.specs.View.{View, IsTree}
 use Rattle.fp_host.specs.Calls.{HasFolder, IsLeaf, makes_dir, Step}
 use Rattle.fp_host.specs.Outcome.{Spot, spot_of, shows}
 use Rattle.fp_host.proofs.Settled.{at_tree}

@@ -1,5 +1,5 @@
 -- Metadata objects that are read.
-use Rattle.std.proofs.Common.{◌≡◌, inl, inr, ◌*◌, ℕ, Bool, true, false, leb, List, length, Option, Some, None, Result, Ok, Err, if◌then◌else◌, refl, sym, ◌∙◌, ap, subst}
+use Rattle.std.proofs.Common.{◌≡◌, inl, inr, ◌*◌, ℕ, Bool, true, false, leb, List, length, Option, Some, None, Result, Ok, Err, if◌then◌else◌, refl, sym, ◌∙◌, ap}
 use Rattle.std.specs.Prelude.{IfOk}
 use Rattle.std.proofs.lemmas.Bool.{cases_Bool}
 use Rattle.fp_host.specs.Paths.{Elements}
@@ -13,8 +13,8 @@ use Rattle.fp_base.specs.declared.rule.Rule.{Rule}
 use Rattle.ost_model.specs.declared.object.Object.{Object}
 use Rattle.ost_model.specs.declared.object.Object.TheVariants as objects
 use Rattle.ost_model.specs.Fields.{CommitView, TreeView}
-use Rattle.ost_model.specs.Objects.{object_path, object_fault, name_fault, kind_fault, content_fault, length_fault, mode_fault, digest_fault, rule_fault, dir_mode_fault, or_else, unless, Fault, too_long, may_be_link, store}
-use Rattle.ost_model.specs.Order.{read_as, tree_at, commit_at}
+use Rattle.ost_model.specs.Objects.{object_fault, name_fault, kind_fault, content_fault, length_fault, mode_fault, digest_fault, rule_fault, dir_mode_fault, or_else, unless, Fault, too_long, may_be_link, store}
+use Rattle.ost_model.specs.Order.{read_as, commit_at}
 use Rattle.ost_model.specs.Readers.{tree_of, tree_read, commit_of, commit_read, if_read}
 use Rattle.ost_model.proofs.Places.{or_none}
 use Rattle.ost_model.proofs.Good.{good_tree, good_commit}

@@ -1,20 +1,19 @@
 -- The rows that a directory brings.
-use Rattle.std.proofs.Common.{◌≡◌, inl, ◌<◌, ◌≤◌, ◌+◌, ℕ, suc, false, leb, List, [], ◌∷◌, ◌++◌, length, Option, Some, None, refl, sym, ◌∙◌, ap, subst, arith, length-append}
+use Rattle.std.proofs.Common.{◌≡◌, inl, ◌<◌, ◌≤◌, ◌+◌, ℕ, false, leb, List, [], ◌∷◌, length, None, refl, sym, ap, subst, arith, length-append}
 use Rattle.std.proofs.lemmas.Bool.{leb-false}
 use Rattle.fp_host.specs.Paths.{Elements}
 use Rattle.fp_host.specs.View.{View}
 use Rattle.fp_host.specs.Outcome.{shows}
-use Rattle.ost_model.specs.Objects.{Have, store}
-use Rattle.ost_model.specs.Order.{first_fault, commit_at, order}
+use Rattle.ost_model.specs.Objects.{store}
+use Rattle.ost_model.specs.Order.{first_fault, order}
 use Rattle.ost_model.specs.Look.{at_root, look}
 use Rattle.ost_model.proofs.Places.{faultless}
-use Rattle.fp_base.specs.declared.object.ObjKind.TheVariants as kinds
 use Rattle.ost_checkout.specs.declared.rows.Row.{Row}
 use Rattle.ost_checkout.specs.declared.rows.Entry.{Entry}
 use Rattle.ost_checkout.specs.declared.rows.Entry.TheVariants as entries
-use Rattle.ost_checkout.specs.Rows.{rows_in, IsFoundAs, IsRowOf}
+use Rattle.ost_checkout.specs.Rows.{rows_in, IsFoundAs}
 use Rattle.ost_checkout.specs.Reading.{HasCommit}
-use Rattle.ost_checkout.specs.Listing.{IsAt, ExpandsEntry, Expands, IsFirstRow, CanExpand, CanListRows}
+use Rattle.ost_checkout.specs.Listing.{ExpandsEntry, Expands, IsFirstRow, CanExpand, CanListRows}
 use Rattle.ost_checkout.proofs.Listed.{AreListed, first_listed, file_listed, dir_listed, row_in}
 use Rattle.ost_checkout.proofs.Counted.{AreCounted, first_counted, file_counted, dir_counted, tree_good, has_room}
 

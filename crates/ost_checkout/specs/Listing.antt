@@ -1,5 +1,5 @@
 -- The paths of a commit, found directory by directory.
-use Rattle.std.specs.Prelude.{◌≡◌, ◌≤◌, ◌+◌, ℕ, List, [], ◌∷◌, ◌++◌, length, slice_index_or, Option, Some, None}
+use Rattle.std.specs.Prelude.{◌≡◌, ◌≤◌, ◌+◌, ℕ, List, ◌++◌, length, slice_index_or, Option, Some, None}
 use Rattle.fp_host.specs.Paths.{Elements}
 use Rattle.fp_host.specs.View.{View}
 use Rattle.fp_host.specs.Outcome.{shows}

@@ -1,5 +1,5 @@
 -- The paths of a commit, as a list of rows.
-use Rattle.std.specs.Prelude.{◌≡◌, ◌⊎◌, ℕ, List, [], ◌∷◌, ◌++◌, map, Contains}
+use Rattle.std.specs.Prelude.{◌≡◌, ℕ, List, [], ◌∷◌, ◌++◌, map, Contains}
 use Rattle.fp_host.specs.Paths.{Elements}
 use Rattle.ost_model.specs.Fields.{FileRow, DirRow, TreeView}
 use Rattle.ost_model.specs.Objects.{Have}

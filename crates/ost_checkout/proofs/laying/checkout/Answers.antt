@@ -4,11 +4,10 @@ use Rattle.std.specs.List.{list_any}
 use Rattle.fp_host.specs.Paths.{path_eq}
 use Rattle.ost_checkout.specs.declared.ends.CheckoutEnd.TheVariants as ends
 use Rattle.ost_checkout.specs.Checkout.{CanCheckOut}
-use Rattle.fp_host.specs.View.{View, IsTree}
-use Rattle.fp_host.specs.Frame.{AtEnd}
+use Rattle.fp_host.specs.View.{View}
 use Rattle.fp_host.specs.declared.host.HostEnd.TheVariants as host_ends
 use Rattle.fp_host.proofs.Cause.{passed_on}
-use Rattle.fp_host.proofs.Ending.{ends_on, ends_both, ends_goes, ends_looks, ends_in_tree, ends_to}
+use Rattle.fp_host.proofs.Ending.{ends_on, ends_both, ends_looks, ends_to}
 use Rattle.fp_small.specs.Unsynced.{MakesNoFile}
 use Rattle.fp_small.proofs.Unsynced.{none_same}
 use Rattle.ost_checkout.proofs.Laid.{looked, laying, checked_out, is_reserved, can_put_rows}

@@ -1,6 +1,6 @@
 use Rattle.std.proofs.Common.{◌≡◌, ◌<◌, List, length, sym, ap, subst, arith, None}
 use Rattle.ost_checkout.specs.declared.rows.Row.{Row}
-use Rattle.fp_host.specs.View.{View, IsTree}
+use Rattle.fp_host.specs.View.{View}
 use Rattle.fp_host.specs.Outcome.{shows}
 use Rattle.fp_host.proofs.Cause.{same_fault}
 use Rattle.fp_host.proofs.Ending.{ends_on, ends_both, ends_looks, ends_to, fault_caused}
@@ -8,7 +8,7 @@ use Rattle.fp_host.proofs.Looking.{looks_within}
 use Rattle.ost_model.specs.Objects.{store}
 use Rattle.ost_model.specs.Order.{first_fault}
 use Rattle.ost_checkout.specs.Listing.{Expands, CanExpand, CanListRows}
-use Rattle.ost_checkout.proofs.Listed.{AreListed, all_listed}
+use Rattle.ost_checkout.proofs.Listed.{all_listed}
 use Rattle.ost_checkout.proofs.Counted.{AreCounted}
 use Rattle.ost_checkout.proofs.Spread.{first_told, first_count, commit_good, next_listed, next_low, next_counted, can_expand}
 use Rattle.ost_checkout.proofs.listing.list_rows.Goals as goal

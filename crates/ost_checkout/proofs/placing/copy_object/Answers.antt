@@ -1,4 +1,4 @@
-use Rattle.std.proofs.Common.{Ok, inl, inr, subst, IsErrOf}
+use Rattle.std.proofs.Common.{Ok, subst, IsErrOf}
 use Rattle.std.proofs.lemmas.Result.{on_ok_weaker}
 use Rattle.fp_host.specs.Reads.{StatOf}
 use Rattle.fp_host.specs.View.{View}

@@ -1,11 +1,10 @@
-use Rattle.std.proofs.Common.{refl, sym, subst, arith}
-use Rattle.fp_host.specs.View.{View, IsTree}
+use Rattle.std.proofs.Common.{refl, sym, arith}
+use Rattle.fp_host.specs.View.{IsTree}
 use Rattle.fp_host.proofs.Cause.{same_fault}
-use Rattle.fp_host.proofs.Goes.{goes_on}
-use Rattle.fp_host.proofs.Ending.{goes_known, ends_goes, ends_on, ends_both, ends_in_tree, ends_start, ends_to, fault_caused}
+use Rattle.fp_host.proofs.Ending.{ends_goes, ends_on, ends_both, ends_in_tree, ends_start, ends_to, fault_caused}
 use Rattle.fp_small.proofs.Unsynced.{none_on, none_same}
-use Rattle.ost_checkout.specs.Placing.{Fits, PutsRows, CanPut, CanPutRows}
-use Rattle.ost_checkout.proofs.Put.{ArePut, none_put, next_put, all_keeps, can_put, nothing_put, going_on, all_put}
+use Rattle.ost_checkout.specs.Placing.{Fits, CanPut, CanPutRows}
+use Rattle.ost_checkout.proofs.Put.{ArePut, none_put, next_put, can_put, nothing_put, going_on, all_put}
 use Rattle.ost_checkout.proofs.placing.put_rows.Goals as goal
 
 pub loop-row-init : goal.loop-row-init

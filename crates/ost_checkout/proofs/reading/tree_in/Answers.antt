@@ -1,4 +1,4 @@
-use Rattle.std.proofs.Common.{List, ℕ, ap, sym, ◌∙◌, subst}
+use Rattle.std.proofs.Common.{List, ℕ, subst}
 use Rattle.ost_model.specs.Readers.{tree_read}
 use Rattle.ost_object.specs.Answers.{Breaks}
 use Rattle.ost_object.specs.Views.{tree_view}
