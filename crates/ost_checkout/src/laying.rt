@@ -28,9 +28,12 @@ pub fn checkout<H: Host>(
 ) -> Result<(), CheckoutEnd>
     // A stop at any moment leaves in the folder some of the commit's paths, each as it is found in the commit, and all else as
     // it was.
-    ensures any_moment { Always (ChecksOut root.now commit.now to.now) (H.moments host.old) (H.moments host.new) }
-    ensures on_success { OnOk result (AtEnd (WasCheckedOut root.now commit.now to.now) (H.moments host.old) (H.moments host.new)) }
-    ensures reserved { IsErrOf result CheckoutEnd.ReservedName → AtEnd (λ u w. (w ≡ u) × HasReserved root.now commit.now u)
+    ensures any_moment { Always (ChecksOut root.now commit.now to.now)
+        (H.moments host.old) (H.moments host.new) }
+    ensures on_success { OnOk result (AtEnd (WasCheckedOut root.now commit.now to.now)
+        (H.moments host.old) (H.moments host.new)) }
+    ensures reserved { IsErrOf result CheckoutEnd.ReservedName
+        → AtEnd (λ u w. (w ≡ u) × HasReserved root.now commit.now u)
         (H.moments host.old) (H.moments host.new) }
     // What was unsettled stays so.
     ensures unsynced { AtEnd MakesNoFile (H.moments host.old) (H.moments host.new) }

@@ -37,11 +37,13 @@ fn expand_dir<H: Host>(
 ) -> Result<(), HostEnd>
     requires { length rows.old.items ≤ most_rows }
     ensures unchanged { Unchanged (H.moments host.old) (H.moments host.new) }
-    ensures grown { OnOk result (AtEnd (λ u w. ExpandsDir root.now digest.now path.now u rows.old.items rows.new.items)
+    ensures grown { OnOk result (AtEnd
+        (λ u w. ExpandsDir root.now digest.now path.now u rows.old.items rows.new.items)
         (H.moments host.old) (H.moments host.new)) }
     ensures most { OnOk result (length rows.new.items ≤ most_rows) }
     ensures fault_has_cause { IsCaused (IsErrOf result HostEnd.Fault) (H.moments host.old)
-        (CanExpandDir root.now digest.now (length rows.old.items)) (H.faults host.old) (H.faults host.new) }
+        (CanExpandDir root.now digest.now (length rows.old.items))
+        (H.faults host.old) (H.faults host.new) }
 {
     let tree = read_tree(alloc, host, root, digest)?;
     if !has_room(rows.len(), &tree) {
@@ -127,7 +129,8 @@ pub(crate) fn list_rows<H: Host>(
     to: &Path,
 ) -> Result<Vec<Row>, HostEnd>
     ensures unchanged { Unchanged (H.moments host.old) (H.moments host.new) }
-    ensures tells { IfOk result (λ rows. AtEnd (λ u w. HasRows root.now commit.now to.now u rows.items)
+    ensures tells { IfOk result (λ rows. AtEnd
+        (λ u w. HasRows root.now commit.now to.now u rows.items)
         (H.moments host.old) (H.moments host.new)) }
     ensures fault_has_cause { IsCaused (IsErrOf result HostEnd.Fault) (H.moments host.old)
         (CanListRows root.now commit.now) (H.faults host.old) (H.faults host.new) }

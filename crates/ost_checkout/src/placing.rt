@@ -18,7 +18,8 @@ use std::alloc::Global;
 /// Makes a link of the same text.
 fn copy_link<H: Host>(alloc: Global, host: &mut H, from: &Path, to: &Path) -> Result<(), HostEnd>
     ensures any_moment { Always (Copies from.now to.now) (H.moments host.old) (H.moments host.new) }
-    ensures on_success { OnOk result (AtEnd (WasCopied from.now to.now) (H.moments host.old) (H.moments host.new)) }
+    ensures on_success { OnOk result (AtEnd (WasCopied from.now to.now)
+        (H.moments host.old) (H.moments host.new)) }
     ensures unsynced { AtEnd MakesNoFile (H.moments host.old) (H.moments host.new) }
     ensures fault_has_cause { IsCaused (IsErrOf result HostEnd.Fault) (H.moments host.old)
         (CanCopyLink from.now to.now) (H.faults host.old) (H.faults host.new) }
@@ -30,7 +31,8 @@ fn copy_link<H: Host>(alloc: Global, host: &mut H, from: &Path, to: &Path) -> Re
 /// Gives the file a second name, or makes a link of the same text.
 fn copy_object<H: Host>(alloc: Global, host: &mut H, from: &Path, to: &Path) -> Result<(), HostEnd>
     ensures any_moment { Always (Copies from.now to.now) (H.moments host.old) (H.moments host.new) }
-    ensures on_success { OnOk result (AtEnd (WasCopied from.now to.now) (H.moments host.old) (H.moments host.new)) }
+    ensures on_success { OnOk result (AtEnd (WasCopied from.now to.now)
+        (H.moments host.old) (H.moments host.new)) }
     ensures unsynced { AtEnd MakesNoFile (H.moments host.old) (H.moments host.new) }
     ensures fault_has_cause { IsCaused (IsErrOf result HostEnd.Fault) (H.moments host.old)
         (CanCopyObject from.now to.now) (H.faults host.old) (H.faults host.new) }
@@ -56,7 +58,8 @@ fn put_object<H: Host>(
         (H.moments host.old) (H.moments host.new)) }
     ensures unsynced { AtEnd MakesNoFile (H.moments host.old) (H.moments host.new) }
     ensures fault_has_cause { IsCaused (IsErrOf result HostEnd.Fault) (H.moments host.old)
-        (CanCopyObject (object_path root.now digest.now kinds.File) path.now) (H.faults host.old) (H.faults host.new) }
+        (CanCopyObject (object_path root.now digest.now kinds.File) path.now)
+        (H.faults host.old) (H.faults host.new) }
 {
     let object = path_of(alloc, root, digest, ObjKind::File)?;
     copy_object(alloc, host, &object, path)
@@ -64,8 +67,10 @@ fn put_object<H: Host>(
 
 /// Puts what the row says at its path.
 fn put_row<H: Host>(alloc: Global, host: &mut H, root: &Path, row: &Row) -> Result<(), HostEnd>
-    ensures any_moment { Always (PutsRow root.now row.now) (H.moments host.old) (H.moments host.new) }
-    ensures on_success { OnOk result (AtEnd (WasPut root.now row.now) (H.moments host.old) (H.moments host.new)) }
+    ensures any_moment { Always (PutsRow root.now row.now)
+        (H.moments host.old) (H.moments host.new) }
+    ensures on_success { OnOk result (AtEnd (WasPut root.now row.now)
+        (H.moments host.old) (H.moments host.new)) }
     ensures unsynced { AtEnd MakesNoFile (H.moments host.old) (H.moments host.new) }
     ensures fault_has_cause { IsCaused (IsErrOf result HostEnd.Fault) (H.moments host.old)
         (CanPut root.now row.now) (H.faults host.old) (H.faults host.new) }
@@ -83,8 +88,10 @@ pub(crate) fn put_rows<H: Host>(
     root: &Path,
     rows: &[Row],
 ) -> Result<(), HostEnd>
-    ensures any_moment { Always (PutsRows root.now rows.now) (H.moments host.old) (H.moments host.new) }
-    ensures on_success { OnOk result (AtEnd (λ u w. Fits root.now rows.now → WerePut root.now rows.now u w)
+    ensures any_moment { Always (PutsRows root.now rows.now)
+        (H.moments host.old) (H.moments host.new) }
+    ensures on_success { OnOk result (AtEnd
+        (λ u w. Fits root.now rows.now → WerePut root.now rows.now u w)
         (H.moments host.old) (H.moments host.new)) }
     ensures unsynced { AtEnd MakesNoFile (H.moments host.old) (H.moments host.new) }
     ensures fault_has_cause { IsCaused (IsErrOf result HostEnd.Fault) (H.moments host.old)

@@ -47,7 +47,8 @@ pub(crate) fn read_tree<H: Host>(
     digest: &Digest,
 ) -> Result<DirTree, HostEnd>
     ensures unchanged { Unchanged (H.moments host.old) (H.moments host.new) }
-    ensures tells { IfOk result (λ tree. AtEnd (λ u w. IsTree root.now digest.now u (tree_view tree))
+    ensures tells { IfOk result (λ tree. AtEnd
+        (λ u w. IsTree root.now digest.now u (tree_view tree))
         (H.moments host.old) (H.moments host.new)) }
     // So on every host.
     ensures names { IfOk result (λ tree. HasGoodNames (tree_view tree)) }
@@ -79,7 +80,8 @@ pub(crate) fn read_root<H: Host>(
     commit: &Digest,
 ) -> Result<CommitRoot, HostEnd>
     ensures unchanged { Unchanged (H.moments host.old) (H.moments host.new) }
-    ensures tells { IfOk result (λ found. AtEnd (λ u w. IsRoot root.now commit.now u (root_view found))
+    ensures tells { IfOk result (λ found. AtEnd
+        (λ u w. IsRoot root.now commit.now u (root_view found))
         (H.moments host.old) (H.moments host.new)) }
     ensures fault_has_cause { IsCaused (IsErrOf result HostEnd.Fault) (H.moments host.old)
         (HasCommit root.now commit.now) (H.faults host.old) (H.faults host.new) }
