@@ -1,0 +1,5 @@
+mod Judged
+mod Fetched
+mod Stored
+mod Loaded
+mod Pulled

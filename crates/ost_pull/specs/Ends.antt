@@ -1,0 +1,35 @@
+-- How a pull ends.
+use Rattle.std.specs.Prelude.{◌≡◌, ⊤, ℕ, Result, Ok, Err}
+use Rattle.fp_host.specs.declared.host.HostEnd.{HostEnd}
+use Rattle.fp_host.specs.declared.host.HostEnd.TheVariants as host_ends
+use Rattle.fp_host.specs.declared.remotes.RemoteError.{RemoteError}
+use Rattle.fp_host.specs.declared.remotes.RemoteError.TheVariants as errors
+use Rattle.fp_small.specs.declared.refusal.Refusal.{Refusal}
+use Rattle.ost_pull.specs.declared.ends.PullEnd.{PullEnd}
+use Rattle.ost_pull.specs.declared.ends.PullEnd.TheVariants as ends
+
+-- how it ends where a call of the host or of the remotes does
+abbrev pub of_host : HostEnd → PullEnd
+of_host host_ends.Fault = ends.HostFault
+of_host host_ends.NoMemory = ends.NoMemory
+
+abbrev pub of_remote : RemoteError → PullEnd
+of_remote errors.Failed = ends.RemoteFault
+of_remote errors.NoMemory = ends.NoMemory
+
+-- What is known of an end where this is said of a refusal. Nothing is said of a fault, and of want of memory.
+abbrev pub RefusesBy : (Refusal → Type 0) → PullEnd → Type 0
+RefusesBy refused (ends.Refused r) = refused r
+RefusesBy refused ends.HostFault = ⊤
+RefusesBy refused ends.RemoteFault = ⊤
+RefusesBy refused ends.NoMemory = ⊤
+
+-- what was answered is this value or this refusal
+abbrev pub Answers : {A : Type 0} → Result A PullEnd → Result A Refusal → Type 0
+Answers (Ok a) answer = answer ≡ Ok a
+Answers (Err end) answer = RefusesBy (λ r. answer ≡ Err r) end
+
+-- this is known of what was answered, and nothing was refused
+abbrev pub Tells : {A : Type 0} → (A → Type 0) → Result A PullEnd → Type 0
+Tells good (Ok a) = good a
+Tells good (Err end) = RefusesBy (λ r. ⊥) end
