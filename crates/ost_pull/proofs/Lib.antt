@@ -2,4 +2,9 @@ mod Judged
 mod Fetched
 mod Stored
 mod Loaded
+mod Quiet
+mod Looking
+mod Headed
+mod Parted
 mod Pulled
+mod Entered

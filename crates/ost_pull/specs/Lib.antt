@@ -4,5 +4,9 @@ pub mod Objects
 pub mod Fetches
 pub mod Stored
 pub mod Found
+pub mod Refusals
+pub mod Heads
+pub mod Parts
+pub mod Roots
 pub mod Work
 pub mod Pulls

@@ -1,8 +1,10 @@
 //! How a pull ends.
 ghost use Rattle.std.specs.Prelude.{◌≡◌};
 
+use crate::refusing::refuse_object;
 use fp_host::{HostEnd, RemoteError};
 use fp_small::Refusal;
+use ost_walk::WalkEnd;
 use std::alloc::{AllocError, AllocFailed};
 
 /// How a pull ends where it can't go on.
@@ -61,6 +63,22 @@ impl From<RemoteError> for PullEnd {
         match error {
             RemoteError::Failed => PullEnd::RemoteFault,
             RemoteError::NoMemory => PullEnd::NoMemory,
+        }
+    }
+}
+
+impl From<WalkEnd> for PullEnd {
+    ghost use Rattle.std.specs.Prelude.{◌≡◌};
+    ghost use Rattle.ost_pull.specs.Ends.{of_walk};
+
+    ghost from_gives = { λ e end. end ≡ of_walk e };
+
+    fn from(end: WalkEnd) -> PullEnd {
+        match end {
+            WalkEnd::Refused(refused) => PullEnd::Refused(refuse_object(&refused)),
+            WalkEnd::HostFault => PullEnd::HostFault,
+            WalkEnd::RemoteFault => PullEnd::RemoteFault,
+            WalkEnd::NoMemory => PullEnd::NoMemory,
         }
     }
 }

@@ -2,14 +2,19 @@
 #![tactic(auto)]
 
 mod ends;
+mod entries;
 mod fetching;
 mod found;
+mod head;
 mod judging;
 pub mod laws;
 mod modes;
 mod offering;
+mod parts;
+mod refusing;
 mod small;
 mod storing;
 
 pub use ends::PullEnd;
+pub use head::{Head, read_head};
 pub use offering::offer;
