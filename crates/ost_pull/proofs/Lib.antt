@@ -6,5 +6,6 @@ mod Quiet
 mod Looking
 mod Headed
 mod Parted
+mod Kept
 mod Pulled
 mod Entered

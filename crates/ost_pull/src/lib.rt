@@ -7,6 +7,7 @@ mod fetching;
 mod found;
 mod head;
 mod judging;
+mod keeping;
 pub mod laws;
 mod modes;
 mod offering;
