@@ -13,12 +13,14 @@ ghost use Rattle.fl_top.specs.History.{Stretch, History, IsReached};
 /// The answers to words that count are the same. There is one over a view that is sound; and to words that are no command
 /// there is one over each image.
 pub fn one_answer_counts()
-    ensures same { (words : List (List ℕ)) (input : List ℕ) (disk : Disk) (shown other : Result State Elements)
+    ensures same { (words : List (List ℕ)) (input : List ℕ) (disk : Disk)
+        (shown other : Result State Elements)
         → IsOver (answer words input) disk shown → IsOver (answer words input) disk other
         → answer words input shown ≡ answer words input other }
     ensures sound { (words : List (List ℕ)) (input : List ℕ) (v : View) → IsSound v
         → (shown : Result State Elements) × IsOver (answer words input) (shows v) shown }
-    ensures no_command { (words : List (List ℕ)) (input : List ℕ) (disk : Disk) → command_of words ≡ None
+    ensures no_command { (words : List (List ℕ)) (input : List ℕ) (disk : Disk)
+        → command_of words ≡ None
         → (shown : Result State Elements) × IsOver (answer words input) disk shown }
 {}
 

@@ -54,7 +54,8 @@ fn put_object<H: Host>(
 ) -> Result<(), HostEnd>
     ensures any_moment { Always (Copies (object_path root.now digest.now kinds.File) path.now)
         (H.moments host.old) (H.moments host.new) }
-    ensures on_success { OnOk result (AtEnd (WasCopied (object_path root.now digest.now kinds.File) path.now)
+    ensures on_success { OnOk result (AtEnd (WasCopied (object_path root.now digest.now kinds.File)
+        path.now)
         (H.moments host.old) (H.moments host.new)) }
     ensures unsynced { AtEnd MakesNoFile (H.moments host.old) (H.moments host.new) }
     ensures fault_has_cause { IsCaused (IsErrOf result HostEnd.Fault) (H.moments host.old)

@@ -63,8 +63,10 @@ pub(crate) fn read_tree<H: Host>(
 
 /// The root of the commit of these bytes.
 fn root_in(alloc: Global, bytes: &Blob) -> Result<CommitRoot, HostEnd>
-    ensures read { IfOk result (λ root. mapped root_in (commit_read bytes.now) ≡ Ok (root_view root)) }
-    ensures unread { IsErrOf result HostEnd.Fault → IsUnread (mapped root_in (commit_read bytes.now)) }
+    ensures read { IfOk result (λ root. mapped root_in (commit_read bytes.now)
+        ≡ Ok (root_view root)) }
+    ensures unread { IsErrOf result HostEnd.Fault
+        → IsUnread (mapped root_in (commit_read bytes.now)) }
 {
     match commit_root(alloc, bytes.as_slice()) {
         Ok(root) => Ok(root),

@@ -55,7 +55,8 @@ fn dir_row(folder: &Path, dir: &DirEntry) -> Result<Row, AllocError>
 /// Adds the files and links in the folder.
 fn add_files(folder: &Path, files: &[FileEntry], rows: &mut Vec<Row>) -> Result<(), AllocError>
     requires { list_all is_element (names_of_files files.now) ≡ true }
-    ensures { OnOk result (rows.new.items ≡ rows.old.items ++ map (row_of_file folder.now) (map file_row files.now)) }
+    ensures { OnOk result (rows.new.items ≡ rows.old.items ++ map (row_of_file folder.now)
+        (map file_row files.now)) }
 {
     for file in files {
         rows.push(file_row(folder, file)?)?;
@@ -66,7 +67,8 @@ fn add_files(folder: &Path, files: &[FileEntry], rows: &mut Vec<Row>) -> Result<
 /// Adds the directories in the folder.
 fn add_dirs(folder: &Path, dirs: &[DirEntry], rows: &mut Vec<Row>) -> Result<(), AllocError>
     requires { list_all is_element (names_of_dirs dirs.now) ≡ true }
-    ensures { OnOk result (rows.new.items ≡ rows.old.items ++ map (row_of_dir folder.now) (map dir_row dirs.now)) }
+    ensures { OnOk result (rows.new.items ≡ rows.old.items ++ map (row_of_dir folder.now)
+        (map dir_row dirs.now)) }
 {
     for dir in dirs {
         rows.push(dir_row(folder, dir)?)?;
@@ -78,7 +80,8 @@ fn add_dirs(folder: &Path, dirs: &[DirEntry], rows: &mut Vec<Row>) -> Result<(),
 pub(crate) fn add_rows(folder: &Path, tree: &DirTree, rows: &mut Vec<Row>) -> Result<(), AllocError>
     requires files { list_all is_element (file_names (tree_view tree.now)) ≡ true }
     requires dirs { list_all is_element (dir_names (tree_view tree.now)) ≡ true }
-    ensures { OnOk result (rows.new.items ≡ rows.old.items ++ rows_in folder.now (tree_view tree.now)) }
+    ensures { OnOk result (rows.new.items ≡ rows.old.items ++ rows_in folder.now
+        (tree_view tree.now)) }
 {
     add_files(folder, tree.files.as_slice(), rows)?;
     add_dirs(folder, tree.dirs.as_slice(), rows)

@@ -42,7 +42,8 @@ fn read_bytes<R: Remotes>(
         → IfOk result (λ bytes. bytes ≡ bytes_of (held url.now path.now)) }
     ensures refuses { (w : WalkFault) → IsErrOf result (WalkEnd.Refused w) → ⊥ }
     ensures host { IsErrOf result WalkEnd.HostFault → ⊥ }
-    ensures fault_has_cause { IsRemotes (IsErrOf result WalkEnd.RemoteFault) (R.faults remotes.old) (R.faults remotes.new) }
+    ensures fault_has_cause { IsRemotes (IsErrOf result WalkEnd.RemoteFault)
+        (R.faults remotes.old) (R.faults remotes.new) }
 {
     let mut bytes = vec![in alloc; 0u8; size as usize]?;
     let count = remotes.read_at(url, path, 0, &mut bytes)?;
@@ -66,7 +67,8 @@ fn read_file<R: Remotes>(
         → IsNode (held url.now path.now) (nodes.File mode size)
         → ReadsAt digest.now kinds.File (held url.now path.now) result }
     ensures host { IsErrOf result WalkEnd.HostFault → ⊥ }
-    ensures fault_has_cause { IsRemotes (IsErrOf result WalkEnd.RemoteFault) (R.faults remotes.old) (R.faults remotes.new) }
+    ensures fault_has_cause { IsRemotes (IsErrOf result WalkEnd.RemoteFault)
+        (R.faults remotes.old) (R.faults remotes.new) }
 {
     if size > MOST_FILE {
         return Err(refused(digest, ObjKind::File, ObjectFault::TooLong(size)));
@@ -104,7 +106,8 @@ fn read_content<R: Remotes>(
     ensures tells { (held : Holdings) → R.holds remotes.old ≡ Some held
         → ReadsAt digest.now kinds.File (held url.now path.now) result }
     ensures host { IsErrOf result WalkEnd.HostFault → ⊥ }
-    ensures fault_has_cause { IsRemotes (IsErrOf result WalkEnd.RemoteFault) (R.faults remotes.old) (R.faults remotes.new) }
+    ensures fault_has_cause { IsRemotes (IsErrOf result WalkEnd.RemoteFault)
+        (R.faults remotes.old) (R.faults remotes.new) }
 {
     match remotes.node(alloc, url, path)? {
         Node::File { mode, size } => read_file(alloc, remotes, url, path, digest, mode, size),
@@ -131,7 +134,8 @@ fn read_sized<R: Remotes>(
         → IsNode (held url.now path.now) (nodes.File mode size)
         → ReadsAt digest.now kind (held url.now path.now) result }
     ensures host { IsErrOf result WalkEnd.HostFault → ⊥ }
-    ensures fault_has_cause { IsRemotes (IsErrOf result WalkEnd.RemoteFault) (R.faults remotes.old) (R.faults remotes.new) }
+    ensures fault_has_cause { IsRemotes (IsErrOf result WalkEnd.RemoteFault)
+        (R.faults remotes.old) (R.faults remotes.new) }
 {
     if size > MOST_META {
         return Err(refused(digest, kind, ObjectFault::TooLong(size)));
@@ -154,7 +158,8 @@ fn read_meta<R: Remotes>(
     ensures tells { (held : Holdings) → R.holds remotes.old ≡ Some held
         → ReadsAt digest.now kind (held url.now path.now) result }
     ensures host { IsErrOf result WalkEnd.HostFault → ⊥ }
-    ensures fault_has_cause { IsRemotes (IsErrOf result WalkEnd.RemoteFault) (R.faults remotes.old) (R.faults remotes.new) }
+    ensures fault_has_cause { IsRemotes (IsErrOf result WalkEnd.RemoteFault)
+        (R.faults remotes.old) (R.faults remotes.new) }
 {
     let node = remotes.node(alloc, url, path)?;
     match file_size(&node) {
@@ -176,7 +181,8 @@ fn read_object<R: Remotes>(
     ensures tells { (held : Holdings) → R.holds remotes.old ≡ Some held
         → Reads digest.now kind (remote_at held url.now digest.now kind) result }
     ensures host { IsErrOf result WalkEnd.HostFault → ⊥ }
-    ensures fault_has_cause { IsRemotes (IsErrOf result WalkEnd.RemoteFault) (R.faults remotes.old) (R.faults remotes.new) }
+    ensures fault_has_cause { IsRemotes (IsErrOf result WalkEnd.RemoteFault)
+        (R.faults remotes.old) (R.faults remotes.new) }
 {
     let path = path_of(alloc, &Path::root(alloc), digest, kind)?;
     match kind {
@@ -202,7 +208,8 @@ pub(crate) fn fetch<R: Remotes>(
     ensures tells { (held : Holdings) → R.holds remotes.old ≡ Some held
         → Judges as_is digest.now kind (remote_at held url.now digest.now kind) result }
     ensures host { IsErrOf result WalkEnd.HostFault → ⊥ }
-    ensures fault_has_cause { IsRemotes (IsErrOf result WalkEnd.RemoteFault) (R.faults remotes.old) (R.faults remotes.new) }
+    ensures fault_has_cause { IsRemotes (IsErrOf result WalkEnd.RemoteFault)
+        (R.faults remotes.old) (R.faults remotes.new) }
 {
     let object = read_object(alloc, remotes, url, digest, kind)?;
     match check(alloc, digest, kind, &object) {

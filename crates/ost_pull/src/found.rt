@@ -37,9 +37,12 @@ pub(crate) fn find<H: Host, R: Remotes>(
     ensures looks { Observes result
         (outside (H.moments host.old) (H.faults host.old) (R.holds remotes.old) (R.faults remotes.old))
         (outside (H.moments host.new) (H.faults host.new) (R.holds remotes.new) (R.faults remotes.new)) }
-    ensures good { IfOk result (λ found. object_fault digest.now kind (Some (found_object found)) ≡ None) }
-    ensures from { IfOk result (IsFound root.now url.now (H.moments host.old) (R.holds remotes.old) digest.now kind) }
-    ensures tells { (have : Have) → Supplies root.now (Some url.now) (H.moments host.old) (R.holds remotes.old) have
+    ensures good { IfOk result (λ found. object_fault digest.now kind (Some (found_object found))
+        ≡ None) }
+    ensures from { IfOk result (IsFound root.now url.now (H.moments host.old) (R.holds remotes.old)
+        digest.now kind) }
+    ensures tells { (have : Have) → Supplies root.now (Some url.now) (H.moments host.old)
+        (R.holds remotes.old) have
         → Judges found_object digest.now kind (have digest.now kind) result }
 {
     match stored(alloc, host, root, digest, kind) {

@@ -61,7 +61,8 @@ fn read_tree<H: Host, R: Remotes>(
     ensures looks { Observes result
         (outside (H.moments host.old) (H.faults host.old) (R.holds remotes.old) (R.faults remotes.old))
         (outside (H.moments host.new) (H.faults host.new) (R.holds remotes.new) (R.faults remotes.new)) }
-    ensures tells { (have : Have) → Supplies store.now (Some url.now) (H.moments host.old) (R.holds remotes.old) have
+    ensures tells { (have : Have) → Supplies store.now (Some url.now) (H.moments host.old)
+        (R.holds remotes.old) have
         → ReadsTree have (commit_view commit.now) result }
 {
     match find_tree(alloc, host, remotes, store, url, &commit.tree) {
@@ -85,7 +86,8 @@ fn read_root<H: Host, R: Remotes>(
     ensures looks { Observes result
         (outside (H.moments host.old) (H.faults host.old) (R.holds remotes.old) (R.faults remotes.old))
         (outside (H.moments host.new) (H.faults host.new) (R.holds remotes.new) (R.faults remotes.new)) }
-    ensures tells { (have : Have) → Supplies store.now (Some url.now) (H.moments host.old) (R.holds remotes.old) have
+    ensures tells { (have : Have) → Supplies store.now (Some url.now) (H.moments host.old)
+        (R.holds remotes.old) have
         → ReadsRoot have commit.now result }
 {
     match find_commit(alloc, host, remotes, store, url, commit) {
@@ -117,7 +119,8 @@ fn refuse_early(
     since: Option<u64>,
     root: &Root,
 ) -> Result<Option<Refusal>, AllocError>
-    ensures { IfOk result (λ r. r ≡ or_else (commit_refused name.now since (commit_view root.now.commit))
+    ensures { IfOk result (λ r. r ≡ or_else (commit_refused name.now since
+        (commit_view root.now.commit))
         (root_refused commit.now (tree_view root.now.tree))) }
 {
     match refuse_commit(alloc, name, since, &root.commit)? {
@@ -165,7 +168,8 @@ fn head_at<H: Host, R: Remotes>(
     ensures looks { Looks result
         (outside (H.moments host.old) (H.faults host.old) (R.holds remotes.old) (R.faults remotes.old))
         (outside (H.moments host.new) (H.faults host.new) (R.holds remotes.new) (R.faults remotes.new)) }
-    ensures tells { (have : Have) → Supplies store.now (Some url.now) (H.moments host.old) (R.holds remotes.old) have
+    ensures tells { (have : Have) → Supplies store.now (Some url.now) (H.moments host.old)
+        (R.holds remotes.old) have
         → Answers result (metadata_at have name.now commit.now timestamp (file_at digest.now)) }
 {
     match find(alloc, host, remotes, store, url, digest, ObjKind::File) {
@@ -189,7 +193,8 @@ fn head_below<H: Host, R: Remotes>(
     ensures looks { Looks result
         (outside (H.moments host.old) (H.faults host.old) (R.holds remotes.old) (R.faults remotes.old))
         (outside (H.moments host.new) (H.faults host.new) (R.holds remotes.new) (R.faults remotes.new)) }
-    ensures tells { (have : Have) → Supplies store.now (Some url.now) (H.moments host.old) (R.holds remotes.old) have
+    ensures tells { (have : Have) → Supplies store.now (Some url.now) (H.moments host.old)
+        (R.holds remotes.old) have
         → Answers result (metadata_at have name.now commit.now timestamp
         (entry_in (codes "metadata") (Some (tree_view tree.now)))) }
 {
@@ -219,7 +224,8 @@ fn head_in<H: Host, R: Remotes>(
     ensures looks { Looks result
         (outside (H.moments host.old) (H.faults host.old) (R.holds remotes.old) (R.faults remotes.old))
         (outside (H.moments host.new) (H.faults host.new) (R.holds remotes.new) (R.faults remotes.new)) }
-    ensures tells { (have : Have) → Supplies store.now (Some url.now) (H.moments host.old) (R.holds remotes.old) have
+    ensures tells { (have : Have) → Supplies store.now (Some url.now) (H.moments host.old)
+        (R.holds remotes.old) have
         → Answers result (head_in have name.now commit.now since (commit_view root.now.commit) (tree_view root.now.tree)) }
 {
     let time = root.commit.timestamp;

@@ -21,7 +21,9 @@ pub fn pulls_keep_stores()
 
 /// A pull goes on from one part to the next, and work in its folder is a part of it.
 pub fn pulls_go_on()
-    ensures goes_on { (root t : Elements) (u v w : View) → IsApart root t → Pulls root t u v → Pulls root t v w
+    ensures goes_on { (root t : Elements) (u v w : View) → IsApart root t → Pulls root t u v
+        → Pulls root t v w
         → Pulls root t u w }
-    ensures work { (root t : Elements) (u w : View) → IsApart root t → Works t u w → Pulls root t u w }
+    ensures work { (root t : Elements) (u w : View) → IsApart root t → Works t u w
+        → Pulls root t u w }
 {}

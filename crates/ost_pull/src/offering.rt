@@ -46,7 +46,8 @@ fn mode_of<R: Remotes>(
     ensures tells { (held : Holdings) → R.holds remotes.old ≡ Some held
         → Tells (λ mode. mode ≡ wrong_mode held remote.now.url) result }
     ensures host { IsErrOf result PullEnd.HostFault → ⊥ }
-    ensures fault_has_cause { IsRemotes (IsErrOf result PullEnd.RemoteFault) (R.faults remotes.old) (R.faults remotes.new) }
+    ensures fault_has_cause { IsRemotes (IsErrOf result PullEnd.RemoteFault)
+        (R.faults remotes.old) (R.faults remotes.new) }
 {
     let path = config_path(alloc)?;
     let config = load_remote(alloc, remotes, remote.url.as_str(), &path, MOST_CONFIG)?;
@@ -64,7 +65,8 @@ fn ref_of<R: Remotes>(
     ensures tells { (held : Holdings) → R.holds remotes.old ≡ Some held
         → Tells (λ said. said ≡ ref_at held remote.now.url name.now) result }
     ensures host { IsErrOf result PullEnd.HostFault → ⊥ }
-    ensures fault_has_cause { IsRemotes (IsErrOf result PullEnd.RemoteFault) (R.faults remotes.old) (R.faults remotes.new) }
+    ensures fault_has_cause { IsRemotes (IsErrOf result PullEnd.RemoteFault)
+        (R.faults remotes.old) (R.faults remotes.new) }
 {
     let path = ref_path(alloc, name)?;
     match load_remote(alloc, remotes, remote.url.as_str(), &path, REF_BYTES)? {
@@ -104,7 +106,8 @@ fn commit_of<R: Remotes>(
     ensures tells { (held : Holdings) → R.holds remotes.old ≡ Some held
         → Answers result (commit_said remote.now name.now (ref_at held remote.now.url name.now)) }
     ensures host { IsErrOf result PullEnd.HostFault → ⊥ }
-    ensures fault_has_cause { IsRemotes (IsErrOf result PullEnd.RemoteFault) (R.faults remotes.old) (R.faults remotes.new) }
+    ensures fault_has_cause { IsRemotes (IsErrOf result PullEnd.RemoteFault)
+        (R.faults remotes.old) (R.faults remotes.new) }
 {
     match ref_of(alloc, remotes, remote, name)? {
         RefFile::Digest(digest) => Ok(digest),
@@ -125,7 +128,8 @@ pub fn offer<R: Remotes>(
     ensures tells { (held : Holdings) → R.holds remotes.old ≡ Some held
         → Answers result (offered held remote.now name.now) }
     ensures host { IsErrOf result PullEnd.HostFault → ⊥ }
-    ensures fault_has_cause { IsRemotes (IsErrOf result PullEnd.RemoteFault) (R.faults remotes.old) (R.faults remotes.new) }
+    ensures fault_has_cause { IsRemotes (IsErrOf result PullEnd.RemoteFault)
+        (R.faults remotes.old) (R.faults remotes.new) }
 {
     match mode_of(alloc, remotes, remote)? {
         Some(mode) => Err(PullEnd::Refused(refuse_mode(remote, mode)?)),

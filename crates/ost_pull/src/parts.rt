@@ -74,7 +74,8 @@ pub(crate) fn find_commit<H: Host, R: Remotes>(
     ensures looks { Observes result
         (outside (H.moments host.old) (H.faults host.old) (R.holds remotes.old) (R.faults remotes.old))
         (outside (H.moments host.new) (H.faults host.new) (R.holds remotes.new) (R.faults remotes.new)) }
-    ensures tells { (have : Have) → Supplies root.now (Some url.now) (H.moments host.old) (R.holds remotes.old) have
+    ensures tells { (have : Have) → Supplies root.now (Some url.now) (H.moments host.old)
+        (R.holds remotes.old) have
         → EndsBy (λ c. IsReadAs (own_fault have digest.now kinds.Commit) (commit_at have digest.now) (commit_view c))
         (IsFaultOf digest.now kinds.Commit (own_fault have digest.now kinds.Commit)) result }
 {
@@ -96,7 +97,8 @@ pub(crate) fn find_tree<H: Host, R: Remotes>(
     ensures looks { Observes result
         (outside (H.moments host.old) (H.faults host.old) (R.holds remotes.old) (R.faults remotes.old))
         (outside (H.moments host.new) (H.faults host.new) (R.holds remotes.new) (R.faults remotes.new)) }
-    ensures tells { (have : Have) → Supplies root.now (Some url.now) (H.moments host.old) (R.holds remotes.old) have
+    ensures tells { (have : Have) → Supplies root.now (Some url.now) (H.moments host.old)
+        (R.holds remotes.old) have
         → EndsBy (λ t. IsReadAs (own_fault have digest.now kinds.DirTree) (tree_at have digest.now) (tree_view t))
         (IsFaultOf digest.now kinds.DirTree (own_fault have digest.now kinds.DirTree)) result }
 {
@@ -119,7 +121,8 @@ pub(crate) fn find_meta<H: Host, R: Remotes>(
     ensures looks { Observes result
         (outside (H.moments host.old) (H.faults host.old) (R.holds remotes.old) (R.faults remotes.old))
         (outside (H.moments host.new) (H.faults host.new) (R.holds remotes.new) (R.faults remotes.new)) }
-    ensures tells { (have : Have) → Supplies root.now (Some url.now) (H.moments host.old) (R.holds remotes.old) have
+    ensures tells { (have : Have) → Supplies root.now (Some url.now) (H.moments host.old)
+        (R.holds remotes.old) have
         → EndsBy (λ _. own_fault have digest.now kinds.DirMeta ≡ None)
         (IsFaultOf digest.now kinds.DirMeta (own_fault have digest.now kinds.DirMeta)) result }
 {

@@ -166,7 +166,8 @@ fn meta_kind(kind: RefKind) -> MetaKind
 
 /// The refusal of a key file that is no metadata.
 fn refuse_meta(alloc: Global, name: &RefName, file: &KeyFile) -> Result<Option<Refusal>, AllocError>
-    ensures { IfOk result (λ r. r ≡ meta_refused name.now (meta_of (meta_kind name.now.kind) file.now)) }
+    ensures { IfOk result (λ r. r ≡ meta_refused name.now (meta_of (meta_kind name.now.kind)
+        file.now)) }
 {
     match Meta::read(alloc, file, meta_kind(name.kind())) {
         Ok(_) => Ok(None),

@@ -39,9 +39,11 @@ pub(crate) fn read_whole<R: Remotes>(
     size: u64,
 ) -> Result<Blob, RemoteError>
     ensures same { R.holds remotes.new ≡ R.holds remotes.old }
-    ensures tells { (held : Holdings) → R.holds remotes.old ≡ Some held → length (bytes_of (held url.now path.now)) ≡ size
+    ensures tells { (held : Holdings) → R.holds remotes.old ≡ Some held
+        → length (bytes_of (held url.now path.now)) ≡ size
         → IfOk result (λ bytes. bytes ≡ bytes_of (held url.now path.now)) }
-    ensures fault_has_cause { IsRemotes (IsErrOf result RemoteError.Failed) (R.faults remotes.old) (R.faults remotes.new) }
+    ensures fault_has_cause { IsRemotes (IsErrOf result RemoteError.Failed)
+        (R.faults remotes.old) (R.faults remotes.new) }
 {
     let mut bytes = buffer(alloc, size)?;
     let count = remotes.read_at(url, path, 0, &mut bytes)?;
@@ -62,7 +64,8 @@ fn load_sized<R: Remotes>(
     ensures tells { (held : Holdings) → R.holds remotes.old ≡ Some held → (mode : ℕ)
         → IsNode (held url.now path.now) (nodes.File mode size)
         → IfOk result (λ file. file ≡ small_file most (held url.now path.now)) }
-    ensures fault_has_cause { IsRemotes (IsErrOf result RemoteError.Failed) (R.faults remotes.old) (R.faults remotes.new) }
+    ensures fault_has_cause { IsRemotes (IsErrOf result RemoteError.Failed)
+        (R.faults remotes.old) (R.faults remotes.new) }
 {
     if size > most {
         return Ok(None);
@@ -81,7 +84,8 @@ pub(crate) fn load_remote<R: Remotes>(
     ensures same { R.holds remotes.new ≡ R.holds remotes.old }
     ensures tells { (held : Holdings) → R.holds remotes.old ≡ Some held
         → IfOk result (λ file. file ≡ small_file most (held url.now path.now)) }
-    ensures fault_has_cause { IsRemotes (IsErrOf result RemoteError.Failed) (R.faults remotes.old) (R.faults remotes.new) }
+    ensures fault_has_cause { IsRemotes (IsErrOf result RemoteError.Failed)
+        (R.faults remotes.old) (R.faults remotes.new) }
 {
     let node = remotes.node(alloc, url, path)?;
     match file_size(&node) {
