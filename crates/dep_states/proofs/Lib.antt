@@ -1,4 +1,5 @@
 pub mod DeployShapes
+pub mod DeployWrites
 pub mod Law
 pub mod Single
 pub mod Empty
