@@ -190,7 +190,8 @@ fn read_deploy(
     name: RefName,
     commit: Digest,
 ) -> Result<Seen<RefRow>, AllocError>
-    ensures { IfOk result (λ seen. seen_in seen ≡ row_in name (hex commit) (seen_as deploy_of loaded)) }
+    ensures { IfOk result (λ seen. seen_in seen
+        ≡ row_in name (hex commit) (seen_as deploy_of loaded)) }
 {
     match loaded {
         Loaded::Bytes(bytes) => match DeployData::read(alloc, bytes.as_slice()) {

@@ -58,7 +58,8 @@ pub fn what_is_shown_can_be_written()
 
 /// An image keeps just the commits that the state which it shows keeps.
 pub fn the_state_tells_what_is_kept()
-    ensures { (disk : Disk) (s : State) (name : Ref) (commit : List ℕ) → is_ref name ≡ true → Shows disk s
+    ensures { (disk : Disk) (s : State) (name : Ref) (commit : List ℕ) → is_ref name ≡ true
+        → Shows disk s
         → Keeps disk name commit ↔ KeptIn s name commit }
 {}
 
@@ -98,7 +99,8 @@ pub fn a_bare_view_is_sound()
 
 /// A path of 128 elements that is for nothing else may be a folder, and one of 129 may not.
 pub fn paths_have_a_longest()
-    ensures longest { (p : Elements) → length p ≡ 128 → zone (outward p) ≡ anything → Allowed p folder }
+    ensures longest { (p : Elements) → length p ≡ 128 → zone (outward p) ≡ anything
+        → Allowed p folder }
     ensures too_long { (p : Elements) → length p ≡ 129 → Allowed p folder → ⊥ }
 {}
 
@@ -106,16 +108,19 @@ pub fn paths_have_a_longest()
 
 /// A step that gives nothing to any path leaves what was shown before, and leaves it sound.
 pub fn steps_that_give_nothing()
-    ensures opens { (old new : View) (s : State) → Follows Nothing old new → Opens s old → Opens s new }
+    ensures opens { (old new : View) (s : State) → Follows Nothing old new → Opens s old
+        → Opens s new }
     ensures sound { (old new : View) → Follows Nothing old new → IsSound old → IsSound new }
 {}
 
 /// A step that gives nothing to a fixed path, and elsewhere only what may stand there, leaves what was shown before, and leaves
 /// it sound. `config` stays, too.
 pub fn steps_that_spare()
-    ensures opens { (old new : View) (s : State) → Follows (Spared old) old new → Opens s old → Opens s new }
+    ensures opens { (old new : View) (s : State) → Follows (Spared old) old new → Opens s old
+        → Opens s new }
     ensures sound { (old new : View) → Follows (Spared old) old new → IsSound old → IsSound new }
-    ensures config { (old new : View) → Follows (Spared old) old new → HasConfig old → HasConfig new }
+    ensures config { (old new : View) → Follows (Spared old) old new → HasConfig old
+        → HasConfig new }
 {}
 
 /// Anything below `repo/tmp` may come and go.
@@ -130,13 +135,15 @@ pub fn old_files_may_go()
 
 /// What is in the folder of a commit that the state doesn't keep may come and go.
 pub fn unkept_folders_may_change()
-    ensures { (s : State) (v : View) (name : Ref) (commit : List ℕ) → is_digest commit ≡ true → Opens s v
+    ensures { (s : State) (v : View) (name : Ref) (commit : List ℕ) → is_digest commit ≡ true
+        → Opens s v
         → (KeptIn s name commit → ⊥) → Spares v (InDir name commit) }
 {}
 
 /// An object that no kept commit uses may go.
 pub fn unused_objects_may_go()
-    ensures { (v : View) (d : List ℕ) (kind : ObjKind) → IsUnused v d kind → Spares v (ObjectGone d kind) }
+    ensures { (v : View) (d : List ℕ) (kind : ObjKind) → IsUnused v d kind
+        → Spares v (ObjectGone d kind) }
 {}
 
 /// An object may come to a name that is absent. So a pull, which works below `repo/tmp` and brings new objects, leaves what was
@@ -145,12 +152,14 @@ pub fn new_objects_may_come()
     ensures spares { (s : State) (v : View) → Opens s v → Spares v (IsNewObject v) }
     ensures pulls { (s : State) (u w : View) → Opens s u → Pulls InTmp u w → Opens s w }
     ensures nothing { (u : View) → Pulls InTmp u u }
-    ensures one_after_another { (u v w : View) → Pulls InTmp u v → Pulls InTmp v w → Pulls InTmp u w }
+    ensures one_after_another { (u v w : View) → Pulls InTmp u v → Pulls InTmp v w
+        → Pulls InTmp u w }
 {}
 
 /// Where all is settled, every stop leaves what stands.
 pub fn what_is_settled_is_opened()
-    ensures { (s : State) (v : View) → IsTree v → IsSettled v → Shows (shows v) s → Sound (shows v) → Opens s v }
+    ensures { (s : State) (v : View) → IsTree v → IsSettled v → Shows (shows v) s → Sound (shows v)
+        → Opens s v }
 {}
 
 /// Where all is settled and `config` stands, no stop leaves the installation without it.
@@ -179,7 +188,8 @@ pub fn what_a_sound_image_holds()
 /// An image that differs from another in the files of the settings alone, and elsewhere in what may stand there, shows the state
 /// with the settings that are read of it, and is sound.
 pub fn settings_may_change()
-    ensures shown { (i j : Disk) (s t : State) → ((p : Elements) → Fixed i p → (IsSetting p → ⊥) → j p ≡ i p)
+    ensures shown { (i j : Disk) (s t : State)
+        → ((p : Elements) → Fixed i p → (IsSetting p → ⊥) → j p ≡ i p)
         → settings_seen j ≡ there (setup_of t) → t.refs ≡ s.refs → t.overrides ≡ s.overrides → Shows i s
         → Shows j t }
     ensures sound { (i j : Disk) → ((p : Elements) → Fixed i p → (IsSetting p → ⊥) → j p ≡ i p)
@@ -200,9 +210,11 @@ pub fn an_override_may_change()
 
 /// Setting an override, or dropping it, changes that one.
 pub fn operations_change_one_override()
-    ensures set { (s : State) (row : OverrideRow) (time : ℕ) → is_ascending (map override_key s.overrides) ≡ true
+    ensures set { (s : State) (row : OverrideRow) (time : ℕ)
+        → is_ascending (map override_key s.overrides) ≡ true
         → IsLayered s row.name (after_op s time (SetOverride row)) }
-    ensures drop { (s : State) (name : List ℕ) (time : ℕ) → is_ascending (map override_key s.overrides) ≡ true
+    ensures drop { (s : State) (name : List ℕ) (time : ℕ)
+        → is_ascending (map override_key s.overrides) ≡ true
         → IsLayered s name (after_op s time (DropOverride name)) }
 {}
 
@@ -215,7 +227,8 @@ pub fn operations_change_one_row()
         → IsWith s name
         (Some (record { name = name; origin = remote; commit = commit; timestamp = time; previous = None }))
         (after_op s time (Install name remote commit)) }
-    ensures update { (s : State) (name : Ref) (remote commit : List ℕ) (time : ℕ) (row : RefRow) → HasOrder s
+    ensures update { (s : State) (name : Ref) (remote commit : List ℕ) (time : ℕ) (row : RefRow)
+        → HasOrder s
         → row_at s name ≡ Some row
         → IsWith s name
         (Some (record {
@@ -228,7 +241,8 @@ pub fn operations_change_one_row()
         (after_op s time (Update name remote commit)) }
     ensures uninstall { (s : State) (name : Ref) (time : ℕ) → HasOrder s
         → IsWith s name None (after_op s time (Uninstall name)) }
-    ensures rollback { (s : State) (commit : List ℕ) (time : ℕ) (row : RefRow) (p : Previous) → HasOrder s
+    ensures rollback { (s : State) (commit : List ℕ) (time : ℕ) (row : RefRow) (p : Previous)
+        → HasOrder s
         → row_at s row.name ≡ Some row → row.previous ≡ Some p
         → IsWith s row.name
         (Some (record {
@@ -244,7 +258,8 @@ pub fn operations_change_one_row()
 /// The rename of a link from `repo/tmp` onto `active`: where its commit stands beside the state, each outcome shows the state of
 /// before or the one with the new row, and is sound.
 pub fn a_switch_is_old_or_new()
-    ensures { (u w : View) (s t : State) (name : Ref) (row : RefRow) (rest : Elements) → is_ref name ≡ true
+    ensures { (u w : View) (s t : State) (name : Ref) (row : RefRow) (rest : Elements)
+        → is_ref name ≡ true
         → IsWith s name (Some row) t → Follows (SwitchesAt name row (rest ++ tmp)) u w → Stages s name row u
         → OpensEither s t w }
 {}

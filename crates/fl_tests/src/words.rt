@@ -330,15 +330,21 @@ fn says(alloc: Global, op: &Op, want: &str) -> Result<bool, AllocError> {
     Ok(op_line(alloc, op)?.as_str() == want)
 }
 
+fn says_pinned(alloc: Global) -> Result<bool, Fail> {
+    let op = Op::AddPin(pattern(alloc, "app/*/*/*")?);
+    Ok(says(alloc, &op, "pinned app/*/*/*\n")?)
+}
+
+fn says_unpinned(alloc: Global) -> Result<bool, Fail> {
+    let op = Op::DropPin(pattern(alloc, "app/org.x.Y/*/*")?);
+    Ok(says(alloc, &op, "unpinned app/org.x.Y/*/*\n")?)
+}
+
 #[test]
 fn operations(rt: HostRuntime) -> Result<(), Fail> {
-    let added = Op::AddPin(pattern(rt.alloc(), "app/*/*/*")?);
-    let dropped = Op::DropPin(pattern(rt.alloc(), "app/org.x.Y/*/*")?);
-    assert!(rt;
-        says(rt.alloc(), &added, "pinned app/*/*/*\n")?
-            && says(rt.alloc(), &dropped, "unpinned app/org.x.Y/*/*\n")?
-            && says(rt.alloc(), &Op::Migrate, "migrated layout 2\n")?
-    );
+    let alloc = rt.alloc();
+    assert!(rt; says_pinned(alloc)? && says_unpinned(alloc)?);
+    assert!(rt; says(alloc, &Op::Migrate, "migrated layout 2\n")?);
     Ok(())
 }
 

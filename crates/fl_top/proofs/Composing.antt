@@ -1,5 +1,5 @@
 -- How the parts of a run go on from one another.
-use Rattle.std.proofs.Common.{◌≡◌, ◌⊎◌, inl, inr, ℕ, List, [], ◌∷◌, Option, Result, Ok, Err, IsErrAnd, refl, sym, ◌∙◌, ap, subst}
+use Rattle.std.proofs.Common.{◌≡◌, ◌⊎◌, inl, inr, ℕ, List, [], ◌∷◌, Option, None, Result, Ok, Err, IsErrAnd, refl, sym, ◌∙◌, ap, subst}
 use Rattle.std.proofs.lemmas.Result.{err_from_is_err_and}
 use Rattle.fp_host.specs.View.{View}
 use Rattle.fp_host.specs.Outcome.{Nothing}
@@ -16,14 +16,14 @@ use Rattle.fp_host.proofs.Goes.{begins, stays, goes_on, makes_goes, ends}
 use Rattle.fp_host.proofs.Ending.{goes_known}
 use Rattle.fp_small.specs.declared.state.State.{State}
 use Rattle.fp_small.specs.declared.op.Op.{Op}
-use Rattle.dep_states.specs.After.{after, after_all}
+use Rattle.dep_states.specs.After.{plain, after, after_all}
 use Rattle.dep_open.specs.Open.{Opened, NoName, IsOpened, StaysUnread}
 use Rattle.dep_open.specs.Tidy.{Tidies, IsTidy}
 use Rattle.dep_open.specs.declared.open_end.OpenEnd.{OpenEnd}
 use Rattle.op_change.specs.Applied.{Applies, WasApplied}
 use Rattle.fl_words.specs.Lines.{op_text}
 use Rattle.fl_words.specs.declared.command.Change.{Change}
-use Rattle.fl_top.specs.Answer.{Answer, IsAtOnce, did, act, nothing, ops_of, refusal_of, followed, change_over, in_turn}
+use Rattle.fl_top.specs.Answer.{Answer, IsAtOnce, op_answer, nothing, ops_of, refusal_of, op_of, followed, change_over, in_turn}
 use Rattle.fl_top.specs.Ends.{IsTried, end_of_host, end_of_open}
 use Rattle.fl_top.specs.Performs.{Performs, Performed, WasDone, RunsOver, EndedOver}
 use Rattle.fl_top.specs.Says.{Says}
@@ -34,7 +34,7 @@ use Rattle.fl_top.proofs.Starting.{Keeping, kept, begun_over, runs_over, done_ov
 use Rattle.fl_top.proofs.Both.{goes_both}
 use Rattle.fl_top.proofs.Changing.{applied_changes}
 use Rattle.fl_top.proofs.Doing as doing
-use Rattle.fl_top.proofs.Doing.{not_yet, halted, tried, applying, saying, said_done, idle}
+use Rattle.fl_top.proofs.Doing.{not_yet, halted, tried, change_is, applying, saying, said_done, idle}
 use Rattle.fl_top.proofs.Turning.{Stage, first_stage, next_stage, stage_performs, stage_failed, last_stage, performs_first, failed_first, performs_second, performed_second}
 
 -- the error of a `?`
@@ -55,14 +55,14 @@ at_end {a = a} {b = b} {R = R} F r e is goes = subst (λ (x : Result State RunEn
 abbrev HasApplied : State → Op → View → View → Type 0
 HasApplied s op u w = Applies s op u w × WasApplied s op u w
 
-not_applied : {a b : Option Moments} (op : Op) (s : State) (e : HostEnd) → IsTold a → Goes a b (Applies s op) (Applies s op) → (e ≡ host.NoMemory → AtEnd (λ u w. w ≡ u) a b) → Goes a b (Performs (did op) s) (WasDone op s (Err (end_of_host e)))
+not_applied : {a b : Option Moments} (op : Op) (s : State) (e : HostEnd) → IsTold a → Goes a b (Applies s op) (Applies s op) → (e ≡ host.NoMemory → AtEnd (λ u w. w ≡ u) a b) → Goes a b (Performs (op_answer op) s) (WasDone op s (Err (end_of_host e)))
 not_applied op s host.Fault known goes memory = begins known goes (λ u w t r. applying op s r) (λ u w t r q. tt)
-not_applied op s host.NoMemory known goes memory = begins known (goes_known goes (memory refl)) (λ u w t r. applying op s r) (λ u w t r q. halted (did op) s q.1)
+not_applied op s host.NoMemory known goes memory = begins known (goes_known goes (memory refl)) (λ u w t r. applying op s r) (λ u w t r q. halted (op_answer op) s q.1)
 
-pub goes_not_applied : {a b : Option Moments} (op : Op) (s : State) (e : HostEnd) (r : Result State RunEnd) → IsTold a → Goes a b (Applies s op) (Applies s op) → (e ≡ host.NoMemory → AtEnd (λ u w. w ≡ u) a b) → IsErrAnd r (λ end. end ≡ end_of_host e) → Goes a b (Performs (did op) s) (WasDone op s r)
+pub goes_not_applied : {a b : Option Moments} (op : Op) (s : State) (e : HostEnd) (r : Result State RunEnd) → IsTold a → Goes a b (Applies s op) (Applies s op) → (e ≡ host.NoMemory → AtEnd (λ u w. w ≡ u) a b) → IsErrAnd r (λ end. end ≡ end_of_host e) → Goes a b (Performs (op_answer op) s) (WasDone op s r)
 goes_not_applied op s e r known goes memory is = at_end (WasDone op s) r (end_of_host e) is (not_applied op s e known goes memory)
 
-applied : {a b : Option Moments} (op : Op) (s : State) → IsTold a → Goes a b (Applies s op) (Applies s op) → AtEnd (WasApplied s op) a b → Goes a b (Performs (did op) s) (HasApplied s op)
+applied : {a b : Option Moments} (op : Op) (s : State) → IsTold a → Goes a b (Applies s op) (Applies s op) → AtEnd (WasApplied s op) a b → Goes a b (Performs (op_answer op) s) (HasApplied s op)
 applied op s known goes done = begins known (goes_known goes done) (λ u w t r. applying op s r) (λ u w t r q. q)
 
 says_as : (op : Op) {piece : List ℕ} {r : Result (Unit {0}) HostError} {v w : View} → piece ≡ op_text op → Step (says piece) r v w → Says (op_text op) v w
@@ -75,35 +75,40 @@ not_said op s piece error.Clash u v w step = tt
 not_said op s piece error.NoMemory u v w step = absurd step.how
 
 pub goes_not_said : {a b c : Option Moments} (op : Op) (s : State) (piece : List ℕ) (e : HostError) (r : Result State RunEnd) → IsTold a → IsTold b → Goes a b (Applies s op) (Applies s op) → AtEnd (WasApplied s op) a b → piece ≡ op_text op
-    → Makes (Step (says piece) (Err e)) b c → IsErrAnd r (λ end. end ≡ end_of_host (end_of e)) → Goes a c (Performs (did op) s) (WasDone op s r)
+    → Makes (Step (says piece) (Err e)) b c → IsErrAnd r (λ end. end ≡ end_of_host (end_of e)) → Goes a c (Performs (op_answer op) s) (WasDone op s r)
 goes_not_said op s piece e r known known_b goes done same call is =
     at_end (WasDone op s) r (end_of_host (end_of e)) is
     (goes_on known_b (applied op s known goes done) (makes_goes call) (λ u v w t p q step. saying op s (applied_changes s op u v q.0) q.0.printed q.1 (says_as op same step)) (λ u v w t p q step last. not_said op s piece e u v w last))
 
 pub goes_said : {a b c : Option Moments} (op : Op) (s t : State) (piece : List ℕ) → IsTold a → IsTold b → Goes a b (Applies s op) (Applies s op) → AtEnd (WasApplied s op) a b → piece ≡ op_text op
-    → Makes (Step (says piece) (Ok tt)) b c → Goes a c (Performs (did op) s) (WasDone op s (Ok t))
+    → Makes (Step (says piece) (Ok tt)) b c → Goes a c (Performs (op_answer op) s) (WasDone op s (Ok t))
 goes_said op s t piece known known_b goes done same call =
     goes_on known_b (applied op s known goes done) (makes_goes call) (λ u v w tree p q step. saying op s (applied_changes s op u v q.0) q.0.printed q.1 (says_as op same step))
     (λ u v w tree p q step last. said_done op s t (applied_changes s op u v q.0) q.0.printed q.1 (was_said (subst (λ (l : List ℕ). Step (says l) (Ok tt) v w) same last)))
 
 -- ---- and tidied after it
 
-pub goes_not_done : {a b : Option Moments} (op : Op) (s : State) (e : RunEnd) (r : Result State RunEnd) → Goes a b (Performs (did op) s) (WasDone op s (Err e)) → IsErrAnd r (λ end. end ≡ e) → Goes a b (Performs (did op) s) (Performed (did op) s r)
-goes_not_done op s e r goes is = at_end (Performed (did op) s) r e is (ends goes (λ u w q. q))
+pub goes_not_done : {a b : Option Moments} (op : Op) (s : State) (e : RunEnd) (r : Result State RunEnd) → Goes a b (Performs (op_answer op) s) (WasDone op s (Err e)) → IsErrAnd r (λ end. end ≡ e) → Goes a b (Performs (op_answer op) s) (Performed (op_answer op) s r)
+goes_not_done op s e r goes is = at_end (Performed (op_answer op) s) r e is (ends goes (λ u w q. q))
 
-pub goes_untidied : {a b c : Option Moments} (op : Op) (s t : State) (e : HostEnd) (r : Result State RunEnd) → IsTold b → Goes a b (Performs (did op) s) (WasDone op s (Ok t)) → t ≡ after s op → Goes b c (Tidies t) (Tidies t) → IsErrAnd r (λ end. end ≡ end_of_host e) → Goes a c (Performs (did op) s) (Performed (did op) s r)
+pub goes_untidied : {a b c : Option Moments} (op : Op) (s t : State) (e : HostEnd) (r : Result State RunEnd) → IsTold b → Goes a b (Performs (op_answer op) s) (WasDone op s (Ok t)) → t ≡ after s (plain op) → Goes b c (Tidies t) (Tidies t) → IsErrAnd r (λ end. end ≡ end_of_host e) → Goes a c (Performs (op_answer op) s) (Performed (op_answer op) s r)
 goes_untidied op s t e r known goes after tidies is =
-    at_end (Performed (did op) s) r (end_of_host e) is
+    at_end (Performed (op_answer op) s) r (end_of_host e) is
     (goes_on known goes tidies (λ u v w tree p q step. doing.tidying op s t after q step) (λ u v w tree p q step last. doing.untidied op s t (end_of_host e) after (host_end e) q last))
 
-pub goes_tidied : {a b c : Option Moments} (op : Op) (s t t' : State) → IsTold b → Goes a b (Performs (did op) s) (WasDone op s (Ok t)) → t ≡ after s op → t' ≡ t → Goes b c (Tidies t) (Tidies t) → AtEnd (λ u w. IsTidy w) b c → Goes a c (Performs (did op) s) (Performed (did op) s (Ok t'))
+pub goes_tidied : {a b c : Option Moments} (op : Op) (s t t' : State) → IsTold b → Goes a b (Performs (op_answer op) s) (WasDone op s (Ok t)) → t ≡ after s (plain op) → t' ≡ t → Goes b c (Tidies t) (Tidies t) → AtEnd (λ u w. IsTidy w) b c → Goes a c (Performs (op_answer op) s) (Performed (op_answer op) s (Ok t'))
 goes_tidied op s t t' known goes after same tidies tidy =
     goes_on known goes (goes_known tidies tidy) (λ u v w tree p q step. doing.tidying op s t after q step) (λ u v w tree p q step last. doing.tidied op s t t' after same q last.0 last.1)
 
--- ---- an operation that isn't begun
+-- ---- a change
 
-pub goes_tried : {a : Option Moments} (op : Op) (s : State) (e : RunEnd) (r : Result State RunEnd) → IsTold a → IsTried (refusal_of s op) (Err e) → IsErrAnd r (λ end. end ≡ e) → Goes a a (Performs (act op s) s) (Performed (act op s) s r)
-goes_tried op s e r known is_tried is = at_end (Performed (act op s) s) r e is (stays known (λ u. not_yet (act op s) s u) (λ u t. tried op s e u is_tried))
+-- it isn't begun
+pub goes_tried : {a : Option Moments} (change : Change) (s : State) (e : RunEnd) (r : Result State RunEnd) → IsTold a → IsTried (refusal_of s change) (Err e) → IsErrAnd r (λ end. end ≡ e) → Goes a a (Performs (change_over change s) s) (Performed (change_over change s) s r)
+goes_tried change s e r known is_tried is = at_end (Performed (change_over change s) s) r e is (stays known (λ u. not_yet (change_over change s) s u) (λ u t. tried change s e u is_tried))
+
+-- nothing speaks against it, and its operation is this
+pub goes_unrefused : {a b : Option Moments} (change : Change) (op : Op) (s : State) (r : Result State RunEnd) → op ≡ op_of change → refusal_of s change ≡ None → Goes a b (Performs (op_answer op) s) (Performed (op_answer op) s r) → Goes a b (Performs (change_over change s) s) (Performed (change_over change s) s r)
+goes_unrefused {a = a} {b = b} change op s r is none goes = subst (λ (x : Answer). Goes a b (Performs x s) (Performed x s r)) (ap op_answer is ∙ change_is change s none) goes
 
 -- want of memory before anything is done
 pub goes_halted : {a : Option Moments} (x : Answer) (s : State) (r : Result State RunEnd) → IsTold a → IsErrAnd r (λ end. end ≡ NoMemory) → Goes a a (Performs x s) (Performed x s r)

@@ -7,11 +7,12 @@ use Rattle.fp_small.specs.declared.state.State.{State}
 use Rattle.fp_small.specs.declared.op.Op.{Op}
 use Rattle.fp_small.specs.declared.refusal.Refusal.{Refusal}
 use Rattle.dep_states.specs.Sound.{Opens}
-use Rattle.dep_states.specs.After.{after}
+use Rattle.dep_states.specs.After.{Done, plain, after}
 use Rattle.dep_open.specs.Tidy.{Tidies, IsTidy}
 use Rattle.op_change.specs.Applied.{IsOneOf, Applies, WasApplied}
 use Rattle.fl_words.specs.Lines.{op_text}
-use Rattle.fl_top.specs.Answer.{Answer, Piece, joined, ops_of, did, nothing, refused, refusal_of, unless, act}
+use Rattle.fl_words.specs.declared.command.Change.{Change}
+use Rattle.fl_top.specs.Answer.{Answer, Piece, joined, ops_of, op_answer, nothing, refusal_answer, refusal_of, unless, op_of, change_over}
 use Rattle.fl_top.specs.Ends.{IsTried}
 use Rattle.fl_top.specs.Runs.{Printed}
 use Rattle.fl_top.specs.Performs.{IsSome, Performs, IsDone, IsHalted, Performed, WasDone}
@@ -43,8 +44,8 @@ not_yet a s v = record { said = []; so_far = none_yet a refl; changes = change_n
 pub halted : (a : Answer) (s : State) {v w : View} → w ≡ v → IsHalted a s v w
 halted a s {v = v} same = subst (IsHalted a s v) (sym same) (record { said = []; so_far = none_yet a refl; opens = λ opens. opens })
 
--- an operation that is refused
-refuses : (refusal : Refusal) (s : State) (v : View) → IsDone (refused refusal) s v v
+-- a change that is refused
+refuses : (refusal : Refusal) (s : State) (v : View) → IsDone (refusal_answer refusal) s v v
 refuses refusal s v = record {
   changes = change_not;
   only_tidied = λ none. tidied_not;
@@ -54,41 +55,41 @@ refuses refusal s v = record {
   text = λ some. absurd (some refl);
 }
 
-refused_as : (op : Op) (s : State) (o : Option Refusal) (r : Refusal) (v : View) → o ≡ Some r → Performed (unless o (did op)) s (Err (Refused r)) v v
-refused_as op s o r v is = subst (λ (x : Option Refusal). Performed (unless x (did op)) s (Err (Refused r)) v v) (sym is) (refl, refuses r s v)
+refused_as : (op : Op) (s : State) (o : Option Refusal) (r : Refusal) (v : View) → o ≡ Some r → Performed (unless o (op_answer op)) s (Err (Refused r)) v v
+refused_as op s o r v is = subst (λ (x : Option Refusal). Performed (unless x (op_answer op)) s (Err (Refused r)) v v) (sym is) (refl, refuses r s v)
 
-pub tried : (op : Op) (s : State) (e : RunEnd) (v : View) → IsTried (refusal_of s op) (Err e) → Performed (act op s) s (Err e) v v
-tried op s (Refused r) v is = refused_as op s (refusal_of s op) r v is
-tried op s Fault v is = absurd is
-tried op s NoMemory v is = halted (act op s) s refl
+pub tried : (change : Change) (s : State) (e : RunEnd) (v : View) → IsTried (refusal_of s change) (Err e) → Performed (change_over change s) s (Err e) v v
+tried change s (Refused r) v is = refused_as (op_of change) s (refusal_of s change) r v is
+tried change s Fault v is = absurd is
+tried change s NoMemory v is = halted (change_over change s) s refl
 
 -- nothing speaks against it
-pub act_is : (op : Op) (s : State) → refusal_of s op ≡ None → did op ≡ act op s
-act_is op s is = ap (λ (o : Option Refusal). unless o (did op)) (sym is)
+pub change_is : (change : Change) (s : State) → refusal_of s change ≡ None → op_answer (op_of change) ≡ change_over change s
+change_is change s is = ap (λ (o : Option Refusal). unless o (op_answer (op_of change))) (sym is)
 
 -- ---- the operation
 
 -- its one piece
 abbrev pub piece_of : Op → Piece
-piece_of op = record { text = op_text op; op = Some op }
+piece_of op = record { text = op_text op; op = Some (plain op) }
 
-did_some : (op : Op) → ops_of (did op) ≡ [] → ⊥
-did_some op none = let some : op ∷ [] ≡ [] = none in cc some
+did_some : (op : Op) → ops_of (op_answer op) ≡ [] → ⊥
+did_some op none = let some : plain op ∷ [] ≡ [] = none in cc some
 
-one_of : (op : Op) (s : State) {w : View} (disk : Disk) → IsOneOf s (after s op) w → Leaves w disk → IsSome (did op) [] s disk
+one_of : (op : Op) (s : State) {w : View} (disk : Disk) → IsOneOf s (after s (plain op)) w → Leaves w disk → IsSome (op_answer op) [] s disk
 one_of op s disk one left = elim (one.shown disk left) [
-  | inl shown ↦ record { done = []; undone = op ∷ []; prefix = refl; more = []; holds = refl; shown = shown; sound = one.sound disk left }
-  | inr shown ↦ record { done = op ∷ []; undone = []; prefix = refl; more = op ∷ []; holds = refl; shown = shown; sound = one.sound disk left }
+  | inl shown ↦ record { done = []; undone = plain op ∷ []; prefix = refl; more = []; holds = refl; shown = shown; sound = one.sound disk left }
+  | inr shown ↦ record { done = plain op ∷ []; undone = []; prefix = refl; more = plain op ∷ []; holds = refl; shown = shown; sound = one.sound disk left }
 ]
 
-pub applying : (op : Op) (s : State) {v w : View} → Applies s op v w → Performs (did op) s v w
-applying op s {v = v} {w = w} applies = record { said = []; so_far = none_yet (did op) applies.printed; changes = applied_changes s op v w applies; only_tidied = λ none. absurd (did_some op none); some = λ opens disk left. one_of op s disk (applies.either opens) left }
+pub applying : (op : Op) (s : State) {v w : View} → Applies s op v w → Performs (op_answer op) s v w
+applying op s {v = v} {w = w} applies = record { said = []; so_far = none_yet (op_answer op) applies.printed; changes = applied_changes s op v w applies; only_tidied = λ none. absurd (did_some op none); some = λ opens disk left. one_of op s disk (applies.either opens) left }
 
 -- the ends of an operation that isn't done
-pub not_applied : (op : Op) (s : State) (e : RunEnd) {v w : View} → (e ≡ Fault) ⊎ ((e ≡ NoMemory) × (w ≡ v)) → Performed (did op) s (Err e) v w
+pub not_applied : (op : Op) (s : State) (e : RunEnd) {v w : View} → (e ≡ Fault) ⊎ ((e ≡ NoMemory) × (w ≡ v)) → Performed (op_answer op) s (Err e) v w
 not_applied op s e {v = v} {w = w} why = elim why [
-  | inl is ↦ subst (λ (x : RunEnd). Performed (did op) s (Err x) v w) (sym is) tt
-  | inr is ↦ subst (λ (x : RunEnd). Performed (did op) s (Err x) v w) (sym is.0) (halted (did op) s is.1)
+  | inl is ↦ subst (λ (x : RunEnd). Performed (op_answer op) s (Err x) v w) (sym is) tt
+  | inr is ↦ subst (λ (x : RunEnd). Performed (op_answer op) s (Err x) v w) (sym is.0) (halted (op_answer op) s is.1)
 ]
 
 -- ---- what was written
@@ -124,31 +125,31 @@ written {s = s} {v = v} new = text_in v s (v.names []) (new.each (shows v) (now_
 -- ---- the line
 
 -- done, and printed or not yet
-line_printed : (op : Op) (v w x : View) → w.printed ≡ v.printed → x.printed ≡ w.printed ++ op_text op → Printed (did op) (piece_of op ∷ []) v x
+line_printed : (op : Op) (v w x : View) → w.printed ≡ v.printed → x.printed ≡ w.printed ++ op_text op → Printed (op_answer op) (piece_of op ∷ []) v x
 line_printed op v w x same more = record {
   left = [];
   pieces = refl;
   printed = more ∙ ap (λ (p : List ℕ). p ++ op_text op) same ∙ ap (λ (t : List ℕ). v.printed ++ t) (sym (append-nil (op_text op)));
 }
 
-is_done : (op : Op) (s : State) (said : List Op) {x : View} (disk : Disk) → (more : List Op) → (op ∷ [] ≡ said ++ more) → Opens (after s op) x → Leaves x disk → IsSome (did op) said s disk
-is_done op s said disk more holds opens left = record { done = op ∷ []; undone = []; prefix = refl; more = more; holds = holds; shown = opens.shown disk left; sound = opens.sound disk left }
+is_done : (op : Op) (s : State) (said : List Done) {x : View} (disk : Disk) → (more : List Done) → (plain op ∷ [] ≡ said ++ more) → Opens (after s (plain op)) x → Leaves x disk → IsSome (op_answer op) said s disk
+is_done op s said disk more holds opens left = record { done = plain op ∷ []; undone = []; prefix = refl; more = more; holds = holds; shown = opens.shown disk left; sound = opens.sound disk left }
 
-pub saying : (op : Op) (s : State) {v w x : View} → Changes v w → w.printed ≡ v.printed → WasApplied s op v w → Says (op_text op) w x → Performs (did op) s v x
+pub saying : (op : Op) (s : State) {v w x : View} → Changes v w → w.printed ≡ v.printed → WasApplied s op v w → Says (op_text op) w x → Performs (op_answer op) s v x
 saying op s {v = v} {w = w} {x = x} changes same applied says = elim (says.printed) [
   | inl none ↦ record {
     said = [];
-    so_far = none_yet (did op) (none ∙ same);
+    so_far = none_yet (op_answer op) (none ∙ same);
     changes = change_on v w x changes (change_untouched says.untouched);
     only_tidied = λ none. absurd (did_some op none);
-    some = λ opens disk left. is_done op s [] disk (op ∷ []) refl (same_opens says.follows (applied.opens opens)) left;
+    some = λ opens disk left. is_done op s [] disk (plain op ∷ []) refl (same_opens says.follows (applied.opens opens)) left;
   }
   | inr more ↦ record {
     said = piece_of op ∷ [];
     so_far = line_printed op v w x same more;
     changes = change_on v w x changes (change_untouched says.untouched);
     only_tidied = λ none. absurd (did_some op none);
-    some = λ opens disk left. is_done op s (op ∷ []) disk [] refl (same_opens says.follows (applied.opens opens)) left;
+    some = λ opens disk left. is_done op s (plain op ∷ []) disk [] refl (same_opens says.follows (applied.opens opens)) left;
   }
 ]
 
@@ -163,23 +164,23 @@ idle s v = (refl, refl, record { changes = change_not; only_tidied = λ none. ti
 
 -- ---- tidying after an operation
 
-behind_done : (op : Op) (v w x : View) → w.printed ≡ v.printed ++ op_text op → x.printed ≡ w.printed → Printed (did op) (piece_of op ∷ []) v x
+behind_done : (op : Op) (v w x : View) → w.printed ≡ v.printed ++ op_text op → x.printed ≡ w.printed → Printed (op_answer op) (piece_of op ∷ []) v x
 behind_done op v w x more same = record {
   left = [];
   pieces = refl;
   printed = same ∙ more ∙ ap (λ (t : List ℕ). v.printed ++ t) (sym (append-nil (op_text op)));
 }
 
-pub tidying : (op : Op) (s t : State) {v w x : View} → t ≡ after s op → WasDone op s (Ok t) v w → Tidies t w x → Performs (did op) s v x
+pub tidying : (op : Op) (s t : State) {v w x : View} → t ≡ after s (plain op) → WasDone op s (Ok t) v w → Tidies t w x → Performs (op_answer op) s v x
 tidying op s t {v = v} {w = w} {x = x} is done tidies = record {
   said = piece_of op ∷ [];
   so_far = behind_done op v w x done.0 tidies.printed;
   changes = change_on v w x done.2 (tidied_changes t w x tidies);
   only_tidied = λ none. absurd (did_some op none);
-  some = λ opens disk left. is_done op s (op ∷ []) disk [] refl (subst (λ (z : State). Opens z x) is (tidies.opens (subst (λ (z : State). Opens z w) (sym is) (done.1 opens)))) left;
+  some = λ opens disk left. is_done op s (plain op ∷ []) disk [] refl (subst (λ (z : State). Opens z x) is (tidies.opens (subst (λ (z : State). Opens z w) (sym is) (done.1 opens)))) left;
 }
 
-pub tidied : (op : Op) (s t t' : State) {v w x : View} → t ≡ after s op → t' ≡ t → WasDone op s (Ok t) v w → Tidies t w x → IsTidy x → Performed (did op) s (Ok t') v x
+pub tidied : (op : Op) (s t t' : State) {v w x : View} → t ≡ after s (plain op) → t' ≡ t → WasDone op s (Ok t) v w → Tidies t w x → IsTidy x → Performed (op_answer op) s (Ok t') v x
 tidied op s t t' {v = v} {w = w} {x = x} is same done tidies tidy = (
   refl,
   same ∙ is,
@@ -194,10 +195,10 @@ tidied op s t t' {v = v} {w = w} {x = x} is same done tidies tidy = (
 )
 
 -- the ends of a tidying that isn't done
-pub untidied : (op : Op) (s t : State) (e : RunEnd) {v w x : View} → t ≡ after s op → (e ≡ Fault) ⊎ (e ≡ NoMemory) → WasDone op s (Ok t) v w → Tidies t w x → Performed (did op) s (Err e) v x
+pub untidied : (op : Op) (s t : State) (e : RunEnd) {v w x : View} → t ≡ after s (plain op) → (e ≡ Fault) ⊎ (e ≡ NoMemory) → WasDone op s (Ok t) v w → Tidies t w x → Performed (op_answer op) s (Err e) v x
 untidied op s t e {v = v} {w = w} {x = x} is why done tidies = elim why [
-  | inl f ↦ subst (λ (z : RunEnd). Performed (did op) s (Err z) v x) (sym f) tt
-  | inr m ↦ subst (λ (z : RunEnd). Performed (did op) s (Err z) v x) (sym m) (record {
+  | inl f ↦ subst (λ (z : RunEnd). Performed (op_answer op) s (Err z) v x) (sym f) tt
+  | inr m ↦ subst (λ (z : RunEnd). Performed (op_answer op) s (Err z) v x) (sym m) (record {
     said = piece_of op ∷ [];
     so_far = behind_done op v w x done.0 tidies.printed;
     opens = λ opens. subst (λ (z : State). Opens z x) is (tidies.opens (subst (λ (z : State). Opens z w) (sym is) (done.1 opens)));

@@ -6,13 +6,12 @@ use Rattle.fp_host.specs.Paths.{Elements}
 use Rattle.fp_host.specs.View.{View}
 use Rattle.fp_host.specs.Outcome.{Disk, Leaves, Follows, Nothing}
 use Rattle.fp_small.specs.declared.state.State.{State}
-use Rattle.fp_small.specs.declared.op.Op.{Op}
 use Rattle.fp_small.specs.declared.refusal.Refusal.{Refusal}
 use Rattle.fp_small.specs.declared.refusal.Refusal.TheVariants.{MalformedObject, MalformedValue, Limit, BadRecord, Damaged}
 use Rattle.fp_base.specs.declared.what.What.TheVariants.{Input}
 use Rattle.dep_states.specs.Shown.{IsShown}
 use Rattle.dep_states.specs.Sound.{IsSound}
-use Rattle.dep_states.specs.After.{after_all}
+use Rattle.dep_states.specs.After.{Done, after_all}
 use Rattle.fl_words.specs.Lines.{refusal_text}
 use Rattle.fl_words.specs.Batch.{batch_of}
 use Rattle.fl_words.specs.declared.command.Command.{Command}
@@ -20,7 +19,7 @@ use Rattle.fl_words.specs.declared.command.Command.TheVariants.{Change as Changi
 use Rattle.fl_words.specs.declared.command.Change.{Change}
 use Rattle.fl_words.specs.declared.command.Shown.{Shown}
 use Rattle.fl_words.specs.declared.command.Shown.TheVariants as things
-use Rattle.fl_top.specs.Answer.{Answer, Piece, lines_of, last_of, joined, ops_in, ops_of, told, refused, changing, listed, listed_text, shown_by, over, of_batch, answer_over, by_read, by_value, by_type, commit_shown, tree_shown, meta_shown, value_shown, over_input}
+use Rattle.fl_top.specs.Answer.{Answer, Piece, lines_of, last_of, joined, ops_in, ops_of, text_answer, refusal_answer, changing, listed, listed_text, shown_by, over, of_batch, answer_over, by_read, by_value, by_type, commit_shown, tree_shown, meta_shown, value_shown, over_input}
 use Rattle.fl_top.specs.Objects.{commit_lines, tree_lines, meta_lines}
 use Rattle.gv_value.specs.Shape.{Shape}
 use Rattle.gv_value.specs.Tree.{Tree}
@@ -52,11 +51,11 @@ ops_last None = refl
 ops_last (Some r) = refl
 
 pub ops_lines : (a : Answer) → ops_in (lines_of a) ≡ ops_of a
-ops_lines a = filter_map-append (λ (piece : Piece). piece.op) a.pieces (last_of a.refusal) ∙ ap (λ (l : List Op). ops_of a ++ l) (ops_last a.refusal) ∙ append-nil (ops_of a)
+ops_lines a = filter_map-append (λ (piece : Piece). piece.op) a.pieces (last_of a.refusal) ∙ ap (λ (l : List Done). ops_of a ++ l) (ops_last a.refusal) ∙ append-nil (ops_of a)
 
 -- ---- what every stop leaves shows a state and is sound
 
-after_shown : (u : View) (ops : List Op) (disk : Disk) → ShowsAfter u ops disk → IsShown disk
+after_shown : (u : View) (ops : List Done) (disk : Disk) → ShowsAfter u ops disk → IsShown disk
 after_shown u [] disk at = record { state = at.2; shows = at.4 }
 after_shown u (op ∷ ops) disk at = record { state = after_all at.0 (op ∷ ops); shows = at.2 }
 
@@ -68,11 +67,11 @@ runs_sound {u = u} runs sound = record {
 
 -- ---- a step that only prints
 
-after_on : (u : View) (ops : List Op) (disk before : Disk) → ((p : Elements) → disk p ≡ before p) → ShowsAfter u ops before → ShowsAfter u ops disk
+after_on : (u : View) (ops : List Done) (disk before : Disk) → ((p : Elements) → disk p ≡ before p) → ShowsAfter u ops before → ShowsAfter u ops disk
 after_on u [] disk before same at = (at.0, at.1, at.2, at.3, same_shown same at.4)
 after_on u (op ∷ ops) disk before same at = (at.0, at.1, same_shown same at.2)
 
-pub just_on : (ops : List Op) {u v w : View} → Follows Nothing v w → ((disk : Disk) → Leaves v disk → IsJust ops u disk) → (disk : Disk) → Leaves w disk → IsJust ops u disk
+pub just_on : (ops : List Done) {u v w : View} → Follows Nothing v w → ((disk : Disk) → Leaves v disk → IsJust ops u disk) → (disk : Disk) → Leaves w disk → IsJust ops u disk
 just_on ops {u = u} follows just disk left =
     let from = follows.from disk left in
     let was = just from.0 from.1 in
@@ -137,7 +136,7 @@ stands_all : (a : Answer) (r : Refusal) {u v w : View} → a.refusal ≡ Some r 
 stands_all a r {u = u} {v = v} {w = w} is done said = record {
   said = lines_of a;
   so_far = all_lines a (with_last a r u v w is done.printed said.printed);
-  just = λ sound disk left. subst (λ (ops : List Op). IsJust ops u disk) (sym (ops_lines a)) (just_on (ops_of a) said.follows (done.just sound) disk left);
+  just = λ sound disk left. subst (λ (ops : List Done). IsJust ops u disk) (sym (ops_lines a)) (just_on (ops_of a) said.follows (done.just sound) disk left);
 }
 
 answers_all : (a : Answer) (r : Refusal) (status : ℕ) {u v w : View} → a.refusal ≡ Some r → status ≡ status_of r → Completes a u v → WasSaid (refusal_text r) v w → Answers a status u w
@@ -215,7 +214,7 @@ if_plain : (b : Bool) (x y : Answer) → IsPlain x → IsPlain y → IsPlain (if
 if_plain true x y first second = first
 if_plain false x y first second = second
 
-told_plain : (text : List ℕ) → IsPlain (told text)
+told_plain : (text : List ℕ) → IsPlain (text_answer text)
 told_plain text r is = absurd (cc is)
 
 read_plain : {A : Type 0} (digest : List ℕ) (kind : ObjKind) (lines : A → List ℕ) (read : Result A Rule) → IsPlain (by_read digest kind lines read)
@@ -247,7 +246,7 @@ unfolding value_shown
 value_plain of bytes = type_plain (type_of of) bytes
 
 input_plain : (f : List ℕ → Answer) (input : List ℕ) → IsPlain (f input) → IsPlain (over_input f input)
-input_plain f input plain = if_plain (nat_le (length input) input_most) (f input) (refused (Limit Input (input_most + 1))) plain (λ r is. one_of_some (Limit Input (input_most + 1)) r is refl)
+input_plain f input plain = if_plain (nat_le (length input) input_most) (f input) (refusal_answer (Limit Input (input_most + 1))) plain (λ r is. one_of_some (Limit Input (input_most + 1)) r is refl)
 
 shown_plain : (thing : Shown) (bytes : List ℕ) → IsPlain (shown_by thing bytes)
 shown_plain things.Commit bytes = commit_plain bytes

@@ -1,19 +1,18 @@
 -- Runs one after another.
-use Rattle.std.proofs.Common.{◌≡◌, List, [], ◌∷◌, ◌++◌, ℕ, refl, sym, ◌∙◌, ap, subst}
+use Rattle.std.proofs.Common.{◌≡◌, List, [], ◌∷◌, ◌++◌, ℕ, Result, refl, sym, ◌∙◌, ap}
 use Rattle.fp_host.specs.Paths.{Elements}
 use Rattle.fp_host.specs.View.{View}
 use Rattle.fp_host.specs.Outcome.{Disk, Leaves, shows, spot_of}
 use Rattle.fp_host.proofs.Settled.{at_tree, settled_disk}
 use Rattle.fp_small.specs.declared.state.State.{State}
-use Rattle.fp_small.specs.declared.op.Op.{Op}
 use Rattle.dep_states.specs.Shown.{Shows}
 use Rattle.dep_states.specs.Sound.{IsSound}
-use Rattle.dep_states.specs.Zones.{Allowed}
-use Rattle.dep_states.specs.After.{after_all}
+use Rattle.dep_states.specs.After.{Done, after_all}
+use Rattle.dep_states.proofs.Single.{one_state}
 use Rattle.fl_top.specs.Answer.{answer, ops_in, ops_of}
 use Rattle.fl_top.specs.Runs.{Runs, ShowsAfter}
 use Rattle.fl_top.specs.History.{Stretch, Reopens, History, begins, runs, stops, IsReached}
-use Rattle.fl_top.proofs.Same.{one_state, same_shown, now_left}
+use Rattle.fl_top.proofs.Same.{same_shown, same_sound, now_left}
 use Rattle.fl_top.proofs.Ending.{runs_sound}
 
 -- a reopened view has one outcome: what the stop left
@@ -23,30 +22,30 @@ one_outcome {v = v} r disk left q = settled_disk v r.tree r.settled disk left q 
 reopened_sound : {w v : View} → Reopens w v → IsSound w → IsSound v
 reopened_sound r sound = record {
   shown = λ disk left. let was = sound.shown r.disk r.left in record { state = was.state; shows = same_shown (one_outcome r disk left) was.shows };
-  sound = λ disk left. record { kinds = λ p. subst (Allowed p) (sym (one_outcome r disk left p)) ((sound.sound r.disk r.left).kinds p) };
+  sound = λ disk left. same_sound (one_outcome r disk left) (sound.sound r.disk r.left);
 }
 
 pub history_sound : {u w : View} {stretches : List Stretch} → IsSound u → History u stretches w → IsSound w
 history_sound sound begins = sound
-history_sound sound (runs stretches v w words input history run) = runs_sound run (history_sound sound history)
+history_sound sound (runs stretches v w words input given history counts run) = runs_sound run (history_sound sound history)
 history_sound sound (stops stretches v w history reopens) = reopened_sound reopens (history_sound sound history)
 
 -- the operations that were done lead on from where the run began
-leads_on : (stretches : List Stretch) {u v w : View} (words : List (List ℕ)) (input : List ℕ) (run : Runs (answer words input (shows v)) v w) (disk : Disk) (t : State) (done : List Op) → (undone more : List Op) → ops_of (answer words input (shows v)) ≡ done ++ undone → done ≡ ops_in run.said ++ more
+leads_on : (stretches : List Stretch) {u v w : View} (words : List (List ℕ)) (input : List ℕ) (given : Result State Elements) (run : Runs (answer words input given) v w) (disk : Disk) (t : State) (done : List Done) → (undone more : List Done) → ops_of (answer words input given) ≡ done ++ undone → done ≡ ops_in run.said ++ more
     → ShowsAfter v done disk → Shows disk t → ((before : Disk) → Leaves v before → (s : State) → Shows before s → IsReached u stretches before s)
-    → IsReached u (record { ops = ops_of (answer words input (shows v)); acknowledged = ops_in run.said } ∷ stretches) disk t
-leads_on stretches words input run disk t [] undone more prefix holds at shown reached =
+    → IsReached u (record { ops = ops_of (answer words input given); acknowledged = ops_in run.said } ∷ stretches) disk t
+leads_on stretches words input given run disk t [] undone more prefix holds at shown reached =
     let r = reached at.0 at.1 at.2 at.3 in
     record { before = r.before; left = r.left; state = r.state; shown = r.shown; leads = (at.2, r.leads, record { done = []; undone = undone; prefix = prefix; more = more; holds = holds; after = one_state disk t at.2 shown at.4 }) }
-leads_on stretches {v = v} words input run disk t (op ∷ ops) undone more prefix holds at shown reached =
+leads_on stretches {v = v} words input given run disk t (op ∷ ops) undone more prefix holds at shown reached =
     let r = reached (shows v) (now_left v) at.0 at.1 in
     record { before = r.before; left = r.left; state = r.state; shown = r.shown; leads = (at.0, r.leads, record { done = op ∷ ops; undone = undone; prefix = prefix; more = more; holds = holds; after = one_state disk t (after_all at.0 (op ∷ ops)) shown at.2 }) }
 
 pub history_reached : {u w : View} {stretches : List Stretch} → IsSound u → History u stretches w → (disk : Disk) → Leaves w disk → (t : State) → Shows disk t → IsReached u stretches disk t
 history_reached sound begins disk left t shown = record { before = disk; left = left; state = t; shown = shown; leads = refl }
-history_reached sound (runs stretches v w words input history run) disk left t shown =
+history_reached sound (runs stretches v w words input given history counts run) disk left t shown =
     let p = run.prefix (history_sound sound history) disk left in
-    leads_on stretches words input run disk t p.done p.undone p.more p.prefix p.holds p.shown shown (history_reached sound history)
+    leads_on stretches words input given run disk t p.done p.undone p.more p.prefix p.holds p.shown shown (history_reached sound history)
 history_reached sound (stops stretches v w history reopens) disk left t shown =
     let r = history_reached sound history reopens.disk reopens.left t (same_shown (λ q. sym (one_outcome reopens disk left q)) shown) in
     record { before = r.before; left = r.left; state = r.state; shown = r.shown; leads = r.leads }

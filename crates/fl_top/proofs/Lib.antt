@@ -1,4 +1,5 @@
 pub mod Same
+pub mod Over
 pub mod Both
 pub mod Changing
 pub mod Saying

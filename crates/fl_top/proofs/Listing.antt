@@ -2,6 +2,7 @@
 use Rattle.std.proofs.Common.{◌≡◌, inl, inr, ℕ, List, [], ◌∷◌, ◌++◌, Option, None, Result, Ok, Err, IsErrAnd, refl, sym, ◌∙◌, ap, subst}
 use Rattle.std.proofs.lemmas.List.{append-nil}
 use Rattle.fp_host.specs.View.{View}
+use Rattle.fp_host.specs.Outcome.{shows}
 use Rattle.fp_host.specs.Calls.{says, Step}
 use Rattle.fp_host.specs.Causes.{end_of}
 use Rattle.fp_host.specs.Moments.{Moments, Makes, Goes}
@@ -15,17 +16,18 @@ use Rattle.fp_small.specs.declared.state.State.{State}
 use Rattle.dep_open.specs.Open.{Opened, Reads}
 use Rattle.dep_open.specs.declared.open_end.OpenEnd.{OpenEnd}
 use Rattle.dep_open.specs.declared.open_end.OpenEnd.TheVariants as open_end
-use Rattle.fl_top.specs.Answer.{Answer, Piece, told}
+use Rattle.fl_top.specs.Answer.{Answer, Piece, text_answer, over}
 use Rattle.fl_top.specs.Ends.{end_of_host, end_of_open}
 use Rattle.fl_top.specs.Runs.{Runs, Printed}
-use Rattle.fl_top.specs.Performs.{LooksOver, Ended, EndedOver, over_view, Completes}
+use Rattle.fl_top.specs.Performs.{LooksOver, Ended, EndedOver, Completes}
 use Rattle.fl_top.specs.Says.{Says, WasSaid}
 use Rattle.fl_top.specs.declared.end.RunEnd.{RunEnd}
 use Rattle.fl_top.specs.declared.end.RunEnd.TheVariants.{NoMemory}
 use Rattle.fl_top.proofs.Saying.{says_step, was_said}
 use Rattle.fl_top.proofs.Same.{same_shown}
 use Rattle.fl_top.proofs.Changing.{tidied_none, keeps_files, same_untouched}
-use Rattle.fl_top.proofs.Starting.{Keeping, begun, stood, unchanged, ended_open, shows_before, view_is, same_tidy}
+use Rattle.fl_top.proofs.Starting.{Keeping, begun, unchanged, ended_open, halted_over, shows_before, same_tidy}
+use Rattle.fl_top.proofs.Over.{over_is, counts_shown}
 use Rattle.fl_top.proofs.Composing.{is_err}
 
 -- ---- a text that acknowledges nothing
@@ -33,12 +35,12 @@ use Rattle.fl_top.proofs.Composing.{is_err}
 abbrev piece_of : List ℕ → Piece
 piece_of text = record { text = text; op = None }
 
-told_printed : (text : List ℕ) (u w : View) → w.printed ≡ u.printed ++ text → Printed (told text) (piece_of text ∷ []) u w
+told_printed : (text : List ℕ) (u w : View) → w.printed ≡ u.printed ++ text → Printed (text_answer text) (piece_of text ∷ []) u w
 told_printed text u w more = record { left = []; pieces = refl; printed = more ∙ ap (λ (t : List ℕ). u.printed ++ t) (sym (append-nil text)) }
 
-pub telling : (text : List ℕ) {u w : View} → Says text u w → Runs (told text) u w
+pub telling : (text : List ℕ) {u w : View} → Says text u w → Runs (text_answer text) u w
 telling text {u = u} {w = w} says_it = elim (says_it.printed) [
-  | inl none ↦ begun (told text) (record { printed = none; follows = says_it.follows; names = says_it.untouched.names; files = keeps_files says_it.untouched }) (λ why. says_it.untouched)
+  | inl none ↦ begun (text_answer text) (record { printed = none; follows = says_it.follows; names = says_it.untouched.names; files = keeps_files says_it.untouched }) (λ why. says_it.untouched)
   | inr more ↦ record {
     said = piece_of text ∷ [];
     so_far = told_printed text u w more;
@@ -48,7 +50,7 @@ telling text {u = u} {w = w} says_it = elim (says_it.printed) [
   }
 ]
 
-pub tells : (text : List ℕ) {u w : View} → WasSaid text u w → Completes (told text) u w
+pub tells : (text : List ℕ) {u w : View} → WasSaid text u w → Completes (text_answer text) u w
 tells text {u = u} {w = w} said_it = record {
   printed = (told_printed text u w said_it.printed).printed;
   just = λ sound disk left. shows_before said_it.follows sound disk left;
@@ -69,7 +71,7 @@ keeping {u = u} same = subst (Keeping u) (sym same) unchanged
 
 -- nothing is done yet
 looks : (f : State → Answer) {u w : View} → w ≡ u → LooksOver f u w
-looks f {u = u} same = record { runs = begun (over_view f u) (keeping same) (λ why. same_untouched same); untouched = same_untouched same }
+looks f same = record { runs = λ shown counts. begun (over f shown) (keeping same) (λ why. same_untouched same); untouched = same_untouched same }
 
 pub goes_not_read : {a b : Option Moments} (f : State → Answer) (e : OpenEnd) (r : Result (Unit {0}) RunEnd) → IsTold a → Unchanged a b → AtEnd (λ u w. Reads u (Err e)) a b → IsErrAnd r (λ end. end ≡ end_of_open e) → Goes a b (LooksOver f) (EndedOver f r)
 goes_not_read {a = a} {b = b} f e r known still tell is =
@@ -80,7 +82,7 @@ goes_not_read {a = a} {b = b} f e r known still tell is =
 pub goes_read_halted : {a b : Option Moments} (f : State → Answer) (r : Result (Unit {0}) RunEnd) → IsTold a → Unchanged a b → IsErrAnd r (λ end. end ≡ NoMemory) → Goes a b (LooksOver f) (EndedOver f r)
 goes_read_halted {a = a} {b = b} f r known still is =
     subst (λ (x : Result (Unit {0}) RunEnd). Goes a b (LooksOver f) (EndedOver f x)) (sym (is_err r NoMemory is))
-    (begins known still.goes (λ u w t same. looks f same) (λ u w t same q. stood (over_view f u) (keeping same)))
+    (begins known still.goes (λ u w t same. looks f same) (λ u w t same q. halted_over f (keeping same)))
 
 -- ---- and what is said of it
 
@@ -91,27 +93,33 @@ read : {a b : Option Moments} (f : State → Answer) (s : State) → IsTold a �
 read f s known still tell = begins known (goes_known still.goes tell) (λ u w t same. looks f same) (λ u w t same q. q)
 
 -- what is told of the state that was read
-is_told : (f : State → Answer) (s : State) (text : List ℕ) {u v w : View} → f s ≡ told text → HasRead s u v → Says text v w → LooksOver f u w
+is_told : (f : State → Answer) (s : State) (text : List ℕ) {u v w : View} → f s ≡ text_answer text → HasRead s u v → Says text v w → LooksOver f u w
 is_told f s text {u = u} {w = w} is read_it says_it =
     let from : Says text u w = subst (λ (x : View). Says text x w) read_it.0.0 says_it in
-    record { runs = subst (λ (a : Answer). Runs a u w) (sym is ∙ view_is f u s read_it.1.0) (telling text from); untouched = from.untouched }
+    record {
+      runs = λ shown counts. subst (λ (a : Answer). Runs a u w) (sym is ∙ sym (over_is f (shows u) shown s read_it.1 counts)) (telling text from);
+      untouched = from.untouched;
+    }
 
-was_told : (f : State → Answer) (s : State) (text : List ℕ) {u v w : View} → f s ≡ told text → HasRead s u v → WasSaid text v w → EndedOver f (Ok tt) u w
+was_told : (f : State → Answer) (s : State) (text : List ℕ) {u v w : View} → f s ≡ text_answer text → HasRead s u v → WasSaid text v w → EndedOver f (Ok tt) u w
 was_told f s text {u = u} {w = w} is read_it said_it =
-    subst (λ (a : Answer). Ended a (Ok tt) u w) (sym is ∙ view_is f u s read_it.1.0) (refl, tells text (subst (λ (x : View). WasSaid text x w) read_it.0.0 said_it))
+    record {
+      ended = λ shown counts. subst (λ (a : Answer). Ended a (Ok tt) u w) (sym is ∙ sym (over_is f (shows u) shown s read_it.1 counts)) (refl, tells text (subst (λ (x : View). WasSaid text x w) read_it.0.0 said_it));
+      given = λ by. counts_shown (over f) (shows u) s read_it.1;
+    }
 
 not_told : (f : State → Answer) (text : List ℕ) (e : HostError) (u v w : View) → Step (says text) (Err e) v w → EndedOver f (Err (end_of_host (end_of e))) u w
-not_told f text error.Failed u v w step = tt
-not_told f text error.Clash u v w step = tt
+not_told f text error.Failed u v w step = record { ended = λ shown counts. tt; given = λ by. absurd by }
+not_told f text error.Clash u v w step = record { ended = λ shown counts. tt; given = λ by. absurd by }
 not_told f text error.NoMemory u v w step = absurd step.how
 
-pub goes_not_told : {a b c : Option Moments} (f : State → Answer) (s : State) (text : List ℕ) (e : HostError) (r : Result (Unit {0}) RunEnd) → IsTold a → IsTold b → Unchanged a b → AtEnd (λ u w. Reads u (Ok s)) a b → f s ≡ told text
+pub goes_not_told : {a b c : Option Moments} (f : State → Answer) (s : State) (text : List ℕ) (e : HostError) (r : Result (Unit {0}) RunEnd) → IsTold a → IsTold b → Unchanged a b → AtEnd (λ u w. Reads u (Ok s)) a b → f s ≡ text_answer text
     → Makes (Step (says text) (Err e)) b c → IsErrAnd r (λ end. end ≡ end_of_host (end_of e)) → Goes a c (LooksOver f) (EndedOver f r)
 goes_not_told {a = a} {c = c} f s text e r known known_b still tell is call err =
     subst (λ (x : Result (Unit {0}) RunEnd). Goes a c (LooksOver f) (EndedOver f x)) (sym (is_err r (end_of_host (end_of e)) err))
     (goes_on known_b (read f s known still tell) (makes_goes call) (λ u v w t p q step. is_told f s text is q (says_step step)) (λ u v w t p q step last. not_told f text e u v w last))
 
-pub goes_told : {a b c : Option Moments} (f : State → Answer) (s : State) (text : List ℕ) → IsTold a → IsTold b → Unchanged a b → AtEnd (λ u w. Reads u (Ok s)) a b → f s ≡ told text
+pub goes_told : {a b c : Option Moments} (f : State → Answer) (s : State) (text : List ℕ) → IsTold a → IsTold b → Unchanged a b → AtEnd (λ u w. Reads u (Ok s)) a b → f s ≡ text_answer text
     → Makes (Step (says text) (Ok tt)) b c → Goes a c (LooksOver f) (EndedOver f (Ok tt))
 goes_told f s text known known_b still tell is call =
     goes_on known_b (read f s known still tell) (makes_goes call) (λ u v w t p q step. is_told f s text is q (says_step step)) (λ u v w t p q step last. was_told f s text is q (was_said last))

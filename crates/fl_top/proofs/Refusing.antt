@@ -4,7 +4,6 @@ use Rattle.fp_small.specs.declared.state.State.{State}
 use Rattle.fp_small.specs.declared.state.Layout.{Layout}
 use Rattle.fp_small.specs.declared.state.Layout.TheVariants.{One, Two}
 use Rattle.fp_small.specs.declared.op.Op.{Op}
-use Rattle.fp_small.specs.declared.op.Op.TheVariants.{AddPin, DropPin, AddRemote, ModifyRemote, DropRemote, Migrate}
 use Rattle.fp_small.specs.declared.refusal.Refusal.{Refusal}
 use Rattle.fp_small.specs.declared.refusal.Refusal.TheVariants.{NoSuchRemote, RemoteExists, PinExists, NoSuchPin, Limit}
 use Rattle.fp_base.specs.declared.what.What.TheVariants.{Pins, Remotes}
@@ -12,14 +11,15 @@ use Rattle.fp_small.specs.Config.{name_of}
 use Rattle.fp_small.specs.Order.{has_name}
 use Rattle.dep_states.specs.After.{after_all}
 use Rattle.fl_words.specs.declared.command.Change.{Change}
-use Rattle.fl_top.specs.Answer.{Answer, Piece, ops_of, did, behind, refusal_of, unless, act, op_of, change_over, in_turn, migrating, changing, is_pinned, IsAtOnce}
+use Rattle.fl_words.specs.declared.command.Change.TheVariants.{Pin, Unpin, RemoteAdd, RemoteModify, RemoteDelete}
+use Rattle.fl_top.specs.Answer.{Answer, Piece, ops_of, op_answer, behind, refusal_of, unless, op_of, change_over, in_turn, migrating, changing, is_pinned, IsAtOnce}
 
 -- each refusal of the answer is one of these
 abbrev pub Refuses : (Refusal → Type 0) → Answer → Type 0
 Refuses P a = (r : Refusal) → a.refusal ≡ Some r → P r
 
--- what holds of the refusals of operations
-pub record OfOps (P : Refusal → Type 0) : Type 0 where
+-- what holds of the refusals of changes
+pub record OfChanges (P : Refusal → Type 0) : Type 0 where
   pub pin_there : (pin : List ℕ) → P (PinExists pin)
   pub pins_full : P (Limit Pins 1025)
   pub no_pin : (pin : List ℕ) → P (NoSuchPin pin)
@@ -40,36 +40,35 @@ module _ (P : Refusal → Type 0) where
   of_one true one q f is = absurd (cc is)
   of_one false one q f is = one_of_some P one q is f
 
-  of_op : OfOps P → (op : Op) (s : State) (q : Refusal) → refusal_of s op ≡ Some q → P q
-  of_op holds (AddPin pin) s q is = of_two (is_pinned s.pins pin) (nat_le 1024 (length s.pins)) (PinExists pin) (Limit Pins 1025) q (holds.pin_there pin) holds.pins_full is
-  of_op holds (DropPin pin) s q is = of_one (is_pinned s.pins pin) (NoSuchPin pin) q (holds.no_pin pin) is
-  of_op holds (AddRemote row) s q is = of_two (has_name name_of s.remotes row.name) (nat_le 256 (length s.remotes)) (RemoteExists row.name) (Limit Remotes 257) q (holds.remote_there row.name) holds.remotes_full is
-  of_op holds (ModifyRemote row) s q is = of_one (has_name name_of s.remotes row.name) (NoSuchRemote row.name) q (holds.no_remote row.name) is
-  of_op holds (DropRemote name) s q is = of_one (has_name name_of s.remotes name) (NoSuchRemote name) q (holds.no_remote name) is
-  of_op holds Migrate s q is = absurd (cc is)
+  of_change : OfChanges P → (change : Change) (s : State) (q : Refusal) → refusal_of s change ≡ Some q → P q
+  of_change holds (Pin pin) s q is = of_two (is_pinned s.pins pin) (nat_le 1024 (length s.pins)) (PinExists pin) (Limit Pins 1025) q (holds.pin_there pin) holds.pins_full is
+  of_change holds (Unpin pin) s q is = of_one (is_pinned s.pins pin) (NoSuchPin pin) q (holds.no_pin pin) is
+  of_change holds (RemoteAdd row) s q is = of_two (has_name name_of s.remotes row.name) (nat_le 256 (length s.remotes)) (RemoteExists row.name) (Limit Remotes 257) q (holds.remote_there row.name) holds.remotes_full is
+  of_change holds (RemoteModify row) s q is = of_one (has_name name_of s.remotes row.name) (NoSuchRemote row.name) q (holds.no_remote row.name) is
+  of_change holds (RemoteDelete name) s q is = of_one (has_name name_of s.remotes name) (NoSuchRemote name) q (holds.no_remote name) is
 
-  of_unless : (op : Op) (o : Option Refusal) → ((q : Refusal) → o ≡ Some q → P q) → Refuses P (unless o (did op))
+  of_unless : (op : Op) (o : Option Refusal) → ((q : Refusal) → o ≡ Some q → P q) → Refuses P (unless o (op_answer op))
   of_unless op None each r is = absurd (cc is)
   of_unless op (Some q) each r is = each r is
 
-  of_act : OfOps P → (op : Op) (s : State) → Refuses P (act op s)
-  of_act holds op s r is = of_unless op (refusal_of s op) (of_op holds op s) r is
+  of_over : OfChanges P → (change : Change) (s : State) → Refuses P (change_over change s)
+  of_over holds change s r is = of_unless (op_of change) (refusal_of s change) (of_change holds change s) r is
 
   of_behind : (pieces : List Piece) (o : Option Refusal) (b : Answer) → ((r : Refusal) → o ≡ Some r → P r) → Refuses P b → Refuses P (behind pieces o b)
   of_behind pieces None b first second r is = second r is
   of_behind pieces (Some q) b first second r is = first r is
 
-  of_turn : OfOps P → (changes : List Change) (s : State) → Refuses P (in_turn changes s)
+  of_turn : OfChanges P → (changes : List Change) (s : State) → Refuses P (in_turn changes s)
   of_turn holds [] s r is = absurd (cc is)
   of_turn holds (change ∷ changes) s r is =
       let a = change_over change s in
-      of_behind a.pieces a.refusal (in_turn changes (after_all s (ops_of a))) (of_act holds (op_of change) s) (of_turn holds changes (after_all s (ops_of a))) r is
+      of_behind a.pieces a.refusal (in_turn changes (after_all s (ops_of a))) (of_over holds change s) (of_turn holds changes (after_all s (ops_of a))) r is
 
   of_migrating : (layout : Layout) → Refuses P (migrating layout)
   of_migrating One r is = absurd (cc is)
   of_migrating Two r is = absurd (cc is)
 
-  pub of_changing : OfOps P → (changes : List Change) (s : State) → Refuses P (changing changes s)
+  pub of_changing : OfChanges P → (changes : List Change) (s : State) → Refuses P (changing changes s)
   of_changing holds changes s =
       let a = migrating s.layout in
       of_behind a.pieces a.refusal (in_turn changes (after_all s (ops_of a))) (of_migrating s.layout) (of_turn holds changes (after_all s (ops_of a)))

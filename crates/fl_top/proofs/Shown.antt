@@ -4,8 +4,7 @@ use Rattle.std.specs.Prelude.{codes, IsSome, ◌&&◌, if◌then◌else◌}
 use Rattle.std.specs.Option.{is_some}
 use Rattle.std.proofs.lemmas.Bool.{false≢true, leb-true, leb-false}
 use Rattle.fp_name.specs.Hex.{hex, is_digest}
-use Rattle.fp_small.specs.declared.refusal.Refusal.{Refusal}
-use Rattle.fp_small.specs.declared.refusal.Refusal.TheVariants.{MalformedObject, MalformedValue}
+use Rattle.fp_small.specs.declared.refusal.Refusal.TheVariants.{MalformedValue}
 use Rattle.gv_value.specs.Shape.{Shape, is_type, max_depth}
 use Rattle.gv_value.specs.Tree.{Tree}
 use Rattle.gv_value.specs.TypeText.{type_of}
@@ -21,7 +20,7 @@ use Rattle.fl_words.specs.PrintedWords.{kind_word}
 use Rattle.ost_model.specs.Contents.{meta_digest}
 use Rattle.ost_model.specs.Fields.{CommitView, TreeView, MetaView}
 use Rattle.ost_model.specs.Readers.{commit_read, tree_read, meta_read}
-use Rattle.fl_top.specs.Answer.{Answer, told, refused, by_read, by_value, by_type, commit_shown, tree_shown, meta_shown, value_shown}
+use Rattle.fl_top.specs.Answer.{Answer, text_answer, refusal_answer, by_read, by_value, by_type, commit_shown, tree_shown, meta_shown, value_shown}
 use Rattle.ost_object.specs.Answers.{Breaks}
 use Rattle.ost_object.specs.declared.error.ObjectError.{ObjectError}
 use Rattle.ost_object.specs.declared.error.ObjectError.TheVariants.{Malformed}
@@ -29,10 +28,9 @@ use Rattle.ost_object.specs.declared.error.ObjectError.TheVariants as object
 use Rattle.fl_top.specs.Ends.{Prints, end_of_object}
 use Rattle.fl_top.specs.Objects.{head, parent_text, commit_lines, tree_lines, meta_lines, normal_line}
 use Rattle.fl_top.specs.declared.end.RunEnd.{RunEnd}
-use Rattle.fl_top.specs.declared.end.RunEnd.TheVariants.{Refused}
 
-read_told : {A : Type 0} (digest text : List ℕ) (kind : ObjKind) (lines : A → List ℕ) (read : Result A Rule) (a : A) → read ≡ Ok a → text ≡ head digest (kind_word kind) ++ lines a → by_read digest kind lines read ≡ told text
-read_told digest text kind lines read a is said = ap (by_read digest kind lines) is ∙ ap told (sym said)
+read_told : {A : Type 0} (digest text : List ℕ) (kind : ObjKind) (lines : A → List ℕ) (read : Result A Rule) (a : A) → read ≡ Ok a → text ≡ head digest (kind_word kind) ++ lines a → by_read digest kind lines read ≡ text_answer text
+read_told digest text kind lines read a is said = ap (by_read digest kind lines) is ∙ ap text_answer (sym said)
 
 -- what bytes with this digest that don't read end with
 read_bad : {A : Type 0} (digest : List ℕ) (kind : ObjKind) (lines : A → List ℕ) (read : Result A Rule) (error : ObjectError) → Breaks error read → Prints (by_read digest kind lines read) (Err (end_of_object digest kind error))
@@ -43,7 +41,7 @@ read_bad digest kind lines read object.NoMemory is = tt
 pub ending : (a : Answer) {e end : RunEnd} → Prints a (Err e) → e ≡ end → Prints a (Err end)
 ending a prints is = subst (λ (x : RunEnd). Prints a (Err x)) is prints
 
-pub commit_told : (bytes text : List ℕ) (v : CommitView) → commit_read bytes ≡ Ok v → text ≡ head (meta_digest bytes) (codes "commit") ++ commit_lines v → commit_shown bytes ≡ told text
+pub commit_told : (bytes text : List ℕ) (v : CommitView) → commit_read bytes ≡ Ok v → text ≡ head (meta_digest bytes) (codes "commit") ++ commit_lines v → commit_shown bytes ≡ text_answer text
 unfolding commit_shown
 commit_told bytes text v is said = read_told (meta_digest bytes) text kinds.Commit commit_lines (commit_read bytes) v is said
 
@@ -51,7 +49,7 @@ pub commit_bad : (bytes : List ℕ) (error : ObjectError) → Breaks error (comm
 unfolding commit_shown
 commit_bad bytes error is = read_bad (meta_digest bytes) kinds.Commit commit_lines (commit_read bytes) error is
 
-pub tree_told : (bytes text : List ℕ) (v : TreeView) → tree_read bytes ≡ Ok v → text ≡ head (meta_digest bytes) (codes "dirtree") ++ tree_lines v → tree_shown bytes ≡ told text
+pub tree_told : (bytes text : List ℕ) (v : TreeView) → tree_read bytes ≡ Ok v → text ≡ head (meta_digest bytes) (codes "dirtree") ++ tree_lines v → tree_shown bytes ≡ text_answer text
 unfolding tree_shown
 tree_told bytes text v is said = read_told (meta_digest bytes) text kinds.DirTree tree_lines (tree_read bytes) v is said
 
@@ -59,7 +57,7 @@ pub tree_bad : (bytes : List ℕ) (error : ObjectError) → Breaks error (tree_r
 unfolding tree_shown
 tree_bad bytes error is = read_bad (meta_digest bytes) kinds.DirTree tree_lines (tree_read bytes) error is
 
-pub meta_told : (bytes text : List ℕ) (v : MetaView) → meta_read bytes ≡ Ok v → text ≡ head (meta_digest bytes) (codes "dirmeta") ++ meta_lines v → meta_shown bytes ≡ told text
+pub meta_told : (bytes text : List ℕ) (v : MetaView) → meta_read bytes ≡ Ok v → text ≡ head (meta_digest bytes) (codes "dirmeta") ++ meta_lines v → meta_shown bytes ≡ text_answer text
 unfolding meta_shown
 meta_told bytes text v is said = read_told (meta_digest bytes) text kinds.DirMeta meta_lines (meta_read bytes) v is said
 
@@ -69,19 +67,19 @@ meta_bad bytes error is = read_bad (meta_digest bytes) kinds.DirMeta meta_lines 
 
 -- ---- values
 
-some_value : (o : Option Tree) (bytes : List ℕ) → is_some o ≡ true → by_value bytes o ≡ told (normal_line (length bytes))
+some_value : (o : Option Tree) (bytes : List ℕ) → is_some o ≡ true → by_value bytes o ≡ text_answer (normal_line (length bytes))
 some_value None bytes h = absurd (false≢true h)
 some_value (Some value) bytes h = refl
 
-no_value : (o : Option Tree) (bytes : List ℕ) → is_some o ≡ false → by_value bytes o ≡ refused (MalformedValue (meta_digest bytes))
+no_value : (o : Option Tree) (bytes : List ℕ) → is_some o ≡ false → by_value bytes o ≡ refusal_answer (MalformedValue (meta_digest bytes))
 no_value None bytes h = refl
 no_value (Some value) bytes h = absurd (false≢true (sym h))
 
-pub value_told : (type bytes text : List ℕ) (of : Shape) → type_of type ≡ Some of → is_some (value_of of bytes) ≡ true → text ≡ normal_line (length bytes) → value_shown type bytes ≡ told text
+pub value_told : (type bytes text : List ℕ) (of : Shape) → type_of type ≡ Some of → is_some (value_of of bytes) ≡ true → text ≡ normal_line (length bytes) → value_shown type bytes ≡ text_answer text
 unfolding value_shown
-value_told type bytes text of is normal said = ap (λ (o : Option Shape). by_type o bytes) is ∙ some_value (value_of of bytes) bytes normal ∙ ap told (sym said)
+value_told type bytes text of is normal said = ap (λ (o : Option Shape). by_type o bytes) is ∙ some_value (value_of of bytes) bytes normal ∙ ap text_answer (sym said)
 
-pub value_bad : (type bytes : List ℕ) (of : Shape) → type_of type ≡ Some of → is_some (value_of of bytes) ≡ false → value_shown type bytes ≡ refused (MalformedValue (meta_digest bytes))
+pub value_bad : (type bytes : List ℕ) (of : Shape) → type_of type ≡ Some of → is_some (value_of of bytes) ≡ false → value_shown type bytes ≡ refusal_answer (MalformedValue (meta_digest bytes))
 unfolding value_shown
 value_bad type bytes of is normal = ap (λ (o : Option Shape). by_type o bytes) is ∙ no_value (value_of of bytes) bytes normal
 

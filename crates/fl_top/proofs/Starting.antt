@@ -9,26 +9,27 @@ use Rattle.fp_host.proofs.Follow.{follows_refl}
 use Rattle.fp_small.specs.Files.{KeepsFiles}
 use Rattle.fp_small.proofs.Keeping.{files_stay, files_kept}
 use Rattle.fp_small.specs.declared.state.State.{State}
-use Rattle.fp_small.specs.declared.op.Op.{Op}
 use Rattle.fp_small.specs.declared.refusal.Refusal.{Refusal}
 use Rattle.fp_small.specs.declared.refusal.Refusal.TheVariants.{Damaged}
 use Rattle.dep_states.specs.Names.{config, remotes_conf, pins_file}
-use Rattle.dep_states.specs.Shown.{Shows, seen}
+use Rattle.dep_states.specs.Shown.{Shows}
 use Rattle.dep_states.specs.Sound.{IsSound}
-use Rattle.dep_states.specs.After.{after_all}
+use Rattle.dep_states.specs.After.{Done, after_all}
+use Rattle.dep_states.proofs.Single.{one_state}
 use Rattle.dep_open.specs.Open.{NotShown, NoName, IsOpened, Opened, StaysUnread}
 use Rattle.dep_open.specs.Tidy.{IsTidy}
 use Rattle.dep_open.specs.declared.open_end.OpenEnd.{OpenEnd}
 use Rattle.dep_open.specs.declared.open_end.OpenEnd.TheVariants as open_end
-use Rattle.fl_top.specs.Answer.{Answer, Piece, lines_of, joined, ops_in, ops_of, over, refused, IsAtOnce}
+use Rattle.fl_top.specs.Answer.{Answer, Piece, lines_of, joined, ops_in, ops_of, over, refusal_answer, IsAtOnce}
 use Rattle.fl_top.specs.Ends.{end_of_open}
 use Rattle.fl_top.specs.Runs.{ShowsAfter, IsPrefix, IsJust, Printed, Runs, Stands}
-use Rattle.fl_top.specs.Performs.{Performs, IsDone, IsHalted, Performed, over_view, RunsOver, Completes, Ended, EndedOver}
+use Rattle.fl_top.specs.Performs.{Performs, IsDone, IsHalted, Performed, RunsOver, Completes, Ended, EndedOver}
 use Rattle.fl_top.specs.declared.end.RunEnd.{RunEnd}
 use Rattle.fl_top.specs.declared.end.RunEnd.TheVariants.{Refused, Fault, NoMemory}
 use Rattle.fl_top.specs.Changes.{IsUntouched, HasText}
 use Rattle.fl_top.proofs.Changing.{change_on, change_none, tidied_on, tidied_none, same_untouched}
-use Rattle.fl_top.proofs.Same.{unmoved, same_shown, same_sound, now_left, one_state, not_shown}
+use Rattle.fl_top.proofs.Same.{unmoved, same_shown, same_sound, now_left}
+use Rattle.fl_top.proofs.Over.{over_is, over_damaged, not_shown, counts_shown, counts_damaged}
 
 -- ---- nothing is printed and nothing shown changes
 
@@ -68,27 +69,19 @@ begun a keeping untouched = record {
 }
 
 -- a refusal of the state isn't one of the words or of the input
-over_late : (f : State → Answer) → ((s : State) → IsAtOnce (f s).refusal → ⊥) → (seen_there : Result State Elements) → IsAtOnce (over f seen_there).refusal → ⊥
+over_late : (f : State → Answer) → ((s : State) → IsAtOnce (f s).refusal → ⊥) → (shown : Result State Elements) → IsAtOnce (over f shown).refusal → ⊥
 over_late f late (Err path) at_once = at_once
 over_late f late (Ok s) at_once = late s at_once
 
 pub begun_over : (f : State → Answer) → ((s : State) → IsAtOnce (f s).refusal → ⊥) → {u w : View} → Keeping u w → StaysUnread u w → RunsOver f u w
 begun_over f late {u = u} keeping unread = record {
-  runs = begun (over_view f u) keeping (λ at_once. absurd (over_late f late (seen (shows u)) at_once));
+  runs = λ shown counts. begun (over f shown) keeping (λ at_once. absurd (over_late f late shown at_once));
   changes = change_none keeping.names keeping.files;
   untouched = λ none. same_untouched (unread none);
 }
 
 pub stood : (a : Answer) {u w : View} → Keeping u w → Stands a u w
 stood a keeping = record { said = []; so_far = none_yet a keeping.printed; just = shows_before keeping.follows }
-
--- ---- the state that stood at the start
-
-pub view_is : (f : State → Answer) (u : View) (s : State) → Shows (shows u) s → f s ≡ over_view f u
-view_is f u s shown = ap (over f) (sym shown.is)
-
-pub view_damaged : (f : State → Answer) (u : View) (path : Elements) → seen (shows u) ≡ Err path → over_view f u ≡ refused (Damaged path)
-view_damaged f u path is = ap (over f) is
 
 -- ---- what is tidy stays tidy where no name changes
 
@@ -100,7 +93,7 @@ same_tidy same tidy = record {
 
 -- ---- once it was opened
 
-pub shown_after : (u : View) (s : State) (done : List Op) (disk : Disk) → Shows (shows u) s → Shows disk (after_all s done) → ShowsAfter u done disk
+pub shown_after : (u : View) (s : State) (done : List Done) (disk : Disk) → Shows (shows u) s → Shows disk (after_all s done) → ShowsAfter u done disk
 shown_after u s [] disk at shown = (shows u, now_left u, s, at, shown)
 shown_after u s (op ∷ ops) disk at shown = (s, at, shown)
 
@@ -128,7 +121,7 @@ runs_opened a s {u = u} late opened keeping performs = record {
 
 pub runs_over : (f : State → Answer) (s : State) {u v w : View} → (IsAtOnce (f s).refusal → ⊥) → IsOpened s u v → Keeping u v → Performs (f s) s v w → RunsOver f u w
 runs_over f s {u = u} {v = v} {w = w} late opened keeping performs = record {
-  runs = subst (λ (a : Answer). Runs a u w) (view_is f u s opened.shown) (runs_opened (f s) s late opened keeping performs);
+  runs = λ shown counts. subst (λ (a : Answer). Runs a u w) (sym (over_is f (shows u) shown s opened.shown counts)) (runs_opened (f s) s late opened keeping performs);
   changes = change_on u v w (change_none keeping.names keeping.files) performs.changes;
   untouched = λ none. absurd (none s opened.shown);
 }
@@ -163,14 +156,20 @@ ended a s Fault w opened keeping is = tt
 ended a s NoMemory w opened keeping is = stands a s opened keeping is
 
 pub failed_over : (f : State → Answer) (s : State) (e : RunEnd) {u v : View} (w : View) → IsOpened s u v → Keeping u v → Performed (f s) s (Err e) v w → EndedOver f (Err e) u w
-failed_over f s e {u = u} w opened keeping is = subst (λ (a : Answer). Ended a (Err e) u w) (view_is f u s opened.shown) (ended (f s) s e w opened keeping is)
+failed_over f s e {u = u} w opened keeping is = record {
+  ended = λ shown counts. subst (λ (a : Answer). Ended a (Err e) u w) (sym (over_is f (shows u) shown s opened.shown counts)) (ended (f s) s e w opened keeping is);
+  given = λ by. counts_shown (over f) (shows u) s opened.shown;
+}
 
 pub done_over : (f : State → Answer) (s t : State) {u v : View} (w : View) → IsOpened s u v → Keeping u v → Performed (f s) s (Ok t) v w → EndedOver f (Ok tt) u w
-done_over f s t {u = u} w opened keeping is = subst (λ (a : Answer). Ended a (Ok tt) u w) (view_is f u s opened.shown) (is.0, completes (f s) s opened keeping is.2)
+done_over f s t {u = u} w opened keeping is = record {
+  ended = λ shown counts. subst (λ (a : Answer). Ended a (Ok tt) u w) (sym (over_is f (shows u) shown s opened.shown counts)) (is.0, completes (f s) s opened keeping is.2);
+  given = λ by. counts_shown (over f) (shows u) s opened.shown;
+}
 
 -- ---- where it wasn't opened
 
-damaged : (path : Elements) {u w : View} → Keeping u w → NotShown (shows u) → Completes (refused (Damaged path)) u w
+damaged : (path : Elements) {u w : View} → Keeping u w → NotShown (shows u) → Completes (refusal_answer (Damaged path)) u w
 damaged path {u = u} keeping none = record {
   printed = keeping.printed ∙ sym (append-nil u.printed);
   just = shows_before keeping.follows;
@@ -179,18 +178,24 @@ damaged path {u = u} keeping none = record {
   text = λ some s at. absurd (some refl);
 }
 
+-- want of memory before anything is done
+pub halted_over : (f : State → Answer) {u w : View} → Keeping u w → EndedOver f (Err NoMemory) u w
+halted_over f keeping = record { ended = λ shown counts. stood (over f shown) keeping; given = λ by. absurd by }
+
 pub ended_open : (f : State → Answer) (e : OpenEnd) {u w : View} → Keeping u w → Opened (Err e) u w → EndedOver f (Err (end_of_open e)) u w
-ended_open f (open_end.Damaged path) {u = u} {w = w} keeping is =
-    subst (λ (a : Answer). Ended a (Err (Refused (Damaged path))) u w) (sym (view_damaged f u path is)) (refl, damaged path keeping (not_shown is))
-ended_open f open_end.Fault keeping is = tt
-ended_open f open_end.NoMemory {u = u} keeping is = stood (over_view f u) keeping
+ended_open f (open_end.Damaged path) {u = u} {w = w} keeping is = record {
+  ended = λ shown counts. subst (λ (a : Answer). Ended a (Err (Refused (Damaged path))) u w) (sym (over_damaged f (shows u) shown path is counts)) (refl, damaged path keeping (not_shown is));
+  given = λ by. counts_damaged (over f) (shows u) path is;
+}
+ended_open f open_end.Fault keeping is = record { ended = λ shown counts. tt; given = λ by. absurd by }
+ended_open f open_end.NoMemory keeping is = halted_over f keeping
 
 -- nothing changes
 pub unchanged : {u : View} → Keeping u u
 unchanged = record { printed = refl; follows = follows_refl; names = λ q. refl; files = files_stay }
 
 -- a refusal without a look at the installation
-pub refused_at_once : (refusal : Refusal) (u : View) → Completes (refused refusal) u u
+pub refused_at_once : (refusal : Refusal) (u : View) → Completes (refusal_answer refusal) u u
 refused_at_once refusal u = record {
   printed = sym (append-nil u.printed);
   just = shows_before follows_refl;

@@ -1,19 +1,21 @@
 -- What speaks against an operation.
-use Rattle.std.proofs.Common.{◌≡◌, ◌<◌, ◌≤◌, ℕ, List, Bool, true, false, nat_le, length, Option, Some, None, if◌then◌else◌, Contains, IsTrue, ◌↔◌, refl, sym, ◌∙◌, subst, arith}
+use Rattle.std.proofs.Common.{◌≡◌, ◌<◌, ◌≤◌, ℕ, List, Bool, true, false, nat_le, length, Some, None, if◌then◌else◌, Contains, IsTrue, ◌↔◌, refl, sym, ◌∙◌, arith}
 use Rattle.fp_small.proofs.Ordered.{contains, is_contained, lacks}
 use Rattle.fp_small.specs.Config.{name_of}
 use Rattle.fp_small.specs.Order.{has_name}
 use Rattle.fp_small.specs.declared.state.State.{State}
 use Rattle.fp_small.specs.declared.state.RemoteRow.{RemoteRow}
 use Rattle.fp_small.specs.declared.op.Op.{Op}
-use Rattle.fp_small.specs.declared.op.Op.TheVariants.{AddPin, DropPin, AddRemote, ModifyRemote, DropRemote, Migrate}
+use Rattle.fp_small.specs.declared.op.Op.TheVariants.{Install, Update, Uninstall, AddPin, DropPin, AddRemote, ModifyRemote, DropRemote, SetOverride, DropOverride, Migrate, Rollback}
 use Rattle.fp_small.specs.declared.refusal.Refusal.{Refusal}
 use Rattle.fp_small.specs.declared.refusal.Refusal.TheVariants.{PinExists, NoSuchPin, NoSuchRemote, RemoteExists, Limit}
 use Rattle.fp_base.specs.declared.what.What.TheVariants.{Pins, Remotes}
 use Rattle.fp_small.specs.declared.state.Layout.TheVariants.{Two}
-use Rattle.dep_states.specs.After.{after, May, Allows, layout_for}
-use Rattle.fl_top.specs.Answer.{refusal_of, is_pinned, add_pin_refusal, drop_pin_refusal, add_remote_refusal}
-use Rattle.fl_top.specs.Status.{IsOp}
+use Rattle.dep_states.specs.After.{plain, after, May, Allows, IsOnConfig, layout_for}
+use Rattle.fl_words.specs.declared.command.Change.{Change}
+use Rattle.fl_words.specs.declared.command.Change.TheVariants.{Pin, Unpin, RemoteAdd, RemoteModify, RemoteDelete}
+use Rattle.fl_top.specs.Answer.{refusal_of, op_of, is_pinned, add_pin_refusal, drop_pin_refusal, add_remote_refusal}
+use Rattle.fl_top.specs.Status.{IsChange}
 
 -- ---- from the code's tests to the refusals
 
@@ -62,28 +64,40 @@ found : (first : Bool) (a : Refusal) → (if first then None else Some a) ≡ No
 found true a is = refl
 found false a is = absurd (cc is)
 
-allows : (s : State) (op : Op) → IsOp op → refusal_of s op ≡ None → Allows s op
-allows s (AddPin pin) good none =
+allows : (s : State) (change : Change) → IsChange change → refusal_of s change ≡ None → Allows s (op_of change)
+allows s (Pin pin) good none =
     let is = none_of (is_pinned s.pins pin) (nat_le 1024 (length s.pins)) (PinExists pin) (Limit Pins 1025) none in
     (good, (λ has. let yes_is = is_contained s.pins pin has in cc (yes_is, is.0)), few 1024 (length s.pins) is.1)
-allows s (DropPin pin) good none = contains s.pins pin (found (is_pinned s.pins pin) (NoSuchPin pin) none)
-allows s (AddRemote row) good none =
+allows s (Unpin pin) good none = contains s.pins pin (found (is_pinned s.pins pin) (NoSuchPin pin) none)
+allows s (RemoteAdd row) good none =
     let is = none_of (has_name name_of s.remotes row.name) (nat_le 256 (length s.remotes)) (RemoteExists row.name) (Limit Remotes 257) none in
     (good, is.0, few 256 (length s.remotes) is.1)
-allows s (ModifyRemote row) good none = (good, found (has_name name_of s.remotes row.name) (NoSuchRemote row.name) none)
-allows s (DropRemote name) good none = found (has_name name_of s.remotes name) (NoSuchRemote name) none
-allows s Migrate good none = tt
+allows s (RemoteModify row) good none = (good, found (has_name name_of s.remotes row.name) (NoSuchRemote row.name) none)
+allows s (RemoteDelete name) good none = found (has_name name_of s.remotes name) (NoSuchRemote name) none
 
-pub may : (s : State) (op : Op) → s.layout ≡ layout_for op → IsOp op → refusal_of s op ≡ None → May s op
-may s op layout good none = record { layout = layout; allows = allows s op good none }
+for_two : (change : Change) → layout_for (op_of change) ≡ Two
+for_two (Pin pin) = refl
+for_two (Unpin pin) = refl
+for_two (RemoteAdd row) = refl
+for_two (RemoteModify row) = refl
+for_two (RemoteDelete name) = refl
+
+pub may : (s : State) (change : Change) → s.layout ≡ Two → IsChange change → refusal_of s change ≡ None → May s (op_of change)
+may s change layout good none = record { layout = layout ∙ sym (for_two change); allows = allows s change good none }
 
 -- ---- what is done in layout 2
 
 -- and stays so
-pub after_two : (s : State) (op : Op) → May s op → (after s op).layout ≡ Two
-after_two s (AddPin pin) may = may.layout
-after_two s (DropPin pin) may = may.layout
-after_two s (AddRemote row) may = may.layout
-after_two s (ModifyRemote row) may = may.layout
-after_two s (DropRemote name) may = may.layout
-after_two s Migrate may = refl
+pub after_two : (s : State) (op : Op) → IsOnConfig op → May s op → (after s (plain op)).layout ≡ Two
+after_two s (AddPin pin) here may = may.layout
+after_two s (DropPin pin) here may = may.layout
+after_two s (AddRemote row) here may = may.layout
+after_two s (ModifyRemote row) here may = may.layout
+after_two s (DropRemote name) here may = may.layout
+after_two s Migrate here may = refl
+after_two s (Install name remote commit) here may = absurd here
+after_two s (Update name remote commit) here may = absurd here
+after_two s (Uninstall name) here may = absurd here
+after_two s (SetOverride row) here may = absurd here
+after_two s (DropOverride name) here may = absurd here
+after_two s (Rollback name commit) here may = absurd here

@@ -6,11 +6,10 @@ use Rattle.std.proofs.lemmas.List.Elements.{filter_map-append}
 use Rattle.fp_host.specs.View.{View}
 use Rattle.fp_host.specs.Outcome.{Disk}
 use Rattle.fp_small.specs.declared.state.State.{State}
-use Rattle.fp_small.specs.declared.op.Op.{Op}
 use Rattle.fp_small.specs.declared.refusal.Refusal.{Refusal}
 use Rattle.dep_states.specs.Shown.{Shows}
 use Rattle.dep_states.specs.Sound.{Opens}
-use Rattle.dep_states.specs.After.{after, after_all}
+use Rattle.dep_states.specs.After.{Done, after, after_all}
 use Rattle.fl_words.specs.declared.command.Change.{Change}
 use Rattle.fl_top.specs.Answer.{Answer, Piece, lines_of, last_of, joined, ops_in, ops_of, nothing, behind, followed, change_over, in_turn}
 use Rattle.fl_top.specs.Runs.{Printed}
@@ -28,41 +27,41 @@ joined-append xs ys = flat_map-append (λ (piece : Piece). piece.text) xs ys
 pub ops-append : (xs ys : List Piece) → ops_in (xs ++ ys) ≡ ops_in xs ++ ops_in ys
 ops-append xs ys = filter_map-append (λ (piece : Piece). piece.op) xs ys
 
-pub after-append : (xs ys : List Op) (s : State) → after_all s (xs ++ ys) ≡ after_all (after_all s xs) ys
+pub after-append : (xs ys : List Done) (s : State) → after_all s (xs ++ ys) ≡ after_all (after_all s xs) ys
 after-append [] ys s = refl
 after-append (op ∷ xs) ys s = after-append xs ys (after s op)
 
-abbrev pub plain : List Piece → Answer
-plain pieces = record { pieces = pieces; refusal = None }
+abbrev pub unrefused : List Piece → Answer
+unrefused pieces = record { pieces = pieces; refusal = None }
 
 -- where two lists come to nothing, each is empty
-first_none : (xs ys : List Op) → xs ++ ys ≡ [] → xs ≡ []
+first_none : (xs ys : List Done) → xs ++ ys ≡ [] → xs ≡ []
 first_none [] ys none = refl
 first_none (x ∷ xs) ys none = absurd (cc none)
 
-second_none : (xs ys : List Op) → xs ++ ys ≡ [] → ys ≡ []
+second_none : (xs ys : List Done) → xs ++ ys ≡ [] → ys ≡ []
 second_none [] ys none = none
 second_none (x ∷ xs) ys none = absurd (cc none)
 
 -- the state after the operations of pieces and of what comes after them
-after_pieces : (s t : State) (pieces : List Piece) (ops : List Op) → t ≡ after_all s (ops_in pieces) → after_all s (ops_in pieces ++ ops) ≡ after_all t ops
+after_pieces : (s t : State) (pieces : List Piece) (ops : List Done) → t ≡ after_all s (ops_in pieces) → after_all s (ops_in pieces ++ ops) ≡ after_all t ops
 after_pieces s t pieces ops is = after-append (ops_in pieces) ops s ∙ ap (λ (x : State). after_all x ops) (sym is)
 
 -- ---- the first of two
 
 -- what was printed of the first answer
-printed_first : (pieces : List Piece) (b : Answer) (said : List Piece) {v w : View} → Printed (plain pieces) said v w → Printed (behind pieces None b) said v w
+printed_first : (pieces : List Piece) (b : Answer) (said : List Piece) {v w : View} → Printed (unrefused pieces) said v w → Printed (behind pieces None b) said v w
 printed_first pieces b said printed = record {
   left = printed.left ++ lines_of b;
   pieces = append_assoc pieces b.pieces (last_of b.refusal) ∙ ap (λ (l : List Piece). l ++ lines_of b) (sym (append-nil pieces) ∙ printed.pieces) ∙ append_assoc said printed.left (lines_of b);
   printed = printed.printed;
 }
 
-some_first : (pieces : List Piece) (b : Answer) (acknowledged : List Op) (s : State) {disk : Disk} → IsSome (plain pieces) acknowledged s disk → IsSome (behind pieces None b) acknowledged s disk
+some_first : (pieces : List Piece) (b : Answer) (acknowledged : List Done) (s : State) {disk : Disk} → IsSome (unrefused pieces) acknowledged s disk → IsSome (behind pieces None b) acknowledged s disk
 some_first pieces b acknowledged s some = record {
   done = some.done;
   undone = some.undone ++ ops_in b.pieces;
-  prefix = ops-append pieces b.pieces ∙ ap (λ (l : List Op). l ++ ops_in b.pieces) some.prefix ∙ append_assoc some.done some.undone (ops_in b.pieces);
+  prefix = ops-append pieces b.pieces ∙ ap (λ (l : List Done). l ++ ops_in b.pieces) some.prefix ∙ append_assoc some.done some.undone (ops_in b.pieces);
   more = some.more;
   holds = some.holds;
   shown = some.shown;
@@ -107,14 +106,14 @@ some_second : (pieces : List Piece) (b : Answer) (said : List Piece) (s t : Stat
 some_second pieces b said s t {disk = disk} is some = record {
   done = ops_in pieces ++ some.done;
   undone = some.undone;
-  prefix = ops-append pieces b.pieces ∙ ap (λ (l : List Op). ops_in pieces ++ l) some.prefix ∙ sym (append_assoc (ops_in pieces) some.done some.undone);
+  prefix = ops-append pieces b.pieces ∙ ap (λ (l : List Done). ops_in pieces ++ l) some.prefix ∙ sym (append_assoc (ops_in pieces) some.done some.undone);
   more = some.more;
-  holds = ap (λ (l : List Op). ops_in pieces ++ l) some.holds ∙ sym (append_assoc (ops_in pieces) (ops_in said) some.more) ∙ ap (λ (l : List Op). l ++ some.more) (sym (ops-append pieces said));
+  holds = ap (λ (l : List Done). ops_in pieces ++ l) some.holds ∙ sym (append_assoc (ops_in pieces) (ops_in said) some.more) ∙ ap (λ (l : List Done). l ++ some.more) (sym (ops-append pieces said));
   shown = subst (λ (x : State). Shows disk x) (sym (after_pieces s t pieces some.done is)) some.shown;
   sound = some.sound;
 }
 
-pub performs_onto : (pieces : List Piece) (b : Answer) (s t : State) {v w x : View} → t ≡ after_all s (ops_in pieces) → IsDone (plain pieces) s v w → Performs b t w x → Performs (behind pieces None b) s v x
+pub performs_onto : (pieces : List Piece) (b : Answer) (s t : State) {v w x : View} → t ≡ after_all s (ops_in pieces) → IsDone (unrefused pieces) s v w → Performs b t w x → Performs (behind pieces None b) s v x
 performs_onto pieces b s t {v = v} {w = w} {x = x} is done performs = record {
   changes = change_on v w x done.changes performs.changes;
   only_tidied = λ none. let none_of = sym (ops-append pieces b.pieces) ∙ none in tidied_on (done.only_tidied (first_none (ops_in pieces) (ops_in b.pieces) none_of)) (performs.only_tidied (second_none (ops_in pieces) (ops_in b.pieces) none_of));
@@ -124,11 +123,11 @@ performs_onto pieces b s t {v = v} {w = w} {x = x} is done performs = record {
 }
 
 -- where both are not empty, one isn't
-one_made : (xs ys : List Op) → xs ++ ys ≢ [] → (xs ≢ []) ⊎ (ys ≢ [])
+one_made : (xs ys : List Done) → xs ++ ys ≢ [] → (xs ≢ []) ⊎ (ys ≢ [])
 one_made [] ys some = inr some
 one_made (x ∷ xs) ys some = inl (λ none. cc none)
 
-done_onto : (pieces : List Piece) (b : Answer) (s t : State) {v w x : View} → t ≡ after_all s (ops_in pieces) → IsDone (plain pieces) s v w → IsDone b t w x → IsDone (behind pieces None b) s v x
+done_onto : (pieces : List Piece) (b : Answer) (s t : State) {v w x : View} → t ≡ after_all s (ops_in pieces) → IsDone (unrefused pieces) s v w → IsDone b t w x → IsDone (behind pieces None b) s v x
 done_onto pieces b s t {v = v} {w = w} {x = x} is done next = record {
   changes = change_on v w x done.changes next.changes;
   only_tidied = λ none. let none_of = sym (ops-append pieces b.pieces) ∙ none in tidied_on (done.only_tidied (first_none (ops_in pieces) (ops_in b.pieces) none_of)) (next.only_tidied (second_none (ops_in pieces) (ops_in b.pieces) none_of));
@@ -150,16 +149,16 @@ done_onto pieces b s t {v = v} {w = w} {x = x} is done next = record {
     from : HasText (after_all s (ops_in pieces)) w → HasText t w
     from text = subst (λ (z : State). HasText z w) (sym is) text
 
-    text_of : (ops : List Op) → ops_of b ≡ ops → ops_of (behind pieces None b) ≢ [] → HasText (after_all t (ops_of b)) x
+    text_of : (ops : List Done) → ops_of b ≡ ops → ops_of (behind pieces None b) ≢ [] → HasText (after_all t (ops_of b)) x
     text_of (op ∷ ops) ops_are some = next.text (λ none. let both : op ∷ ops ≡ [] = sym ops_are ∙ none in cc both)
     text_of [] ops_are some =
-        let first : ops_in pieces ≢ [] = λ none. some (ops-append pieces b.pieces ∙ ap (λ (l : List Op). l ++ ops_of b) none ∙ ops_are) in
-        subst (λ (l : List Op). HasText (after_all t l) x) (sym ops_are) (text_tidied (next.only_tidied ops_are) next.changes.files (from (done.text first)))
+        let first : ops_in pieces ≢ [] = λ none. some (ops-append pieces b.pieces ∙ ap (λ (l : List Done). l ++ ops_of b) none ∙ ops_are) in
+        subst (λ (l : List Done). HasText (after_all t l) x) (sym ops_are) (text_tidied (next.only_tidied ops_are) next.changes.files (from (done.text first)))
 
     after_both : after_all t (ops_of b) ≡ after_all s (ops_in pieces ++ ops_of b)
     after_both = sym (after_pieces s t pieces (ops_of b) is)
 
-pub performed_onto : (pieces : List Piece) (b : Answer) (s t : State) (r : Result State RunEnd) (v w x : View) → t ≡ after_all s (ops_in pieces) → IsDone (plain pieces) s v w → Performed b t r w x → Performed (behind pieces None b) s r v x
+pub performed_onto : (pieces : List Piece) (b : Answer) (s t : State) (r : Result State RunEnd) (v w x : View) → t ≡ after_all s (ops_in pieces) → IsDone (unrefused pieces) s v w → Performed b t r w x → Performed (behind pieces None b) s r v x
 performed_onto pieces b s t (Ok t') v w x is done next = (
   next.0,
   next.1 ∙ sym (after_pieces s t pieces (ops_of b) is) ∙ ap (after_all s) (sym (ops-append pieces b.pieces)),
@@ -176,13 +175,13 @@ performed_onto pieces b s t (Err NoMemory) v w x is done next = record {
 -- ---- the first was done, and isn't a refusal
 
 -- it is its pieces alone
-is_plain : (a : Answer) → a.refusal ≡ None → plain a.pieces ≡ a
+is_plain : (a : Answer) → a.refusal ≡ None → unrefused a.pieces ≡ a
 is_plain a none = ap (λ (o : Option Refusal). record { pieces = a.pieces; refusal = o }) (sym none)
 
 then_is : (a b : Answer) → a.refusal ≡ None → behind a.pieces None b ≡ followed a b
 then_is a b none = ap (λ (o : Option Refusal). behind a.pieces o b) (sym none)
 
-done_plain : (a : Answer) (s : State) {v w : View} → a.refusal ≡ None → IsDone a s v w → IsDone (plain a.pieces) s v w
+done_plain : (a : Answer) (s : State) {v w : View} → a.refusal ≡ None → IsDone a s v w → IsDone (unrefused a.pieces) s v w
 done_plain a s none done = record { changes = done.changes; only_tidied = done.only_tidied; printed = done.printed; opens = done.opens; tidied = done.tidied; text = done.text }
 
 pub performs_second : (a b : Answer) (s t : State) {v w x : View} → Performed a s (Ok t) v w → Performs b t w x → Performs (followed a b) s v x
@@ -198,7 +197,7 @@ pub record Stage (changes left : List Change) (s t : State) (v w : View) : Type 
   pub pieces : List Piece
   pub same : in_turn changes s ≡ behind pieces None (in_turn left t)
   pub after : t ≡ after_all s (ops_in pieces)
-  pub done : IsDone (plain pieces) s v w
+  pub done : IsDone (unrefused pieces) s v w
 
 -- none is done
 pub first_stage : (changes : List Change) (s : State) (v : View) → Stage changes changes s s v v
@@ -217,7 +216,7 @@ next_stage changes change left s t t' stage done =
       pieces = stage.pieces ++ a.pieces;
       same = stage.same ∙ ap (behind stage.pieces None) (sym (then_is a _ done.0)) ∙ both stage.pieces a.pieces (in_turn left (after_all t (ops_of a))) ∙ ap (λ (z : State). behind (stage.pieces ++ a.pieces) None (in_turn left z)) (sym done.1);
       after = done.1 ∙ sym (after_pieces s t stage.pieces (ops_of a) stage.after) ∙ ap (after_all s) (sym (ops-append stage.pieces a.pieces));
-      done = done_onto stage.pieces (plain a.pieces) s t stage.after stage.done (done_plain a t done.0 done.2);
+      done = done_onto stage.pieces (unrefused a.pieces) s t stage.after stage.done (done_plain a t done.0 done.2);
     }
   where
     both : (xs ys : List Piece) (b : Answer) → behind xs None (behind ys None b) ≡ behind (xs ++ ys) None b

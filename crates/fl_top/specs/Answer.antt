@@ -1,5 +1,5 @@
 -- What a run answers: what it prints, and the operations that this acknowledges.
-use Rattle.std.specs.Prelude.{ℕ, ◌+◌, List, [], ◌∷◌, ◌++◌, Bool, length, nat_le, Option, Some, None, Result, Ok, Err, flat_map, filter_map, if◌then◌else◌}
+use Rattle.std.specs.Prelude.{◌≡◌, ◌⊎◌, ℕ, ◌+◌, List, [], ◌∷◌, ◌++◌, Bool, length, nat_le, Option, Some, None, Result, Ok, Err, flat_map, filter_map, if◌then◌else◌}
 use Rattle.std.specs.List.{list_any}
 use Rattle.std.specs.Str.{bytes_eq}
 use Rattle.fp_host.specs.Paths.{Elements}
@@ -18,8 +18,8 @@ use Rattle.fp_base.specs.declared.rule.Rule.{Rule}
 use Rattle.fp_base.specs.declared.what.What.TheVariants.{Pins, Remotes, Input}
 use Rattle.fp_small.specs.Config.{name_of}
 use Rattle.fp_small.specs.Order.{has_name}
-use Rattle.dep_states.specs.Shown.{seen}
-use Rattle.dep_states.specs.After.{after_all}
+use Rattle.dep_states.specs.Damaged.{Gives}
+use Rattle.dep_states.specs.After.{Done, plain, after_all}
 use Rattle.fl_words.specs.declared.command.Command.{Command}
 use Rattle.fl_words.specs.declared.command.Command.TheVariants.{Change as Changing, List as Listed, Show as Showing, Batch}
 use Rattle.fl_words.specs.declared.command.Change.{Change}
@@ -44,7 +44,7 @@ use Rattle.fl_top.specs.Objects.{head, commit_lines, tree_lines, meta_lines, nor
 -- what is printed at once, with the operation that it acknowledges, if it does
 pub record Piece : Type 0 where
   pub text : List ℕ
-  pub op : Option Op
+  pub op : Option Done
 
 -- the pieces of what is done, and the refusal that ends it
 pub record Answer : Type 0 where
@@ -65,11 +65,11 @@ abbrev pub joined : List Piece → List ℕ
 joined pieces = flat_map (λ piece. piece.text) pieces
 
 -- the operations that pieces acknowledge
-abbrev pub ops_in : List Piece → List Op
+abbrev pub ops_in : List Piece → List Done
 ops_in pieces = filter_map (λ piece. piece.op) pieces
 
 -- the operations of an answer
-abbrev pub ops_of : Answer → List Op
+abbrev pub ops_of : Answer → List Done
 ops_of a = ops_in a.pieces
 
 -- ---- answers
@@ -78,14 +78,14 @@ ops_of a = ops_in a.pieces
 abbrev pub nothing : Answer
 nothing = record { pieces = []; refusal = None }
 
-abbrev pub refused : Refusal → Answer
-refused refusal = record { pieces = []; refusal = Some refusal }
+abbrev pub refusal_answer : Refusal → Answer
+refusal_answer refusal = record { pieces = []; refusal = Some refusal }
 
-abbrev pub did : Op → Answer
-did op = record { pieces = record { text = op_text op; op = Some op } ∷ []; refusal = None }
+abbrev pub op_answer : Op → Answer
+op_answer op = record { pieces = record { text = op_text op; op = Some (plain op) } ∷ []; refusal = None }
 
-abbrev pub told : List ℕ → Answer
-told text = record { pieces = record { text = text; op = None } ∷ []; refusal = None }
+abbrev pub text_answer : List ℕ → Answer
+text_answer text = record { pieces = record { text = text; op = None } ∷ []; refusal = None }
 
 abbrev pub behind : List Piece → Option Refusal → Answer → Answer
 behind pieces None next = record { pieces = pieces ++ next.pieces; refusal = next.refusal }
@@ -95,7 +95,7 @@ behind pieces (Some refusal) next = record { pieces = pieces; refusal = Some ref
 abbrev pub followed : Answer → Answer → Answer
 followed a next = behind a.pieces a.refusal next
 
--- ---- what speaks against an operation
+-- ---- what speaks against a change
 
 abbrev pub is_pinned : List (List ℕ) → List ℕ → Bool
 is_pinned pins pin = list_any (bytes_eq pin) pins
@@ -114,22 +114,18 @@ add_remote_refusal remotes name = if has_name name_of remotes name then Some (Re
 abbrev pub remote_refusal : List RemoteRow → List ℕ → Option Refusal
 remote_refusal remotes name = if has_name name_of remotes name then None else Some (NoSuchRemote name)
 
-abbrev pub refusal_of : State → Op → Option Refusal
-refusal_of s (AddPin pin) = add_pin_refusal s.pins pin
-refusal_of s (DropPin pin) = drop_pin_refusal s.pins pin
-refusal_of s (AddRemote row) = add_remote_refusal s.remotes row.name
-refusal_of s (ModifyRemote row) = remote_refusal s.remotes row.name
-refusal_of s (DropRemote name) = remote_refusal s.remotes name
-refusal_of s Migrate = None
+abbrev pub refusal_of : State → Change → Option Refusal
+refusal_of s (Pin pin) = add_pin_refusal s.pins pin
+refusal_of s (Unpin pin) = drop_pin_refusal s.pins pin
+refusal_of s (RemoteAdd row) = add_remote_refusal s.remotes row.name
+refusal_of s (RemoteModify row) = remote_refusal s.remotes row.name
+refusal_of s (RemoteDelete name) = remote_refusal s.remotes name
 
 abbrev pub unless : Option Refusal → Answer → Answer
 unless None a = a
-unless (Some refusal) a = refused refusal
+unless (Some refusal) a = refusal_answer refusal
 
 -- ---- what commands answer over a state
-
-abbrev pub act : Op → State → Answer
-act op s = unless (refusal_of s op) (did op)
 
 -- the operation of a change
 abbrev pub op_of : Change → Op
@@ -140,7 +136,7 @@ op_of (RemoteModify row) = ModifyRemote row
 op_of (RemoteDelete name) = DropRemote name
 
 abbrev pub change_over : Change → State → Answer
-change_over change s = act (op_of change) s
+change_over change s = unless (refusal_of s change) (op_answer (op_of change))
 
 -- changes one after another, up to the first refusal
 abbrev pub in_turn : List Change → State → Answer
@@ -149,7 +145,7 @@ in_turn (change ∷ changes) s = followed (change_over change s) (in_turn change
 
 -- an installation of layout 1 is migrated before anything else is done with it
 abbrev pub migrating : Layout → Answer
-migrating One = did Migrate
+migrating One = op_answer Migrate
 migrating Two = nothing
 
 abbrev pub changing : List Change → State → Answer
@@ -162,14 +158,14 @@ listed_text listings.Pins s = pins_text s.pins
 listed_text listings.Remotes s = remotes_text s.remotes
 
 abbrev pub listed : Listing → State → Answer
-listed listing s = told (listed_text listing s)
+listed listing s = text_answer (listed_text listing s)
 
 -- ---- what is shown of an input
 
 -- what an object of this kind and digest says, or the first rule that it breaks
 abbrev pub by_read : {A : Type 0} → List ℕ → ObjKind → (A → List ℕ) → Result A Rule → Answer
-by_read digest kind lines (Ok a) = told (head digest (kind_word kind) ++ lines a)
-by_read digest kind lines (Err rule) = refused (MalformedObject digest kind rule)
+by_read digest kind lines (Ok a) = text_answer (head digest (kind_word kind) ++ lines a)
+by_read digest kind lines (Err rule) = refusal_answer (MalformedObject digest kind rule)
 
 unfoldable pub commit_shown : List ℕ → Answer
 commit_shown bytes = by_read (meta_digest bytes) kinds.Commit commit_lines (commit_read bytes)
@@ -182,8 +178,8 @@ meta_shown bytes = by_read (meta_digest bytes) kinds.DirMeta meta_lines (meta_re
 
 -- how many bytes a value's normal form has
 abbrev pub by_value : List ℕ → Option Tree → Answer
-by_value bytes None = refused (MalformedValue (meta_digest bytes))
-by_value bytes (Some value) = told (normal_line (length bytes))
+by_value bytes None = refusal_answer (MalformedValue (meta_digest bytes))
+by_value bytes (Some value) = text_answer (normal_line (length bytes))
 
 abbrev pub by_type : Option Shape → List ℕ → Answer
 by_type None bytes = by_value bytes None
@@ -199,7 +195,7 @@ shown_by things.DirTree bytes = tree_shown bytes
 shown_by things.DirMeta bytes = meta_shown bytes
 shown_by (things.Value of) bytes = value_shown of bytes
 
--- ---- what words answer over an input and an image
+-- ---- what words answer over an input and what an image gives
 
 -- a refusal of the words or of the input, whatever the image
 abbrev pub IsAtOnce : Option Refusal → Type 0
@@ -211,18 +207,18 @@ IsAtOnce (Some (Limit Input number)) = Unit {0}
 IsAtOnce (Some (BadRecord line)) = Unit {0}
 IsAtOnce (Some _) = ⊥
 
--- by what the image shows: a state, or the first path that doesn't read
+-- by what the image gives: the state that it shows, or the first path that doesn't read
 abbrev pub over : (State → Answer) → Result State Elements → Answer
-over f (Err path) = refused (Damaged path)
+over f (Err path) = refusal_answer (Damaged path)
 over f (Ok s) = f s
 
 abbrev pub of_batch : Result (List Change) ℕ → Result State Elements → Answer
-of_batch (Err line) shown = refused (BadRecord line)
+of_batch (Err line) shown = refusal_answer (BadRecord line)
 of_batch (Ok changes) shown = over (changing changes) shown
 
 -- the whole input is read before anything is done
 abbrev pub over_input : (List ℕ → Answer) → List ℕ → Answer
-over_input f input = if nat_le (length input) input_most then f input else refused (Limit Input (input_most + 1))
+over_input f input = if nat_le (length input) input_most then f input else refusal_answer (Limit Input (input_most + 1))
 
 abbrev pub answer_over : Command → List ℕ → Result State Elements → Answer
 answer_over (Changing change) input shown = over (changing (change ∷ [])) shown
@@ -231,10 +227,16 @@ answer_over (Showing thing) input shown = over_input (shown_by thing) input
 answer_over Batch input shown = over_input (λ bytes. of_batch (batch_of bytes) shown) input
 
 abbrev pub answer_to : List (List ℕ) → Option Command → List ℕ → Result State Elements → Answer
-answer_to words None input shown = refused (BadWords (bad_index words))
+answer_to words None input shown = refusal_answer (BadWords (bad_index words))
 answer_to words (Some command) input shown = answer_over command input shown
 
 -- The first refusal of these: the words; an input that is too long, and its first bad line; an image that shows no state;
 -- and those of the commands.
-abbrev pub answer : List (List ℕ) → List ℕ → Disk → Answer
-answer words input disk = answer_to words (command_of words) input (seen disk)
+abbrev pub answer : List (List ℕ) → List ℕ → Result State Elements → Answer
+answer words input shown = answer_to words (command_of words) input shown
+
+-- The answer over this result counts: the image gives the result, or the answer is the same over every result. (So words that
+-- are no command, an input that is refused, and a command that reads no installation are answered over each image, also one
+-- that gives no result.)
+abbrev pub IsOver : (Result State Elements → Answer) → Disk → Result State Elements → Type 0
+IsOver by disk shown = Gives disk shown ⊎ ((other : Result State Elements) → by other ≡ by shown)

@@ -12,7 +12,7 @@ use Rattle.ost_object.specs.declared.error.ObjectError.TheVariants as object
 use Rattle.fp_base.specs.declared.what.What.TheVariants.{Input}
 use Rattle.fl_words.specs.declared.batch.BatchError.{BatchError}
 use Rattle.fl_words.specs.declared.batch.BatchError.TheVariants as batch
-use Rattle.fl_top.specs.Answer.{Answer, told, refused}
+use Rattle.fl_top.specs.Answer.{Answer, text_answer, refusal_answer}
 use Rattle.fl_top.specs.Input.{input_most}
 use Rattle.fl_top.specs.declared.input.InputEnd.{InputEnd}
 use Rattle.fl_top.specs.declared.input.InputEnd.TheVariants as input
@@ -60,7 +60,7 @@ IsTried refusal (Err NoMemory) = Unit {0}
 
 -- What is shown, exactly: this text, or a refusal.
 abbrev pub Prints : Answer → Result (List ℕ) RunEnd → Type 0
-Prints a (Ok text) = a ≡ told text
-Prints a (Err (Refused r)) = a ≡ refused r
+Prints a (Ok text) = a ≡ text_answer text
+Prints a (Err (Refused r)) = a ≡ refusal_answer r
 Prints a (Err Fault) = ⊥
 Prints a (Err NoMemory) = Unit {0}

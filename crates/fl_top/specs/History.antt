@@ -1,19 +1,18 @@
 -- Runs one after another on one installation, with stops and without.
-use Rattle.std.specs.Prelude.{◌≡◌, List, [], ◌∷◌, ◌++◌, ℕ}
+use Rattle.std.specs.Prelude.{◌≡◌, List, [], ◌∷◌, ◌++◌, ℕ, Result}
 use Rattle.fp_host.specs.Paths.{Elements}
 use Rattle.fp_host.specs.View.{View, IsTree}
 use Rattle.fp_host.specs.Outcome.{Disk, Leaves, IsSettled, shows}
 use Rattle.fp_small.specs.declared.state.State.{State}
-use Rattle.fp_small.specs.declared.op.Op.{Op}
 use Rattle.dep_states.specs.Shown.{Shows}
-use Rattle.dep_states.specs.After.{after_all}
-use Rattle.fl_top.specs.Answer.{answer, ops_in, ops_of}
+use Rattle.dep_states.specs.After.{Done, after_all}
+use Rattle.fl_top.specs.Answer.{answer, IsOver, ops_in, ops_of}
 use Rattle.fl_top.specs.Runs.{Runs}
 
 -- the operations of a run, and those that it acknowledged
 pub record Stretch : Type 0 where
-  pub ops : List Op
-  pub acknowledged : List Op
+  pub ops : List Done
+  pub acknowledged : List Done
 
 -- what a stop at the view w left is opened again, as the view v
 pub record Reopens (w v : View) : Type 0 where
@@ -23,19 +22,21 @@ pub record Reopens (w v : View) : Type 0 where
   pub settled : IsSettled v
   pub same : (q : Elements) → shows v q ≡ disk q
 
--- From the view u on. A run goes on from where the last one was left, at its return or at any moment before, or from what a
+-- From the view u on. A run, that of an answer that counts, goes on from where the last one was left, at its return or at any moment before, or from what a
 -- stop left. The latest run comes first.
 pub data History (u : View) : List Stretch → View → Type 0 where
   begins : History u [] u
-  runs : (stretches : List Stretch) (v w : View) (words : List (List ℕ)) (input : List ℕ) → History u stretches v → (run : Runs (answer words input (shows v)) v w) → History u (record { ops = ops_of (answer words input (shows v)); acknowledged = ops_in run.said } ∷ stretches) w
+  runs : (stretches : List Stretch) (v w : View) (words : List (List ℕ)) (input : List ℕ) (shown : Result State Elements)
+      → History u stretches v → IsOver (answer words input) (shows v) shown → (run : Runs (answer words input shown) v w)
+      → History u (record { ops = ops_of (answer words input shown); acknowledged = ops_in run.said } ∷ stretches) w
   stops : (stretches : List Stretch) (v w : View) → History u stretches w → Reopens w v → History u stretches v
 
 -- a prefix of a run's operations that holds the acknowledged ones leads from the one state to the other
 pub record Leads (stretch : Stretch) (s t : State) : Type 0 where
-  pub done : List Op
-  pub undone : List Op
+  pub done : List Done
+  pub undone : List Done
   pub prefix : stretch.ops ≡ done ++ undone
-  pub more : List Op
+  pub more : List Done
   pub holds : done ≡ stretch.acknowledged ++ more
   pub after : t ≡ after_all s done
 

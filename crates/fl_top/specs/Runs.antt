@@ -1,39 +1,39 @@
 -- What a run leaves at every moment and at its return.
-use Rattle.std.specs.Prelude.{◌≡◌, ◌≢◌, ◌⊎◌, ℕ, true, false, List, [], ◌∷◌, ◌++◌, Option, Some, None}
+use Rattle.std.specs.Prelude.{◌≡◌, ◌≢◌, ◌⊎◌, ℕ, true, false, List, [], ◌∷◌, ◌++◌, Option, Some, None, Result}
+use Rattle.fp_host.specs.Paths.{Elements}
 use Rattle.fp_host.specs.View.{View}
 use Rattle.fp_host.specs.Outcome.{Disk, Leaves, shows}
 use Rattle.fp_small.specs.declared.state.State.{State}
-use Rattle.fp_small.specs.declared.op.Op.{Op}
 use Rattle.dep_states.specs.Shown.{Shows}
 use Rattle.dep_states.specs.Sound.{Sound, IsSound}
-use Rattle.dep_states.specs.After.{after_all}
+use Rattle.dep_states.specs.After.{Done, after_all}
 use Rattle.dep_open.specs.Open.{NotShown}
 use Rattle.dep_open.specs.Tidy.{IsTidy}
 use Rattle.fl_words.specs.declared.command.Command.{Command}
 use Rattle.fl_words.specs.Forms.{command_of}
-use Rattle.fl_top.specs.Answer.{Answer, Piece, lines_of, joined, ops_in, ops_of, answer, IsAtOnce}
+use Rattle.fl_top.specs.Answer.{Answer, Piece, lines_of, joined, ops_in, ops_of, answer, IsOver, IsAtOnce}
 use Rattle.fl_top.specs.Input.{IsDrained}
 use Rattle.fl_top.specs.Changes.{Changes, OnlyTidied, IsUntouched, HasText}
 use Rattle.fl_top.specs.Status.{status_at, IsAnswered, only_looks, reads_input}
 
 -- The image shows what these operations make of the state that stood at the start; where there are none, a state that a stop
 -- at the start would have left.
-abbrev pub ShowsAfter : View → List Op → Disk → Type 0
+abbrev pub ShowsAfter : View → List Done → Disk → Type 0
 ShowsAfter u [] disk = (before : Disk) × Leaves u before × (s : State) × Shows before s × Shows disk s
 ShowsAfter u (op ∷ ops) disk = (s : State) × Shows (shows u) s × Shows disk (after_all s (op ∷ ops))
 
 -- The image shows the installation after a prefix of the answer's operations that holds each acknowledged one, and is sound.
-pub record IsPrefix (a : Answer) (acknowledged : List Op) (u : View) (disk : Disk) : Type 0 where
-  pub done : List Op
-  pub undone : List Op
+pub record IsPrefix (a : Answer) (acknowledged : List Done) (u : View) (disk : Disk) : Type 0 where
+  pub done : List Done
+  pub undone : List Done
   pub prefix : ops_of a ≡ done ++ undone
-  pub more : List Op
+  pub more : List Done
   pub holds : done ≡ acknowledged ++ more
   pub shown : ShowsAfter u done disk
   pub sound : Sound disk
 
 -- It shows the installation after the acknowledged operations alone, and is sound.
-pub record IsJust (acknowledged : List Op) (u : View) (disk : Disk) : Type 0 where
+pub record IsJust (acknowledged : List Done) (u : View) (disk : Disk) : Type 0 where
   pub shown : ShowsAfter u acknowledged disk
   pub sound : Sound disk
 
@@ -86,16 +86,22 @@ abbrev pub IsGiven : Option (List ℕ) → Option Command → List ℕ → Type 
 IsGiven left None input = Unit {0}
 IsGiven left (Some command) input = (reads_input command ≡ false) ⊎ (left ≡ Some input)
 
--- At every moment. Also where the source doesn't tell what it has left, no name changed but `config`, those of work, and the
+-- At every moment the run is that of each answer that counts. Also where the source doesn't tell what it has left, no name changed but `config`, those of work, and the
 -- files of layout 1, which went; each file that was there keeps its mode and its bytes; and words that are no command, a
 -- command that only looks, and one that sees no state change nothing.
 pub record RunsBy (words : List (List ℕ)) (left : Option (List ℕ)) (u w : View) : Type 0 where
   pub changes : Changes u w
-  pub runs : (input : List ℕ) → IsGiven left (command_of words) input → Runs (answer words input (shows u)) u w
+  pub runs : (input : List ℕ) → IsGiven left (command_of words) input → (shown : Result State Elements)
+      → IsOver (answer words input) (shows u) shown → Runs (answer words input shown) u w
   pub untouched : Looks (command_of words) ⊎ NotShown (shows u) → IsUntouched u w
 
-abbrev pub RanBy : List (List ℕ) → Option (List ℕ) → ℕ → View → View → Type 0
-RanBy words left status u w = (input : List ℕ) → IsGiven left (command_of words) input → Ran (answer words input (shows u)) status u w
+-- At the return the run was that of each answer that counts. Where the whole answer was given, there is one that counts (so
+-- that this isn't said of nothing).
+pub record RanBy (words : List (List ℕ)) (left : Option (List ℕ)) (status : ℕ) (u w : View) : Type 0 where
+  pub ran : (input : List ℕ) → IsGiven left (command_of words) input → (shown : Result State Elements)
+      → IsOver (answer words input) (shows u) shown → Ran (answer words input shown) status u w
+  pub given : (input : List ℕ) → IsGiven left (command_of words) input → IsAnswered status
+      → (shown : Result State Elements) × IsOver (answer words input) (shows u) shown
 
 -- A command that reads the input was given all of it, where the whole answer was given and the input wasn't too long; another
 -- takes nothing of it.

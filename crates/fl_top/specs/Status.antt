@@ -3,10 +3,10 @@ use Rattle.std.specs.Prelude.{◌≡◌, ◌⊎◌, ℕ, Bool, true, false, Opti
 use Rattle.fp_name.specs.Grammar.{is_remote_name}
 use Rattle.fp_name.specs.Pins.{is_pin}
 use Rattle.fp_small.specs.Config.{is_row}
-use Rattle.fp_small.specs.declared.op.Op.{Op}
-use Rattle.fp_small.specs.declared.op.Op.TheVariants.{AddPin, DropPin, AddRemote, ModifyRemote, DropRemote, Migrate}
 use Rattle.fp_small.specs.declared.refusal.Refusal.{Refusal}
 use Rattle.fp_small.specs.declared.refusal.Refusal.TheVariants.{BadWords}
+use Rattle.fl_words.specs.declared.command.Change.{Change}
+use Rattle.fl_words.specs.declared.command.Change.TheVariants.{Pin, Unpin, RemoteAdd, RemoteModify, RemoteDelete}
 use Rattle.fl_words.specs.declared.command.Command.{Command}
 use Rattle.fl_words.specs.declared.command.Command.TheVariants.{Change as Changing, List as Listed, Show as Showing, Batch}
 use Rattle.fl_top.specs.Answer.{Answer}
@@ -55,10 +55,9 @@ IsOfWords None status = (status ≡ 2) ⊎ ((status ≡ 3) ⊎ (status ≡ 6))
 IsOfWords (Some command) status = IsOfCommand command status
 
 -- its patterns, names and URLs are such
-abbrev pub IsOp : Op → Type 0
-IsOp (AddPin pin) = is_pin pin ≡ true
-IsOp (DropPin pin) = is_pin pin ≡ true
-IsOp (AddRemote row) = is_row row ≡ true
-IsOp (ModifyRemote row) = is_row row ≡ true
-IsOp (DropRemote name) = is_remote_name name ≡ true
-IsOp Migrate = Unit {0}
+abbrev pub IsChange : Change → Type 0
+IsChange (Pin pin) = is_pin pin ≡ true
+IsChange (Unpin pin) = is_pin pin ≡ true
+IsChange (RemoteAdd row) = is_row row ≡ true
+IsChange (RemoteModify row) = is_row row ≡ true
+IsChange (RemoteDelete name) = is_remote_name name ≡ true

@@ -1,16 +1,16 @@
 //! What changes the installation.
-ghost use Rattle.std.specs.Prelude.{◌≡◌, OnOk, IfOk, IfErr, IsErrOf};
+ghost use Rattle.std.specs.Prelude.{◌≡◌, None, OnOk, IfOk, IfErr, IsErrOf};
 ghost use Rattle.fp_host.specs.Causes.{IsCaused};
 ghost use Rattle.fp_host.specs.Moments.{Goes};
 ghost use Rattle.fp_small.specs.declared.state.Layout.TheVariants.{Two};
-ghost use Rattle.dep_states.specs.After.{after, layout_for, May, IsGood};
+ghost use Rattle.dep_states.specs.After.{after, plain, May, IsOnConfig, IsGood};
 ghost use Rattle.dep_states.specs.Sound.{Opens};
 ghost use Rattle.fl_words.specs.Lines.{op_text};
-ghost use Rattle.fl_top.specs.Answer.{op_of as op_asked, act, did, migrating, change_over, in_turn, changing, refusal_of, add_pin_refusal, drop_pin_refusal, add_remote_refusal, remote_refusal};
+ghost use Rattle.fl_top.specs.Answer.{op_of as op_asked, op_answer, migrating, change_over, in_turn, changing, refusal_of, add_pin_refusal, drop_pin_refusal, add_remote_refusal, remote_refusal};
 ghost use Rattle.fl_top.specs.Ends.{IsTried};
 ghost use Rattle.fl_top.specs.Performs.{Performs, Performed, WasDone, RunsOver, EndedOver};
 ghost use Rattle.fl_top.specs.Runs.{IsReady};
-ghost use Rattle.fl_top.specs.Status.{IsOp};
+ghost use Rattle.fl_top.specs.Status.{IsChange};
 
 use crate::end::RunEnd;
 use dep_open::{open, tidy};
@@ -116,15 +116,52 @@ fn do_change<H: Host>(
     ensures fault_has_cause { IsCaused (IsErrOf result RunEnd.Fault) (H.moments host.old)
         (Opens opened) (H.faults host.old) (H.faults host.new) }
 {
-    let op = op_of(change)?;
-    try_and_do(alloc, host, opened, &op)
+    try_change(opened.state(), change)?;
+    do_unrefused(alloc, host, opened, change)
 }
 
-/// The operation of a change.
+/// Makes one change that nothing speaks against.
+fn do_unrefused<H: Host>(
+    alloc: Global,
+    host: &mut H,
+    opened: Opened,
+    change: &Change,
+) -> Result<Opened, RunEnd>
+    requires good { IsGood opened }
+    requires layout { opened.layout ≡ Two }
+    requires unrefused { refusal_of opened change.now ≡ None }
+    ensures good { IfOk result IsGood }
+    ensures layout { IfOk result (λ o. o.layout ≡ Two) }
+    ensures any_moment { Goes (H.moments host.old) (H.moments host.new)
+        (Performs (change_over change.now opened) opened) (Performed
+        (change_over change.now opened) opened result) }
+    ensures fault_has_cause { IsCaused (IsErrOf result RunEnd.Fault) (H.moments host.old)
+        (Opens opened) (H.faults host.old) (H.faults host.new) }
+{
+    let op = op_of(change)?;
+    do_made(alloc, host, opened, op)
+}
+
+/// Does one operation, and drops it.
+fn do_made<H: Host>(alloc: Global, host: &mut H, opened: Opened, op: Op) -> Result<Opened, RunEnd>
+    requires may { May opened op }
+    requires on_config { IsOnConfig op }
+    requires good { IsGood opened }
+    ensures good { IfOk result IsGood }
+    ensures layout { IfOk result (λ o. o.layout ≡ Two) }
+    ensures any_moment { Goes (H.moments host.old) (H.moments host.new)
+        (Performs (op_answer op) opened) (Performed (op_answer op) opened result) }
+    ensures fault_has_cause { IsCaused (IsErrOf result RunEnd.Fault) (H.moments host.old)
+        (Opens opened) (H.faults host.old) (H.faults host.new) }
+{
+    do_op(alloc, host, opened, &op)
+}
+
+/// The operation of a change, which is one on what stands in `config`.
 fn op_of(change: &Change) -> Result<Op, AllocError>
     ensures is { IfOk result (λ op. op ≡ op_asked change.now) }
-    ensures good { IfOk result IsOp }
-    ensures layout { IfOk result (λ op. layout_for op ≡ Two) }
+    ensures good { IfOk result (λ op. IsChange change.now) }
+    ensures on_config { IfOk result IsOnConfig }
 {
     Ok(match change {
         Change::Pin(pin) => Op::AddPin(pin.copy()?),
@@ -135,35 +172,15 @@ fn op_of(change: &Change) -> Result<Op, AllocError>
     })
 }
 
-/// Does one operation, where nothing speaks against it.
-fn try_and_do<H: Host>(
-    alloc: Global,
-    host: &mut H,
-    opened: Opened,
-    op: &Op,
-) -> Result<Opened, RunEnd>
-    requires op { IsOp op.now }
-    requires layout { opened.layout ≡ layout_for op.now }
-    requires good { IsGood opened }
-    ensures good { IfOk result IsGood }
-    ensures layout { IfOk result (λ o. o.layout ≡ Two) }
-    ensures any_moment { Goes (H.moments host.old) (H.moments host.new)
-        (Performs (act op.now opened) opened) (Performed (act op.now opened) opened result) }
-    ensures fault_has_cause { IsCaused (IsErrOf result RunEnd.Fault) (H.moments host.old)
-        (Opens opened) (H.faults host.old) (H.faults host.new) }
-{
-    try_op(opened.state(), op)?;
-    do_op(alloc, host, opened, op)
-}
-
 /// Does one operation, says its line once it is done, and tidies after it. The line is made before.
 fn do_op<H: Host>(alloc: Global, host: &mut H, opened: Opened, op: &Op) -> Result<Opened, RunEnd>
     requires may { May opened op.now }
+    requires on_config { IsOnConfig op.now }
     requires good { IsGood opened }
     ensures good { IfOk result IsGood }
     ensures layout { IfOk result (λ o. o.layout ≡ Two) }
     ensures any_moment { Goes (H.moments host.old) (H.moments host.new)
-        (Performs (did op.now) opened) (Performed (did op.now) opened result) }
+        (Performs (op_answer op.now) opened) (Performed (op_answer op.now) opened result) }
     ensures fault_has_cause { IsCaused (IsErrOf result RunEnd.Fault) (H.moments host.old)
         (Opens opened) (H.faults host.old) (H.faults host.new) }
 {
@@ -181,12 +198,13 @@ fn do_and_say<H: Host>(
     line: &[u8],
 ) -> Result<Opened, RunEnd>
     requires may { May opened op.now }
+    requires on_config { IsOnConfig op.now }
     requires good { IsGood opened }
     requires line { line.now ≡ op_text op.now }
-    ensures state { IfOk result (λ o. o ≡ after opened op.now) }
+    ensures state { IfOk result (λ o. o ≡ after opened (plain op.now)) }
     ensures good { IfOk result IsGood }
     ensures any_moment { Goes (H.moments host.old) (H.moments host.new)
-        (Performs (did op.now) opened) (WasDone op.now opened result) }
+        (Performs (op_answer op.now) opened) (WasDone op.now opened result) }
     ensures fault_has_cause { IsCaused (IsErrOf result RunEnd.Fault) (H.moments host.old)
         (Opens opened) (H.faults host.old) (H.faults host.new) }
 {
@@ -195,19 +213,18 @@ fn do_and_say<H: Host>(
     Ok(done)
 }
 
-/// The refusals of an operation, in their order.
-fn try_op(state: &State, op: &Op) -> Result<(), RunEnd>
-    ensures { IsTried (refusal_of state.now op.now) result }
+/// The refusals of a change, in their order.
+fn try_change(state: &State, change: &Change) -> Result<(), RunEnd>
+    ensures { IsTried (refusal_of state.now change.now) result }
 {
     let pins = state.pins.as_slice();
     let remotes = state.remotes.as_slice();
-    match op {
-        Op::AddPin(pin) => try_add_pin(pins, pin),
-        Op::DropPin(pin) => try_drop_pin(pins, pin),
-        Op::AddRemote(row) => try_add_remote(remotes, &row.name),
-        Op::ModifyRemote(row) => try_remote(remotes, &row.name),
-        Op::DropRemote(name) => try_remote(remotes, name),
-        Op::Migrate => Ok(()),
+    match change {
+        Change::Pin(pin) => try_add_pin(pins, pin),
+        Change::Unpin(pin) => try_drop_pin(pins, pin),
+        Change::RemoteAdd(row) => try_add_remote(remotes, &row.name),
+        Change::RemoteModify(row) => try_remote(remotes, &row.name),
+        Change::RemoteDelete(name) => try_remote(remotes, name),
     }
 }
 

@@ -61,7 +61,8 @@ pub(crate) struct Tree {
 impl Tree {
     /// The root alone.
     fn new(alloc: Global) -> Result<Tree, AllocError>
-        ensures gathers { (rows : List TreeRow) → IfOk result (λ tree. Gathers rows (says []) tree.folders.items) }
+        ensures gathers { (rows : List TreeRow)
+            → IfOk result (λ tree. Gathers rows (says []) tree.folders.items) }
         ensures names { IfOk result (λ tree. tree.names ≡ 0) }
     {
         let root = Folder {
@@ -76,7 +77,8 @@ impl Tree {
 
     /// The tree of rows. `Row` names the first that is refused.
     pub(crate) fn of_rows(alloc: Global, rows: &[TreeRow]) -> Result<Tree, BuildError>
-        ensures gathers { IfOk result (λ tree. Gathers rows.now (says rows.now) tree.folders.items) }
+        ensures gathers { IfOk result (λ tree. Gathers rows.now (says rows.now)
+            tree.folders.items) }
         ensures good { OnOk result (first_refused rows.now ≡ None) }
         ensures refused { IfErr result (IsRefusal rows.now) }
     {
@@ -93,7 +95,8 @@ impl Tree {
     fn take(&mut self, alloc: Global, row: &TreeRow, at: usize) -> Result<bool, AllocError>
         requires gathered { AreGathered self.old.folders.items }
         requires few { self.old.names ≤ 40000 }
-        ensures { IfOk result (λ taken. (rows : List TreeRow) (said : Elements → Said) → Gathers rows said self.old.folders.items
+        ensures { IfOk result (λ taken. (rows : List TreeRow) (said : Elements → Said)
+            → Gathers rows said self.old.folders.items
             → At rows at row.now → Takes rows said row.now self.old self.new taken) }
     {
         if !is_good(row) {
@@ -118,7 +121,8 @@ impl Tree {
         requires at { FolderAt self.old.folders.items folder (drop 1 (row_path row.now)) }
         requires good { is_good_row row.now ≡ true }
         requires few { self.old.names < 2 ^ 32 }
-        ensures { IfOk result (λ taken. (rows : List TreeRow) (said : Elements → Said) → Gathers rows said self.old.folders.items
+        ensures { IfOk result (λ taken. (rows : List TreeRow) (said : Elements → Said)
+            → Gathers rows said self.old.folders.items
             → At rows at row.now → PutsRow rows said row.now self.old self.new taken) }
     {
         match row {
@@ -133,7 +137,8 @@ impl Tree {
         requires gathered { AreGathered self.old.folders.items }
         requires short { length path.now ≤ 65 }
         requires few { self.old.names ≤ 40000 }
-        ensures { IfOk result (λ found. (rows : List TreeRow) (said : Elements → Said) → Gathers rows said self.old.folders.items
+        ensures { IfOk result (λ found. (rows : List TreeRow) (said : Elements → Said)
+            → Gathers rows said self.old.folders.items
             → Reaches rows said path.now self.old self.new found) }
     {
         let mut folder = 0;
@@ -160,7 +165,8 @@ impl Tree {
         requires inner { path ≢ [] }
         requires short { length path ≤ 64 }
         requires few { self.old.names < 2 ^ 32 }
-        ensures { IfOk result (λ found. (rows : List TreeRow) (said : Elements → Said) → Gathers rows said self.old.folders.items
+        ensures { IfOk result (λ found. (rows : List TreeRow) (said : Elements → Said)
+            → Gathers rows said self.old.folders.items
             → Enters rows said path self.old self.new found) }
     {
         let name = name_of(alloc, &path)?;
@@ -181,7 +187,8 @@ impl Tree {
     /// What stands in the directory under the name.
     fn child(&self, folder: usize, name: &Text) -> Option<Child>
         requires { folder < length self.now.folders.items }
-        ensures { (f : Folder) → At self.now.folders.items folder f → result ≡ child_in f.children.entries name.now }
+        ensures { (f : Folder) → At self.now.folders.items folder f
+            → result ≡ child_in f.children.entries name.now }
     {
         self.folders[folder].children.get(name).copied()
     }
@@ -204,7 +211,8 @@ impl Tree {
         requires at { FolderAt self.old.folders.items folder (drop 1 path.now) }
         requires short { length path.now ≤ 64 }
         requires few { self.old.names < 2 ^ 32 }
-        ensures { IfOk result (λ taken. (rows : List TreeRow) (said : Elements → Said) → Gathers rows said self.old.folders.items
+        ensures { IfOk result (λ taken. (rows : List TreeRow) (said : Elements → Said)
+            → Gathers rows said self.old.folders.items
             → TakesFolder rows said path.now self.old self.new taken) }
     {
         if path.is_root() {
@@ -224,7 +232,8 @@ impl Tree {
     ) -> Result<bool, AllocError>
         requires at { FolderAt self.old.folders.items folder (drop 1 path.now) }
         requires few { self.old.names < 2 ^ 32 }
-        ensures { IfOk result (λ taken. (rows : List TreeRow) (said : Elements → Said) (r : TreeRow) → Gathers rows said self.old.folders.items
+        ensures { IfOk result (λ taken. (rows : List TreeRow) (said : Elements
+            → Said) (r : TreeRow) → Gathers rows said self.old.folders.items
             → At rows row r → is_content (put_by r) ≡ true → TakesContent rows said path.now (put_by r) self.old self.new taken) }
     {
         let Some(name) = path.name() else {

@@ -62,7 +62,8 @@ pub(crate) fn dirtree_bytes(alloc: Global, tree: &DirTree) -> Result<Blob, Build
 
 /// The bytes of the commit of a root.
 pub(crate) fn commit_bytes(alloc: Global, heading: Heading, root: Root) -> Result<Blob, BuildError>
-    ensures reads { IfOk result (λ bytes. commit_read bytes ≡ Ok (commit_of_tree heading.entry.name.now
+    ensures reads { IfOk result (λ bytes. commit_read bytes
+        ≡ Ok (commit_of_tree heading.entry.name.now
         heading.entry.subject.now heading.entry.timestamp root.tree root.meta)) }
     ensures error { IfErr result IsWantOfRoom }
 {

@@ -1,15 +1,15 @@
 -- Objects that are found unused.
-use Rattle.std.proofs.Common.{◌≡◌, ◌⊎◌, inl, inr, ◌<◌, ◌+◌, ℕ, suc, Bool, true, false, ◌&&◌, List, [], ◌∷◌, ◌++◌, map, take, drop, get_or, length, Option, Some, None, Result, Ok, Err, refl, sym, ◌∙◌, ap, subst, Contains, arith, append_assoc, append-nil}
+use Rattle.std.proofs.Common.{◌≡◌, inl, inr, ◌<◌, ◌+◌, ℕ, suc, Bool, true, false, List, [], ◌∷◌, ◌++◌, map, take, drop, get_or, length, Option, Some, None, Result, Ok, Err, refl, sym, ◌∙◌, ap, subst, Contains, arith, append_assoc, append-nil}
 use Rattle.std.specs.Prelude.{◌↔◌, is_some, IfOk}
 use Rattle.fp_host.specs.declared.host.HostEnd.{HostEnd}
 use Rattle.std.proofs.Math.Seq.{take-suc, take-length, drop-cons}
 use Rattle.std.proofs.lemmas.Bool.{and_parts, and_from, both_ways}
 use Rattle.std.proofs.lemmas.List.{map-append, drop_all}
 use Rattle.std.proofs.lemmas.List.Elements.{Contains-append_left, Contains-push, Contains-push_cases}
-use Rattle.fp_host.specs.Paths.{Elements, Slot, absent, dir, file, link, elements_of, path_text, IsAbove}
+use Rattle.fp_host.specs.Paths.{Elements, Slot, absent, dir, file, link, elements_of, path_text}
 use Rattle.fp_host.specs.View.{View, IsTree}
 use Rattle.fp_host.specs.Calls.{IsLeaf}
-use Rattle.fp_host.specs.Outcome.{Spot, gone, folder, spot_of, shows}
+use Rattle.fp_host.specs.Outcome.{gone, folder, spot_of, shows}
 use Rattle.fp_host.proofs.Settled.{at_tree}
 use Rattle.fp_host.specs.Reads.{comes_first, is_ascending}
 use Rattle.fp_host.specs.Frame.{AtEnd, Unchanged}
@@ -17,12 +17,9 @@ use Rattle.fp_host.specs.Moments.{Moments}
 use Rattle.fp_host.proofs.Framed.{IsTold}
 use Rattle.fp_host.proofs.Ending.{ends_on, ends_both, ends_looks}
 use Rattle.fp_small.proofs.Ordered.{before_on}
-use Rattle.fp_name.specs.Hex.{is_digest}
 use Rattle.fp_base.specs.declared.object.ObjKind.{ObjKind}
 use Rattle.fp_base.specs.declared.object.ObjKind.TheVariants as kinds
 use Rattle.ost_model.specs.Objects.{object_path, object_at, store}
-use Rattle.ost_model.specs.Stores.{objects_folder}
-use Rattle.ost_model.specs.Used.{IsUsed}
 use Rattle.ost_model.proofs.Stores.{one_name}
 use Rattle.ost_store.specs.Names.{ListsNames, IsNamed}
 use Rattle.ost_store.specs.Reads.{IsThere}

@@ -6,8 +6,8 @@ use Rattle.fp_host.specs.Paths.{Elements, Slot, absent}
 use Rattle.fp_host.specs.Outcome.{Disk, Leaves, gone, spot_of, shows}
 use Rattle.fp_host.proofs.Settled.{at_tree}
 use Rattle.fp_host.specs.View.{View, IsTree}
-use Rattle.fp_host.specs.Frame.{Keeps, Frame, AtEnd, Observes, Unchanged, NoPath}
-use Rattle.fp_host.specs.Moments.{Moments, Goes, Always}
+use Rattle.fp_host.specs.Frame.{Keeps, Frame, AtEnd, Unchanged, NoPath}
+use Rattle.fp_host.specs.Moments.{Moments, Always}
 use Rattle.fp_host.proofs.Framed.{IsTold, keeps_same, keeps_to}
 use Rattle.fp_host.proofs.Goes.{begins, goes_on}
 use Rattle.fp_host.proofs.Ending.{goes_known, ends_both, ends_looks}
@@ -18,7 +18,6 @@ use Rattle.ost_model.specs.Used.{IsUsed}
 use Rattle.ost_model.proofs.Stores.{one_name}
 use Rattle.ost_store.proofs.Staying.{shown_stays}
 use Rattle.ost_prune.proofs.Found.{none_gone}
-use Rattle.ost_store.specs.Place.{HasObject}
 use Rattle.ost_prune.specs.Prune.{path_in, IsUnused, IsUnusedName, Prunes, ListsUnused, WasPruned}
 use Rattle.ost_prune.specs.Removing.{GoneAmong, AbsentAmong, AreGone, CanRemoveAll}
 

@@ -1,23 +1,21 @@
 -- Objects that go one after another.
-use Rattle.std.proofs.Common.{◌≡◌, ◌⊎◌, inl, inr, ◌<◌, ◌+◌, ℕ, suc, Bool, true, false, List, [], ◌∷◌, ◌++◌, map, take, drop, get_or, length, refl, sym, ◌∙◌, ap, subst, Contains, arith}
+use Rattle.std.proofs.Common.{◌≡◌, inl, inr, ◌<◌, ◌+◌, ℕ, suc, true, false, List, [], ◌∷◌, ◌++◌, map, take, drop, get_or, length, sym, ◌∙◌, ap, subst, Contains, arith}
 use Rattle.std.specs.Prelude.{is_some}
 use Rattle.std.proofs.Math.Seq.{take-suc, take-length, drop-cons}
 use Rattle.std.proofs.lemmas.Bool.{and_parts, both_ways}
-use Rattle.std.proofs.lemmas.List.{map-append, take-append-drop}
+use Rattle.std.proofs.lemmas.List.{take-append-drop}
 use Rattle.std.proofs.lemmas.List.Elements.{Contains-append_left, Contains-append_right, Contains-push, Contains-push_cases, Contains-get_or}
 use Rattle.fp_host.specs.Paths.{Elements, Slot, absent}
 use Rattle.fp_host.specs.View.{View, IsTree}
-use Rattle.fp_host.specs.Outcome.{Spot, gone, shows}
+use Rattle.fp_host.specs.Outcome.{Spot}
 use Rattle.fp_host.specs.Frame.{Keeps, NoPath}
 use Rattle.fp_host.specs.Reads.{comes_first, is_ascending}
 use Rattle.fp_small.specs.Clear.{GoneAt, AbsentAt}
 use Rattle.fp_small.specs.Order.{comes_before}
 use Rattle.fp_small.proofs.Ordered.{before_on, not_before_itself}
 use Rattle.fp_base.specs.declared.object.ObjKind.{ObjKind}
-use Rattle.fp_name.specs.Hex.{is_digest}
 use Rattle.ost_model.specs.Objects.{object_path, object_at}
 use Rattle.ost_store.specs.Place.{HasObject, WasRemoved}
-use Rattle.ost_store.specs.Reads.{object_of}
 use Rattle.ost_store.proofs.Lists.{in_none, in_cases, in_first, in_map}
 use Rattle.ost_store.proofs.Staying.{shown_stays}
 use Rattle.ost_model.proofs.Stores.{one_name}

@@ -1,6 +1,6 @@
 -- The texts of the objects that commits use.
-use Rattle.std.proofs.Common.{◌≡◌, ◌⊎◌, inl, inr, ◌<◌, ◌+◌, ℕ, suc, Bool, true, false, ◌||◌, cond, List, [], ◌∷◌, ◌++◌, map, take, get_or, length, Option, Some, None, refl, sym, ◌∙◌, ap, subst, Contains, arith}
-use Rattle.std.specs.Prelude.{IsErrOf, Result, Err}
+use Rattle.std.proofs.Common.{◌≡◌, inl, inr, ◌<◌, ◌+◌, ℕ, suc, Bool, true, false, ◌||◌, cond, List, [], ◌∷◌, ◌++◌, take, get_or, length, Option, None, refl, sym, ◌∙◌, ap, subst, Contains, arith}
+use Rattle.std.specs.Prelude.{IsErrOf, Err}
 use Rattle.std.specs.List.{list_any}
 use Rattle.std.specs.Str.{bytes_eq}
 use Rattle.std.proofs.Math.Seq.{take-suc, take-length}
@@ -16,11 +16,10 @@ use Rattle.fp_host.specs.Moments.{Moments}
 use Rattle.fp_host.specs.declared.host.HostEnd.{HostEnd}
 use Rattle.fp_host.specs.declared.host.HostEnd.TheVariants as host_ends
 use Rattle.fp_host.proofs.Goes.{knowing}
-use Rattle.fp_name.specs.Hex.{is_digest}
 use Rattle.fp_base.specs.declared.object.ObjKind.{ObjKind}
 use Rattle.ost_model.specs.Objects.{Have, or_else, store}
 use Rattle.ost_model.specs.Order.{order, first_fault}
-use Rattle.ost_model.specs.Used.{IsUsed, used_fault}
+use Rattle.ost_model.specs.Used.{used_fault}
 use Rattle.ost_model.proofs.Stores.{one_name}
 use Rattle.ost_model.proofs.Good.{walks_none}
 use Rattle.ost_store.proofs.Lists.{in_none, in_cases, in_first, in_rest}
@@ -29,7 +28,7 @@ use Rattle.ost_walk.specs.declared.ends.WalkEnd.{WalkEnd}
 use Rattle.ost_walk.specs.declared.ends.WalkEnd.TheVariants as ends
 use Rattle.ost_walk.specs.Ends.{RefusesBy, IsFirst}
 use Rattle.ost_walk.specs.UsedList.{IsUsedList}
-use Rattle.ost_prune.specs.Prune.{path_in, text_in}
+use Rattle.ost_prune.specs.Prune.{text_in}
 use Rattle.ost_prune.specs.Texts.{IsTextOf, AreTextsOf, AreUsedTexts, AreWhole, end_of}
 
 abbrev Object : Type 0

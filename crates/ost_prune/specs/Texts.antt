@@ -1,8 +1,8 @@
 -- The texts of the paths of objects.
-use Rattle.std.specs.Prelude.{◌≡◌, ◌⊎◌, ℕ, List, Bool, true, None, Contains}
+use Rattle.std.specs.Prelude.{◌≡◌, ℕ, List, Bool, true, None, Contains}
 use Rattle.std.specs.List.{list_any}
 use Rattle.std.specs.Str.{bytes_eq}
-use Rattle.fp_host.specs.Paths.{Elements, elements_of, path_text}
+use Rattle.fp_host.specs.Paths.{Elements, elements_of}
 use Rattle.fp_host.specs.View.{View}
 use Rattle.fp_host.specs.Outcome.{shows}
 use Rattle.fp_host.specs.declared.host.HostEnd.{HostEnd}

@@ -24,7 +24,8 @@ fn unused_at<H: Host>(
     path: &Path,
 ) -> Result<Option<(Digest, ObjKind)>, HostEnd>
     ensures unchanged { Unchanged (H.moments host.old) (H.moments host.new) }
-    ensures tells { (keep : List (List ℕ)) → IfOk result (λ found. AtEnd (λ u w. AreUsedTexts root.now keep u (contains_text used.now)
+    ensures tells { (keep : List (List ℕ)) → IfOk result (λ found. AtEnd
+        (λ u w. AreUsedTexts root.now keep u (contains_text used.now)
         → IsUnusedAt root.now keep path.now u found) (H.moments host.old) (H.moments host.new)) }
     ensures fault_has_cause { IsCounted (IsErrOf result HostEnd.Fault)
         (H.moments host.old) (H.faults host.old) (H.faults host.new) }
@@ -64,8 +65,10 @@ fn pick_unused<H: Host>(
     paths: &[Path],
 ) -> Result<Vec<(Digest, ObjKind)>, HostEnd>
     ensures unchanged { Unchanged (H.moments host.old) (H.moments host.new) }
-    ensures tells { (keep : List (List ℕ)) → IfOk result (λ found. AtEnd (λ u w. AreUsedTexts root.now keep u (contains_text used.now)
-        → PicksUnused root.now keep paths.now u found.items) (H.moments host.old) (H.moments host.new)) }
+    ensures tells { (keep : List (List ℕ)) → IfOk result (λ found. AtEnd
+        (λ u w. AreUsedTexts root.now keep u (contains_text used.now)
+        → PicksUnused root.now keep paths.now u found.items)
+        (H.moments host.old) (H.moments host.new)) }
     ensures fault_has_cause { IsCounted (IsErrOf result HostEnd.Fault)
         (H.moments host.old) (H.faults host.old) (H.faults host.new) }
 {
@@ -85,7 +88,8 @@ pub(crate) fn find_unused<H: Host>(
     keep: &[Digest],
 ) -> Result<Vec<(Digest, ObjKind)>, HostEnd>
     ensures unchanged { Unchanged (H.moments host.old) (H.moments host.new) }
-    ensures tells { IfOk result (λ objects. AtEnd (λ u w. ListsUnused root.now keep.now u objects.items)
+    ensures tells { IfOk result (λ objects. AtEnd
+        (λ u w. ListsUnused root.now keep.now u objects.items)
         (H.moments host.old) (H.moments host.new)) }
     ensures fault_has_cause { IsCaused (IsErrOf result HostEnd.Fault) (H.moments host.old)
         (CanPrune root.now keep.now) (H.faults host.old) (H.faults host.new) }

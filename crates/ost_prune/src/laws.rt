@@ -13,16 +13,21 @@ ghost use Rattle.ost_prune.specs.Prune.{path_in, IsUnused, Prunes, WasPruned};
 /// What a commit to keep uses is untouched: its name holds what it held, and each stop leaves there what some stop before
 /// would have left.
 pub fn used_objects_stay()
-    ensures name { (root : Elements) (keep : List (List ℕ)) (object : List ℕ × ObjKind) (u w : View) → is_digest object.0 ≡ true
-        → Prunes root keep u w → IsUsed (store root (shows u)) keep object → w.names (path_in root object) ≡ u.names (path_in root object) }
-    ensures stop { (root : Elements) (keep : List (List ℕ)) (object : List ℕ × ObjKind) (u w : View) → is_digest object.0 ≡ true
-        → Prunes root keep u w → IsUsed (store root (shows u)) keep object → (disk : Disk) → Leaves w disk
+    ensures name { (root : Elements) (keep : List (List ℕ)) (object : List ℕ × ObjKind)
+        (u w : View) → is_digest object.0 ≡ true
+        → Prunes root keep u w
+        → IsUsed (store root (shows u)) keep object → w.names (path_in root object) ≡ u.names (path_in root object) }
+    ensures stop { (root : Elements) (keep : List (List ℕ)) (object : List ℕ × ObjKind)
+        (u w : View) → is_digest object.0 ≡ true
+        → Prunes root keep u w → IsUsed (store root (shows u)) keep object
+        → (disk : Disk) → Leaves w disk
         → (before : Disk) × Leaves u before × (disk (path_in root object) ≡ before (path_in root object)) }
 {}
 
 /// After it an object is there exactly if it was there and isn't one that no commit to keep uses.
 pub fn used_objects_are_left()
-    ensures { (root : Elements) (keep : List (List ℕ)) (number : ℕ) (object : List ℕ × ObjKind) (u w : View) → IsTree u → IsTree w
+    ensures { (root : Elements) (keep : List (List ℕ)) (number : ℕ) (object : List ℕ × ObjKind)
+        (u w : View) → IsTree u → IsTree w
         → is_digest object.0 ≡ true → Prunes root keep u w → WasPruned root keep number u w
         → (is_some (store root (shows w) object.0 object.1) ≡ true)
         ↔ ((is_some (store root (shows u) object.0 object.1) ≡ true) × (IsUnused root keep u object → ⊥)) }

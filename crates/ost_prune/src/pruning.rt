@@ -23,7 +23,8 @@ pub fn prune<H: Host>(
 ) -> Result<u64, HostEnd>
     // A stop at any moment leaves at the name of an object that no commit uses what some stop before would have left, or
     // nothing, and all else as it was.
-    ensures any_moment { Always (Prunes root.now keep.now) (H.moments host.old) (H.moments host.new) }
+    ensures any_moment { Always (Prunes root.now keep.now)
+        (H.moments host.old) (H.moments host.new) }
     ensures on_success { IfOk result (λ number. AtEnd (WasPruned root.now keep.now number)
         (H.moments host.old) (H.moments host.new)) }
     // What was unsettled stays so.

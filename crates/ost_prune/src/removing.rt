@@ -20,7 +20,8 @@ pub(crate) fn remove_all<H: Host>(
 ) -> Result<(), HostEnd>
     ensures frame { Frame (GoneAmong root.now objects.now) (AbsentAmong root.now objects.now) NoPath
         (H.moments host.old) (H.moments host.new) }
-    ensures on_success { OnOk result (AtEnd (λ u w. AreGone root.now objects.now w) (H.moments host.old) (H.moments host.new)) }
+    ensures on_success { OnOk result (AtEnd (λ u w. AreGone root.now objects.now w)
+        (H.moments host.old) (H.moments host.new)) }
     ensures unsynced { AtEnd MakesNoFile (H.moments host.old) (H.moments host.new) }
     ensures fault_has_cause { IsCaused (IsErrOf result HostEnd.Fault) (H.moments host.old)
         (CanRemoveAll root.now objects.now) (H.faults host.old) (H.faults host.new) }

@@ -57,7 +57,8 @@ pub(crate) fn used_texts<H: Host>(
     keep: &[Digest],
 ) -> Result<BTreeSet<String>, HostEnd>
     ensures unchanged { Unchanged (H.moments host.old) (H.moments host.new) }
-    ensures tells { IfOk result (λ texts. AtEnd (λ u w. AreUsedTexts root.now keep.now u (contains_text texts))
+    ensures tells { IfOk result (λ texts. AtEnd
+        (λ u w. AreUsedTexts root.now keep.now u (contains_text texts))
         (H.moments host.old) (H.moments host.new)) }
     ensures fault_has_cause { IsCaused (IsErrOf result HostEnd.Fault) (H.moments host.old)
         (AreWhole root.now keep.now) (H.faults host.old) (H.faults host.new) }

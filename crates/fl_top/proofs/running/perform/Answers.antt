@@ -1,12 +1,11 @@
-use Rattle.std.proofs.Common.{[], ◌∷◌, Ok, refl, sym, subst, ap, arith}
+use Rattle.std.proofs.Common.{[], ◌∷◌, Ok, refl, sym, subst, ap}
 use Rattle.fp_host.specs.Moments.{Goes}
 use Rattle.fl_words.specs.declared.command.Command.{Command}
 use Rattle.fl_words.specs.declared.command.Command.TheVariants.{Change as Changing, List as Listed}
 use Rattle.fl_top.specs.Answer.{changing, listed}
 use Rattle.fl_top.specs.Performs.{RunsOn, EndedOn}
-use Rattle.fl_top.specs.Status.{only_looks, reads_input}
-use Rattle.fl_top.proofs.Finishing.{goes_look, goes_not_looked, goes_change, goes_not_changed, caused_change, run_fault, run_input, takes_none, takes_all}
-use Rattle.fl_top.proofs.ShowInput.{show_causes}
+use Rattle.fl_top.specs.Status.{only_looks}
+use Rattle.fl_top.proofs.Finishing.{goes_look, goes_not_looked, goes_change, goes_not_changed, caused_change, run_fault}
 use Rattle.fl_top.proofs.running.perform.Goals as goal
 
 pub returns-in_err-change_all-in-Change-clause-any_moment : goal.returns-in_err-change_all-in-Change-clause-any_moment

@@ -1,5 +1,5 @@
 use Rattle.std.proofs.Common.{◌≡◌, sym, subst, rules, arith, List, ℕ, Ok, Err}
-use Rattle.fl_top.specs.Answer.{shown_by, told}
+use Rattle.fl_top.specs.Answer.{shown_by, text_answer}
 use Rattle.fl_words.specs.declared.command.Command.TheVariants.{Show as Showing}
 use Rattle.fl_top.specs.Ends.{end_of_host, end_of_input, end_of_run, Prints}
 use Rattle.fl_top.proofs.Finishing.{goes_none, input_failed, input_ends, run_input, drained_by, not_taken}
@@ -36,7 +36,7 @@ pub returns-in_err-say-clause-any_moment : goal.returns-in_err-say-clause-any_mo
 returns-in_err-say-clause-any_moment g c =
     let left = g.I.Source.left c.args.input.now in
     let said : c.as_bytes.result.now ≡ c.in_ok-text.text = search rules in
-    let shown : shown_by c.args.thing.now c.in_ok-given.given ≡ told c.as_bytes.result.now = subst (λ (t : List ℕ). shown_by c.args.thing.now c.in_ok-given.given ≡ told t) (sym said) (subst (λ (b : List ℕ). shown_by c.args.thing.now b ≡ told c.in_ok-text.text) c.as_slice.ensures c.in_ok-text.ensures) in
+    let shown : shown_by c.args.thing.now c.in_ok-given.given ≡ text_answer c.as_bytes.result.now = subst (λ (t : List ℕ). shown_by c.args.thing.now c.in_ok-given.given ≡ text_answer t) (sym said) (subst (λ (b : List ℕ). shown_by c.args.thing.now b ≡ text_answer c.in_ok-text.text) c.as_slice.ensures c.in_ok-text.ensures) in
     goes_not_shown c.args.thing.now left c.in_ok-given.given c.as_bytes.result.now c.say.result c.in_err-say.field-0.0 c.from_residual-in_err-say.result (g.met.H.Host.is_tree c.args.host.now) c.in_ok-given.ensures.ok shown c.in_err-say.was c.say.ensures.any_moment c.from_residual-in_err-say.ensures.1
 
 pub returns-in_err-say-clause-fault_has_cause : goal.returns-in_err-say-clause-fault_has_cause
@@ -52,7 +52,7 @@ pub returns-clause-any_moment : goal.returns-clause-any_moment
 returns-clause-any_moment g c =
     let left = g.I.Source.left c.args.input.now in
     let said : c.as_bytes.result.now ≡ c.in_ok-text.text = search rules in
-    let shown : shown_by c.args.thing.now c.in_ok-given.given ≡ told c.as_bytes.result.now = subst (λ (t : List ℕ). shown_by c.args.thing.now c.in_ok-given.given ≡ told t) (sym said) (subst (λ (b : List ℕ). shown_by c.args.thing.now b ≡ told c.in_ok-text.text) c.as_slice.ensures c.in_ok-text.ensures) in
+    let shown : shown_by c.args.thing.now c.in_ok-given.given ≡ text_answer c.as_bytes.result.now = subst (λ (t : List ℕ). shown_by c.args.thing.now c.in_ok-given.given ≡ text_answer t) (sym said) (subst (λ (b : List ℕ). shown_by c.args.thing.now b ≡ text_answer c.in_ok-text.text) c.as_slice.ensures c.in_ok-text.ensures) in
     goes_shown c.args.thing.now left c.in_ok-given.given c.as_bytes.result.now (g.met.H.Host.is_tree c.args.host.now) c.in_ok-given.ensures.ok shown c.in_ok-say.ensures.any_moment
 
 pub returns-in_err-given-clause-taken : goal.returns-in_err-given-clause-taken

@@ -1,0 +1,10 @@
+mod Names
+mod Listed
+mod Counted
+mod Spread
+mod Read
+mod Filled
+mod Copied
+mod Put
+mod Ended
+mod Laid

@@ -1,0 +1,146 @@
+//! The paths of a commit in a list, each after the directory that it is in.
+ghost use Rattle.std.specs.Prelude.{◌≡◌, ◌≤◌, ◌<◌, ◌+◌, ◌∷◌, [], leb, length, IfOk, IsErrOf, OnOk};
+ghost use Rattle.fp_host.specs.Causes.{IsCaused};
+ghost use Rattle.fp_host.specs.Frame.{AtEnd, Unchanged};
+ghost use Rattle.ost_checkout.specs.Listing.{IsDirAt, ExpandsDir, Expands, CanExpandDir, CanExpand, IsFirstRow, HasRows, CanListRows, most_rows};
+ghost use Rattle.ost_checkout.specs.Reading.{HasCommit};
+
+use crate::reading::{read_root, read_tree};
+use crate::rows::{Entry, Row, add_rows};
+use fp_host::{Host, HostEnd, Path};
+use fp_name::Digest;
+use ost_object::DirTree;
+use std::alloc::{AllocError, Global};
+
+/// No commit has more objects in its order.
+const MOST_ROWS: usize = 200_000;
+
+/// Whether a list of so many rows has room for these.
+fn has_room(listed: usize, tree: &DirTree) -> bool
+    requires { listed ≤ most_rows }
+    ensures { result ≡ leb (listed + (length tree.now.files + length tree.now.dirs)) most_rows }
+{
+    let files = tree.files.len();
+    let dirs = tree.dirs.len();
+    let left = MOST_ROWS - listed;
+    files <= left && dirs <= left - files
+}
+
+/// Adds what is in the directory of this dirtree at the path.
+fn expand_dir<H: Host>(
+    alloc: Global,
+    host: &mut H,
+    root: &Path,
+    digest: &Digest,
+    path: &Path,
+    rows: &mut Vec<Row>,
+) -> Result<(), HostEnd>
+    requires { length rows.old.items ≤ most_rows }
+    ensures unchanged { Unchanged (H.moments host.old) (H.moments host.new) }
+    ensures grown { OnOk result (AtEnd
+        (λ u w. ExpandsDir root.now digest.now path.now u rows.old.items rows.new.items)
+        (H.moments host.old) (H.moments host.new)) }
+    ensures most { OnOk result (length rows.new.items ≤ most_rows) }
+    ensures fault_has_cause { IsCaused (IsErrOf result HostEnd.Fault) (H.moments host.old)
+        (CanExpandDir root.now digest.now (length rows.old.items))
+        (H.faults host.old) (H.faults host.new) }
+{
+    let tree = read_tree(alloc, host, root, digest)?;
+    if !has_room(rows.len(), &tree) {
+        return Err(HostEnd::Fault);
+    }
+    Ok(add_rows(path, &tree, rows)?)
+}
+
+/// The dirtree and the path of the directory at this index; None where a file or link is there.
+fn dir_at(rows: &[Row], at: usize) -> Result<Option<(Digest, Path)>, AllocError>
+    requires { at < length rows.now }
+    ensures { IfOk result (IsDirAt rows.now at) }
+{
+    let row = &rows[at];
+    match row.entry {
+        Entry::Dir { tree, .. } => Ok(Some((tree, row.path.copy()?))),
+        Entry::File(_) => Ok(None),
+    }
+}
+
+/// Adds what is in the directory at this index. In a file or link there is nothing.
+fn expand<H: Host>(
+    alloc: Global,
+    host: &mut H,
+    root: &Path,
+    at: usize,
+    rows: &mut Vec<Row>,
+) -> Result<(), HostEnd>
+    requires low { at < length rows.old.items }
+    requires most { length rows.old.items ≤ most_rows }
+    ensures unchanged { Unchanged (H.moments host.old) (H.moments host.new) }
+    ensures grown { OnOk result (AtEnd (λ u w. Expands root.now at u rows.old.items rows.new.items)
+        (H.moments host.old) (H.moments host.new)) }
+    ensures most { OnOk result (length rows.new.items ≤ most_rows) }
+    ensures fault_has_cause { IsCaused (IsErrOf result HostEnd.Fault) (H.moments host.old)
+        (CanExpand root.now at rows.old.items) (H.faults host.old) (H.faults host.new) }
+{
+    match dir_at(rows, at)? {
+        Some((tree, path)) => expand_dir(alloc, host, root, &tree, &path, rows),
+        None => Ok(()),
+    }
+}
+
+/// The row of the folder in which the commit is laid out.
+fn first_row<H: Host>(
+    alloc: Global,
+    host: &mut H,
+    root: &Path,
+    commit: &Digest,
+    to: &Path,
+) -> Result<Row, HostEnd>
+    ensures unchanged { Unchanged (H.moments host.old) (H.moments host.new) }
+    ensures tells { IfOk result (λ row. AtEnd (λ u w. IsFirstRow root.now commit.now to.now u row)
+        (H.moments host.old) (H.moments host.new)) }
+    ensures fault_has_cause { IsCaused (IsErrOf result HostEnd.Fault) (H.moments host.old)
+        (HasCommit root.now commit.now) (H.faults host.old) (H.faults host.new) }
+{
+    let found = read_root(alloc, host, root, commit)?;
+    Ok(Row {
+        path: to.copy()?,
+        entry: Entry::Dir {
+            tree: found.tree,
+            meta: found.meta,
+        },
+    })
+}
+
+/// A list of one row.
+fn row_alone(alloc: Global, row: Row) -> Result<Vec<Row>, AllocError>
+    ensures { IfOk result (λ rows. rows.items ≡ row ∷ []) }
+{
+    let mut rows = Vec::new(alloc);
+    rows.push(row)?;
+    Ok(rows)
+}
+
+/// The paths of the commit in this folder, each after the directory that it is in. It is for a commit whose order has no fault.
+pub(crate) fn list_rows<H: Host>(
+    alloc: Global,
+    host: &mut H,
+    root: &Path,
+    commit: &Digest,
+    to: &Path,
+) -> Result<Vec<Row>, HostEnd>
+    ensures unchanged { Unchanged (H.moments host.old) (H.moments host.new) }
+    ensures tells { IfOk result (λ rows. AtEnd
+        (λ u w. HasRows root.now commit.now to.now u rows.items)
+        (H.moments host.old) (H.moments host.new)) }
+    ensures fault_has_cause { IsCaused (IsErrOf result HostEnd.Fault) (H.moments host.old)
+        (CanListRows root.now commit.now) (H.faults host.old) (H.faults host.new) }
+{
+    let first = first_row(alloc, host, root, commit, to)?;
+    let mut rows = row_alone(alloc, first)?;
+    let mut next: usize = 0;
+    while next < rows.len() {
+        expand(alloc, host, root, next, &mut rows)?;
+        next += 1;
+    }
+    Ok(rows)
+}

@@ -1,0 +1,105 @@
+//! Paths of a commit that are put into a folder.
+ghost use Rattle.std.specs.Prelude.{◌≡◌, OnOk, IsErrOf};
+ghost use Rattle.fp_host.specs.Causes.{IsCaused};
+ghost use Rattle.fp_host.specs.Frame.{AtEnd};
+ghost use Rattle.fp_host.specs.Moments.{Always};
+ghost use Rattle.fp_small.specs.Unsynced.{MakesNoFile};
+ghost use Rattle.fp_base.specs.declared.object.ObjKind.TheVariants as kinds;
+ghost use Rattle.ost_model.specs.Objects.{object_path};
+ghost use Rattle.ost_checkout.specs.Placing.{Copies, WasCopied, CanCopyLink, CanCopyObject, PutsRow, WasPut, CanPut, PutsRows, Fits, WerePut, CanPutRows};
+
+use crate::rows::{Entry, Row};
+use fp_base::ObjKind;
+use fp_host::{Host, HostEnd, Path, Stat};
+use fp_name::Digest;
+use ost_store::path_of;
+use std::alloc::Global;
+
+/// Makes a link of the same text.
+fn copy_link<H: Host>(alloc: Global, host: &mut H, from: &Path, to: &Path) -> Result<(), HostEnd>
+    ensures any_moment { Always (Copies from.now to.now) (H.moments host.old) (H.moments host.new) }
+    ensures on_success { OnOk result (AtEnd (WasCopied from.now to.now)
+        (H.moments host.old) (H.moments host.new)) }
+    ensures unsynced { AtEnd MakesNoFile (H.moments host.old) (H.moments host.new) }
+    ensures fault_has_cause { IsCaused (IsErrOf result HostEnd.Fault) (H.moments host.old)
+        (CanCopyLink from.now to.now) (H.faults host.old) (H.faults host.new) }
+{
+    let text = host.read_link(alloc, from)?;
+    Ok(host.symlink(text.as_str(), to)?)
+}
+
+/// Gives the file a second name, or makes a link of the same text.
+fn copy_object<H: Host>(alloc: Global, host: &mut H, from: &Path, to: &Path) -> Result<(), HostEnd>
+    ensures any_moment { Always (Copies from.now to.now) (H.moments host.old) (H.moments host.new) }
+    ensures on_success { OnOk result (AtEnd (WasCopied from.now to.now)
+        (H.moments host.old) (H.moments host.new)) }
+    ensures unsynced { AtEnd MakesNoFile (H.moments host.old) (H.moments host.new) }
+    ensures fault_has_cause { IsCaused (IsErrOf result HostEnd.Fault) (H.moments host.old)
+        (CanCopyObject from.now to.now) (H.faults host.old) (H.faults host.new) }
+{
+    match host.stat(from)? {
+        Stat::File { .. } => Ok(host.link(from, to)?),
+        Stat::Link => copy_link(alloc, host, from, to),
+        Stat::Absent | Stat::Dir => Err(HostEnd::Fault),
+    }
+}
+
+/// Puts the file or link of this object at the path.
+fn put_object<H: Host>(
+    alloc: Global,
+    host: &mut H,
+    root: &Path,
+    digest: &Digest,
+    path: &Path,
+) -> Result<(), HostEnd>
+    ensures any_moment { Always (Copies (object_path root.now digest.now kinds.File) path.now)
+        (H.moments host.old) (H.moments host.new) }
+    ensures on_success { OnOk result (AtEnd (WasCopied (object_path root.now digest.now kinds.File)
+        path.now)
+        (H.moments host.old) (H.moments host.new)) }
+    ensures unsynced { AtEnd MakesNoFile (H.moments host.old) (H.moments host.new) }
+    ensures fault_has_cause { IsCaused (IsErrOf result HostEnd.Fault) (H.moments host.old)
+        (CanCopyObject (object_path root.now digest.now kinds.File) path.now)
+        (H.faults host.old) (H.faults host.new) }
+{
+    let object = path_of(alloc, root, digest, ObjKind::File)?;
+    copy_object(alloc, host, &object, path)
+}
+
+/// Puts what the row says at its path.
+fn put_row<H: Host>(alloc: Global, host: &mut H, root: &Path, row: &Row) -> Result<(), HostEnd>
+    ensures any_moment { Always (PutsRow root.now row.now)
+        (H.moments host.old) (H.moments host.new) }
+    ensures on_success { OnOk result (AtEnd (WasPut root.now row.now)
+        (H.moments host.old) (H.moments host.new)) }
+    ensures unsynced { AtEnd MakesNoFile (H.moments host.old) (H.moments host.new) }
+    ensures fault_has_cause { IsCaused (IsErrOf result HostEnd.Fault) (H.moments host.old)
+        (CanPut root.now row.now) (H.faults host.old) (H.faults host.new) }
+{
+    match &row.entry {
+        Entry::Dir { .. } => Ok(host.make_dir(&row.path)?),
+        Entry::File(digest) => put_object(alloc, host, root, digest, &row.path),
+    }
+}
+
+/// Puts all of these at their paths, in this order.
+pub(crate) fn put_rows<H: Host>(
+    alloc: Global,
+    host: &mut H,
+    root: &Path,
+    rows: &[Row],
+) -> Result<(), HostEnd>
+    ensures any_moment { Always (PutsRows root.now rows.now)
+        (H.moments host.old) (H.moments host.new) }
+    ensures on_success { OnOk result (AtEnd
+        (λ u w. Fits root.now rows.now → WerePut root.now rows.now u w)
+        (H.moments host.old) (H.moments host.new)) }
+    ensures unsynced { AtEnd MakesNoFile (H.moments host.old) (H.moments host.new) }
+    ensures fault_has_cause { IsCaused (IsErrOf result HostEnd.Fault) (H.moments host.old)
+        (CanPutRows root.now rows.now) (H.faults host.old) (H.faults host.new) }
+{
+    for row in rows {
+        put_row(alloc, host, root, row)?;
+    }
+    Ok(())
+}

@@ -1,0 +1,200 @@
+-- Objects that are kept in the work folder, one by one.
+use Rattle.std.proofs.Common.{◌≡◌, ◌⊎◌, ◌<◌, inl, inr, ℕ, suc, List, [], ◌∷◌, ◌++◌, length, true, Option, Some, None, Result, Ok, refl, sym, ◌∙◌, ap, subst, arith, codes, take, drop}
+use Rattle.fp_host.specs.Paths.{Elements, Slot, absent, dir, file, link, IsAbove}
+use Rattle.fp_host.specs.View.{View, IsTree}
+use Rattle.fp_host.specs.Moments.{Moments, Always, Makes}
+use Rattle.fp_host.specs.Reads.{StatOf, IsStat}
+use Rattle.fp_host.specs.Remote.{Holdings}
+use Rattle.fp_host.specs.declared.host.HostError.{HostError}
+use Rattle.fp_host.specs.declared.host.Stat.{Stat}
+use Rattle.fp_host.specs.declared.host.Stat.TheVariants as stats
+use Rattle.fp_host.proofs.Framed.{IsTold, keeps_refl, keeps_on, keeps_to}
+use Rattle.fp_host.specs.Frame.{AtEnd}
+use Rattle.fp_host.proofs.Goes.{stays, goes_on, makes_goes}
+use Rattle.fp_host.proofs.Ending.{ends_goes, ends_call, ends_to, ends_on, ends_both}
+use Rattle.fp_small.specs.Clear.{IsWithin}
+use Rattle.fp_small.specs.Files.{KeepsFiles}
+use Rattle.fp_small.specs.Folders.{ancestors}
+use Rattle.fp_small.proofs.Keeping.{files_on}
+use Rattle.fp_small.proofs.Emptying.{above_longer}
+use Rattle.fp_small.proofs.Replacement.{ancestors_above}
+use Rattle.fp_name.specs.Hex.{is_digest, hex}
+use Rattle.fp_base.specs.declared.object.ObjKind.{ObjKind}
+use Rattle.ost_model.specs.declared.object.Object.{Object}
+use Rattle.ost_model.specs.declared.object.Object.TheVariants as objects
+use Rattle.ost_model.specs.Objects.{object_path, kind_text, name_fault}
+use Rattle.ost_model.specs.Order.{In}
+use Rattle.ost_model.proofs.Stores.{one_name}
+use Rattle.ost_store.specs.Stage.{Stages, WasStaged, IsHeld, IsStaged}
+use Rattle.ost_store.proofs.Staying.{staged_stays, held_stays}
+use Rattle.ost_pull.specs.Found.{RemoteHas}
+use Rattle.ost_pull.specs.Work.{WorksAt, WorksName, Works, IsKept, IsOnce, AreKept, KeepsOne}
+
+-- ---- work in the folder
+
+pub works_refl : {t : Elements} {v : View} → Works t v v
+works_refl = record { keeps = keeps_refl; files = record { rows = λ id f some. some } }
+
+works_same : {t : Elements} {v w : View} → w ≡ v → Works t v w
+works_same {t = t} {v = v} same = subst (Works t v) (sym same) works_refl
+
+pub works_on : {t : Elements} {u v w : View} → Works t u v → Works t v w → Works t u w
+works_on first second = record { keeps = keeps_on first.keeps second.keeps; files = files_on first.files second.files }
+
+below_work : (t : Elements) (d : List ℕ) (kind : ObjKind) (q : Elements) → q ≡ object_path t d kind → IsWithin t q
+below_work t d kind q is = inr (subst (IsAbove t) (sym is) (inr (inr (inl refl))))
+
+above_work : (t : Elements) (d : List ℕ) (kind : ObjKind) (q : Elements) → IsAbove q (object_path t d kind) → IsWithin t q ⊎ IsAbove q t
+above_work t d kind q (inl is) = inl (inr (subst (IsAbove t) (sym is) (inr (inl refl))))
+above_work t d kind q (inr (inl is)) = inl (inr (subst (IsAbove t) (sym is) (inl refl)))
+above_work t d kind q (inr (inr (inl is))) = inl (inl is)
+above_work t d kind q (inr (inr (inr higher))) = inr higher
+
+pub staged_works : (t : Elements) (d : List ℕ) (kind : ObjKind) (object : Object) {u w : View} → Stages (object_path t d kind) object u w → Works t u w
+staged_works t d kind object s = record {
+  keeps = keeps_to
+      (λ q spot h. elim h [
+        | inl here ↦ inl (below_work t d kind q here.0)
+        | inr made ↦ elim (above_work t d kind q (ancestors_above (object_path t d kind) q made.0)) [ inl within ↦ inl within | inr above ↦ inr (above, made.1) ]
+      ])
+      (λ q e h. elim h [
+        | inl here ↦ inl (below_work t d kind q here.0)
+        | inr made ↦ elim (above_work t d kind q (ancestors_above (object_path t d kind) q made.0)) [ inl within ↦ inl within | inr above ↦ inr (above, made.1) ]
+      ])
+      (λ q is. below_work t d kind q is)
+      (λ q id within h. elim h [ inl here ↦ here.0 | inr made ↦ absurd (cc made.1) ])
+      s.keeps;
+  files = s.files;
+}
+
+-- ---- over the moments
+
+pub works_start : {t : Elements} {a : Option Moments} → IsTold a → Always (Works t) a a
+works_start told = stays told (λ u. works_refl) (λ u tree. works_refl)
+
+pub works_stat : {t p : Elements} {a b c : Option Moments} {r : Result Stat HostError} → IsTold b → Makes (StatOf p r) b c → Always (Works t) a b → Always (Works t) a c
+works_stat told call so_far = goes_on told so_far (makes_goes call) (λ u v w tree r q s. works_on r (works_same s.same)) (λ u v w tree r q s e. works_on r (works_same e.same))
+
+pub works_stage : {a b c : Option Moments} (t p : Elements) (d : List ℕ) (kind : ObjKind) (object : Object) → p ≡ object_path t d kind → IsTold b → Always (Stages p object) b c → Always (Works t) a b → Always (Works t) a c
+works_stage t p d kind object at told inner so_far =
+    goes_on told so_far inner (λ u v w tree r q s. works_on r (staged_works t d kind object (here s))) (λ u v w tree r q s e. works_on r (staged_works t d kind object (here e)))
+  where
+    here : {v w : View} → Stages p object v w → Stages (object_path t d kind) object v w
+    here {v = v} {w = w} s = subst (λ (q : Elements). Stages q object v w) at s
+
+pub works_within : {t : Elements} {a b c : Option Moments} → IsTold b → Always (Works t) b c → Always (Works t) a b → Always (Works t) a c
+works_within told inner so_far = goes_on told so_far inner (λ u v w tree r q s. works_on r s) (λ u v w tree r q s e. works_on r e)
+
+-- ---- lists of objects
+
+abbrev Named : Type 0
+Named = List ℕ × ObjKind
+
+pub in_push : (os : List Named) (o p : Named) → In os p → In (os ++ o ∷ []) p
+in_push [] o p has = absurd has
+in_push (x ∷ os) o p (inl is) = inl is
+in_push (x ∷ os) o p (inr has) = inr (in_push os o p has)
+
+pub in_last : (os : List Named) (o : Named) → In (os ++ o ∷ []) o
+in_last [] o = inl refl
+in_last (x ∷ os) o = inr (in_last os o)
+
+pub in_cases : (os : List Named) (o p : Named) → In (os ++ o ∷ []) p → In os p ⊎ (o ≡ p)
+in_cases [] o p (inl is) = inr is
+in_cases [] o p (inr none) = absurd none
+in_cases (x ∷ os) o p (inl is) = inl (inl is)
+in_cases (x ∷ os) o p (inr has) = elim (in_cases os o p has) [ inl h ↦ inl (inr h) | inr is ↦ inr is ]
+
+once_push : (os : List Named) (o : Named) → IsOnce os → (In os o → ⊥) → IsOnce (os ++ o ∷ [])
+once_push [] o once new = (λ none. none, tt)
+once_push (x ∷ os) o once new = (
+  λ has. elim (in_cases os o x has) [ inl h ↦ once.0 h | inr is ↦ new (inl (sym is)) ],
+  once_push os o once.1 (λ h. new (inr h)),
+)
+
+-- ---- an object that is kept already
+
+leaf_there : (q : Elements) (object : Object) (v : View) → IsHeld q object v → v.names q ≡ absent → ⊥
+leaf_there q (objects.Meta bytes) v h none = absurd (cc (sym h.name ∙ none))
+leaf_there q (objects.File mode bytes) v h none = absurd (cc (sym h.name ∙ none))
+leaf_there q (objects.Link text) v h none = absurd (cc (sym h ∙ none))
+
+not_absent : (v : View) (e : Slot) (s : Stat) → IsStat v e s → (s ≡ stats.Absent → ⊥) → e ≡ absent → ⊥
+not_absent v absent s is off none = off is
+not_absent v dir s is off none = cc none
+not_absent v (file id) s is off none = cc none
+not_absent v (link text) s is off none = cc none
+
+pub kept_already : {t : Elements} {url : List ℕ} {holds : Option Holdings} (o : Named) (kept : List Named) (s : Stat) {u w : View} → is_digest o.0 ≡ true → StatOf (object_path t o.0 o.1) (Ok s) u w → (s ≡ stats.Absent → ⊥)
+    → KeepsOne t url holds o kept kept u w
+kept_already {t = t} {url = url} {holds = holds} o kept s {u = u} good stat off = record {
+  on = λ are. (
+    subst (AreKept t url holds kept) (sym stat.same) are,
+    elim (are.only o.0 o.1 good) [ inl none ↦ absurd (not_absent u (u.names (object_path t o.0 o.1)) s stat.tells.1 off none) | inr has ↦ has ],
+  );
+}
+
+-- ---- one object more
+
+module _ {t : Elements} {url : List ℕ} {holds : Option Holdings} (o : Named) (object : Object) (kept : List Named) {u w : View} (good : is_digest o.0 ≡ true) (named : name_fault o.0 o.1 (Some object) ≡ None)
+    (there : RemoteHas url holds o.0 o.1 object) (stages : Stages (object_path t o.0 o.1) object u w) (was : WasStaged (object_path t o.0 o.1) object u w) (held : IsHeld (object_path t o.0 o.1) object w) where
+  apart : (p : Named) → is_digest p.0 ≡ true → (object_path t p.0 p.1 ≡ object_path t o.0 o.1 → ⊥) → IsWithin (object_path t p.0 p.1) (object_path t o.0 o.1) → ⊥
+  apart p digits off (inl same) = off (sym same)
+  apart p digits off (inr above) = absurd (omega (arith, above_longer (object_path t p.0 p.1) (object_path t o.0 o.1) above))
+
+  new : (are : AreKept t url holds kept u) → In kept o → ⊥
+  new are has = let k = are.each o has in leaf_there (object_path t o.0 o.1) k.object u k.held was.free
+
+  other : (are : AreKept t url holds kept u) (p : Named) → In kept p → IsKept t url holds p w
+  other are p has =
+      let k = are.each p has in
+      record {
+        object = k.object;
+        digits = k.digits;
+        held = held_stays (object_path t p.0 p.1) u w (staged_stays (object_path t p.0 p.1) (object_path t o.0 o.1) object u w stages
+            (apart p k.digits (λ same. leaf_there (object_path t p.0 p.1) k.object u k.held (ap u.names same ∙ was.free)))) k.object k.held;
+        named = k.named;
+        there = k.there;
+      }
+
+  pub kept_more : KeepsOne t url holds o kept (kept ++ o ∷ []) u w
+  kept_more = record {
+    on = λ are. (
+      record {
+        each = λ p has. elim (in_cases kept o p has) [
+          | inl had ↦ other are p had
+          | inr is ↦ subst (λ (x : Named). IsKept t url holds x w) is (record { object = object; digits = good; held = held; named = named; there = there })
+        ];
+        once = once_push kept o are.once (new are);
+        only = λ d kind digits. elim (stages.keeps.names (object_path t d kind)) [
+          | inl same ↦ elim (are.only d kind digits) [ inl none ↦ inl (same ∙ none) | inr had ↦ inr (in_push kept o (d, kind) had) ]
+          | inr put ↦ elim put [
+            | inl here ↦ let one = one_name t d o.0 kind o.1 digits good here.0 in inr (subst (In (kept ++ o ∷ [])) (λ i. (sym one.0 i, sym one.1 i)) (in_last kept o))
+            | inr made ↦ absurd (omega (arith, above_longer (object_path t d kind) (object_path t o.0 o.1) (ancestors_above (object_path t o.0 o.1) (object_path t d kind) made.0)))
+          ]
+        ];
+      },
+      in_last kept o,
+    );
+  }
+
+staged_held : (t : Elements) (object : Object) (v : View) → IsStaged t object v → IsHeld t object v
+staged_held t (objects.Meta bytes) v h = record { id = h.id; name = h.name; row = h.row }
+staged_held t (objects.File mode bytes) v h = record { id = h.id; name = h.name; row = h.row }
+staged_held t (objects.Link text) v h = h
+
+-- ---- at the end
+
+pub keeps_already : {t p : Elements} {a b : Option Moments} (o : Named) (kept : List Named) (s : Stat) → IsTold a → is_digest o.0 ≡ true → p ≡ object_path t o.0 o.1 → Makes (StatOf p (Ok s)) a b → (s ≡ stats.Absent → ⊥)
+    → (url : List ℕ) (holds : Option Holdings) → AtEnd (KeepsOne t url holds o kept kept) a b
+keeps_already {t = t} o kept s told good at call off url holds = ends_to (ends_call told call) (λ u w stat. kept_already o kept s good (subst (λ (q : Elements). StatOf q (Ok s) u w) at stat) off)
+
+pub keeps_new : {t p : Elements} {a b c : Option Moments} (o : Named) (object : Object) (kept after : List Named) → IsTold a → IsTold b → is_digest o.0 ≡ true → name_fault o.0 o.1 (Some object) ≡ None → p ≡ object_path t o.0 o.1
+    → Makes (StatOf p (Ok stats.Absent)) a b → Always (Stages p object) b c → AtEnd (WasStaged p object) b c → after ≡ kept ++ o ∷ []
+    → (url : List ℕ) (holds : Option Holdings) → RemoteHas url holds o.0 o.1 object → AtEnd (KeepsOne t url holds o kept after) a c
+keeps_new {t = t} o object kept after told_a told_b good named at call stages was more url holds there =
+    ends_on (ends_both (ends_goes told_b stages) was) (ends_call told_a call) told_b (λ u v w tree stat both.
+    let here : Stages (object_path t o.0 o.1) object v w = subst (λ (q : Elements). Stages q object v w) at both.0 in
+    let set : WasStaged (object_path t o.0 o.1) object v w = subst (λ (q : Elements). WasStaged q object v w) at both.1 in
+    subst (λ (l : List Named). KeepsOne t url holds o kept l u w) (sym more) (subst (λ (x : View). KeepsOne t url holds o kept (kept ++ o ∷ []) x w) stat.same
+    (kept_more o object kept good named there here set (staged_held (object_path t o.0 o.1) object w set.there))))

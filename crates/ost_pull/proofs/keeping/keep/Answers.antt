@@ -1,0 +1,41 @@
+use Rattle.std.proofs.Common.{Ok, arith, subst}
+use Rattle.fp_host.specs.Moments.{Makes}
+use Rattle.fp_host.specs.Reads.{StatOf}
+use Rattle.fp_host.specs.declared.host.Stat.{Stat}
+use Rattle.fp_host.specs.declared.host.Stat.TheVariants as stats
+use Rattle.ost_pull.proofs.Kept.{works_start, works_stat, works_stage, keeps_new, keeps_already}
+use Rattle.ost_pull.proofs.keeping.keep.Goals as goal
+
+pub returns-in_err-stat-clause-any_moment : goal.returns-in_err-stat-clause-any_moment
+returns-in_err-stat-clause-any_moment g c = let t = g.met.H.Host.is_tree in works_stat (t c.args.host.now) c.stat.ensures.step (works_start (t c.args.host.now))
+
+pub returns-in_err-stage-in-Absent-clause-any_moment :
+    goal.returns-in_err-stage-in-Absent-clause-any_moment
+returns-in_err-stage-in-Absent-clause-any_moment g c =
+    let t = g.met.H.Host.is_tree in
+    works_stage c.args.work.now c.in_ok-path.path c.args.digest.now c.args.kind c.args.object.now c.in_ok-path.ensures (t c.stat.new.self) c.stage.ensures.any_moment (works_stat (t c.args.host.now) c.stat.ensures.step (works_start (t c.args.host.now)))
+
+pub returns-in-Ok-clause-any_moment : goal.returns-in-Ok-clause-any_moment
+returns-in-Ok-clause-any_moment g c =
+    let t = g.met.H.Host.is_tree in
+    works_stage c.args.work.now c.in_ok-path.path c.args.digest.now c.args.kind c.args.object.now c.in_ok-path.ensures (t c.stat.new.self) c.stage.ensures.any_moment (works_stat (t c.args.host.now) c.stat.ensures.step (works_start (t c.args.host.now)))
+
+pub returns-in-Ok-clause-on_success : goal.returns-in-Ok-clause-on_success
+returns-in-Ok-clause-on_success g c =
+    let t = g.met.H.Host.is_tree in
+    keeps_new (c.args.digest.now, c.args.kind) c.args.object.now c.args.kept.now.items c.push.new.self.items (t c.args.host.now) (t c.stat.new.self) c.as_bytes-bytes.ensures.good c.requires c.in_ok-path.ensures
+    (subst (λ (s : Stat). Makes (StatOf c.in_ok-path.path (Ok s)) (g.H.Host.moments c.args.host.now) (g.H.Host.moments c.stat.new.self)) c.in-Absent.is c.in_ok-stat.ensures.step) c.stage.ensures.any_moment c.in_ok-stage-in-Absent.ensures.on_success c.in-Ok.ensures.items
+
+pub returns-in-Absent-clause-any_moment : goal.returns-in-Absent-clause-any_moment
+returns-in-Absent-clause-any_moment g c =
+    let t = g.met.H.Host.is_tree in
+    works_stage c.args.work.now c.in_ok-path.path c.args.digest.now c.args.kind c.args.object.now c.in_ok-path.ensures (t c.stat.new.self) c.stage.ensures.any_moment (works_stat (t c.args.host.now) c.stat.ensures.step (works_start (t c.args.host.now)))
+
+pub returns : goal.returns
+returns g c =
+    let t = g.met.H.Host.is_tree in
+    record {
+      any_moment = works_stat (t c.args.host.now) c.stat.ensures.step (works_start (t c.args.host.now));
+      on_success = λ url holds there. keeps_already (c.args.digest.now, c.args.kind) c.args.kept.now.items c.in_ok-stat.field-0 (t c.args.host.now) c.as_bytes-bytes.ensures.good c.in_ok-path.ensures c.in_ok-stat.ensures.step c.in_default.not-Absent url holds;
+      later = c.stat.ensures.fault_has_cause.later;
+    }
