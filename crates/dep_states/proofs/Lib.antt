@@ -18,6 +18,7 @@ pub mod Deploys
 pub mod Good
 pub mod Sparing
 pub mod SettledSample
+pub mod Openings
 pub mod Absent
 pub mod Pulling
 pub mod Small
