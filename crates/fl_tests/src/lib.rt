@@ -14,4 +14,6 @@ mod overrides;
 #[cfg(test)]
 mod reasons;
 #[cfg(test)]
+mod rules;
+#[cfg(test)]
 mod words;

@@ -1,6 +1,7 @@
 pub mod Batches
 pub mod Beginnings
 pub mod Escapes
+pub mod FilterRules
 pub mod FirstWords
 pub mod LineWords
 pub mod Reaching

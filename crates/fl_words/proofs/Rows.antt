@@ -16,6 +16,11 @@ use Rattle.fl_words.specs.declared.command.Command.TheVariants.{Change as Changi
 use Rattle.fl_words.specs.declared.command.Change.TheVariants.{Pin, Unpin}
 use Rattle.fl_words.specs.declared.command.Listing.TheVariants as listings
 use Rattle.fl_words.specs.declared.command.Shown.TheVariants.{Commit, DirTree, DirMeta, Value}
+use Rattle.bus_frame.specs.Names.{is_interface, is_member, is_path, is_well_known}
+use Rattle.bus_policy.specs.Levels.{is_pattern}
+use Rattle.bus_policy.specs.declared.level.Level.TheVariants as level
+use Rattle.fl_words.specs.declared.filter_rule.FilterRule.TheVariants.{Name, Call, Broadcast}
+use Rattle.fl_words.specs.FilterRules.{is_rule, filter_rule}
 use Rattle.fl_words.specs.Types.{is_type_text}
 use Rattle.fl_words.specs.Forms.{command_of, bad_index}
 use Rattle.fl_words.specs.Batch.{batch_change, batch_of}
@@ -191,3 +196,37 @@ bad_line = rw (as_they_are (codes "unpin") refl, as_they_are (codes "app") refl)
 pub no_bad_line : batch_reason_text (codes "pin app/*/*/*\n") ≡ None
 unfolding batch_of batch_change is_pin
 no_bad_line = refl
+
+-- ---- rules of a filter
+
+pub see_rule : filter_rule (codes "--see=org.x.Y") ≡ Some (Name (codes "org.x.Y") level.See)
+unfolding filter_rule is_pattern is_well_known
+see_rule = refl
+
+pub own_rule : filter_rule (codes "--own=org.x.*") ≡ Some (Name (codes "org.x.*") level.Own)
+unfolding filter_rule is_pattern is_well_known
+own_rule = refl
+
+pub call_rule : filter_rule (codes "--call=org.x.Y=org.x.Z.M@/a/*") ≡ Some (Call (codes "org.x.Y") (codes "org.x.Z.M@/a/*"))
+unfolding filter_rule is_pattern is_well_known is_rule is_interface is_member is_path
+call_rule = refl
+
+pub broadcast_rule : filter_rule (codes "--broadcast=org.x.Y=*") ≡ Some (Broadcast (codes "org.x.Y") (codes "*"))
+unfolding filter_rule is_pattern is_well_known is_rule is_interface is_member is_path
+broadcast_rule = refl
+
+pub unique_name : filter_rule (codes "--talk=:1.5") ≡ None
+unfolding filter_rule is_pattern is_well_known
+unique_name = refl
+
+pub no_level : filter_rule (codes "--none=org.x.Y") ≡ None
+unfolding filter_rule
+no_level = refl
+
+pub no_message_rule : filter_rule (codes "--call=org.x.Y") ≡ None
+unfolding filter_rule
+no_message_rule = refl
+
+pub empty_message_rule : filter_rule (codes "--call=org.x.Y=") ≡ None
+unfolding filter_rule is_pattern is_well_known is_rule is_interface is_member is_path
+empty_message_rule = refl

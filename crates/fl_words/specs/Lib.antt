@@ -1,5 +1,6 @@
 pub mod PrintedWords
 pub mod Types
+pub mod FilterRules
 pub mod Forms
 pub mod Words
 pub mod Reading

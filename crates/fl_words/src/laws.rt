@@ -1,7 +1,10 @@
 //! What holds of all words, by their definitions. Nothing is done here: each contract is a law.
 ghost use Rattle.std.specs.Prelude.{◌≡◌, ◌<◌, ◌≤◌, ◌+◌, ◌++◌, ℕ, List, Some, Ok, true, not, length, take};
 ghost use Rattle.std.specs.List.{list_all};
+ghost use Rattle.bus_rules.specs.declared.rule.Rule.{Rule};
+ghost use Rattle.bus_rules.specs.Rules.{IsRule};
 ghost use Rattle.fl_words.specs.Batch.{batch_of};
+ghost use Rattle.fl_words.specs.FilterRules.{is_rule, filter_rule, rule_word, is_filter_rule};
 ghost use Rattle.fl_words.specs.declared.forms.Form.{Form};
 ghost use Rattle.fl_words.specs.Forms.{command_of, bad_index, reads};
 ghost use Rattle.fl_words.specs.Lines.{is_control, escaped};
@@ -9,6 +12,7 @@ ghost use Rattle.fl_words.specs.Reasons.{begins};
 ghost use Rattle.fl_words.specs.Words.{Begins, words_of, is_change, is_command};
 
 use crate::command::{Change, Command};
+use crate::filter_rule::FilterRule;
 
 /// The words of each command read as it, and only they do.
 pub fn words_read_back()
@@ -33,6 +37,19 @@ pub fn usage_is_of_forms_begun()
         (more : List (List ℕ)) × (reads (take n words ++ more) form ≡ true) }
     ensures only { (words more : List (List ℕ)) (n : ℕ) (form : Form) → n ≤ length words → reads
         (take n words ++ more) form ≡ true → begins words n form ≡ true }
+{}
+
+/// A text is a rule for messages here exactly where it is one of bus_rules.
+pub fn message_rules_are_rules()
+    ensures found { (text : List ℕ) → is_rule text ≡ true → (rule : Rule) × IsRule rule text }
+    ensures only { (text : List ℕ) (rule : Rule) → IsRule rule text → is_rule text ≡ true }
+{}
+
+/// The word of each rule of a filter reads as it, and only it does.
+pub fn rule_words_read_back()
+    ensures written { (r : FilterRule) → is_filter_rule r ≡ true → filter_rule (rule_word r) ≡ Some r }
+    ensures read { (word : List ℕ) (r : FilterRule) → filter_rule word ≡ Some r →
+        (word ≡ rule_word r) × (is_filter_rule r ≡ true) }
 {}
 
 /// What is printed of a text has no control byte, and tells the text: no two are printed alike.

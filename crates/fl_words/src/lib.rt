@@ -5,6 +5,7 @@ mod batch;
 mod batch_reasons;
 mod command;
 mod escaping;
+mod filter_rule;
 mod forms;
 mod laws;
 mod lines;
@@ -19,10 +20,11 @@ pub use batch::{BatchError, read_batch};
 pub use batch_reasons::batch_reason;
 pub use command::{Change, Command, Listing, Shown, WordsError};
 pub use escaping::escape;
+pub use filter_rule::FilterRule;
 pub use forms::{Form, Slot};
 pub use laws::{
-    bad_index_is_least, batches_hold_changes, escapes_tell_texts, usage_is_of_forms_begun,
-    words_read_back,
+    bad_index_is_least, batches_hold_changes, escapes_tell_texts, message_rules_are_rules,
+    rule_words_read_back, usage_is_of_forms_begun, words_read_back,
 };
 pub use lines::{digits_of, object_of, op_line, pins_text, remotes_text};
 pub use printed_words::{
