@@ -28,10 +28,11 @@ usage: fpk show commit
 usage: fpk show dirtree
 usage: fpk show dirmeta
 usage: fpk show value TYPE
+usage: fpk filter [RULE..]
 ";
 
 /// Words that are no command, and what is said of them.
-const REASONS: [(&[&str], &str); 10] = [
+const REASONS: [(&[&str], &str); 11] = [
     (
         &["pin", "app/*/*"],
         "fpk: 'app/*/*' is no pattern: KIND/ID/ARCH/BRANCH\nusage: fpk pin PATTERN\n",
@@ -71,6 +72,11 @@ const REASONS: [(&[&str], &str); 10] = [
     (
         &["batch", ""],
         "fpk: '' is one word too many\nusage: fpk batch\n",
+    ),
+    (
+        &["filter", "--see=org.x.Y", "--see=org"],
+        "fpk: '--see=org' is no rule: --see=NAME, --talk=NAME, --own=NAME, --call=NAME=RULE or \
+        --broadcast=NAME=RULE\nusage: fpk filter [RULE..]\n",
     ),
 ];
 

@@ -1,8 +1,9 @@
 //! Words of command lines, and the lines that commands print.
 
+use crate::rules::told_rule;
 use fl_words::{
-    Change, Command, Listing, Shown, WordsError, escape, op_line, pins_text, read_words,
-    refusal_line, remotes_text,
+    Change, Command, FilterRule, Listing, Shown, WordsError, escape, op_line, pins_text,
+    read_words, refusal_line, remotes_text,
 };
 use fp_base::{ObjKind, Rule, Text, What};
 use fp_host::Path;
@@ -34,7 +35,19 @@ fn told_command(alloc: Global, command: &Command) -> Result<String, AllocError> 
         Command::List(Listing::Pins) => "ListPins".to_string(alloc),
         Command::Show(thing) => told_shown(alloc, thing),
         Command::Batch => "Batch".to_string(alloc),
+        Command::Filter { rules } => told_rules(alloc, rules.as_slice()),
     }
+}
+
+/// The rules of a filter in one text.
+fn told_rules(alloc: Global, rules: &[FilterRule]) -> Result<String, AllocError> {
+    let mut text = "Filter".to_string(alloc)?;
+    for rule in rules {
+        let told = told_rule(alloc, rule)?;
+        text.push_str("; ")?;
+        text.push_str(&told)?;
+    }
+    Ok(text)
 }
 
 /// A change in one text.
@@ -62,7 +75,7 @@ fn told_remote(alloc: Global, what: &str, row: &RemoteRow) -> Result<String, All
 }
 
 /// Words, and the command that they are, or the place of the first bad one.
-const WORDS: [(&[&str], &str); 67] = [
+const WORDS: [(&[&str], &str); 77] = [
     // remotes
     (
         &["remote-add", "lab", "file:///lab"],
@@ -145,6 +158,26 @@ const WORDS: [(&[&str], &str); 67] = [
     (&["show", "value", "si"], "bad words at 2"),
     (&["show", "value", "a{vs}"], "bad words at 2"),
     (&["show", "value", "s", "s"], "bad words at 3"),
+    // rules of a filter
+    (&["filter"], "Filter"),
+    (&["filter", "--see=org.x.Y"], "Filter; See org.x.Y"),
+    (
+        &["filter", "--call=org.x.*=*@/a", "--own=org.x.Y", "--own=org.x.Y"],
+        "Filter; Call org.x.* *@/a; Own org.x.Y; Own org.x.Y",
+    ),
+    (
+        &["filter", "--see=a.a", "--see=a.b", "--see=a.c", "--talk=a.d"],
+        "Filter; See a.a; See a.b; See a.c; Talk a.d",
+    ),
+    (&["filter", ""], "bad words at 1"),
+    (&["filter", "--see=org"], "bad words at 1"),
+    (&["filter", "--see=org.x.Y", "x"], "bad words at 2"),
+    (&["filter", "x", "--see=org.x.Y"], "bad words at 1"),
+    (
+        &["filter", "--see=org.x.Y", "--call=org.x.Y", "--see=org.x.Y"],
+        "bad words at 2",
+    ),
+    (&["filters", "--see=org.x.Y"], "bad words at 0"),
 ];
 
 /// The first of the words that are something else.
@@ -190,6 +223,20 @@ fn many_are_bad(alloc: Global) -> Result<bool, AllocError> {
     )
 }
 
+/// Whether 1,100 rules are read, and of those with a bad one after them its place.
+fn many_rules_are_read(alloc: Global) -> Result<bool, AllocError> {
+    let mut words = Vec::new(alloc);
+    words.push("filter")?;
+    for _ in 0..1_100 {
+        words.push("--own=org.x.Y")?;
+    }
+    let told_all = "; Own org.x.Y".repeat(alloc, 1_100)?;
+    let want = format!(in alloc; "Filter{told_all}")?;
+    let all = told(alloc, &words)?.as_str() == want.as_str();
+    words.push("--own=org")?;
+    Ok(all && told(alloc, &words)?.as_str() == "bad words at 1101")
+}
+
 /// Whether want of memory is told so.
 fn says_no_memory(alloc: Global) -> Result<bool, AllocError> {
     Ok(format!(in alloc; "{}", WordsError::NoMemory)?.as_str() == "out of memory")
@@ -200,6 +247,7 @@ fn words(rt: HostRuntime) -> Result<(), Fail> {
     assert_eq!(rt; first_other_words(rt.alloc(), &WORDS)?, None);
     assert!(rt;
         longest_are_read(rt.alloc())? && many_are_bad(rt.alloc())? && says_no_memory(rt.alloc())?
+            && many_rules_are_read(rt.alloc())?
     );
     Ok(())
 }

@@ -6,10 +6,10 @@ use Rattle.std.specs.Option.{option_map_or}
 use Rattle.std.specs.Str.{bytes_eq}
 use Rattle.std.proofs.lemmas.Bool.{and_parts, and_from, or_cases, or_parts, or_from, cases_Bool, false≢true, eqb-true}
 use Rattle.std.proofs.lemmas.List.Splits.{slice_split-cons_yes, slice_split-cons_no}
-use Rattle.std.proofs.lemmas.List.{append-nil, take-append-drop}
+use Rattle.std.proofs.lemmas.List.{append-nil, append_assoc, take-append-drop}
 use Rattle.std.proofs.lemmas.Slice.Eq.{bytes_eq-Decides}
 use Rattle.fp_keyfile.specs.Lines.{split_at}
-use Rattle.fp_keyfile.proofs.Texts.{SplitsAt-split_at, split_at_found}
+use Rattle.fp_keyfile.proofs.Texts.{SplitsAt, SplitsAt-split_at, split_at_found}
 use Rattle.bus_frame.specs.declared.names.Alphabet.TheVariants.{WellKnown}
 use Rattle.bus_frame.specs.Names.{continues_element, is_element, are_elements, is_dotted, is_interface, is_member, is_path, is_well_known}
 use Rattle.bus_rules.proofs.Splits.{element_continues}
@@ -130,15 +130,13 @@ signed text front back whole h =
     let o = objects_named (drop 1 back) both.1 in
     let end : back ≡ objects_part (Some o.0) = begun (codes "@") back both.0 ∙ ap (λ (l : List ℕ). 64 ∷ l) o.1.1 in
     elim (or_cases (eqb (length front) 0) (names_members front) sides.0) [
-      | inl empty ↦ (
-        record { members = None; objects = Some o.0 },
-        record { valid = o.1.0; spelled = whole ∙ ap (λ (l : List ℕ). l ++ back) (no_length front empty) ∙ end },
-      )
+      | inl empty ↦
+          (record { members = None; objects = Some o.0 },
+          record { valid = o.1.0; spelled = whole ∙ ap (λ (l : List ℕ). l ++ back) (no_length front empty) ∙ end })
       | inr named ↦
-          let m = members_named front named in (
-            record { members = Some m.0; objects = Some o.0 },
-            record { valid = and_from (are_members m.0) (are_objects o.0) m.1.0 o.1.0; spelled = whole ∙ ap (λ (l : List ℕ). l ++ back) m.1.1 ∙ ap (λ (l : List ℕ). members_text m.0 ++ l) end },
-          )
+          let m = members_named front named in
+          (record { members = Some m.0; objects = Some o.0 },
+          record { valid = and_from (are_members m.0) (are_objects o.0) m.1.0 o.1.0; spelled = whole ∙ ap (λ (l : List ℕ). l ++ back) m.1.1 ∙ ap (λ (l : List ℕ). members_text m.0 ++ l) end })
     ]
 
 pub rule_found : (text : List ℕ) → is_rule text ≡ true → (r : Rule) × IsRule r text
@@ -221,18 +219,18 @@ word_is word r h =
     elim (either_is (codes "--see=") word (after (codes "--see=") word) (name_rule level.See) _ r refl h) [
       | inl see ↦ named level.See word see.rest r see.makes (λ good. (see.whole, good))
       | inr h1 ↦ elim (either_is (codes "--talk=") word (after (codes "--talk=") word) (name_rule level.Talk) _ r refl h1) [
-        | inl talk ↦ named level.Talk word talk.rest r talk.makes (λ good. (talk.whole, good))
-        | inr h2 ↦ elim (either_is (codes "--own=") word (after (codes "--own=") word) (name_rule level.Own) _ r refl h2) [
-          | inl own ↦ named level.Own word own.rest r own.makes (λ good. (own.whole, good))
-          | inr h3 ↦ elim (either_is (codes "--call=") word (after (codes "--call=") word) (message_rule_in (message_of kind.Call)) _ r refl h3) [
-            | inl call ↦ messaged (message_of kind.Call) word call.rest r call.makes (λ p q whole good. (call.whole ∙ ap (λ (l : List ℕ). codes "--call=" ++ l) whole, good))
-            | inr h4 ↦ elim (either_is (codes "--broadcast=") word (after (codes "--broadcast=") word) (message_rule_in (message_of kind.Broadcast)) None r refl h4) [
-              | inl cast ↦ messaged (message_of kind.Broadcast) word cast.rest r cast.makes (λ p q whole good. (cast.whole ∙ ap (λ (l : List ℕ). codes "--broadcast=" ++ l) whole, good))
-              | inr h5 ↦ absurd (none_else r h5)
+          | inl talk ↦ named level.Talk word talk.rest r talk.makes (λ good. (talk.whole, good))
+          | inr h2 ↦ elim (either_is (codes "--own=") word (after (codes "--own=") word) (name_rule level.Own) _ r refl h2) [
+              | inl own ↦ named level.Own word own.rest r own.makes (λ good. (own.whole, good))
+              | inr h3 ↦ elim (either_is (codes "--call=") word (after (codes "--call=") word) (message_rule_in (message_of kind.Call)) _ r refl h3) [
+                  | inl call ↦ messaged (message_of kind.Call) word call.rest r call.makes (λ p q whole good. (call.whole ∙ ap (λ (l : List ℕ). codes "--call=" ++ l) whole, good))
+                  | inr h4 ↦ elim (either_is (codes "--broadcast=") word (after (codes "--broadcast=") word) (message_rule_in (message_of kind.Broadcast)) None r refl h4) [
+                      | inl cast ↦ messaged (message_of kind.Broadcast) word cast.rest r cast.makes (λ p q whole good. (cast.whole ∙ ap (λ (l : List ℕ). codes "--broadcast=" ++ l) whole, good))
+                      | inr h5 ↦ absurd (none_else r h5)
+                    ]
+                ]
             ]
-          ]
         ]
-      ]
     ]
 
 -- ---- the word of each rule
@@ -338,9 +336,9 @@ pub parts_bad : (pattern text : List ℕ) → (is_pattern pattern ≡ true → I
 parts_bad pattern text none =
     elim (cases_Bool (is_pattern pattern)) [
       | inl yes' ↦ elim (cases_Bool (is_rule text)) [
-        | inl one ↦ let r = rule_found text one in absurd (none yes' r.0 r.1)
-        | inr other ↦ rw (yes', other) refl
-      ]
+          | inl one ↦ let r = rule_found text one in absurd (none yes' r.0 r.1)
+          | inr other ↦ rw (yes', other) refl
+        ]
       | inr no' ↦ rw no' refl
     ]
 

@@ -7,5 +7,6 @@ pub mod LineWords
 pub mod Reaching
 pub mod ReadBack
 pub mod Rows
+pub mod RuleWords
 pub mod TypeTexts
 pub mod Unescaped

@@ -1,8 +1,8 @@
 -- Words that are a command are the words of that command.
 use Rattle.std.proofs.Common.{◌≡◌, ℕ, Bool, true, false, cond, ◌&&◌, List, [], ◌∷◌, Option, Some, None, refl, ap, ◌∙◌, subst}
-use Rattle.std.specs.Prelude.{codes}
-use Rattle.std.specs.List.{find}
-use Rattle.std.specs.Option.{option_map}
+use Rattle.std.specs.Prelude.{codes, map}
+use Rattle.std.specs.List.{find, filter_map, list_all, cons_option}
+use Rattle.std.specs.Option.{option_map, is_some}
 use Rattle.std.specs.Str.{bytes_eq}
 use Rattle.std.proofs.lemmas.Slice.Eq.{bytes_eq-Decides}
 use Rattle.fp_name.specs.Grammar.{is_remote_name, is_url}
@@ -12,12 +12,15 @@ use Rattle.fl_words.specs.declared.command.Command.TheVariants.{Change as Changi
 use Rattle.fl_words.specs.declared.command.Change.TheVariants as changes
 use Rattle.fl_words.specs.declared.command.Listing.TheVariants as listings
 use Rattle.fl_words.specs.declared.command.Shown.TheVariants as things
-use Rattle.std.proofs.lemmas.Bool.{and_parts}
+use Rattle.std.proofs.lemmas.Bool.{and_parts, and_from, false≢true, false_from_ne_true}
+use Rattle.fl_words.specs.declared.filter_rule.FilterRule.{FilterRule}
+use Rattle.fl_words.specs.FilterRules.{filter_rule, rule_word, is_filter_rule}
+use Rattle.fl_words.proofs.FilterRules.{word_is, word_read}
 use Rattle.fl_words.specs.declared.forms.Form.{Form}
-use Rattle.fl_words.specs.declared.forms.Form.TheVariants.{Pin, Unpin, RemoteAdd, RemoteModify, RemoteDelete, ListRemotes, ListPins, Batch, ShowCommit, ShowDirTree, ShowDirMeta, ShowValue}
-use Rattle.fl_words.specs.Forms.{literal, pattern, remote, url, type_string, forms, slots_of, made, reads, command_of}
+use Rattle.fl_words.specs.declared.forms.Form.TheVariants.{Pin, Unpin, RemoteAdd, RemoteModify, RemoteDelete, ListRemotes, ListPins, Batch, ShowCommit, ShowDirTree, ShowDirMeta, ShowValue, Filter}
+use Rattle.fl_words.specs.Forms.{literal, pattern, remote, url, type_string, rule, forms, slots_of, made, reads, command_of}
 use Rattle.fl_words.specs.Words.{words_of, is_command}
-use Rattle.fl_words.proofs.Reaching.{AllFit, reads_fit, one, two, three}
+use Rattle.fl_words.proofs.Reaching.{AllRepeat, AllFitForm, reads_fit, fit_reads, one, two, three}
 
 -- the words of a form are those of its command
 abbrev Speaks : Form → List (List ℕ) → Type 0
@@ -36,7 +39,27 @@ both_true : (a b : Bool) → a ≡ true → b ≡ true → (a && b) ≡ true
 both_true true b h g = g
 both_true false b h g = absurd (cc h)
 
-speaks : (form : Form) (words : List (List ℕ)) → AllFit (slots_of form) words → Speaks form words
+-- the words of rules
+rules_read : (words : List (List ℕ)) → AllRepeat (Some rule) words → (words ≡ map rule_word (filter_map filter_rule words)) × (list_all is_filter_rule (filter_map filter_rule words) ≡ true)
+rules_read [] fit = (refl, refl)
+rules_read (word ∷ words) fit = by (filter_rule word) refl fit.0 (rules_read words fit.1)
+  where
+    by : (o : Option FilterRule) → filter_rule word ≡ o → is_some o ≡ true → (words ≡ map rule_word (filter_map filter_rule words)) × (list_all is_filter_rule (filter_map filter_rule words) ≡ true)
+        → (word ∷ words ≡ map rule_word (cons_option o (filter_map filter_rule words))) × (list_all is_filter_rule (cons_option o (filter_map filter_rule words)) ≡ true)
+    by None is h later = absurd (false≢true h)
+    by (Some r) is h later =
+        let one = word_is word r is in
+        (ap (λ (w : List ℕ). w ∷ words) one.0 ∙ ap (λ (ws : List (List ℕ)). rule_word r ∷ ws) later.0,
+        and_from (is_filter_rule r) (list_all is_filter_rule (filter_map filter_rule words)) one.1 later.1)
+
+speaks_rules : (words : List (List ℕ)) → AllFitForm Filter words → Speaks Filter words
+speaks_rules [] fit = absurd fit
+speaks_rules (a ∷ words) fit =
+    let rest = rules_read words fit.1 in
+    (ap (λ (x : List ℕ). x ∷ words) (is_word a (codes "filter") fit.0) ∙ ap (λ (ws : List (List ℕ)). codes "filter" ∷ ws) rest.0, rest.1)
+
+speaks : (form : Form) (words : List (List ℕ)) → AllFitForm form words → Speaks form words
+speaks Filter = speaks_rules
 speaks Pin = two (literal (codes "pin")) pattern (Speaks Pin) (λ a p h g. (after_word (codes "pin") a p h, g))
 speaks Unpin = two (literal (codes "unpin")) pattern (Speaks Unpin) (λ a p h g. (after_word (codes "unpin") a p h, g))
 speaks RemoteAdd = three (literal (codes "remote-add")) remote url (Speaks RemoteAdd) (λ a n u h g k. (ap (λ (x : List ℕ). x ∷ n ∷ u ∷ []) (is_word a (codes "remote-add") h), both_true (is_remote_name n) (is_url u) g k))
@@ -56,7 +79,7 @@ found_by : (words : List (List ℕ)) (b : Bool) (f g : Form) (o : Option Form) �
 found_by words true f g o is next h = let same : f ≡ g = cc h in subst (λ (x : Form). reads words x ≡ true) same is
 found_by words false f g o is next h = next h
 
-found : (words : List (List ℕ)) (fs : List Form) (g : Form) → find (reads words) fs ≡ Some g → reads words g ≡ true
+pub found : (words : List (List ℕ)) (fs : List Form) (g : Form) → find (reads words) fs ≡ Some g → reads words g ≡ true
 found words [] g h = absurd (cc h)
 found words (f ∷ fs) g h = found_by words (reads words f) f g (find (reads words) fs) refl (found words fs g) h
 
@@ -71,6 +94,34 @@ read_back words c h = read_by words (find (reads words) forms) c refl h
 
 -- ---- the words of each command are read as it
 
+rules_fit : (rules : List FilterRule) → list_all is_filter_rule rules ≡ true → AllRepeat (Some rule) (map rule_word rules)
+rules_fit [] h = tt
+rules_fit (r ∷ rules) h =
+    let both = and_parts (is_filter_rule r) (list_all is_filter_rule rules) h in
+    (ap is_some (word_read r both.0), rules_fit rules both.1)
+
+rules_kept : (rules : List FilterRule) → list_all is_filter_rule rules ≡ true → filter_map filter_rule (map rule_word rules) ≡ rules
+rules_kept [] h = refl
+rules_kept (r ∷ rules) h =
+    let both = and_parts (is_filter_rule r) (list_all is_filter_rule rules) h in
+    ap (λ (o : Option FilterRule). cons_option o (filter_map filter_rule (map rule_word rules))) (word_read r both.0) ∙ ap (λ (rs : List FilterRule). r ∷ rs) (rules_kept rules both.1)
+
+-- no other form has the word
+not_of : (words : List (List ℕ)) (form : Form) → (AllFitForm form words → ⊥) → reads words form ≡ false
+not_of words form none = false_from_ne_true (reads words form) (λ is. none (reads_fit words form is))
+
+filter_found : (rest : List (List ℕ)) → AllRepeat (Some rule) rest → find (reads (codes "filter" ∷ rest)) forms ≡ Some Filter
+filter_found rest fit =
+    let words = codes "filter" ∷ rest in
+    rw (
+      not_of words Pin (λ is. false≢true is.0), not_of words Unpin (λ is. false≢true is.0), not_of words RemoteAdd (λ is. false≢true is.0),
+      not_of words RemoteModify (λ is. false≢true is.0), not_of words RemoteDelete (λ is. false≢true is.0), not_of words ListRemotes (λ is. false≢true is.0),
+      not_of words ListPins (λ is. false≢true is.0), not_of words Batch (λ is. false≢true is.0), not_of words ShowCommit (λ is. false≢true is.0),
+      not_of words ShowDirTree (λ is. false≢true is.0), not_of words ShowDirMeta (λ is. false≢true is.0), not_of words ShowValue (λ is. false≢true is.0),
+      fit_reads words Filter (refl, fit)
+    ) refl
+
+
 pub written : (c : Command) → is_command c ≡ true → command_of (words_of c) ≡ Some c
 written (Changing (changes.Pin p)) h = rw h refl
 written (Changing (changes.Unpin p)) h = rw h refl
@@ -84,3 +135,6 @@ written (Showing things.DirTree) h = refl
 written (Showing things.DirMeta) h = refl
 written (Showing (things.Value of)) h = rw h refl
 written commands.Batch h = refl
+written (commands.Filter rules) h =
+    let words = codes "filter" ∷ map rule_word rules in
+    ap (option_map (λ form. made form words)) (filter_found (map rule_word rules) (rules_fit rules h)) ∙ ap (λ (rs : List FilterRule). Some (commands.Filter rs)) (rules_kept rules h)

@@ -1,11 +1,12 @@
 -- What reading the words tells.
-use Rattle.std.specs.Prelude.{◌≡◌, ◌⊎◌, ℕ, List, Bool, true, false, None, Result, Ok, Err}
+use Rattle.std.specs.Prelude.{◌≡◌, ◌⊎◌, ℕ, List, drop, Bool, true, false, None, Result, Ok, Err}
+use Rattle.std.specs.List.{list_all}
 use Rattle.fp_name.specs.declared.fault.NameFault.{NameFault}
 use Rattle.fp_name.specs.declared.fault.NameFault.TheVariants as fault
 use Rattle.fl_words.specs.declared.command.WordsError.{WordsError}
 use Rattle.fl_words.specs.declared.command.WordsError.TheVariants.{BadWords, NoMemory}
 use Rattle.fl_words.specs.declared.forms.Form.{Form}
-use Rattle.fl_words.specs.Forms.{Place, remote, url, fits, reads, word_at, command_of, bad_index}
+use Rattle.fl_words.specs.Forms.{Place, remote, url, rule, fits, reads, word_at, command_of, bad_index}
 
 -- the words are no command, and go wrong at this index
 abbrev pub IsNoCommand : List (List ℕ) → WordsError → Type 0
@@ -26,6 +27,15 @@ IsMisplaced place text NoMemory = Unit {0}
 abbrev pub IsRemoteMisplaced : List (List ℕ) → WordsError → Type 0
 IsRemoteMisplaced words (BadWords index) = (fits remote (word_at 1 words) ≡ false) ⊎ (fits url (word_at 2 words) ≡ false)
 IsRemoteMisplaced words NoMemory = Unit {0}
+
+-- one of the words is no rule
+abbrev pub AreNoRules : List (List ℕ) → WordsError → Type 0
+AreNoRules words (BadWords index) = list_all (fits rule) words ≡ false
+AreNoRules words NoMemory = Unit {0}
+
+-- one of those after the first is none
+abbrev pub AreRulesMisplaced : List (List ℕ) → WordsError → Type 0
+AreRulesMisplaced words e = AreNoRules (drop 1 words) e
 
 -- it was read, or is bad
 abbrev pub IsReadBy : {A : Type 0} → Result A NameFault → Bool → Type 0

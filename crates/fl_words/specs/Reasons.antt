@@ -7,7 +7,7 @@ use Rattle.fl_words.specs.declared.batch.TheConstants.{MOST_WORDS}
 use Rattle.fl_words.specs.declared.command.Change.{Change}
 use Rattle.fl_words.specs.declared.forms.Form.{Form}
 use Rattle.fl_words.specs.declared.forms.Form.TheVariants.{Pin, Unpin, RemoteAdd, RemoteModify, RemoteDelete}
-use Rattle.fl_words.specs.Forms.{Place, literal, pattern, remote, url, type_string, forms, slots_of, reach, most}
+use Rattle.fl_words.specs.Forms.{Place, literal, pattern, remote, url, type_string, rule, forms, slots_of, further_of, place_at, reach_of, most}
 use Rattle.fl_words.specs.Batch.{words_in, batch_of}
 use Rattle.fl_words.specs.Lines.{line, escaped}
 
@@ -20,17 +20,23 @@ place_name pattern = codes "PATTERN"
 place_name remote = codes "NAME"
 place_name url = codes "URL"
 place_name type_string = codes "TYPE"
+place_name rule = codes "RULE"
 
 abbrev pub named_place : Place → List ℕ
 named_place place = 32 ∷ place_name place
 
+-- the place that may be repeated, or left out
+abbrev pub further_text : Option Place → List ℕ
+further_text None = []
+further_text (Some place) = codes " [" ++ (place_name place ++ codes "..]")
+
 -- a form after what runs it, which is ` fpk` on a command line and nothing in a batch
 abbrev pub usage : List ℕ → Form → List ℕ
-usage program form = line (codes "usage:" ++ (program ++ flat_map named_place (slots_of form)))
+usage program form = line (codes "usage:" ++ (program ++ (flat_map named_place (slots_of form) ++ further_text (further_of form))))
 
 -- so many of the words, from the first on, may stand at their places of the form
 abbrev pub begins : List (List ℕ) → ℕ → Form → Bool
-begins words count form = nat_le count (reach (slots_of form) words)
+begins words count form = nat_le count (reach_of form words)
 
 abbrev pub usage_begun : List ℕ → List (List ℕ) → ℕ → Form → List ℕ
 usage_begun program words count form = if begins words count form then usage program form else []
@@ -43,7 +49,7 @@ usages program words count fs = flat_map (usage_begun program words count) fs
 
 -- the place of a form at an index, where the words before it begin the form
 abbrev pub place_begun : List (List ℕ) → ℕ → Form → Option Place
-place_begun words index form = if begins words index form then slice_get (slots_of form) index else None
+place_begun words index form = if begins words index form then place_at form index else None
 
 -- the first such place of some forms
 abbrev pub place_wanted : List (List ℕ) → ℕ → List Form → Option Place
@@ -58,6 +64,7 @@ fault_at (Some pattern) = codes "is no pattern: KIND/ID/ARCH/BRANCH"
 fault_at (Some remote) = codes "is no name of a remote"
 fault_at (Some url) = codes "is no URL of a remote: file:///PATH"
 fault_at (Some type_string) = codes "is no type of GVariant"
+fault_at (Some rule) = codes "is no rule: --see=NAME, --talk=NAME, --own=NAME, --call=NAME=RULE or --broadcast=NAME=RULE"
 
 -- the word there, and what is wrong with it, or that there is none
 abbrev pub fault_text : Option (List ℕ) → Option Place → List ℕ

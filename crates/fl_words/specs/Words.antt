@@ -1,14 +1,16 @@
 -- The words of commands.
-use Rattle.std.specs.Prelude.{ℕ, List, [], ◌∷◌, ◌++◌, ◌&&◌, Bool, true, false, IsSome, codes}
+use Rattle.std.specs.Prelude.{ℕ, List, [], ◌∷◌, ◌++◌, ◌&&◌, map, Bool, true, false, IsSome, codes}
+use Rattle.std.specs.List.{list_all}
 use Rattle.fp_name.specs.Grammar.{is_remote_name, is_url}
 use Rattle.fp_name.specs.Pins.{is_pin}
 use Rattle.fl_words.specs.declared.command.Command.{Command}
-use Rattle.fl_words.specs.declared.command.Command.TheVariants.{Change as Changing, List as Listed, Show as Showing, Batch}
+use Rattle.fl_words.specs.declared.command.Command.TheVariants.{Change as Changing, List as Listed, Show as Showing, Batch, Filter}
 use Rattle.fl_words.specs.declared.command.Change.{Change}
 use Rattle.fl_words.specs.declared.command.Change.TheVariants.{Pin, Unpin, RemoteAdd, RemoteModify, RemoteDelete}
 use Rattle.fl_words.specs.declared.command.Listing.TheVariants.{Remotes, Pins}
 use Rattle.fl_words.specs.declared.command.Shown.{Shown}
 use Rattle.fl_words.specs.declared.command.Shown.TheVariants.{Commit, DirTree, DirMeta, Value}
+use Rattle.fl_words.specs.FilterRules.{rule_word, is_filter_rule}
 use Rattle.fl_words.specs.Forms.{command_of}
 use Rattle.fl_words.specs.Types.{is_type_text}
 
@@ -26,6 +28,7 @@ words_of (Showing Commit) = codes "show" ∷ codes "commit" ∷ []
 words_of (Showing DirTree) = codes "show" ∷ codes "dirtree" ∷ []
 words_of (Showing DirMeta) = codes "show" ∷ codes "dirmeta" ∷ []
 words_of (Showing (Value of)) = codes "show" ∷ codes "value" ∷ of ∷ []
+words_of (Filter rules) = codes "filter" ∷ map rule_word rules
 
 -- it may change the installation
 abbrev pub may_change : Command → Bool
@@ -33,6 +36,7 @@ may_change (Changing change) = true
 may_change (Listed listing) = false
 may_change (Showing thing) = false
 may_change Batch = true
+may_change (Filter rules) = false
 
 -- its patterns, names and URLs are such, as they are in each value of the code
 abbrev pub is_change : Change → Bool
@@ -53,6 +57,7 @@ is_command (Changing change) = is_change change
 is_command (Listed listing) = true
 is_command (Showing thing) = is_shown thing
 is_command Batch = true
+is_command (Filter rules) = list_all is_filter_rule rules
 
 -- the words are a command, or are one with more words after them
 pub record Begins (words : List (List ℕ)) : Type 0 where

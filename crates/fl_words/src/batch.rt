@@ -1,7 +1,7 @@
 //! Reading a batch.
 ghost use Rattle.std.specs.Prelude.{◌≡◌, ◌<◌, ◌∷◌, ◌==◌, Ok, Some, None, IfOk, IfErr, IfSome, OnOk, position, ◌++◌, [], map, length, string_bytes};
 ghost use Rattle.fl_words.specs.Forms.{command_of};
-ghost use Rattle.fl_words.specs.Batch.{words_in, words_left, change_of, batch_change, IsNoRecord, IsNoWords, IsNoText, batch_of, IsBadBatch};
+ghost use Rattle.fl_words.specs.Batch.{words_in, words_left, change_of, batch_change, IsNoRecord, IsNoText, batch_of, IsBadBatch};
 ghost use Rattle.fl_words.specs.declared.batch.BatchError.TheVariants.{NoMemory};
 
 use crate::command::{Change, Command, WordsError};
@@ -74,7 +74,7 @@ fn add_change(changes: &mut Vec<Change>, change: Change) -> Result<(), AllocErro
 }
 
 /// The change that a line asks for.
-#[tactic(auto, using(crate::proofs::LineWords::no_record, crate::proofs::LineWords::no_command, crate::proofs::LineWords::is_record))]
+#[tactic(auto, using(crate::proofs::LineWords::no_command, crate::proofs::LineWords::is_record))]
 fn read_record(alloc: Global, line: &[u8]) -> Result<Change, WordsError>
     ensures ok { IfOk result (λ change. batch_change line.now ≡ Some change) }
     ensures bad { IfErr result (IsNoRecord line.now) }
@@ -92,7 +92,7 @@ fn change_of(command: Command) -> Option<Change>
 {
     match command {
         Command::Change(change) => Some(change),
-        Command::List(_) | Command::Show(_) | Command::Batch => None,
+        Command::List(_) | Command::Show(_) | Command::Batch | Command::Filter { .. } => None,
     }
 }
 
@@ -100,7 +100,7 @@ fn change_of(command: Command) -> Option<Change>
 #[tactic(auto, using(crate::proofs::LineWords::bad_word))]
 fn read_line(alloc: Global, line: &[u8]) -> Result<Vec<String>, WordsError>
     ensures ok { IfOk result (λ words. map string_bytes words.items ≡ words_in line.now) }
-    ensures bad { IfErr result (IsNoWords line.now) }
+    ensures bad { IfErr result (IsNoRecord line.now) }
 {
     let mut words = Vec::new(alloc);
     let mut rest = Some(line);

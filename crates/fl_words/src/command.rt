@@ -3,7 +3,9 @@ ghost use Rattle.std.specs.Prelude.{◌≡◌};
 ghost use Rattle.fl_words.specs.Words.{may_change};
 ghost use Rattle.fl_words.specs.declared.command.WordsError.TheVariants.{NoMemory};
 
+use crate::filter_rule::FilterRule;
 use crate::value_type::ValueType;
+use fp_base::Items;
 use fp_name::{PinPattern, RemoteName};
 use fp_small::RemoteRow;
 use std::alloc::AllocError;
@@ -11,7 +13,7 @@ use std::error::Error;
 use std::fmt;
 
 /// A command, by its kind.
-#[derive(Debug, Drop)]
+#[derive(Drop)]
 pub enum Command {
     /// Changes the installation.
     Change(Change),
@@ -21,10 +23,12 @@ pub enum Command {
     Show(Shown),
     /// `batch`: does the changes that the lines of the input ask for.
     Batch,
+    /// `filter R..`: prints what the rules let through of the messages that the input records.
+    Filter { rules: Items<FilterRule> },
 }
 
 impl Command {
-    /// Whether it may change the installation. What only lists or shows never does.
+    /// Whether it may change the installation. What only lists, shows or filters never does.
     pub fn changes(&self) -> bool
         ensures { result ≡ may_change self.now }
     {

@@ -1,11 +1,11 @@
 //! The forms of words: what stands at each place of a command line, and the command that it asks for.
-ghost use Rattle.std.specs.Prelude.{◌≡◌, IfOk, IfErr, map, string_bytes};
-ghost use Rattle.fl_words.specs.Forms.{place_of, forms, slots_of, made};
+ghost use Rattle.std.specs.Prelude.{◌≡◌, IfOk, IfErr, map, option_map, string_bytes};
+ghost use Rattle.fl_words.specs.Forms.{place_of, forms, slots_of, further_of, place_at, made};
 ghost use Rattle.fl_words.specs.Reading.{IsMisfit};
 ghost use Rattle.fl_words.specs.Reasons.{change_forms};
 
 use crate::command::{Change, Command, Listing, Shown, WordsError};
-use crate::values::{name_at, pattern_at, remote_in, type_at};
+use crate::values::{name_at, pattern_at, remote_in, rules_in, type_at};
 use std::alloc::Global;
 
 /// What may stand at a place of a form.
@@ -21,6 +21,8 @@ pub enum Slot {
     Url,
     /// The type string of a type of GVariant.
     Type,
+    /// A rule of a filter.
+    Rule,
 }
 
 /// A form of words.
@@ -38,6 +40,7 @@ pub enum Form {
     ShowDirTree,
     ShowDirMeta,
     ShowValue,
+    Filter,
 }
 
 impl Form {
@@ -58,6 +61,7 @@ impl Form {
             Form::ShowDirTree,
             Form::ShowDirMeta,
             Form::ShowValue,
+            Form::Filter,
         ]
     }
 
@@ -91,6 +95,38 @@ impl Form {
             Form::ShowDirTree => &[Slot::Word("show"), Slot::Word("dirtree")],
             Form::ShowDirMeta => &[Slot::Word("show"), Slot::Word("dirmeta")],
             Form::ShowValue => &[Slot::Word("show"), Slot::Word("value"), Slot::Type],
+            Form::Filter => &[Slot::Word("filter")],
+        }
+    }
+
+    /// What each word after those may be, where any number of them may follow.
+    pub fn further(self) -> Option<Slot>
+        ensures { option_map place_of result ≡ further_of self }
+    {
+        match self {
+            Form::Filter => Some(Slot::Rule),
+            Form::Pin
+            | Form::Unpin
+            | Form::RemoteAdd
+            | Form::RemoteModify
+            | Form::RemoteDelete
+            | Form::ListRemotes
+            | Form::ListPins
+            | Form::Batch
+            | Form::ShowCommit
+            | Form::ShowDirTree
+            | Form::ShowDirMeta
+            | Form::ShowValue => None,
+        }
+    }
+
+    /// What the word at an index may be.
+    pub fn slot(self, index: usize) -> Option<Slot>
+        ensures { option_map place_of result ≡ place_at self index }
+    {
+        match self.slots().get(index) {
+            Some(slot) => Some(*slot),
+            None => self.further(),
         }
     }
 
@@ -112,6 +148,9 @@ impl Form {
             Form::ShowDirTree => Command::Show(Shown::DirTree),
             Form::ShowDirMeta => Command::Show(Shown::DirMeta),
             Form::ShowValue => Command::Show(Shown::Value(type_at(alloc, words, 2)?)),
+            Form::Filter => Command::Filter {
+                rules: rules_in(alloc, words)?,
+            },
         })
     }
 }

@@ -1,10 +1,10 @@
 //! Reading the words of a command line.
 ghost use Rattle.std.specs.Prelude.{◌≡◌, Some, IfOk, IfErr, map, string_bytes};
-ghost use Rattle.fl_words.specs.Forms.{place_of, command_of, most, reach as reach_of};
+ghost use Rattle.fl_words.specs.Forms.{command_of, most, reach_of, fits_some, place_at};
 ghost use Rattle.fl_words.specs.Reading.{IsNoCommand};
 
 use crate::command::{Command, WordsError};
-use crate::forms::{Form, Slot};
+use crate::forms::Form;
 use crate::values::fits;
 use std::alloc::{AllocError, Global};
 
@@ -15,9 +15,8 @@ pub fn read_words(alloc: Global, words: &[String]) -> Result<Command, WordsError
 {
     let mut furthest = 0;
     for form in Form::all() {
-        let slots = form.slots();
-        let reached = reach(alloc, slots, words)?;
-        if slots.len() == words.len() && reached == words.len() {
+        let reached = reach(alloc, *form, words)?;
+        if form.slots().len() <= words.len() && reached == words.len() {
             return form.command(alloc, words);
         }
         if reached > furthest {
@@ -35,7 +34,7 @@ pub(crate) fn furthest(alloc: Global, forms: &[Form], words: &[String]) -> Resul
 {
     let mut furthest = 0;
     for form in forms {
-        let reached = reach(alloc, form.slots(), words)?;
+        let reached = reach(alloc, *form, words)?;
         if reached > furthest {
             furthest = reached;
         }
@@ -43,17 +42,26 @@ pub(crate) fn furthest(alloc: Global, forms: &[Form], words: &[String]) -> Resul
     Ok(furthest)
 }
 
-/// How many words, from the first on, may stand at their places.
-pub(crate) fn reach(alloc: Global, slots: &[Slot], words: &[String]) -> Result<usize, AllocError>
-    ensures { IfOk result (λ count. count ≡ reach_of (map place_of slots.now)
-        (map string_bytes words.now)) }
+/// How many words, from the first on, may stand at their places of a form.
+pub(crate) fn reach(alloc: Global, form: Form, words: &[String]) -> Result<usize, AllocError>
+    ensures { IfOk result (λ count. count ≡ reach_of form (map string_bytes words.now)) }
 {
     let mut count = 0;
-    while count < slots.len() && count < words.len() {
-        if !fits(alloc, &slots[count], words[count].as_str())? {
+    while count < words.len() {
+        if !may_stand(alloc, form, count, words[count].as_str())? {
             return Ok(count);
         }
         count += 1;
     }
     Ok(count)
+}
+
+/// Whether a word may stand at an index of a form.
+fn may_stand(alloc: Global, form: Form, index: usize, word: &str) -> Result<bool, AllocError>
+    ensures { IfOk result (λ good. good ≡ fits_some (place_at form index) word.now) }
+{
+    match form.slot(index) {
+        Some(slot) => fits(alloc, &slot, word),
+        None => Ok(false),
+    }
 }

@@ -1,11 +1,15 @@
 //! What stands at the places of a command line.
-ghost use Rattle.std.specs.Prelude.{◌≡◌, Ok, IfOk, IfErr, map, string_bytes};
-ghost use Rattle.fl_words.specs.Forms.{place_of, fits as may_stand, word_at as text_at, remote_in as remote_of, pattern, remote, url, type_string};
-ghost use Rattle.fl_words.specs.Reading.{IsMisplaced, IsRemoteMisplaced, IsReadBy, IsUnread};
+ghost use Rattle.std.specs.Prelude.{◌≡◌, Ok, Some, IfOk, IfErr, map, drop, string_bytes};
+ghost use Rattle.std.specs.List.{filter_map};
+ghost use Rattle.fl_words.specs.FilterRules.{filter_rule};
+ghost use Rattle.fl_words.specs.Forms.{place_of, fits as may_stand, word_at as text_at, remote_in as remote_of, pattern, remote, url, type_string, rule};
+ghost use Rattle.fl_words.specs.Reading.{IsMisplaced, IsRemoteMisplaced, AreNoRules, AreRulesMisplaced, IsReadBy, IsUnread};
 
 use crate::command::WordsError;
+use crate::filter_rule::FilterRule;
 use crate::forms::Slot;
 use crate::value_type::ValueType;
+use fp_base::Items;
 use fp_name::{NameFault, PinPattern, RemoteName, RemoteUrl};
 use fp_small::RemoteRow;
 use std::alloc::{AllocError, Global};
@@ -20,6 +24,7 @@ pub fn fits(alloc: Global, slot: &Slot, word: &str) -> Result<bool, AllocError>
         Slot::Remote => is_read(RemoteName::parse(alloc, word.as_bytes())),
         Slot::Url => is_read(RemoteUrl::parse(alloc, word.as_bytes())),
         Slot::Type => is_read(ValueType::parse(alloc, word.as_bytes())),
+        Slot::Rule => is_read(FilterRule::parse(alloc, word)),
     }
 }
 
@@ -97,6 +102,40 @@ pub(crate) fn remote_in(alloc: Global, words: &[String]) -> Result<RemoteRow, Wo
     let name = name_at(alloc, words, 1)?;
     let url = url_at(alloc, words, 2)?;
     Ok(RemoteRow { name, url })
+}
+
+/// The rules that stand after the first word.
+pub(crate) fn rules_in(alloc: Global, words: &[String]) -> Result<Items<FilterRule>, WordsError>
+    ensures ok { IfOk result (λ rules. rules ≡ filter_map filter_rule
+        (drop 1 (map string_bytes words.now))) }
+    ensures bad { IfErr result (AreRulesMisplaced (map string_bytes words.now)) }
+{
+    match words {
+        [_, rules @ ..] => rules_of(alloc, rules),
+        [] => Ok(Items::new(alloc)),
+    }
+}
+
+/// The rules that words stand for.
+fn rules_of(alloc: Global, words: &[String]) -> Result<Items<FilterRule>, WordsError>
+    ensures ok { IfOk result (λ rules. rules ≡ filter_map filter_rule
+        (map string_bytes words.now)) }
+    ensures bad { IfErr result (AreNoRules (map string_bytes words.now)) }
+{
+    let mut rules = Items::new(alloc);
+    for word in words {
+        let rule = rule_of(alloc, word.as_str())?;
+        rules.push(rule)?;
+    }
+    Ok(rules)
+}
+
+/// The rule that a word stands for.
+fn rule_of(alloc: Global, word: &str) -> Result<FilterRule, WordsError>
+    ensures ok { IfOk result (λ r. filter_rule word.now ≡ Some r) }
+    ensures bad { IfErr result (IsMisplaced rule word.now) }
+{
+    placed(FilterRule::parse(alloc, word))
 }
 
 /// What was read at a place.

@@ -1,4 +1,4 @@
-use Rattle.std.proofs.Common.{true, false, Some, None, sym, ap, ◌∙◌, lit<}
+use Rattle.std.proofs.Common.{◌≡◌, ℕ, Bool, true, false, cond, List, Some, None, sym, ap, ◌∙◌, lit<}
 use Rattle.fp_keyfile.proofs.Cuts.{split_once_is}
 use Rattle.fl_words.specs.declared.filter_rule.FilterRule.{FilterRule}
 use Rattle.fl_words.specs.FilterRules.{message_of}
