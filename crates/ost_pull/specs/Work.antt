@@ -53,3 +53,11 @@ pub record KeepsOne (t : Elements) (url : List ℕ) (holds : Option Holdings) (o
 -- what was noted goes on being noted
 pub record Extends (before after : List (List ℕ × ObjKind)) : Type 0 where
   pub more : (o : List ℕ × ObjKind) → In before o → In after o
+
+-- the object is the store's, which has it, or it is kept
+abbrev pub IsCovered : Elements → List (List ℕ × ObjKind) → View → List ℕ × ObjKind → Type 0
+IsCovered root kept v o = (store root (shows v) o.0 o.1 ≢ None) ⊎ In kept o
+
+-- it goes on keeping what it keeps, and the object is the store's or kept
+pub record TakesOne (root t : Elements) (url : List ℕ) (holds : Option Holdings) (o : List ℕ × ObjKind) (before after : List (List ℕ × ObjKind)) (u w : View) : Type 0 where
+  pub on : AreKept t url holds before u → AreKept t url holds after w × IsCovered root after w o

@@ -15,6 +15,7 @@ mod parts;
 mod refusing;
 mod small;
 mod storing;
+mod taking;
 
 pub use ends::PullEnd;
 pub use head::{Head, read_head};
