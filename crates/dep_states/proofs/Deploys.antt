@@ -1,14 +1,14 @@
 -- What the bytes of a `deploy` say is good.
-use Rattle.std.proofs.Common.{◌≡◌, ◌<◌, ◌^◌, ℕ, List, Bool, true, false, ◌&&◌, nat_lt, Option, Some, None, refl, sym, ◌∙◌, ap, subst}
-use Rattle.std.specs.Prelude.{if◌then◌else◌, option_map, option_and_then}
-use Rattle.std.proofs.lemmas.Bool.{cases_Bool, ltb-true}
+use Rattle.std.proofs.Common.{◌≡◌, ◌<◌, ◌^◌, ℕ, List, Bool, true, false, ◌&&◌, nat_lt, Option, Some, None, refl, ◌∙◌, ap, subst}
+use Rattle.std.specs.Prelude.{if◌then◌else◌}
+use Rattle.std.proofs.lemmas.Bool.{ltb-true}
 use Rattle.fp_name.specs.Grammar.{is_remote_name}
 use Rattle.fp_name.specs.Hex.{unhex, is_digest}
 use Rattle.fp_name.proofs.HexTexts.{unhex-some}
 use Rattle.fp_small.specs.declared.state.Previous.{Previous}
 use Rattle.gv_value.specs.declared.basic.Basic.TheVariants as basics
 use Rattle.gv_value.specs.Shape.{Shape, no_shapes, shape}
-use Rattle.gv_value.specs.Tree.{Content, Tree, Trees, no_trees, tree}
+use Rattle.gv_value.specs.Tree.{Content, Tree, no_trees, tree}
 use Rattle.gv_value.specs.Reading.{value_of}
 use Rattle.gv_value.specs.Spelling.{fits_within, fits}
 use Rattle.gv_value.proofs.Exact.{reads_values, spells_values}

@@ -1,17 +1,16 @@
 -- What is shown can be written.
-use Rattle.std.proofs.Common.{◌≡◌, ◌≢◌, ◌<◌, ◌^◌, inl, inr, ℕ, List, [], ◌∷◌, map, length, leb, Bool, true, false, ◌&&◌, Option, Some, None, Result, Ok, Err, refl, sym, ◌∙◌, ap, subst, arith}
-use Rattle.std.specs.Prelude.{if◌then◌else◌, IfOk, IsTrue}
+use Rattle.std.proofs.Common.{◌≡◌, inl, inr, ℕ, List, [], ◌∷◌, map, length, leb, true, Option, Some, None, Result, Ok, Err, refl, sym, ◌∙◌, ap, subst, arith}
+use Rattle.std.specs.Prelude.{IfOk, IsTrue}
 use Rattle.std.specs.List.{AllByRecursion}
 use Rattle.std.specs.Str.{bytes_eq}
-use Rattle.std.proofs.lemmas.Bool.{cases_Bool, and_parts, both_ways, ltb-true}
+use Rattle.std.proofs.lemmas.Bool.{cases_Bool, and_parts}
 use Rattle.fp_host.specs.Outcome.{Spot, Disk, gone, folder, holds, points}
 use Rattle.fp_host.specs.Reads.{comes_first, is_ascending}
 use Rattle.fp_keyfile.specs.declared.group.Group.{Group}
 use Rattle.fp_keyfile.specs.declared.fault.KeyFault.{KeyFault}
 use Rattle.fp_keyfile.specs.KeyFile.{file_of, is_good}
 use Rattle.fp_keyfile.proofs.Read.{good_file_of}
-use Rattle.fp_name.specs.Grammar.{is_remote_name}
-use Rattle.fp_name.specs.Hex.{hex, unhex, is_digest}
+use Rattle.fp_name.specs.Hex.{hex}
 use Rattle.fp_name.specs.Refs.{Ref, is_ref, ref_of}
 use Rattle.fp_small.specs.Config.{IsSettings, config_of}
 use Rattle.fp_small.specs.Old.{AreRows, ArePatterns, remotes_of, pins_of}
@@ -27,12 +26,12 @@ use Rattle.dep_states.specs.declared.deploy.DeployData.{DeployData}
 use Rattle.dep_states.specs.declared.setup.Setup.{Setup}
 use Rattle.dep_states.specs.Names.{config, remotes_conf, pins_file, is_override, override_path, active}
 use Rattle.dep_states.specs.Deploy.{deploy_of}
-use Rattle.dep_states.specs.Shown.{Seen, away, bad, there, read_of, seen_of, read_file, config_most, small_most, layout_one, layout_two, config_at, remotes_at, pins_at, settings_at, setup_of, settings_of, row_of, row_in, deploy_at, by_active, ref_seen, row_seen, if_file, named_override, override_at, override_seen, at_name, ref_key, override_key, Shows}
+use Rattle.dep_states.specs.Shown.{Seen, away, bad, there, read_of, seen_of, read_file, config_most, small_most, layout_one, layout_two, config_at, remotes_at, pins_at, settings_at, setup_of, row_of, row_in, deploy_at, by_active, if_file, named_override, override_at, override_seen, at_name, ref_key, override_key, Shows}
 use Rattle.dep_states.specs.After.{IsGoodRow, IsGoodLayer, IsGood}
 use Rattle.dep_states.proofs.Deploys.{IsRead, deploy_reads}
 use Rattle.dep_states.proofs.Listed.{IsThere}
 use Rattle.dep_states.proofs.Single.{there_is, some_is, some_none, none_before, at_head}
-use Rattle.dep_states.proofs.Total.{row_there, override_is}
+use Rattle.dep_states.proofs.Total.{row_there}
 
 -- ---- files
 

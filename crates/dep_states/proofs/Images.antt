@@ -1,21 +1,20 @@
 -- Worked images are sound, and show what they have to.
-use Rattle.std.proofs.Common.{◌≡◌, ◌⊎◌, ◌≤◌, inl, inr, ℕ, List, [], ◌∷◌, length, Bool, true, false, Option, Some, None, refl, sym, ◌∙◌, ap, subst, arith}
+use Rattle.std.proofs.Common.{◌≡◌, ◌≤◌, inl, inr, ℕ, List, [], ◌∷◌, length, Bool, true, false, Option, Some, None, refl, sym, ◌∙◌, ap, subst, arith}
 use Rattle.std.specs.Prelude.{if◌then◌else◌}
 use Rattle.std.proofs.lemmas.Bool.{le-leb}
-use Rattle.fp_host.specs.Paths.{Elements, Slot, absent}
+use Rattle.fp_host.specs.Paths.{Elements, absent}
 use Rattle.fp_host.specs.View.{View, IsTree}
-use Rattle.fp_host.specs.Outcome.{Spot, Disk, Leaves, IsSettled, gone, folder, holds, spot_of}
+use Rattle.fp_host.specs.Outcome.{Disk, Leaves, IsSettled, gone, folder, holds, spot_of}
 use Rattle.fp_host.proofs.Settled.{settled_disk}
 use Rattle.fp_name.specs.Refs.{Ref, is_ref, ref_of}
 use Rattle.fp_small.specs.Config.{config_of, config_text, IsSettings}
 use Rattle.fp_small.specs.declared.config.Settings.{Settings}
 use Rattle.fp_small.specs.declared.state.RefRow.{RefRow}
-use Rattle.fp_small.specs.declared.state.Layout.TheVariants.{Two}
 use Rattle.fp_small.proofs.ConfigTexts.{written_back}
 use Rattle.dep_states.specs.Names.{config, is_override, override_path}
 use Rattle.dep_states.specs.Shown.{Seen, away, bad, there, setup_of, layout_two, read_of, config_most, config_at, ref_seen, row_seen, override_at, Shows}
 use Rattle.dep_states.specs.Zones.{Zone, anything, Fits, zone, outward, Allowed}
-use Rattle.dep_states.specs.Sound.{Keeps, Sound, IsSound}
+use Rattle.dep_states.specs.Sound.{Sound, IsSound, Opens}
 use Rattle.dep_states.specs.Samples.{no_disk, empty_disk, empty_state, config_rows, config_disk, settings_state}
 use Rattle.dep_states.proofs.Empty.{allowed_gone, empty_shows, empty_sound}
 use Rattle.dep_states.proofs.Law.{shows_same, sound_same}
@@ -102,6 +101,12 @@ module _ (v : View) (tree : IsTree v) (settled : IsSettled v) (none : (x : List 
 pub root_alone : (v : View) → IsTree v → IsSettled v → ((x : List ℕ) (up : Elements) → v.names (x ∷ up) ≡ absent) → IsSound v
 root_alone v tree settled none = record {
   shown = λ disk left. record { state = empty_state; shows = bare_shows v tree settled none disk left };
+  sound = λ disk left. bare_sound v tree settled none disk left;
+}
+
+pub bare_opens : (v : View) → IsTree v → IsSettled v → ((x : List ℕ) (up : Elements) → v.names (x ∷ up) ≡ absent) → Opens empty_state v
+bare_opens v tree settled none = record {
+  shown = λ disk left. bare_shows v tree settled none disk left;
   sound = λ disk left. bare_sound v tree settled none disk left;
 }
 

@@ -1,4 +1,5 @@
 pub mod DeployShapes
+pub mod DeployWrites
 pub mod Law
 pub mod Single
 pub mod Empty
@@ -17,6 +18,7 @@ pub mod Deploys
 pub mod Good
 pub mod Sparing
 pub mod SettledSample
+pub mod Openings
 pub mod Absent
 pub mod Pulling
 pub mod Small

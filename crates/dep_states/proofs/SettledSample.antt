@@ -1,5 +1,5 @@
 -- An image with a deployed ref is Settled.
-use Rattle.std.proofs.Common.{◌≡◌, ◌≢◌, ◌⊎◌, inl, inr, ℕ, List, [], ◌∷◌, ◌++◌, Bool, true, false, not, ◌||◌, eqb, leb, length, Some, refl, sym, ◌∙◌, ap, subst, arith}
+use Rattle.std.proofs.Common.{◌≡◌, ◌≢◌, inl, inr, ℕ, List, [], ◌∷◌, ◌++◌, Bool, true, false, not, ◌||◌, eqb, leb, length, refl, sym, ◌∙◌, ap, subst, arith}
 use Rattle.std.specs.Prelude.{codes}
 use Rattle.std.specs.Str.{bytes_eq, is_utf8, chars}
 use Rattle.std.specs.List.{list_all}
@@ -12,21 +12,18 @@ use Rattle.fp_base.specs.declared.object.ObjKind.TheVariants as kinds
 use Rattle.fp_host.specs.Paths.{Elements, path_eq}
 use Rattle.fp_host.specs.Outcome.{gone}
 use Rattle.fp_host.proofs.Separate.{path_decides}
-use Rattle.fp_name.specs.declared.kind.RefKind.{RefKind}
 use Rattle.fp_name.specs.Hex.{hex, is_digest}
-use Rattle.fp_name.specs.Kinds.{kind_word}
 use Rattle.fp_name.specs.Refs.{Ref}
 use Rattle.fp_small.specs.Places.{repo, tmp}
 use Rattle.fp_small.specs.declared.state.RefRow.{RefRow}
-use Rattle.ost_model.specs.Objects.{object_path, store}
-use Rattle.ost_model.specs.Order.{Place, In, order}
+use Rattle.ost_model.specs.Objects.{object_path}
 use Rattle.ost_model.proofs.Stores.{one_name}
-use Rattle.dep_states.specs.Names.{active, branch_dir, text_dir, commit_dir, ref_file}
+use Rattle.dep_states.specs.Names.{commit_dir, ref_file}
 use Rattle.dep_states.specs.Shown.{there, ref_seen}
 use Rattle.dep_states.specs.Zones.{outward}
 use Rattle.dep_states.specs.Sound.{Keeps}
 use Rattle.dep_states.specs.Settled.{Used, HasBytes, HasOrigin, Settled}
-use Rattle.dep_states.specs.Deployed.{platform, file_digest, tree_digest, dir_digest, commit, commit_text, deployed_rows, deployed_disk, deployed_row}
+use Rattle.dep_states.specs.Deployed.{platform, file_digest, tree_digest, dir_digest, commit, deployed_rows, deployed_disk, deployed_row}
 use Rattle.dep_states.proofs.Deployed.{outward_append, top, the_dir, ref_cases, row_is, other_away, away_there, dir_is}
 use Rattle.dep_states.proofs.Rows.{none_at, head_of, tail_of, text_apart, not_true, or_cases}
 use Rattle.dep_states.proofs.Single.{there_is}

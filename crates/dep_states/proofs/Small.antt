@@ -1,6 +1,5 @@
 -- A change of the settings' files, or of one override.
-use Rattle.std.proofs.Common.{◌≡◌, ◌≢◌, ◌⊎◌, inl, inr, ℕ, List, [], ◌∷◌, ◌++◌, map, Bool, true, false, Option, Some, None, refl, sym, ◌∙◌, ap, codes}
-use Rattle.std.specs.Prelude.{if◌then◌else◌}
+use Rattle.std.proofs.Common.{◌≡◌, ◌≢◌, ◌⊎◌, inl, inr, ℕ, List, [], ◌∷◌, ◌++◌, map, Option, Some, None, refl, sym, ◌∙◌, ap, codes}
 use Rattle.std.specs.Str.{bytes_eq}
 use Rattle.std.proofs.lemmas.Bool.{cases_Bool}
 use Rattle.std.proofs.lemmas.Slice.Eq.{bytes_eq-Decides}
@@ -10,11 +9,10 @@ use Rattle.fp_host.specs.Reads.{is_ascending}
 use Rattle.fp_name.specs.Refs.{Ref, ref_of}
 use Rattle.fp_small.specs.Places.{repo}
 use Rattle.fp_small.specs.declared.state.State.{State}
-use Rattle.fp_small.specs.declared.state.OverrideRow.{OverrideRow}
 use Rattle.ost_model.specs.Objects.{object_path}
 use Rattle.dep_states.specs.Names.{config, remotes_conf, pins_file, override_path, active, text_dir, commit_dir, deploy}
 use Rattle.dep_states.specs.Shown.{there, seen_of, ref_seen, row_seen, override_seen, settings_seen, at_name, ref_key, override_key, setup_of, Shows}
-use Rattle.dep_states.specs.Sound.{Sound, Fixed, IsOld, is_remotes, is_pins, is_config, is_old, is_active, is_deploy, is_layer, is_inside, is_object, Permits}
+use Rattle.dep_states.specs.Sound.{Sound, Fixed, is_remotes, is_pins, is_config, is_old, is_active, is_deploy, is_layer, is_inside, is_object, Permits}
 use Rattle.dep_states.specs.Small.{IsSetting, IsLayered}
 use Rattle.dep_states.proofs.Deployed.{outward_append, top}
 use Rattle.dep_states.proofs.Law.{settings_same, ref_same, override_same, sound_still}

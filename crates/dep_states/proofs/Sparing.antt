@@ -1,12 +1,12 @@
 -- What the steps of tidying, of checking out and of pulling spare.
-use Rattle.std.proofs.Common.{◌≡◌, ◌≢◌, ◌⊎◌, inl, inr, ℕ, List, [], ◌∷◌, ◌++◌, Bool, true, false, Option, Some, None, refl, sym, ◌∙◌, ap, subst, codes, arith}
+use Rattle.std.proofs.Common.{◌≡◌, ◌≢◌, inl, inr, ℕ, List, [], ◌∷◌, ◌++◌, Bool, true, false, Option, Some, None, refl, sym, ◌∙◌, ap, subst, codes}
 use Rattle.std.specs.Prelude.{if◌then◌else◌, is_some}
 use Rattle.std.specs.Str.{bytes_eq}
-use Rattle.std.proofs.lemmas.Bool.{false_from_ne_true, cond-true, cases_Bool}
+use Rattle.std.proofs.lemmas.Bool.{false_from_ne_true, cond-true}
 use Rattle.std.proofs.lemmas.Slice.Eq.{bytes_eq-Decides}
 use Rattle.fp_host.specs.Paths.{Elements}
 use Rattle.fp_host.specs.View.{View, IsTree}
-use Rattle.fp_host.specs.Outcome.{Spot, Disk, Leaves, IsSettled, gone, folder, holds, points, shows, spot_of}
+use Rattle.fp_host.specs.Outcome.{Spot, Disk, Leaves, IsSettled, shows, spot_of}
 use Rattle.fp_host.specs.Frame.{Frame}
 use Rattle.fp_host.specs.Moments.{Moments, Goes}
 use Rattle.fp_host.specs.Paths.{Slot}
@@ -18,21 +18,19 @@ use Rattle.fp_name.specs.declared.kind.RefKind.TheVariants.{App, Runtime}
 use Rattle.fp_name.specs.Grammar.{is_id, is_arch, is_branch}
 use Rattle.fp_name.specs.Hex.{hex, unhex, is_digest}
 use Rattle.fp_name.specs.Kinds.{kind_word}
-use Rattle.fp_name.specs.Refs.{Ref, is_ref, ref_of, ref_text}
+use Rattle.fp_name.specs.Refs.{Ref, is_ref, ref_text}
 use Rattle.fp_name.proofs.Refs.{ref_of-ref_text}
 use Rattle.fp_name.proofs.HexTexts.{unhex-hex}
-use Rattle.fp_small.specs.Places.{repo, tmp}
+use Rattle.fp_small.specs.Places.{repo}
 use Rattle.fp_small.specs.declared.state.State.{State}
 use Rattle.fp_small.specs.declared.state.RefRow.{RefRow}
 use Rattle.fp_small.specs.declared.state.Previous.{Previous}
-use Rattle.ost_model.specs.Objects.{object_path, Named, store}
+use Rattle.ost_model.specs.Objects.{object_path, store}
 use Rattle.ost_model.specs.Order.{Place, In, order}
 use Rattle.dep_states.specs.Names.{active, text_dir, commit_dir, deploy}
-use Rattle.dep_states.specs.Deploy.{deploy_of}
-use Rattle.dep_states.specs.Shown.{Seen, away, bad, there, seen_of, row_of, row_in, deploy_at, by_active, ref_seen, row_seen, at_name, ref_key, Shows}
-use Rattle.dep_states.specs.Settled.{Used}
+use Rattle.dep_states.specs.Shown.{Seen, away, bad, there, seen_of, row_of, row_in, deploy_at, by_active, ref_seen, row_seen, Shows}
 use Rattle.dep_states.specs.Zones.{anything, a_folder, a_link, here, is, IsFolderOrGone, Fits, zone, outward, outward_onto}
-use Rattle.dep_states.specs.Sound.{IsKeptBy, Keeps, Sound, Fixed, IsOld, is_remotes, is_pins, is_config, is_old, is_active, is_deploy, is_layer, is_inside, is_object, Permits, Opens, Spares, InTmp}
+use Rattle.dep_states.specs.Sound.{IsKeptBy, Keeps, Sound, Fixed, IsOld, is_remotes, is_pins, is_config, is_old, is_active, is_deploy, is_layer, is_inside, is_object, Opens, Spares}
 use Rattle.dep_states.specs.After.{row_at, IsGoodPrevious, IsGoodRow}
 use Rattle.dep_states.specs.Frames.{Either, KeptIn, InDir, IsUnused, ObjectGone}
 use Rattle.dep_states.specs.declared.deploy.DeployData.{DeployData}

@@ -1,5 +1,5 @@
 -- What operations make of a state.
-use Rattle.std.specs.Prelude.{◌≡◌, ◌≢◌, ◌<◌, ◌^◌, ℕ, List, [], ◌∷◌, length, map, Contains, Bool, true, false, Option, Some, None}
+use Rattle.std.specs.Prelude.{◌≡◌, ◌≢◌, ◌<◌, ◌^◌, ℕ, List, [], ◌∷◌, length, map, Contains, true, false, Option, Some, None}
 use Rattle.std.specs.List.{AllByRecursion}
 use Rattle.fp_keyfile.specs.KeyFile.{is_good}
 use Rattle.fp_host.specs.Reads.{is_ascending}

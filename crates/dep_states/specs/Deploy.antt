@@ -2,7 +2,7 @@
 use Rattle.std.specs.Prelude.{◌≡◌, ⊤, ℕ, List, Bool, false, Option, Some, None, option_map, option_and_then, Result, Ok, Err, if◌then◌else◌}
 use Rattle.std.specs.Str.{bytes_eq}
 use Rattle.fp_name.specs.Grammar.{is_remote_name}
-use Rattle.fp_name.specs.Hex.{unhex}
+use Rattle.fp_name.specs.Hex.{hex, unhex}
 use Rattle.fp_small.specs.declared.state.Previous.{Previous}
 use Rattle.gv_value.specs.declared.basic.Basic.TheVariants as basics
 use Rattle.gv_value.specs.Shape.{Shape, basic, maybe, tuple, no_shapes, shape}
@@ -69,6 +69,24 @@ deploy_in _ = None
 -- what the bytes of a `deploy` say, where they read
 unfoldable pub deploy_of : List ℕ → Option DeployData
 deploy_of bytes = option_and_then deploy_in (value_of deploy_shape bytes)
+
+-- ---- the value that says it
+
+abbrev pub text_tree : List ℕ → Tree
+text_tree text = Tree.leaf basics.Str (Content.text text)
+
+abbrev pub time_tree : ℕ → Tree
+time_tree n = Tree.leaf basics.Uint64 (Content.number n)
+
+abbrev pub back_tree : Previous → Tree
+back_tree p = Tree.tuple (tree (text_tree (hex p.commit)) (tree (time_tree p.timestamp) no_trees))
+
+abbrev pub previous_tree : Option Previous → Tree
+previous_tree None = Tree.nothing
+previous_tree (Some p) = Tree.just (back_tree p)
+
+abbrev pub deploy_tree : DeployData → Tree
+deploy_tree d = Tree.tuple (tree (text_tree d.origin) (tree (text_tree (hex d.commit)) (tree (time_tree d.timestamp) (tree (previous_tree d.previous) no_trees))))
 
 -- ---- what reading answers; nothing is said of want of memory
 

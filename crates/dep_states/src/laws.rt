@@ -162,6 +162,15 @@ pub fn what_is_settled_is_opened()
         → Opens s v }
 {}
 
+/// What is asked of a view can be met: where all is settled, the root alone opens as the empty state of layout 2, and a view that
+/// shows the image with the deployed ref opens as that state.
+pub fn views_can_be_opened()
+    ensures bare { (v : View) → IsTree v → IsSettled v
+        → ((x : List ℕ) (up : Elements) → v.names (x ∷ up) ≡ absent) → Opens empty_state v }
+    ensures deployed { (v : View) → IsTree v → IsSettled v
+        → ((p : Elements) → shows v p ≡ deployed_disk p) → Opens deployed_state v }
+{}
+
 /// Where all is settled and `config` stands, no stop leaves the installation without it.
 pub fn settled_config_stays()
     ensures { (v : View) → IsTree v → IsSettled v → (shows v config ≡ gone → ⊥) → HasConfig v }

@@ -3,6 +3,7 @@
 
 mod deploy;
 mod deploy_reading;
+mod deploy_writing;
 pub mod laws;
 mod opened;
 mod setup;

@@ -1,4 +1,4 @@
-use Rattle.std.proofs.Common.{Err, refl, ap, ◌∙◌, subst}
+use Rattle.std.proofs.Common.{Err, ap, ◌∙◌, subst}
 use Rattle.gv_value.specs.Reading.{value_of}
 use Rattle.gv_value.specs.Views.{shape_of, plain}
 use Rattle.gv_decode.specs.Decoded.{Gives}
