@@ -27,7 +27,7 @@ use Rattle.ost_model.specs.Order.{In}
 use Rattle.ost_model.proofs.Stores.{one_name}
 use Rattle.ost_store.specs.Stage.{Stages, WasStaged, IsHeld, IsStaged}
 use Rattle.ost_store.proofs.Staying.{staged_stays, held_stays}
-use Rattle.ost_pull.specs.Found.{RemoteHas}
+use Rattle.ost_head.specs.Found.{RemoteHas}
 use Rattle.ost_pull.specs.Work.{WorksAt, WorksName, Works, IsKept, IsOnce, AreKept, KeepsOne}
 
 -- ---- work in the folder

@@ -1,11 +1,2 @@
-mod Judged
-mod Fetched
-mod Stored
-mod Loaded
-mod Quiet
-mod Looking
-mod Headed
-mod Parted
 mod Kept
 mod Pulled
-mod Entered

@@ -13,7 +13,7 @@ use Rattle.ost_model.specs.declared.object.Object.{Object}
 use Rattle.ost_model.specs.Objects.{object_path, name_fault}
 use Rattle.ost_model.specs.Order.{In}
 use Rattle.ost_store.specs.Stage.{IsHeld}
-use Rattle.ost_pull.specs.Found.{RemoteHas}
+use Rattle.ost_head.specs.Found.{RemoteHas}
 
 -- anything at the folder's path and below, and folders above it
 abbrev pub WorksAt : Elements → Elements → Spot → Type 0

@@ -4,7 +4,7 @@ ghost use Rattle.fp_host.specs.Frame.{AtEnd};
 ghost use Rattle.fp_host.specs.Moments.{Always};
 ghost use Rattle.fp_host.specs.Remote.{Holdings};
 ghost use Rattle.ost_model.specs.Objects.{name_fault, object_path};
-ghost use Rattle.ost_pull.specs.Found.{RemoteHas};
+ghost use Rattle.ost_head.specs.Found.{RemoteHas};
 ghost use Rattle.ost_pull.specs.Work.{Works, KeepsOne};
 
 use fp_base::ObjKind;

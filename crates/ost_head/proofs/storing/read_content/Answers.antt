@@ -1,0 +1,16 @@
+use Rattle.std.proofs.Common.{IsErrOf}
+use Rattle.fp_host.proofs.Looking.{looks_within}
+use Rattle.ost_walk.specs.declared.ends.WalkEnd.TheVariants as walks
+use Rattle.ost_head.proofs.Stored.{stored_file, stored_link, counted_after}
+use Rattle.ost_head.proofs.storing.read_content.Goals as goal
+
+pub returns-in-File-clause-unchanged : goal.returns-in-File-clause-unchanged
+returns-in-File-clause-unchanged g c = looks_within c.read_file.ensures.unchanged c.get.ensures.unchanged (g.met.H.Host.is_tree c.get.new.host)
+
+pub returns-in-File-clause-fault_has_cause : goal.returns-in-File-clause-fault_has_cause
+returns-in-File-clause-fault_has_cause g c =
+    counted_after c.args.root.now c.args.digest.now (IsErrOf c.read_file.result walks.HostFault) _ _ _ c.get.ensures.fault_has_cause.later c.get.ensures.unchanged
+    (λ m at. stored_file c.args.root.now c.args.digest.now _ c.in_ok-mode.field-0 m at c.in_ok-mode.ensures.tells c.in-File.mode c.in-File.size c.in-File.is) c.read_file.ensures.fault_has_cause
+
+pub returns-in-Link-clause-tells : goal.returns-in-Link-clause-tells
+returns-in-Link-clause-tells g c m at = stored_link c.args.root.now c.args.digest.now _ c.in_ok-mode.field-0 m at c.in_ok-mode.ensures.tells c.in-Link.text c.read_link.result c.in-Link.is c.read_link.ensures.tells

@@ -1,0 +1,54 @@
+//! Entries of a dirtree.
+ghost use Rattle.std.specs.Prelude.{◌≡◌, Some, map, is_some};
+ghost use Rattle.ost_model.specs.Look.{find_dir, find_file, entry_in};
+ghost use Rattle.ost_object.specs.Views.{dir_row, file_row, tree_view};
+ghost use Rattle.ost_head.specs.Heads.{file_digest, file_in, is_nothing};
+
+use fp_name::Digest;
+use ost_object::{DirEntry, DirTree, FileEntry};
+
+/// Whether a directory has this name among these.
+fn has_dir(dirs: &[DirEntry], name: &str) -> bool
+    ensures { result ≡ is_some (find_dir name.now (map dir_row dirs.now)) }
+{
+    for dir in dirs {
+        if dir.name.as_str() == name {
+            return true;
+        }
+    }
+    false
+}
+
+/// The digest of the file of this name among these.
+fn find_file(files: &[FileEntry], name: &str) -> Option<Digest>
+    ensures { result ≡ file_digest (find_file name.now (map file_row files.now)) }
+{
+    for file in files {
+        if file.name.as_str() == name {
+            return Some(file.digest);
+        }
+    }
+    None
+}
+
+/// The digest of the file of this name in a directory.
+#[tactic(auto, using(crate::proofs::Entered::dir_there, crate::proofs::Entered::no_dir))]
+pub(crate) fn file_in(tree: &DirTree, name: &str) -> Option<Digest>
+    ensures { result ≡ file_in (entry_in name.now (Some (tree_view tree.now))) }
+{
+    if has_dir(tree.dirs.as_slice(), name) {
+        return None;
+    }
+    find_file(tree.files.as_slice(), name)
+}
+
+/// Whether nothing in a directory has this name.
+#[tactic(auto, using(crate::proofs::Entered::none_with_dir, crate::proofs::Entered::none_without_dir))]
+pub(crate) fn has_none(tree: &DirTree, name: &str) -> bool
+    ensures { result ≡ is_nothing (entry_in name.now (Some (tree_view tree.now))) }
+{
+    if has_dir(tree.dirs.as_slice(), name) {
+        return false;
+    }
+    find_file(tree.files.as_slice(), name).is_none()
+}

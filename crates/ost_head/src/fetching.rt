@@ -1,0 +1,219 @@
+//! Objects of the remote.
+ghost use Rattle.std.specs.Prelude.{◌≡◌, ◌≤◌, ℕ, length, true, false, IfOk, IsErrOf, Some, None};
+ghost use Rattle.fp_base.specs.declared.object.ObjKind.TheVariants as kinds;
+ghost use Rattle.fp_host.specs.Remote.{Holdings, IsNode, bytes_of, contents, target};
+ghost use Rattle.fp_host.specs.declared.remotes.Node.TheVariants as nodes;
+ghost use Rattle.ost_model.specs.Objects.{may_be_link, object_fault, object_path};
+ghost use Rattle.ost_model.specs.Remotes.{remote_at};
+ghost use Rattle.ost_walk.specs.Ends.{IsRemotes, NoFault};
+ghost use Rattle.ost_head.specs.Objects.{IsFit, Reads, Judges, as_is};
+ghost use Rattle.ost_head.specs.Fetches.{ReadsAt};
+ghost use Rattle.ost_walk.specs.declared.ends.WalkFault.{WalkFault};
+
+use crate::judging::{check, refused};
+use crate::small::file_size;
+use fp_base::{Blob, ObjKind, Text};
+use fp_host::{Node, Path, Remotes, is_link_text};
+use fp_name::Digest;
+use ost_content::is_permission;
+use ost_model::Object;
+use ost_store::path_of;
+use ost_walk::{ObjectFault, WalkEnd};
+use std::alloc::Global;
+
+/// The most bytes that a metadata object has.
+pub(crate) const MOST_META: u64 = 16 * 1024 * 1024;
+
+/// The most bytes that a file has.
+pub(crate) const MOST_FILE: u64 = 1024 * 1024 * 1024;
+
+/// The bytes of a file of this size.
+fn read_bytes<R: Remotes>(
+    alloc: Global,
+    remotes: &mut R,
+    url: &str,
+    path: &Path,
+    size: u64,
+) -> Result<Blob, WalkEnd>
+    ensures same { R.holds remotes.new ≡ R.holds remotes.old }
+    ensures short { IfOk result (λ bytes. length bytes ≤ size) }
+    ensures tells { (held : Holdings) → R.holds remotes.old ≡ Some held
+        → length (bytes_of (held url.now path.now)) ≡ size
+        → IfOk result (λ bytes. bytes ≡ bytes_of (held url.now path.now)) }
+    ensures refuses { (w : WalkFault) → IsErrOf result (WalkEnd.Refused w) → ⊥ }
+    ensures host { IsErrOf result WalkEnd.HostFault → ⊥ }
+    ensures fault_has_cause { IsRemotes (IsErrOf result WalkEnd.RemoteFault)
+        (R.faults remotes.old) (R.faults remotes.new) }
+{
+    let mut bytes = vec![in alloc; 0u8; size as usize]?;
+    let count = remotes.read_at(url, path, 0, &mut bytes)?;
+    bytes.truncate(count);
+    Ok(Blob::from_vec(bytes))
+}
+
+/// A file of the remote with these permission bits and of this size.
+fn read_file<R: Remotes>(
+    alloc: Global,
+    remotes: &mut R,
+    url: &str,
+    path: &Path,
+    digest: &Digest,
+    mode: u32,
+    size: u64,
+) -> Result<Object, WalkEnd>
+    ensures same { R.holds remotes.new ≡ R.holds remotes.old }
+    ensures fit { IfOk result (IsFit kinds.File) }
+    ensures tells { (held : Holdings) → R.holds remotes.old ≡ Some held
+        → IsNode (held url.now path.now) (nodes.File mode size)
+        → ReadsAt digest.now kinds.File (held url.now path.now) result }
+    ensures host { IsErrOf result WalkEnd.HostFault → ⊥ }
+    ensures fault_has_cause { IsRemotes (IsErrOf result WalkEnd.RemoteFault)
+        (R.faults remotes.old) (R.faults remotes.new) }
+{
+    if size > MOST_FILE {
+        return Err(refused(digest, ObjKind::File, ObjectFault::TooLong(size)));
+    }
+    if !is_permission(mode) {
+        return Err(refused(digest, ObjKind::File, ObjectFault::RefusedMode(mode)));
+    }
+    let bytes = read_bytes(alloc, remotes, url, path, size)?;
+    Ok(Object::File { mode, bytes })
+}
+
+/// A link of the remote with this text.
+fn read_link(digest: &Digest, text: Text) -> Result<Object, WalkEnd>
+    ensures fit { IfOk result (IsFit kinds.File) }
+    ensures tells { ReadsAt digest.now kinds.File (target text) result }
+    ensures faults { NoFault result }
+{
+    if is_link_text(text.as_str()) {
+        Ok(Object::Link(text))
+    } else {
+        Err(refused(digest, ObjKind::File, ObjectFault::Missing))
+    }
+}
+
+/// The file or link of the remote at the path.
+fn read_content<R: Remotes>(
+    alloc: Global,
+    remotes: &mut R,
+    url: &str,
+    path: &Path,
+    digest: &Digest,
+) -> Result<Object, WalkEnd>
+    ensures same { R.holds remotes.new ≡ R.holds remotes.old }
+    ensures fit { IfOk result (IsFit kinds.File) }
+    ensures tells { (held : Holdings) → R.holds remotes.old ≡ Some held
+        → ReadsAt digest.now kinds.File (held url.now path.now) result }
+    ensures host { IsErrOf result WalkEnd.HostFault → ⊥ }
+    ensures fault_has_cause { IsRemotes (IsErrOf result WalkEnd.RemoteFault)
+        (R.faults remotes.old) (R.faults remotes.new) }
+{
+    match remotes.node(alloc, url, path)? {
+        Node::File { mode, size } => read_file(alloc, remotes, url, path, digest, mode, size),
+        Node::Link(text) => read_link(digest, text),
+        Node::Absent => Err(refused(digest, ObjKind::File, ObjectFault::Missing)),
+        Node::Dir => Err(refused(digest, ObjKind::File, ObjectFault::Missing)),
+    }
+}
+
+/// A metadata object of the remote, a file of this size.
+fn read_sized<R: Remotes>(
+    alloc: Global,
+    remotes: &mut R,
+    url: &str,
+    path: &Path,
+    digest: &Digest,
+    kind: ObjKind,
+    size: u64,
+) -> Result<Object, WalkEnd>
+    requires { may_be_link kind ≡ false }
+    ensures same { R.holds remotes.new ≡ R.holds remotes.old }
+    ensures fit { IfOk result (IsFit kind) }
+    ensures tells { (held : Holdings) → R.holds remotes.old ≡ Some held → (mode : ℕ)
+        → IsNode (held url.now path.now) (nodes.File mode size)
+        → ReadsAt digest.now kind (held url.now path.now) result }
+    ensures host { IsErrOf result WalkEnd.HostFault → ⊥ }
+    ensures fault_has_cause { IsRemotes (IsErrOf result WalkEnd.RemoteFault)
+        (R.faults remotes.old) (R.faults remotes.new) }
+{
+    if size > MOST_META {
+        return Err(refused(digest, kind, ObjectFault::TooLong(size)));
+    }
+    Ok(Object::Meta(read_bytes(alloc, remotes, url, path, size)?))
+}
+
+/// The metadata object of the remote at the path.
+fn read_meta<R: Remotes>(
+    alloc: Global,
+    remotes: &mut R,
+    url: &str,
+    path: &Path,
+    digest: &Digest,
+    kind: ObjKind,
+) -> Result<Object, WalkEnd>
+    requires { may_be_link kind ≡ false }
+    ensures same { R.holds remotes.new ≡ R.holds remotes.old }
+    ensures fit { IfOk result (IsFit kind) }
+    ensures tells { (held : Holdings) → R.holds remotes.old ≡ Some held
+        → ReadsAt digest.now kind (held url.now path.now) result }
+    ensures host { IsErrOf result WalkEnd.HostFault → ⊥ }
+    ensures fault_has_cause { IsRemotes (IsErrOf result WalkEnd.RemoteFault)
+        (R.faults remotes.old) (R.faults remotes.new) }
+{
+    let node = remotes.node(alloc, url, path)?;
+    match file_size(&node) {
+        Some(size) => read_sized(alloc, remotes, url, path, digest, kind, size),
+        None => Err(refused(digest, kind, ObjectFault::Missing)),
+    }
+}
+
+/// The object of the remote, of its kind and within its limits. Whether its name is true isn't looked at.
+fn read_object<R: Remotes>(
+    alloc: Global,
+    remotes: &mut R,
+    url: &str,
+    digest: &Digest,
+    kind: ObjKind,
+) -> Result<Object, WalkEnd>
+    ensures same { R.holds remotes.new ≡ R.holds remotes.old }
+    ensures fit { IfOk result (IsFit kind) }
+    ensures tells { (held : Holdings) → R.holds remotes.old ≡ Some held
+        → Reads digest.now kind (remote_at held url.now digest.now kind) result }
+    ensures host { IsErrOf result WalkEnd.HostFault → ⊥ }
+    ensures fault_has_cause { IsRemotes (IsErrOf result WalkEnd.RemoteFault)
+        (R.faults remotes.old) (R.faults remotes.new) }
+{
+    let path = path_of(alloc, &Path::root(alloc), digest, kind)?;
+    match kind {
+        ObjKind::File => read_content(alloc, remotes, url, &path, digest),
+        ObjKind::Commit | ObjKind::DirTree | ObjKind::DirMeta => {
+            read_meta(alloc, remotes, url, &path, digest, kind)
+        }
+    }
+}
+
+/// The object of the remote at the url, checked: it is refused where it is missing, too long, of permission bits that aren't
+/// taken, where its digest isn't its name, and where it breaks a rule of its kind.
+pub(crate) fn fetch<R: Remotes>(
+    alloc: Global,
+    remotes: &mut R,
+    url: &str,
+    digest: &Digest,
+    kind: ObjKind,
+) -> Result<Object, WalkEnd>
+    ensures same { R.holds remotes.new ≡ R.holds remotes.old }
+    ensures fit { IfOk result (IsFit kind) }
+    ensures good { IfOk result (λ object. object_fault digest.now kind (Some object) ≡ None) }
+    ensures tells { (held : Holdings) → R.holds remotes.old ≡ Some held
+        → Judges as_is digest.now kind (remote_at held url.now digest.now kind) result }
+    ensures host { IsErrOf result WalkEnd.HostFault → ⊥ }
+    ensures fault_has_cause { IsRemotes (IsErrOf result WalkEnd.RemoteFault)
+        (R.faults remotes.old) (R.faults remotes.new) }
+{
+    let object = read_object(alloc, remotes, url, digest, kind)?;
+    match check(alloc, digest, kind, &object) {
+        Ok(()) => Ok(object),
+        Err(end) => Err(end),
+    }
+}

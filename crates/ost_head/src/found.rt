@@ -1,0 +1,56 @@
+//! Objects of the store, or else of the remote.
+ghost use Rattle.std.specs.Prelude.{◌≡◌, None, Some, IfOk};
+ghost use Rattle.ost_model.specs.Objects.{Have, object_fault};
+ghost use Rattle.ost_model.specs.Remotes.{Supplies};
+ghost use Rattle.ost_walk.specs.Ends.{Observes, outside};
+ghost use Rattle.ost_head.specs.Objects.{IsFit, Judges};
+ghost use Rattle.ost_head.specs.Found.{found_object, IsFound};
+
+use crate::fetching::fetch;
+use crate::storing::stored;
+use fp_base::ObjKind;
+use fp_host::{Host, Path, Remotes};
+use fp_name::Digest;
+use ost_model::Object;
+use ost_walk::WalkEnd;
+use std::alloc::Global;
+
+/// An object that was checked, and where it was found.
+#[derive(Drop)]
+pub enum Found {
+    /// The store has it.
+    Stored(Object),
+    /// The remote has it, and the store has none.
+    New(Object),
+}
+
+/// The store's object where it has one, else the remote's, checked.
+pub fn find<H: Host, R: Remotes>(
+    alloc: Global,
+    host: &mut H,
+    remotes: &mut R,
+    root: &Path,
+    url: &str,
+    digest: &Digest,
+    kind: ObjKind,
+) -> Result<Found, WalkEnd>
+    ensures looks { Observes result
+        (outside (H.moments host.old) (H.faults host.old) (R.holds remotes.old) (R.faults remotes.old))
+        (outside (H.moments host.new) (H.faults host.new) (R.holds remotes.new) (R.faults remotes.new)) }
+    ensures good { IfOk result (λ found. object_fault digest.now kind (Some (found_object found))
+        ≡ None) }
+    ensures from { IfOk result (IsFound root.now url.now (H.moments host.old) (R.holds remotes.old)
+        digest.now kind) }
+    ensures tells { (have : Have) → Supplies root.now (Some url.now) (H.moments host.old)
+        (R.holds remotes.old) have
+        → Judges found_object digest.now kind (have digest.now kind) result }
+{
+    match stored(alloc, host, root, digest, kind) {
+        Ok(Some(object)) => Ok(Found::Stored(object)),
+        Ok(None) => match fetch(alloc, remotes, url, digest, kind) {
+            Ok(object) => Ok(Found::New(object)),
+            Err(end) => Err(end),
+        },
+        Err(end) => Err(end),
+    }
+}

@@ -1,0 +1,213 @@
+//! Why a head is refused.
+ghost use Rattle.std.specs.Prelude.{◌≡◌, IfOk};
+ghost use Rattle.fp_name.specs.Refs.{ref_text};
+ghost use Rattle.ost_object.specs.Views.{commit_view, tree_view};
+ghost use Rattle.ost_walk.specs.Ends.{fault_of};
+ghost use Rattle.fp_keyfile.specs.KeyFile.{file_of};
+ghost use Rattle.fl_meta.specs.Metadata.{meta_of};
+ghost use Rattle.ost_head.specs.Heads.{age_refused, binding_refused, commit_refused, lines_refused, lists, meta_kind, meta_refused, metadata_refused, no_metadata, root_refused};
+ghost use Rattle.ost_head.specs.Refusals.{long_what, refusal_of};
+
+use crate::entries::has_none;
+use fl_meta::{Meta, MetaError, MetaKind};
+use fp_base::{Blob, Items, MetaRule, MetadataRule, ObjKind, Text, What};
+use fp_keyfile::{KeyError, KeyFile};
+use fp_name::{Digest, RefKind, RefName};
+use fp_small::Refusal;
+use ost_object::{Commit, DirTree, binding};
+use ost_walk::{ObjectFault, WalkFault};
+use std::alloc::{AllocError, Global};
+
+/// The most objects of a commit, and one.
+const TOO_MANY: u64 = 200_001;
+
+/// The most directories below the root, and one.
+const TOO_DEEP: u64 = 65;
+
+/// The most bytes of the file `metadata`.
+const MOST_METADATA: usize = 1024 * 1024;
+
+/// What is too long where an object of the kind is.
+fn long_what(kind: ObjKind) -> What
+    ensures { result ≡ long_what kind }
+{
+    match kind {
+        ObjKind::File => What::Object,
+        ObjKind::Commit | ObjKind::DirTree | ObjKind::DirMeta => What::MetadataObject,
+    }
+}
+
+/// The refusal of an object with a fault.
+pub(crate) fn refuse_object(refused: &WalkFault) -> Refusal
+    ensures { result ≡ refusal_of refused.now.digest refused.now.kind (fault_of refused.now.fault) }
+{
+    match &refused.fault {
+        ObjectFault::TooMany => Refusal::Limit {
+            what: What::Objects,
+            number: TOO_MANY,
+        },
+        ObjectFault::TooDeep => Refusal::Limit {
+            what: What::Depth,
+            number: TOO_DEEP,
+        },
+        ObjectFault::Missing => Refusal::MissingObject {
+            digest: refused.digest,
+            kind: refused.kind,
+        },
+        ObjectFault::TooLong(number) => Refusal::Limit {
+            what: long_what(refused.kind),
+            number: *number,
+        },
+        ObjectFault::RefusedMode(mode) => Refusal::ModeRefused {
+            digest: refused.digest,
+            kind: refused.kind,
+            mode: *mode,
+        },
+        ObjectFault::Corrupt(got) => Refusal::CorruptObject {
+            digest: refused.digest,
+            kind: refused.kind,
+            got: *got,
+        },
+        ObjectFault::Malformed(rule) => Refusal::MalformedObject {
+            digest: refused.digest,
+            kind: refused.kind,
+            rule: *rule,
+        },
+    }
+}
+
+/// Whether the ref is among the names.
+fn lists(names: &Items<Text>, name: &RefName) -> bool
+    ensures { result ≡ lists names.now (ref_text name.now) }
+{
+    names.as_slice().iter().any(|n| n.as_str() == name.as_str())
+}
+
+/// The refusal of a commit that is bound to other refs.
+fn refuse_binding(name: &RefName, names: Option<Items<Text>>) -> Result<Option<Refusal>, AllocError>
+    ensures { IfOk result (λ r. r ≡ binding_refused name.now names) }
+{
+    let Some(names) = names else {
+        return Ok(None);
+    };
+    if lists(&names, name) {
+        return Ok(None);
+    }
+    Ok(Some(Refusal::RefBinding { name: name.copy()? }))
+}
+
+/// The refusal of a commit that is older than what is deployed.
+fn refuse_age(
+    name: &RefName,
+    since: Option<u64>,
+    offered: u64,
+) -> Result<Option<Refusal>, AllocError>
+    ensures { IfOk result (λ r. r ≡ age_refused name.now since offered) }
+{
+    let Some(have) = since else {
+        return Ok(None);
+    };
+    if have <= offered {
+        return Ok(None);
+    }
+    Ok(Some(Refusal::Older {
+        name: name.copy()?,
+        have,
+        offered,
+    }))
+}
+
+/// The refusal of a commit by its binding and its time.
+pub(crate) fn refuse_commit(
+    alloc: Global,
+    name: &RefName,
+    since: Option<u64>,
+    commit: &Commit,
+) -> Result<Option<Refusal>, AllocError>
+    ensures { IfOk result (λ r. r ≡ commit_refused name.now since (commit_view commit.now)) }
+{
+    match refuse_binding(name, binding(alloc, commit)?)? {
+        Some(refusal) => Ok(Some(refusal)),
+        None => refuse_age(name, since, commit.timestamp),
+    }
+}
+
+/// The refusal of a root with an entry `deploy`.
+pub(crate) fn refuse_root(commit: &Digest, tree: &DirTree) -> Option<Refusal>
+    ensures { result ≡ root_refused commit.now (tree_view tree.now) }
+{
+    if has_none(tree, "deploy") {
+        None
+    } else {
+        Some(Refusal::ReservedName { commit: *commit })
+    }
+}
+
+/// The refusal where there is no file `metadata`.
+pub(crate) fn refuse_absent(name: &RefName) -> Result<Refusal, AllocError>
+    ensures { IfOk result (λ r. r ≡ no_metadata name.now) }
+{
+    Ok(Refusal::BadMetadata {
+        name: name.copy()?,
+        line: 0,
+        rule: MetadataRule::Meta(MetaRule::Absent),
+    })
+}
+
+/// The kind of metadata that a ref has.
+fn meta_kind(kind: RefKind) -> MetaKind
+    ensures { result ≡ meta_kind kind }
+{
+    match kind {
+        RefKind::App => MetaKind::App,
+        RefKind::Runtime => MetaKind::Runtime,
+    }
+}
+
+/// The refusal of a key file that is no metadata.
+fn refuse_meta(alloc: Global, name: &RefName, file: &KeyFile) -> Result<Option<Refusal>, AllocError>
+    ensures { IfOk result (λ r. r ≡ meta_refused name.now (meta_of (meta_kind name.now.kind)
+        file.now)) }
+{
+    match Meta::read(alloc, file, meta_kind(name.kind())) {
+        Ok(_) => Ok(None),
+        Err(MetaError::Rule(rule)) => Ok(Some(Refusal::BadMetadata {
+            name: name.copy()?,
+            line: 0,
+            rule: MetadataRule::Meta(rule),
+        })),
+        Err(MetaError::NoMemory) => Err(AllocError),
+    }
+}
+
+/// The refusal of lines that are no metadata.
+fn refuse_lines(alloc: Global, name: &RefName, bytes: &Blob) -> Result<Option<Refusal>, AllocError>
+    ensures { IfOk result (λ r. r ≡ lines_refused name.now (file_of bytes.now)) }
+{
+    match KeyFile::parse(alloc, bytes.as_slice()) {
+        Ok(file) => refuse_meta(alloc, name, &file),
+        Err(KeyError::Fault(fault)) => Ok(Some(Refusal::BadMetadata {
+            name: name.copy()?,
+            line: fault.line,
+            rule: MetadataRule::Key(fault.rule),
+        })),
+        Err(KeyError::NoMemory) => Err(AllocError),
+    }
+}
+
+/// The refusal of a file `metadata` of these bytes.
+pub(crate) fn refuse_metadata(
+    alloc: Global,
+    name: &RefName,
+    bytes: &Blob,
+) -> Result<Option<Refusal>, AllocError>
+    ensures { IfOk result (λ r. r ≡ metadata_refused name.now bytes.now) }
+{
+    if bytes.len() > MOST_METADATA {
+        return Ok(Some(Refusal::Limit {
+            what: What::MetadataFile,
+            number: bytes.len() as u64,
+        }));
+    }
+    refuse_lines(alloc, name, bytes)
+}

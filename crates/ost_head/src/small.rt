@@ -1,0 +1,95 @@
+//! Small files of a remote.
+ghost use Rattle.std.specs.Prelude.{◌≡◌, length, ℕ, IfOk, IsErrOf, Some};
+ghost use Rattle.fp_host.specs.Remote.{Holdings, IsNode, bytes_of};
+ghost use Rattle.fp_host.specs.declared.remotes.Node.TheVariants as nodes;
+ghost use Rattle.ost_walk.specs.Ends.{IsRemotes};
+ghost use Rattle.ost_head.specs.Offers.{size_in, small_file};
+
+use fp_base::Blob;
+use fp_host::{Node, Path, RemoteError, Remotes};
+use std::alloc::{AllocError, Global};
+
+/// The number of a file's bytes.
+pub(crate) fn file_size(node: &Node) -> Option<u64>
+    ensures { result ≡ size_in node.now }
+{
+    match node {
+        Node::File { size, .. } => Some(*size),
+        Node::Absent | Node::Dir | Node::Link(_) => None,
+    }
+}
+
+/// A buffer of so many zeros.
+fn buffer(alloc: Global, size: u64) -> Result<Vec<u8>, RemoteError>
+    ensures size { IfOk result (λ bytes. length bytes.items ≡ size) }
+    ensures remote { IsErrOf result RemoteError.Failed → ⊥ }
+{
+    match vec![in alloc; 0u8; size as usize] {
+        Ok(bytes) => Ok(bytes),
+        Err(_) => Err(RemoteError::NoMemory),
+    }
+}
+
+/// The bytes of a file of this size.
+pub(crate) fn read_whole<R: Remotes>(
+    alloc: Global,
+    remotes: &mut R,
+    url: &str,
+    path: &Path,
+    size: u64,
+) -> Result<Blob, RemoteError>
+    ensures same { R.holds remotes.new ≡ R.holds remotes.old }
+    ensures tells { (held : Holdings) → R.holds remotes.old ≡ Some held
+        → length (bytes_of (held url.now path.now)) ≡ size
+        → IfOk result (λ bytes. bytes ≡ bytes_of (held url.now path.now)) }
+    ensures fault_has_cause { IsRemotes (IsErrOf result RemoteError.Failed)
+        (R.faults remotes.old) (R.faults remotes.new) }
+{
+    let mut bytes = buffer(alloc, size)?;
+    let count = remotes.read_at(url, path, 0, &mut bytes)?;
+    bytes.truncate(count);
+    Ok(Blob::from_vec(bytes))
+}
+
+/// The bytes of a file of this size, where these are at most so many.
+fn load_sized<R: Remotes>(
+    alloc: Global,
+    remotes: &mut R,
+    url: &str,
+    path: &Path,
+    size: u64,
+    most: u64,
+) -> Result<Option<Blob>, RemoteError>
+    ensures same { R.holds remotes.new ≡ R.holds remotes.old }
+    ensures tells { (held : Holdings) → R.holds remotes.old ≡ Some held → (mode : ℕ)
+        → IsNode (held url.now path.now) (nodes.File mode size)
+        → IfOk result (λ file. file ≡ small_file most (held url.now path.now)) }
+    ensures fault_has_cause { IsRemotes (IsErrOf result RemoteError.Failed)
+        (R.faults remotes.old) (R.faults remotes.new) }
+{
+    if size > most {
+        return Ok(None);
+    }
+    Ok(Some(read_whole(alloc, remotes, url, path, size)?))
+}
+
+/// The bytes of a file of the remote at the url, where there is a file of at most so many bytes.
+pub(crate) fn load_remote<R: Remotes>(
+    alloc: Global,
+    remotes: &mut R,
+    url: &str,
+    path: &Path,
+    most: u64,
+) -> Result<Option<Blob>, RemoteError>
+    ensures same { R.holds remotes.new ≡ R.holds remotes.old }
+    ensures tells { (held : Holdings) → R.holds remotes.old ≡ Some held
+        → IfOk result (λ file. file ≡ small_file most (held url.now path.now)) }
+    ensures fault_has_cause { IsRemotes (IsErrOf result RemoteError.Failed)
+        (R.faults remotes.old) (R.faults remotes.new) }
+{
+    let node = remotes.node(alloc, url, path)?;
+    match file_size(&node) {
+        Some(size) => load_sized(alloc, remotes, url, path, size, most),
+        None => Ok(None),
+    }
+}

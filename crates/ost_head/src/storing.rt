@@ -1,0 +1,209 @@
+//! Objects of the store.
+ghost use Rattle.std.specs.Prelude.{◌≡◌, ◌≤◌, ℕ, List, length, true, false, IfOk, IsErrOf, Some};
+ghost use Rattle.fp_base.specs.declared.object.ObjKind.TheVariants as kinds;
+ghost use Rattle.fp_host.specs.Paths.{is_link_text};
+ghost use Rattle.fp_host.specs.Causes.{IsCaused, IsCounted};
+ghost use Rattle.fp_host.specs.Frame.{Unchanged};
+ghost use Rattle.fp_host.specs.Moments.{Moments};
+ghost use Rattle.fp_host.specs.Outcome.{shows};
+ghost use Rattle.ost_model.specs.declared.object.Object.TheVariants as objects;
+ghost use Rattle.ost_model.specs.Objects.{may_be_link, object_path, store};
+ghost use Rattle.ost_store.specs.Reads.{HasFile, object_of};
+ghost use Rattle.ost_walk.specs.Ends.{NoFault};
+ghost use Rattle.ost_head.specs.Objects.{IsFitIfThere, IsGoodIfThere, JudgesIfThere, ReadsIfThere};
+ghost use Rattle.ost_head.specs.Stored.{IsFileOf};
+ghost use Rattle.ost_walk.specs.declared.ends.WalkFault.{WalkFault};
+
+use crate::fetching::{MOST_FILE, MOST_META};
+use crate::judging::{check, refused};
+use fp_base::{Blob, ObjKind, Text};
+use fp_host::{Host, Path, is_link_text};
+use fp_name::Digest;
+use ost_content::is_permission;
+use ost_model::Object;
+use ost_store::{Got, get, read_piece};
+use ost_walk::{ObjectFault, WalkEnd};
+use std::alloc::Global;
+
+/// The content of a file of the store of this size.
+fn read_bytes<H: Host>(
+    alloc: Global,
+    host: &mut H,
+    root: &Path,
+    digest: &Digest,
+    size: u64,
+) -> Result<Blob, WalkEnd>
+    ensures unchanged { Unchanged (H.moments host.old) (H.moments host.new) }
+    ensures short { IfOk result (λ bytes. length bytes ≤ size) }
+    ensures tells { (m : Moments) → H.moments host.old ≡ Some m
+        → (mode : ℕ) (content : List ℕ) → store root.now (shows m.now) digest.now kinds.File ≡ Some (objects.File mode content)
+        → length content ≡ size → IfOk result (λ bytes. bytes ≡ content) }
+    ensures refuses { (w : WalkFault) → IsErrOf result (WalkEnd.Refused w) → ⊥ }
+    ensures fault_has_cause { IsCaused (IsErrOf result WalkEnd.HostFault) (H.moments host.old)
+        (HasFile root.now digest.now) (H.faults host.old) (H.faults host.new) }
+    ensures remote { IsErrOf result WalkEnd.RemoteFault → ⊥ }
+{
+    let mut bytes = vec![in alloc; 0u8; size as usize]?;
+    match read_piece(alloc, host, root, digest, 0, &mut bytes) {
+        Ok(count) => {
+            bytes.truncate(count);
+            Ok(Blob::from_vec(bytes))
+        }
+        Err(end) => Err(WalkEnd::from(end)),
+    }
+}
+
+/// A file of the store with these permission bits and of this size.
+fn read_file<H: Host>(
+    alloc: Global,
+    host: &mut H,
+    root: &Path,
+    digest: &Digest,
+    mode: u32,
+    size: u64,
+) -> Result<Option<Object>, WalkEnd>
+    ensures unchanged { Unchanged (H.moments host.old) (H.moments host.new) }
+    ensures fit { IfOk result (IsFitIfThere kinds.File) }
+    ensures tells { (m : Moments) → H.moments host.old ≡ Some m
+        → IsFileOf mode size (store root.now (shows m.now) digest.now kinds.File)
+        → ReadsIfThere digest.now kinds.File (store root.now (shows m.now) digest.now kinds.File) result }
+    ensures fault_has_cause { IsCaused (IsErrOf result WalkEnd.HostFault) (H.moments host.old)
+        (HasFile root.now digest.now) (H.faults host.old) (H.faults host.new) }
+    ensures remote { IsErrOf result WalkEnd.RemoteFault → ⊥ }
+{
+    if size > MOST_FILE {
+        return Err(refused(digest, ObjKind::File, ObjectFault::TooLong(size)));
+    }
+    if !is_permission(mode) {
+        return Err(refused(digest, ObjKind::File, ObjectFault::RefusedMode(mode)));
+    }
+    match read_bytes(alloc, host, root, digest, size) {
+        Ok(bytes) => Ok(Some(Object::File { mode, bytes })),
+        Err(end) => Err(end),
+    }
+}
+
+/// A link of the store with this text.
+fn read_link(digest: &Digest, text: Text) -> Result<Option<Object>, WalkEnd>
+    ensures fit { IfOk result (IsFitIfThere kinds.File) }
+    ensures tells { is_link_text text ≡ true
+        → ReadsIfThere digest.now kinds.File (Some (objects.Link text)) result }
+    ensures faults { NoFault result }
+{
+    if is_link_text(text.as_str()) {
+        Ok(Some(Object::Link(text)))
+    } else {
+        Err(refused(digest, ObjKind::File, ObjectFault::Missing))
+    }
+}
+
+/// A metadata object of the store of these bytes.
+fn read_whole(digest: &Digest, kind: ObjKind, bytes: Blob) -> Result<Option<Object>, WalkEnd>
+    requires { may_be_link kind ≡ false }
+    ensures fit { IfOk result (IsFitIfThere kind) }
+    ensures tells { ReadsIfThere digest.now kind (Some (objects.Meta bytes)) result }
+    ensures faults { NoFault result }
+{
+    let size = bytes.len() as u64;
+    if size > MOST_META {
+        return Err(refused(digest, kind, ObjectFault::TooLong(size)));
+    }
+    Ok(Some(Object::Meta(bytes)))
+}
+
+/// The file or link that the store has of the object, within its limits.
+fn read_content<H: Host>(
+    alloc: Global,
+    host: &mut H,
+    root: &Path,
+    digest: &Digest,
+) -> Result<Option<Object>, WalkEnd>
+    ensures unchanged { Unchanged (H.moments host.old) (H.moments host.new) }
+    ensures fit { IfOk result (IsFitIfThere kinds.File) }
+    ensures tells { (m : Moments) → H.moments host.old ≡ Some m
+        → ReadsIfThere digest.now kinds.File (store root.now (shows m.now) digest.now kinds.File) result }
+    ensures fault_has_cause { IsCounted (IsErrOf result WalkEnd.HostFault) (H.moments host.old)
+        (H.faults host.old) (H.faults host.new) }
+    ensures remote { IsErrOf result WalkEnd.RemoteFault → ⊥ }
+{
+    match get(alloc, host, root, digest, ObjKind::File, MOST_FILE)? {
+        Got::File { mode, size } => read_file(alloc, host, root, digest, mode, size),
+        Got::Link(text) => read_link(digest, text),
+        Got::TooLong(size) => Err(refused(digest, ObjKind::File, ObjectFault::TooLong(size))),
+        _ => Ok(None),
+    }
+}
+
+/// The metadata object that the store has, within its limit.
+fn read_meta<H: Host>(
+    alloc: Global,
+    host: &mut H,
+    root: &Path,
+    digest: &Digest,
+    kind: ObjKind,
+) -> Result<Option<Object>, WalkEnd>
+    requires { may_be_link kind ≡ false }
+    ensures unchanged { Unchanged (H.moments host.old) (H.moments host.new) }
+    ensures fit { IfOk result (IsFitIfThere kind) }
+    ensures tells { (m : Moments) → H.moments host.old ≡ Some m
+        → ReadsIfThere digest.now kind (store root.now (shows m.now) digest.now kind) result }
+    ensures fault_has_cause { IsCounted (IsErrOf result WalkEnd.HostFault) (H.moments host.old)
+        (H.faults host.old) (H.faults host.new) }
+    ensures remote { IsErrOf result WalkEnd.RemoteFault → ⊥ }
+{
+    match get(alloc, host, root, digest, kind, MOST_META)? {
+        Got::Meta(bytes) => read_whole(digest, kind, bytes),
+        Got::TooLong(size) => Err(refused(digest, kind, ObjectFault::TooLong(size))),
+        _ => Ok(None),
+    }
+}
+
+/// The object that the store has, of its kind and within its limits. Whether its name is true isn't looked at.
+fn read_object<H: Host>(
+    alloc: Global,
+    host: &mut H,
+    root: &Path,
+    digest: &Digest,
+    kind: ObjKind,
+) -> Result<Option<Object>, WalkEnd>
+    ensures unchanged { Unchanged (H.moments host.old) (H.moments host.new) }
+    ensures fit { IfOk result (IsFitIfThere kind) }
+    ensures tells { (m : Moments) → H.moments host.old ≡ Some m
+        → ReadsIfThere digest.now kind (store root.now (shows m.now) digest.now kind) result }
+    ensures fault_has_cause { IsCounted (IsErrOf result WalkEnd.HostFault) (H.moments host.old)
+        (H.faults host.old) (H.faults host.new) }
+    ensures remote { IsErrOf result WalkEnd.RemoteFault → ⊥ }
+{
+    match kind {
+        ObjKind::File => read_content(alloc, host, root, digest),
+        ObjKind::Commit | ObjKind::DirTree | ObjKind::DirMeta => {
+            read_meta(alloc, host, root, digest, kind)
+        }
+    }
+}
+
+/// The object that the store in this folder has, checked as that of a remote is; None where it has none.
+pub(crate) fn stored<H: Host>(
+    alloc: Global,
+    host: &mut H,
+    root: &Path,
+    digest: &Digest,
+    kind: ObjKind,
+) -> Result<Option<Object>, WalkEnd>
+    ensures unchanged { Unchanged (H.moments host.old) (H.moments host.new) }
+    ensures good { IfOk result (IsGoodIfThere digest.now kind) }
+    ensures tells { (m : Moments) → H.moments host.old ≡ Some m
+        → JudgesIfThere digest.now kind (store root.now (shows m.now) digest.now kind) result }
+    ensures fault_has_cause { IsCounted (IsErrOf result WalkEnd.HostFault) (H.moments host.old)
+        (H.faults host.old) (H.faults host.new) }
+    ensures remote { IsErrOf result WalkEnd.RemoteFault → ⊥ }
+{
+    match read_object(alloc, host, root, digest, kind) {
+        Ok(Some(object)) => match check(alloc, digest, kind, &object) {
+            Ok(()) => Ok(Some(object)),
+            Err(end) => Err(end),
+        },
+        Ok(None) => Ok(None),
+        Err(end) => Err(end),
+    }
+}
