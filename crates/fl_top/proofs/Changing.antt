@@ -1,5 +1,5 @@
 -- Which names the parts of a run change.
-use Rattle.std.proofs.Common.{◌≡◌, ◌⊎◌, inl, inr, [], ◌∷◌, Contains, refl, sym, ◌∙◌, subst, arith}
+use Rattle.std.proofs.Common.{◌≡◌, ◌⊎◌, inl, inr, ℕ, List, [], ◌∷◌, length, Contains, refl, sym, ◌∙◌, ap, subst, arith}
 use Rattle.std.proofs.lemmas.List.Elements.{Contains-push_cases}
 use Rattle.fp_host.specs.Paths.{Elements, Slot, absent, IsAbove}
 use Rattle.fp_host.specs.View.{View}
@@ -9,6 +9,8 @@ use Rattle.fp_small.specs.Replace.{ReplacesName, folders_of}
 use Rattle.fp_small.proofs.Keeping.{files_stay, files_on}
 use Rattle.fp_small.specs.declared.state.State.{State}
 use Rattle.fp_small.specs.declared.op.Op.{Op}
+use Rattle.fp_base.specs.declared.object.ObjKind.{ObjKind}
+use Rattle.ost_model.specs.Objects.{object_path}
 use Rattle.dep_states.specs.Names.{config}
 use Rattle.dep_states.specs.Sound.{IsOld, is_remotes, is_pins}
 use Rattle.dep_open.specs.Tidy.{Tidies, TakenAway, left_work, old_file}
@@ -128,3 +130,22 @@ text_tidied {v = v} tidied kept text = elim (tidied.names config) [
   | inl same ↦ text_on same kept text
   | inr taken ↦ absurd (untaken v taken.0)
 ]
+
+-- ---- objects
+
+object_apart : (d : List ℕ) (kind : ObjKind) (e : Slot) → MayHold (object_path repo d kind) e → ⊥
+object_apart d kind e (new_config is put) = omega (arith, ap length is)
+object_apart d kind e (work_folder is put) = elim is [ inl at ↦ omega (arith, ap length at) | inr at ↦ omega (arith, ap length at) ]
+object_apart d kind e (some_work above) = elim above [
+  | inl at ↦ omega (arith, ap length at)
+  | inr more ↦ elim more [
+    | inl at ↦ cc at
+    | inr more ↦ elim more [ inl at ↦ omega (arith, ap length at) | inr more ↦ elim more [ inl at ↦ omega (arith, ap length at) | inr none ↦ none ] ]
+  ]
+]
+object_apart d kind e (old_gone (is_remotes at) gone) = omega (arith, ap length at)
+object_apart d kind e (old_gone (is_pins at) gone) = omega (arith, ap length at)
+
+-- no object's name changes
+pub changes_objects : {u w : View} → Changes u w → (d : List ℕ) (kind : ObjKind) → w.names (object_path repo d kind) ≡ u.names (object_path repo d kind)
+changes_objects changes d kind = elim (changes.names (object_path repo d kind)) [ inl same ↦ same | inr may ↦ absurd (object_apart d kind _ may) ]

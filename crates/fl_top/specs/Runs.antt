@@ -1,6 +1,7 @@
 -- What a run leaves at every moment and at its return.
 use Rattle.std.specs.Prelude.{◌≡◌, ◌≢◌, ◌⊎◌, ℕ, true, false, List, [], ◌∷◌, ◌++◌, Option, Some, None, Result}
 use Rattle.fp_host.specs.Paths.{Elements}
+use Rattle.fp_host.specs.Remote.{Holdings}
 use Rattle.fp_host.specs.View.{View}
 use Rattle.fp_host.specs.Outcome.{Disk, Leaves, shows}
 use Rattle.fp_small.specs.declared.state.State.{State}
@@ -11,10 +12,11 @@ use Rattle.dep_open.specs.Open.{NotShown}
 use Rattle.dep_open.specs.Tidy.{IsTidy}
 use Rattle.fl_words.specs.declared.command.Command.{Command}
 use Rattle.fl_words.specs.Forms.{command_of}
-use Rattle.fl_top.specs.Answer.{Answer, Piece, lines_of, joined, ops_in, ops_of, answer, IsOver, IsAtOnce}
+use Rattle.fl_top.specs.World.{World}
+use Rattle.fl_top.specs.Answer.{Answer, Given, Piece, lines_of, joined, ops_in, ops_of, answer, IsOver, IsAtOnce}
 use Rattle.fl_top.specs.Input.{IsDrained}
 use Rattle.fl_top.specs.Changes.{Changes, OnlyTidied, IsUntouched, HasText}
-use Rattle.fl_top.specs.Status.{status_at, IsAnswered, only_looks, reads_input}
+use Rattle.fl_top.specs.Status.{status_at, IsAnswered, only_looks, reads_input, asks_remotes}
 
 -- The image shows what these operations make of the state that stood at the start; where there are none, a state that a stop
 -- at the start would have left.
@@ -81,38 +83,56 @@ abbrev pub Looks : Option Command → Type 0
 Looks None = Unit {0}
 Looks (Some command) = only_looks command ≡ true
 
--- the command is given this input: all that is left; a command that doesn't read it may be given any
-abbrev pub IsGiven : Option (List ℕ) → Option Command → List ℕ → Type 0
-IsGiven left None input = Unit {0}
-IsGiven left (Some command) input = (reads_input command ≡ false) ⊎ (left ≡ Some input)
+-- what source and remotes tell: what is left of the input, and what the remotes hold
+pub record Told : Type 0 where
+  pub left : Option (List ℕ)
+  pub holds : Option Holdings
 
--- At every moment the run is that of each answer that counts. Also where the source doesn't tell what it has left, no name changed but `config`, those of work, and the
--- files of layout 1, which went; each file that was there keeps its mode and its bytes; and words that are no command, a
--- command that only looks, and one that sees no state change nothing.
-pub record RunsBy (words : List (List ℕ)) (left : Option (List ℕ)) (u w : View) : Type 0 where
+abbrev pub told : Option (List ℕ) → Option Holdings → Told
+told left holds = record { left = left; holds = holds }
+
+-- The command is given this: as its input all that is left, where it reads the input; and what the remotes hold, where it asks
+-- them. Else it may be given any.
+pub record IsGivenTo (command : Command) (t : Told) (given : Given) : Type 0 where
+  pub input : (reads_input command ≡ false) ⊎ (t.left ≡ Some given.input)
+  pub held : (asks_remotes command ≡ false) ⊎ (t.holds ≡ Some given.held)
+
+abbrev pub IsGiven : Told → Option Command → Given → Type 0
+IsGiven t None given = Unit {0}
+IsGiven t (Some command) given = IsGivenTo command t given
+
+-- a fault has a cause over what is sound, and over what shows no state
+abbrev pub IsReady : View → Type 0
+IsReady v = IsSound v ⊎ NotShown (shows v)
+
+-- A fault of a command that changes something has a cause over an installation that is sound, or shows no state. A command that
+-- only looks needs neither.
+abbrev pub Serves : Option Command → View → Type 0
+Serves command v = Looks command ⊎ IsReady v
+
+-- Over such an installation a command gives its answer; and over each one, where words or input are refused.
+abbrev pub MayAnswer : Option Command → View → Answer → Type 0
+MayAnswer command v a = Serves command v ⊎ IsAtOnce a.refusal
+
+-- At every moment the run is that of each answer that counts. Also where source and remotes tell nothing, no name changed but
+-- `config`, those of work, and the files of layout 1, which went; each file that was there keeps its mode and its bytes; and
+-- words that are no command, a command that only looks, and one that sees no state change nothing.
+pub record RunsBy (words : List (List ℕ)) (t : Told) (u w : View) : Type 0 where
   pub changes : Changes u w
-  pub runs : (input : List ℕ) → IsGiven left (command_of words) input → (shown : Result State Elements)
-      → IsOver (answer words input) (shows u) shown → Runs (answer words input shown) u w
+  pub runs : (given : Given) → IsGiven t (command_of words) given → (shown : Result World Elements)
+      → IsOver (answer words given) (shows u) shown → MayAnswer (command_of words) u (answer words given shown) → Runs (answer words given shown) u w
   pub untouched : Looks (command_of words) ⊎ NotShown (shows u) → IsUntouched u w
 
 -- At the return the run was that of each answer that counts. Where the whole answer was given, there is one that counts (so
 -- that this isn't said of nothing).
-pub record RanBy (words : List (List ℕ)) (left : Option (List ℕ)) (status : ℕ) (u w : View) : Type 0 where
-  pub ran : (input : List ℕ) → IsGiven left (command_of words) input → (shown : Result State Elements)
-      → IsOver (answer words input) (shows u) shown → Ran (answer words input shown) status u w
-  pub given : (input : List ℕ) → IsGiven left (command_of words) input → IsAnswered status
-      → (shown : Result State Elements) × IsOver (answer words input) (shows u) shown
+pub record RanBy (words : List (List ℕ)) (t : Told) (status : ℕ) (u w : View) : Type 0 where
+  pub ran : (given : Given) → IsGiven t (command_of words) given → (shown : Result World Elements)
+      → IsOver (answer words given) (shows u) shown → MayAnswer (command_of words) u (answer words given shown) → Ran (answer words given shown) status u w
+  pub given : (given : Given) → IsGiven t (command_of words) given → IsAnswered status
+      → (shown : Result World Elements) × IsOver (answer words given) (shows u) shown
 
 -- A command that reads the input was given all of it, where the whole answer was given and the input wasn't too long; another
 -- takes nothing of it.
 abbrev pub WasTaken : Option Command → ℕ → Option (List ℕ) → Option (List ℕ) → Type 0
 WasTaken None status old new = new ≡ old
 WasTaken (Some command) status old new = (reads_input command ≡ true → IsAnswered status → IsDrained old new) × (reads_input command ≡ false → new ≡ old)
-
--- a fault has a cause over what is sound, and over what shows no state
-abbrev pub IsReady : View → Type 0
-IsReady v = IsSound v ⊎ NotShown (shows v)
-
--- where a fault has a cause: a command that changes something may end with 3 over an installation that isn't sound
-abbrev pub Serves : Option Command → View → Type 0
-Serves command v = Looks command ⊎ IsReady v
