@@ -4,21 +4,20 @@ use Rattle.std.specs.List.{AllByRecursion}
 use Rattle.fp_host.specs.Paths.{Elements, IsAbove}
 use Rattle.fp_base.specs.declared.object.ObjKind.{ObjKind}
 use Rattle.fp_name.specs.declared.kind.RefKind.{RefKind}
-use Rattle.fp_name.specs.declared.kind.RefKind.TheVariants.{App, Runtime}
 use Rattle.fp_name.specs.Kinds.{kind_word}
 use Rattle.fp_name.specs.Refs.{Ref}
-use Rattle.fp_small.specs.Places.{repo, tmp, new_name}
+use Rattle.fp_small.specs.Places.{repo, tmp}
 use Rattle.fp_small.specs.Clear.{IsWithin}
 use Rattle.fp_small.specs.Replace.{folders_of}
 use Rattle.ost_model.specs.Objects.{object_path}
 use Rattle.ost_store.proofs.Lists.{in_none, in_cases}
-use Rattle.dep_states.specs.Names.{config, remotes_conf, pins_file, overrides_folder, branch_dir, commit_dir, ref_file}
+use Rattle.dep_states.specs.Names.{config, commit_dir, ref_file}
 use Rattle.dep_states.specs.Zones.{outward}
 use Rattle.dep_states.specs.Sound.{IsOld, is_remotes, is_pins}
 use Rattle.dep_states.proofs.Deployed.{outward_append, top}
 use Rattle.dep_states.proofs.Rows.{text_apart, head_of}
 use Rattle.dep_states.proofs.Sparing.{word_apart}
-use Rattle.dep_states.proofs.Switching.{second, word_no_repo}
+use Rattle.dep_states.proofs.Switching.{second}
 
 -- ---- below a folder
 

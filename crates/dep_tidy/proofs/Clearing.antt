@@ -1,10 +1,10 @@
 -- What the steps of tidying spare.
-use Rattle.std.proofs.Common.{◌≡◌, ◌≤◌, inl, inr, ℕ, List, [], ◌∷◌, ◌++◌, Bool, true, false, refl, sym, ◌∙◌, ap, subst, codes, length, Contains, arith}
+use Rattle.std.proofs.Common.{◌≡◌, ◌≤◌, inl, inr, ℕ, List, [], ◌∷◌, Bool, true, false, sym, ◌∙◌, ap, subst, codes, length, Contains, arith}
 use Rattle.std.specs.Prelude.{if◌then◌else◌, ◌&&◌, ◌⊎◌}
 use Rattle.std.proofs.lemmas.Bool.{and_parts}
 use Rattle.fp_host.specs.Paths.{Elements}
 use Rattle.fp_host.specs.View.{View, IsTree}
-use Rattle.fp_host.specs.Outcome.{Spot, Disk, Leaves, Follows, gone, folder, holds, shows}
+use Rattle.fp_host.specs.Outcome.{Spot, Follows, gone, folder, holds, shows}
 use Rattle.fp_name.specs.declared.kind.RefKind.{RefKind}
 use Rattle.fp_name.specs.declared.kind.RefKind.TheVariants.{App, Runtime}
 use Rattle.fp_name.specs.Grammar.{is_id, is_arch, is_branch, is_remote_name}

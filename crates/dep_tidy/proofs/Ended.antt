@@ -1,42 +1,39 @@
 -- What is settled at the end.
-use Rattle.std.proofs.Common.{◌≡◌, ◌≢◌, ◌⊎◌, inl, inr, true, ℕ, List, [], ◌∷◌, ◌++◌, Option, Some, None, refl, sym, ◌∙◌, ap, subst, codes, Contains}
+use Rattle.std.proofs.Common.{◌≡◌, ◌≢◌, ◌⊎◌, inl, inr, true, ℕ, List, [], ◌∷◌, ◌++◌, Some, refl, sym, ◌∙◌, ap, subst, codes}
 use Rattle.std.specs.Prelude.{map}
-use Rattle.fp_host.specs.Paths.{Elements, Slot, absent, dir, IsAbove}
+use Rattle.fp_host.specs.Paths.{Elements, Slot, absent, IsAbove}
 use Rattle.fp_host.specs.View.{View, IsTree}
 use Rattle.fp_host.specs.Calls.{IsFile}
-use Rattle.fp_host.specs.Outcome.{Spot, Disk, gone, folder, holds, points, shows}
+use Rattle.fp_host.specs.Outcome.{Spot, gone, folder, holds, points, shows}
 use Rattle.fp_host.specs.Frame.{Keeps, NoPath}
 use Rattle.fp_host.specs.Reads.{is_ascending}
-use Rattle.fp_host.proofs.Separate.{absent_cases}
-use Rattle.fp_base.specs.declared.object.ObjKind.{ObjKind}
 use Rattle.fp_name.specs.Grammar.{is_remote_name}
 use Rattle.fp_name.specs.Hex.{hex, is_digest}
 use Rattle.fp_name.specs.Refs.{Ref, is_ref, ref_text}
 use Rattle.fp_small.specs.Places.{repo, tmp}
-use Rattle.fp_small.specs.Clear.{IsEmptied, GoneBelow, AbsentBelow}
+use Rattle.fp_small.specs.Clear.{IsEmptied}
 use Rattle.fp_small.proofs.Keeping.{files_kept}
 use Rattle.fp_small.specs.declared.state.State.{State}
 use Rattle.fp_small.specs.declared.state.RefRow.{RefRow}
-use Rattle.ost_model.specs.Objects.{object_path}
 use Rattle.ost_prune.specs.Prune.{Prunes}
-use Rattle.ost_refs.specs.Files.{ref_bytes, ref_file as file_says, ref_in}
+use Rattle.ost_refs.specs.Files.{ref_in}
 use Rattle.ost_refs.specs.declared.place.RefFile.TheVariants.{Digest}
 use Rattle.ost_refs.proofs.Files.{read}
 use Rattle.dep_states.specs.Names.{config, remotes_conf, pins_file, commit_dir, ref_file}
 use Rattle.dep_states.specs.Shown.{there, ref_seen, ref_key, Shows}
 use Rattle.dep_states.specs.After.{row_at}
-use Rattle.dep_states.specs.Sound.{Keeps as KeepsCommit, Opens, IsOld, is_remotes, is_pins}
-use Rattle.dep_states.specs.Settled.{Settled, Used, HasBytes, HasOrigin}
+use Rattle.dep_states.specs.Sound.{Keeps as KeepsCommit, Opens, is_remotes, is_pins}
+use Rattle.dep_states.specs.Settled.{Settled, HasBytes, HasOrigin}
 use Rattle.dep_states.specs.Zones.{outward}
 use Rattle.dep_states.proofs.Deployed.{top}
-use Rattle.dep_states.proofs.Sparing.{kept_of_state, state_of_kept}
+use Rattle.dep_states.proofs.Sparing.{state_of_kept}
 use Rattle.dep_states.proofs.Switching.{second, word_no_repo}
 use Rattle.dep_states.proofs.Total.{ref_is}
 use Rattle.dep_tidy.specs.Kept.{kept_of}
-use Rattle.dep_tidy.specs.Tidy.{IsFrom, SettledButWork}
-use Rattle.dep_tidy.specs.Steps.{Alters, UnkeptGone, UnkeptAbsent, HasNoUnkept, TakesOld, HasNoOld, IsOther, OtherGone, OtherAbsent, HasNoOther, RefAt, RefName, file_name, folder_name, work_name, HasRefFiles, WroteFiles, IsSteady, IsCleared, HasRefs}
+use Rattle.dep_tidy.specs.Tidy.{IsFrom}
+use Rattle.dep_tidy.specs.Steps.{Alters, UnkeptGone, UnkeptAbsent, HasNoUnkept, TakesOld, HasNoOld, OtherGone, OtherAbsent, HasNoOther, RefAt, RefName, file_name, folder_name, work_name, WroteFiles, IsSteady, IsCleared, HasRefs}
 use Rattle.dep_tidy.specs.Pruned.{IsPruned}
-use Rattle.dep_tidy.proofs.Views.{now_left, some_there, absent_gone, gone_absent, free_file_by, same_shows}
+use Rattle.dep_tidy.proofs.Views.{now_left, some_there, absent_gone, same_shows}
 use Rattle.dep_tidy.proofs.Apart.{old_no_repo, repo_no_config, refs_no_objects, tmp_no_refs}
 use Rattle.dep_tidy.proofs.Clearing.{can_drop}
 use Rattle.dep_tidy.proofs.Joined.{name_beside}

@@ -1,29 +1,28 @@
 -- Steps of tidying, one after another.
-use Rattle.std.proofs.Common.{◌≡◌, ◌≢◌, ◌⊎◌, inl, inr, true, take, ℕ, List, [], ◌∷◌, ◌++◌, Option, Some, Result, Ok, refl, sym, ◌∙◌, ap, subst, codes, Contains}
+use Rattle.std.proofs.Common.{◌≡◌, ◌≢◌, ◌⊎◌, inl, inr, true, take, ℕ, List, [], ◌∷◌, ◌++◌, Option, Result, Ok, refl, sym, ◌∙◌, ap, subst, codes}
 use Rattle.fp_host.specs.Paths.{Elements, Slot, absent, IsAbove}
 use Rattle.fp_host.specs.View.{View, IsTree}
 use Rattle.fp_host.specs.Calls.{syncs, Step}
-use Rattle.fp_host.specs.Outcome.{Spot, Disk, Leaves, Follows, Nothing, IsSettled, gone, shows, spot_of}
+use Rattle.fp_host.specs.Outcome.{Spot, Disk, Leaves, Nothing, IsSettled, gone, shows, spot_of}
 use Rattle.fp_host.specs.Frame.{Keeps, NoPath}
 use Rattle.fp_host.specs.Moments.{Moments, Goes, Makes}
 use Rattle.fp_host.specs.declared.host.HostError.{HostError}
-use Rattle.fp_host.proofs.Follow.{called, follows_sync}
+use Rattle.fp_host.proofs.Follow.{called}
 use Rattle.fp_host.proofs.Framed.{IsTold, keeps_call}
 use Rattle.fp_host.proofs.Goes.{begins, goes_on, knowing, makes_goes, ends_tree}
 use Rattle.fp_host.proofs.Settled.{settled_disk, at_tree}
 use Rattle.fp_base.specs.declared.object.ObjKind.{ObjKind}
-use Rattle.fp_name.specs.Refs.{Ref}
 use Rattle.fp_small.specs.Places.{repo, tmp}
-use Rattle.fp_small.specs.Clear.{IsWithin, GoneBelow, AbsentBelow}
+use Rattle.fp_small.specs.Clear.{GoneBelow, AbsentBelow}
 use Rattle.fp_small.specs.Files.{KeepsFiles}
 use Rattle.fp_small.proofs.Keeping.{files_stay, files_on, files_kept}
 use Rattle.fp_small.specs.declared.state.State.{State}
 use Rattle.fp_small.specs.declared.state.RefRow.{RefRow}
-use Rattle.ost_model.specs.Objects.{object_path, object_at, store}
+use Rattle.ost_model.specs.Objects.{object_path, object_at}
 use Rattle.ost_prune.specs.Prune.{Prunes}
 use Rattle.dep_states.specs.Names.{config, commit_dir, ref_file}
-use Rattle.dep_states.specs.Sound.{Opens, IsOld, Spares, HasConfig, OldGone}
-use Rattle.dep_states.specs.Settled.{Settled, Used}
+use Rattle.dep_states.specs.Sound.{Opens, IsOld, HasConfig}
+use Rattle.dep_states.specs.Settled.{Settled}
 use Rattle.dep_states.proofs.Law.{frame_law, spares_nothing}
 use Rattle.dep_states.proofs.Switching.{second}
 use Rattle.dep_states.proofs.Deployed.{top}
@@ -34,12 +33,12 @@ use Rattle.dep_tidy.specs.Tidy.{MayTidy, some_work, commit_gone, old_gone, ref_g
 use Rattle.dep_tidy.specs.Steps.{Alters, InUnkept, UnkeptGone, UnkeptAbsent, OldAbsent, TakesOld, IsOtherFile, OtherGone, OtherAbsent, RefAt, file_at, folder_at, work_at, RefName, file_name, folder_name, work_name, HasRefFiles, Writes, IsSteady, Steadily, IsReady}
 use Rattle.dep_tidy.proofs.Alter.{alters_kept}
 use Rattle.dep_tidy.proofs.Views.{now_left, shown_there, gone_absent, all_shows, SameTo, shows_along, all_same_to}
-use Rattle.dep_tidy.proofs.Apart.{above_is, work_top, work_second, dir_top, word_no_config, repo_no_config, tmp_no_objects, old_no_repo, old_no_config, IsBeside, file_beside, folder_beside, name_above}
+use Rattle.dep_tidy.proofs.Apart.{work_top, work_second, dir_top, word_no_config, repo_no_config, tmp_no_objects, old_no_repo, old_no_config, IsBeside, file_beside, folder_beside, name_above}
 use Rattle.dep_tidy.proofs.Clearing.{work_goes, opens_unkept, other_spares, refs_spare}
 use Rattle.dep_tidy.proofs.Pruned.{opens_pruned, used_stays, used_on, none_unused}
 use Rattle.dep_states.proofs.Switching.{word_no_repo}
 use Rattle.fp_name.specs.declared.kind.RefKind.{RefKind}
-use Rattle.ost_refs.specs.Files.{ref_in, ref_file as file_says, ref_bytes}
+use Rattle.ost_refs.specs.Files.{ref_in, ref_file as file_says}
 use Rattle.ost_refs.specs.declared.place.RefFile.TheVariants.{Digest}
 use Rattle.ost_refs.proofs.Files.{written}
 use Rattle.fp_host.specs.Outcome.{folder, holds, points}

@@ -4,9 +4,9 @@ use Rattle.std.specs.Prelude.{is_some}
 use Rattle.std.specs.Str.{bytes_eq}
 use Rattle.std.proofs.lemmas.Bool.{cases_Bool}
 use Rattle.std.proofs.lemmas.Slice.Eq.{bytes_eq-Decides}
-use Rattle.fp_host.specs.Paths.{Elements, Slot, absent}
+use Rattle.fp_host.specs.Paths.{Elements, absent}
 use Rattle.fp_host.specs.View.{View, IsTree}
-use Rattle.fp_host.specs.Outcome.{Spot, Disk, Leaves, Follows, gone, shows}
+use Rattle.fp_host.specs.Outcome.{Spot, Disk, Leaves, gone, shows}
 use Rattle.fp_host.specs.Frame.{AtEnd}
 use Rattle.fp_host.specs.Moments.{Moments, Goes}
 use Rattle.fp_host.proofs.Framed.{IsTold, keeps_same}
@@ -22,8 +22,8 @@ use Rattle.fp_small.proofs.Ordered.{bytes_eq-is}
 use Rattle.fp_small.specs.declared.state.State.{State}
 use Rattle.fp_small.specs.declared.state.RefRow.{RefRow}
 use Rattle.ost_model.specs.declared.object.Object.{Object}
-use Rattle.ost_model.specs.Objects.{Have, Fault, or_else, unless, object_path, kind_text, object_at, object_fault, name_fault, dir_mode_fault, kind_fault, content_fault, length_fault, mode_fault, digest_fault, digest_of, rule_fault, corrupt, Named, store}
-use Rattle.ost_model.specs.Order.{Place, In, order, first_fault}
+use Rattle.ost_model.specs.Objects.{Have, Fault, or_else, unless, object_path, kind_text, object_at, object_fault, name_fault, dir_mode_fault, kind_fault, content_fault, length_fault, mode_fault, digest_fault, digest_of, rule_fault, corrupt, store}
+use Rattle.ost_model.specs.Order.{Place, In, order}
 use Rattle.ost_model.specs.Stores.{IsStore}
 use Rattle.ost_model.specs.Used.{IsUsed}
 use Rattle.ost_model.proofs.Places.{or_none, faultless, order_same}
@@ -31,7 +31,7 @@ use Rattle.ost_model.proofs.Stores.{objects_are_named}
 use Rattle.ost_prune.specs.Prune.{IsUnused, IsUnusedName, PrunesAt, Prunes, WasPruned, CanPrune}
 use Rattle.ost_store.proofs.Lists.{in_none, in_cases, in_first, in_rest}
 use Rattle.dep_states.specs.Shown.{there, seen_of, ref_seen, row_seen, ref_key, Shows}
-use Rattle.dep_states.specs.Sound.{IsKeptBy, Keeps, Sound, Opens, Spares}
+use Rattle.dep_states.specs.Sound.{IsKeptBy, Keeps, Opens, Spares}
 use Rattle.dep_states.specs.Settled.{Used}
 use Rattle.dep_states.specs.Frames.{IsUnused as IsUnusedBy}
 use Rattle.dep_states.proofs.Law.{frame_law}
@@ -47,7 +47,7 @@ use Rattle.dep_tidy.specs.Kept.{kept_of}
 use Rattle.dep_tidy.specs.Pruned.{IsPruned}
 use Rattle.dep_tidy.specs.Steps.{IsSteady}
 use Rattle.dep_tidy.proofs.RowsKept.{at_in, in_at, from_kept, to_kept}
-use Rattle.dep_tidy.proofs.Views.{now_left, some_there, gone_absent, same_shows}
+use Rattle.dep_tidy.proofs.Views.{now_left, some_there, same_shows}
 use Rattle.dep_tidy.proofs.Clearing.{sound_now, can_empty}
 
 -- ---- the name of an object says its kind

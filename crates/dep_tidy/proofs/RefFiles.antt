@@ -1,35 +1,30 @@
 -- Ref files that are dropped and written.
-use Rattle.std.proofs.Common.{◌≡◌, ◌≢◌, ◌⊎◌, inl, inr, ℕ, ◌+◌, ◌<◌, ◌≤◌, List, [], ◌∷◌, ◌++◌, length, take, drop, get_or, true, Option, Some, None, refl, sym, ◌∙◌, ap, subst, Contains, codes, arith}
+use Rattle.std.proofs.Common.{◌≡◌, ◌⊎◌, inl, inr, ℕ, ◌+◌, ◌<◌, ◌≤◌, List, [], ◌∷◌, length, take, drop, get_or, true, refl, sym, ◌∙◌, ap, subst, Contains}
 use Rattle.std.specs.Prelude.{map}
 use Rattle.std.specs.List.{AllByRecursion}
 use Rattle.std.proofs.lemmas.List.{take-append-drop}
 use Rattle.std.proofs.lemmas.List.Elements.{Contains-append_left, Contains-get_or}
-use Rattle.fp_host.specs.Paths.{Elements, Slot, absent, dir, file, IsAbove}
+use Rattle.fp_host.specs.Paths.{Elements, Slot, absent, IsAbove}
 use Rattle.fp_host.specs.View.{View, IsTree}
 use Rattle.fp_host.specs.Calls.{IsFile}
 use Rattle.fp_host.specs.Reads.{is_ascending}
-use Rattle.fp_host.specs.Outcome.{Spot, gone, folder, holds, points, shows}
+use Rattle.fp_host.specs.Outcome.{Spot, shows}
 use Rattle.fp_name.specs.Grammar.{is_remote_name}
-use Rattle.fp_name.specs.Hex.{hex, is_digest}
-use Rattle.fp_name.specs.Kinds.{kind_word}
 use Rattle.fp_name.specs.Refs.{Ref, is_ref, ref_text, ref_with}
-use Rattle.fp_name.specs.declared.kind.RefKind.{RefKind}
-use Rattle.fp_name.specs.declared.kind.RefKind.TheVariants.{App, Runtime}
-use Rattle.fp_small.specs.Places.{repo, tmp, new_name}
+use Rattle.fp_small.specs.Places.{repo, tmp}
 use Rattle.fp_small.specs.Clear.{GoneAt, AbsentAt}
-use Rattle.fp_small.specs.Move.{IsNew}
-use Rattle.fp_small.specs.Replace.{folders_of, IsFreeFile, IsStaging, ReplacesAt, ReplacesName, Replaces, WasReplaced}
+use Rattle.fp_small.specs.Replace.{IsFreeFile, ReplacesAt, ReplacesName, Replaces, WasReplaced}
 use Rattle.fp_small.specs.declared.state.State.{State}
 use Rattle.fp_small.specs.declared.state.RefRow.{RefRow}
 use Rattle.ost_refs.specs.Places.{place_path}
-use Rattle.ost_refs.specs.Files.{ref_bytes, ref_file as file_says, ref_in, ReadsRef}
+use Rattle.ost_refs.specs.Files.{ref_bytes, ref_in, ReadsRef}
 use Rattle.ost_refs.specs.Lists.{ListsRefs}
 use Rattle.ost_refs.specs.declared.place.RefFile.{RefFile}
 use Rattle.ost_refs.specs.declared.place.RefFile.TheVariants.{Digest}
 use Rattle.ost_refs.specs.declared.place.RefPlace.{RefPlace}
 use Rattle.ost_refs.specs.declared.place.RefPlace.TheVariants.{Head, Remote}
 use Rattle.ost_refs.proofs.Files.{written}
-use Rattle.ost_store.proofs.Lists.{in_none, in_cases, in_one, in_first, in_rest}
+use Rattle.ost_store.proofs.Lists.{in_none, in_cases, in_one, in_first}
 use Rattle.std.proofs.lemmas.Bool.{and_from}
 use Rattle.dep_states.specs.Names.{ref_file}
 use Rattle.dep_states.specs.Shown.{at_name, ref_key}
@@ -41,11 +36,10 @@ use Rattle.dep_states.proofs.Law.{frame_law}
 use Rattle.dep_tidy.proofs.Clearing.{can_drop, can_write, refs_spare}
 use Rattle.dep_states.proofs.Single.{some_is}
 use Rattle.dep_states.proofs.Worked.{word_same}
-use Rattle.dep_tidy.specs.Tidy.{IsFrom}
 use Rattle.dep_tidy.specs.Steps.{Alters, IsWanted, HasGoodNames, IsOther, IsOtherFile, OtherGone, OtherAbsent, HasNoOther, HasNoneAt, RefAt, file_at, folder_at, work_at, RefName, file_name, folder_name, work_name, HasRefFiles, Writes, WroteFile, WroteSome}
 use Rattle.fp_host.proofs.Follow.{follows_to}
 use Rattle.dep_tidy.proofs.Alter.{alters_none, alters_same, alters_on, alters_to}
-use Rattle.dep_tidy.proofs.Apart.{folder_shorter, folder_no_work, file_no_work, name_second, tmp_no_refs}
+use Rattle.dep_tidy.proofs.Apart.{folder_shorter, folder_no_work, file_no_work, tmp_no_refs}
 use Rattle.dep_tidy.proofs.UnkeptFolders.{took_cases, all_taken}
 use Rattle.dep_tidy.proofs.RowsKept.{in_at}
 use Rattle.dep_tidy.proofs.Views.{now_left, same_shows}

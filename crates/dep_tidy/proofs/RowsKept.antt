@@ -1,5 +1,5 @@
 -- Rows of a state, and what they keep.
-use Rattle.std.proofs.Common.{◌≡◌, ◌≢◌, ◌⊎◌, inl, inr, ℕ, ◌+◌, ◌<◌, ◌≤◌, suc, List, [], ◌∷◌, ◌++◌, length, take, get_or, Bool, true, false, Option, Some, None, refl, sym, ◌∙◌, ap, subst, Contains, arith, append_assoc}
+use Rattle.std.proofs.Common.{◌≡◌, ◌⊎◌, inl, inr, ℕ, ◌+◌, ◌<◌, ◌≤◌, List, [], ◌∷◌, ◌++◌, length, take, get_or, Bool, true, false, Option, Some, None, refl, sym, ◌∙◌, ap, subst, Contains, append_assoc}
 use Rattle.std.specs.Prelude.{◌↔◌, map}
 use Rattle.std.specs.Str.{bytes_eq}
 use Rattle.std.proofs.lemmas.Bool.{cases_Bool, and_parts}
@@ -7,17 +7,14 @@ use Rattle.std.proofs.lemmas.List.{take_more, take_all}
 use Rattle.std.proofs.lemmas.List.Elements.{Contains-append_left, Contains-append_right, Contains-append_cases}
 use Rattle.std.proofs.lemmas.Slice.Eq.{bytes_eq-Decides}
 use Rattle.fp_host.specs.Reads.{comes_first, is_ascending}
-use Rattle.fp_name.specs.Hex.{is_digest}
-use Rattle.fp_name.specs.Refs.{Ref, is_ref, ref_text}
-use Rattle.fp_name.proofs.Refs.{ref_text-injective}
-use Rattle.fp_small.proofs.Ordered.{bytes_eq-itself, bytes_eq-is}
+use Rattle.fp_name.specs.Refs.{Ref}
+use Rattle.fp_small.proofs.Ordered.{bytes_eq-is}
 use Rattle.fp_small.specs.declared.state.State.{State}
 use Rattle.fp_small.specs.declared.state.RefRow.{RefRow}
 use Rattle.fp_small.specs.declared.state.Previous.{Previous}
-use Rattle.ost_model.specs.Order.{each_in}
 use Rattle.ost_store.proofs.Lists.{in_none, in_cases, in_one, in_first, in_rest}
 use Rattle.dep_states.specs.Shown.{at_name, ref_key}
-use Rattle.dep_states.specs.After.{row_at, IsGood, IsGoodRow}
+use Rattle.dep_states.specs.After.{row_at}
 use Rattle.dep_states.specs.Frames.{KeptIn}
 use Rattle.dep_states.specs.Sound.{IsPrevious, IsKeptBy}
 use Rattle.dep_states.proofs.Single.{some_is, some_none, none_some, none_before, at_head}

@@ -1,22 +1,21 @@
 -- Images that differ in `config`, in overrides and in work alone.
-use Rattle.std.proofs.Common.{◌≡◌, ◌≢◌, ◌⊎◌, inl, inr, ℕ, List, [], ◌∷◌, ◌++◌, true, refl, sym, ◌∙◌, ap, subst, codes}
+use Rattle.std.proofs.Common.{◌≡◌, ◌≢◌, ◌⊎◌, inl, inr, ℕ, List, [], ◌∷◌, ◌++◌, refl, sym, ◌∙◌, ap, subst, codes}
 use Rattle.std.specs.Prelude.{◌↔◌}
 use Rattle.fp_host.specs.Paths.{Elements, IsAbove}
 use Rattle.fp_host.specs.View.{View, IsTree}
-use Rattle.fp_host.specs.Outcome.{Spot, Disk, gone, points, shows}
+use Rattle.fp_host.specs.Outcome.{Disk, gone, shows}
 use Rattle.fp_host.specs.Frame.{Keeps, NoPath}
 use Rattle.fp_base.specs.declared.object.ObjKind.{ObjKind}
 use Rattle.fp_name.specs.Hex.{hex}
 use Rattle.fp_name.specs.Kinds.{kind_word}
-use Rattle.fp_name.specs.Refs.{Ref, is_ref}
+use Rattle.fp_name.specs.Refs.{Ref}
 use Rattle.fp_small.specs.Places.{repo, tmp}
 use Rattle.fp_small.specs.Clear.{IsWithin, GoneBelow, AbsentBelow, IsEmptied}
 use Rattle.fp_small.proofs.Keeping.{files_kept}
-use Rattle.fp_small.specs.declared.state.RefRow.{RefRow}
 use Rattle.ost_model.specs.Objects.{object_path, object_at, store}
-use Rattle.ost_model.specs.Order.{Place, In, order}
+use Rattle.ost_model.specs.Order.{In, order}
 use Rattle.dep_states.specs.Names.{config, remotes_conf, pins_file, overrides_folder, branch_dir, active, text_dir, commit_dir, deploy, ref_file}
-use Rattle.dep_states.specs.Shown.{there, ref_seen}
+use Rattle.dep_states.specs.Shown.{ref_seen}
 use Rattle.dep_states.specs.Sound.{Keeps as KeepsCommit, IsOld, is_remotes, is_pins}
 use Rattle.dep_states.specs.Settled.{Settled, Used, HasBytes}
 use Rattle.dep_states.specs.Zones.{outward}
@@ -26,7 +25,7 @@ use Rattle.dep_states.proofs.Rows.{text_apart, head_of}
 use Rattle.dep_states.proofs.Sparing.{word_apart}
 use Rattle.dep_states.proofs.Switching.{second, word_no_repo}
 use Rattle.dep_tidy.specs.Tidy.{SettledButWork, IsSmallPlace, is_config, is_layer, is_repo, is_work}
-use Rattle.dep_tidy.proofs.Apart.{within_is, work_top, work_second, old_no_repo, old_no_config, old_apart, tmp_no_objects, tmp_no_refs, repo_no_config, word_no_config}
+use Rattle.dep_tidy.proofs.Apart.{within_is, work_top, work_second, old_no_repo, old_apart, tmp_no_objects, tmp_no_refs, repo_no_config, word_no_config}
 use Rattle.dep_tidy.proofs.Views.{same_shows, absent_gone}
 
 pub work_apart : (disk : Disk) → Settled disk ↔ (SettledButWork disk × ((x : List ℕ) (rest : Elements) → disk (rest ++ (x ∷ tmp)) ≡ gone))

@@ -1,5 +1,5 @@
 -- Folders of commits that go.
-use Rattle.std.proofs.Common.{◌≡◌, ◌≢◌, ◌⊎◌, inl, inr, ℕ, ◌+◌, ◌<◌, ◌≤◌, List, [], ◌∷◌, ◌++◌, length, take, get_or, true, Option, Some, None, Result, Ok, Err, refl, sym, ◌∙◌, ap, subst, Contains, codes}
+use Rattle.std.proofs.Common.{◌≡◌, ◌≢◌, ◌⊎◌, inl, inr, ℕ, ◌+◌, ◌<◌, ◌≤◌, List, [], ◌∷◌, ◌++◌, length, take, get_or, true, Option, Some, None, Result, Ok, refl, sym, ◌∙◌, ap, subst, Contains, codes}
 use Rattle.std.specs.Prelude.{ok_or}
 use Rattle.std.proofs.lemmas.List.{take_more, take_all}
 use Rattle.std.proofs.lemmas.List.Elements.{Contains-append_left, Contains-append_right, Contains-append_cases, Contains-push_cases}
@@ -11,7 +11,7 @@ use Rattle.fp_name.specs.declared.fault.NameFault.{NameFault}
 use Rattle.fp_name.specs.declared.fault.NameFault.TheVariants.{Bad}
 use Rattle.fp_name.specs.declared.kind.RefKind.{RefKind}
 use Rattle.fp_name.specs.declared.kind.RefKind.TheVariants.{App, Runtime}
-use Rattle.fp_name.specs.Hex.{hex, unhex, is_digest}
+use Rattle.fp_name.specs.Hex.{hex, unhex}
 use Rattle.fp_name.specs.Kinds.{kind_word}
 use Rattle.fp_name.specs.Refs.{Ref, is_ref, ref_of}
 use Rattle.fp_name.proofs.Files.{file_digest}
@@ -23,13 +23,13 @@ use Rattle.fp_small.specs.Walks.{IsLevel}
 use Rattle.fp_small.specs.declared.state.State.{State}
 use Rattle.ost_refs.specs.Walks.{AreLevel}
 use Rattle.ost_store.proofs.Lists.{in_none, in_one, in_first}
-use Rattle.dep_states.specs.Names.{active, branch_dir, commit_dir}
+use Rattle.dep_states.specs.Names.{branch_dir, commit_dir}
 use Rattle.dep_states.specs.Frames.{KeptIn}
 use Rattle.dep_states.proofs.Single.{some_none}
 use Rattle.dep_states.proofs.Sparing.{hex_exact}
 use Rattle.dep_states.proofs.Worked.{active_same}
 use Rattle.dep_tidy.proofs.Texts.{branch_back}
-use Rattle.dep_tidy.specs.Steps.{AreBranches, IsRefAt, IsUnkept, InUnkept, UnkeptGone, UnkeptAbsent, HasNoUnkept, HasNoneIn, HasNoneOf}
+use Rattle.dep_tidy.specs.Steps.{AreBranches, IsUnkept, InUnkept, UnkeptGone, UnkeptAbsent, HasNoUnkept, HasNoneIn, HasNoneOf}
 
 -- ---- lists that are gone through
 

@@ -1,9 +1,9 @@
 -- What a view tells of its outcomes, and the other way round.
-use Rattle.std.proofs.Common.{◌≡◌, ◌≢◌, ◌⊎◌, inl, inr, ℕ, List, [], ◌∷◌, Option, Some, None, refl, sym, ◌∙◌, ap, subst}
+use Rattle.std.proofs.Common.{◌≡◌, ◌≢◌, ◌⊎◌, inl, inr, ℕ, [], ◌∷◌, Option, Some, None, refl, sym, ◌∙◌, ap, subst}
 use Rattle.fp_host.specs.Paths.{Elements, Slot, absent, dir, file, link, under, at}
 use Rattle.fp_host.specs.View.{View, Inode, IsTree}
 use Rattle.fp_host.specs.Calls.{IsNoDir, IsFile}
-use Rattle.fp_host.specs.Outcome.{Spot, Disk, Leaves, gone, folder, holding, spot_of, shows}
+use Rattle.fp_host.specs.Outcome.{Leaves, gone, folder, holding, spot_of, shows}
 use Rattle.fp_host.proofs.Separate.{absent_cases}
 use Rattle.fp_host.proofs.Settled.{at_tree}
 use Rattle.fp_small.specs.Files.{KeepsFiles}

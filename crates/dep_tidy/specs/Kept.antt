@@ -1,5 +1,5 @@
 -- The commits that a state keeps.
-use Rattle.std.specs.Prelude.{◌≡◌, ℕ, List, [], ◌∷◌, Option, Some, None}
+use Rattle.std.specs.Prelude.{ℕ, List, [], ◌∷◌, Option, Some, None}
 use Rattle.fp_small.specs.declared.state.RefRow.{RefRow}
 use Rattle.fp_small.specs.declared.state.Previous.{Previous}
 use Rattle.ost_model.specs.Order.{each_in}

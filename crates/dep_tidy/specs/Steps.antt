@@ -1,5 +1,5 @@
 -- The steps of tidying.
-use Rattle.std.specs.Prelude.{◌≡◌, ◌≢◌, ◌⊎◌, ◌↔◌, ◌∷◌, ℕ, List, [], codes, true, Option, Some, None, Contains, map}
+use Rattle.std.specs.Prelude.{◌≡◌, ◌≢◌, ◌⊎◌, ◌↔◌, ◌∷◌, ℕ, List, [], codes, true, Option, Some, None, Contains}
 use Rattle.fp_host.specs.Paths.{Elements, Slot, absent, dir, path_text, IsAbove}
 use Rattle.fp_host.specs.View.{View}
 use Rattle.fp_host.specs.Calls.{IsFile, IsNoDir}

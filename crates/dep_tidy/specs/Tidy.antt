@@ -3,7 +3,7 @@ use Rattle.std.specs.Prelude.{◌≡◌, ◌≢◌, ◌⊎◌, ◌++◌, ◌∷�
 use Rattle.fp_host.specs.Paths.{Elements, Slot, absent, dir, IsAbove}
 use Rattle.fp_host.specs.View.{View}
 use Rattle.fp_host.specs.Calls.{IsFile}
-use Rattle.fp_host.specs.Outcome.{Spot, gone, Disk, IsSettled, shows}
+use Rattle.fp_host.specs.Outcome.{gone, Disk, IsSettled, shows}
 use Rattle.fp_base.specs.declared.object.ObjKind.{ObjKind}
 use Rattle.fp_name.specs.Grammar.{is_remote_name}
 use Rattle.fp_name.specs.Hex.{hex, is_digest}

@@ -1,10 +1,11 @@
 //! An opened installation that is settled.
 ghost use Rattle.std.specs.Prelude.{◌≡◌, IfOk, OnOk, IsErrOf};
 ghost use Rattle.fp_host.specs.Causes.{IsCaused};
-ghost use Rattle.fp_host.specs.Frame.{AtEnd};
+ghost use Rattle.fp_host.specs.Frame.{Frame, AtEnd, NoPath};
 ghost use Rattle.fp_host.specs.Moments.{Always};
 ghost use Rattle.fp_host.specs.Outcome.{shows};
-ghost use Rattle.fp_small.specs.Places.{repo};
+ghost use Rattle.fp_small.specs.Places.{repo, tmp};
+ghost use Rattle.fp_small.specs.Clear.{GoneBelow, AbsentBelow};
 ghost use Rattle.dep_states.specs.Sound.{Opens};
 ghost use Rattle.dep_states.specs.Settled.{Settled};
 ghost use Rattle.dep_tidy.specs.Tidy.{Tidies, WasTidied, SettledButWork};
@@ -42,6 +43,8 @@ pub fn tidy<H: Host>(alloc: Global, host: &mut H, opened: Opened) -> Result<Open
 /// operation that changes no commit. Nothing is synced.
 pub fn tidy_work<H: Host>(alloc: Global, host: &mut H, opened: Opened) -> Result<Opened, HostEnd>
     ensures state { IfOk result (λ o. o ≡ opened) }
+    ensures frame { Frame (GoneBelow tmp) (AbsentBelow tmp) NoPath
+        (H.moments host.old) (H.moments host.new) }
     ensures any_moment { Always (Tidies opened) (H.moments host.old) (H.moments host.new) }
     ensures on_success { OnOk result (AtEnd (λ u w. SettledButWork (shows u) → Settled (shows w))
         (H.moments host.old) (H.moments host.new)) }

@@ -1,4 +1,4 @@
-use Rattle.std.proofs.Common.{ap, sym, subst}
+use Rattle.std.proofs.Common.{subst}
 use Rattle.fp_host.proofs.Framed.{frame_start}
 use Rattle.fp_host.proofs.Ending.{ends_to, ends_start}
 use Rattle.dep_tidy.specs.Steps.{IsRefAt}

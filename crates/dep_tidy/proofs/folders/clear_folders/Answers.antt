@@ -1,9 +1,9 @@
-use Rattle.std.proofs.Common.{take, arith, subst, sym}
-use Rattle.fp_host.specs.View.{View, IsTree}
+use Rattle.std.proofs.Common.{arith, subst, sym}
+use Rattle.fp_host.specs.View.{IsTree}
 use Rattle.fp_host.proofs.Cause.{same_fault}
 use Rattle.fp_host.proofs.Framed.{frame_start, frame_looks, frame_within}
 use Rattle.fp_host.proofs.Goes.{knowing}
-use Rattle.fp_host.proofs.Ending.{ends_on, ends_both, ends_frame, ends_looks, ends_start, ends_to, fault_caused}
+use Rattle.fp_host.proofs.Ending.{ends_on, ends_both, ends_frame, ends_to, fault_caused}
 use Rattle.dep_states.specs.Sound.{Opens}
 use Rattle.dep_tidy.specs.Steps.{AreBranches, HasNoUnkept}
 use Rattle.dep_tidy.proofs.Clearing.{opens_unkept}

@@ -1,8 +1,7 @@
-use Rattle.std.proofs.Common.{take, arith, subst, sym}
-use Rattle.fp_host.specs.View.{View}
+use Rattle.std.proofs.Common.{arith, subst, sym}
 use Rattle.fp_host.proofs.Cause.{same_fault}
 use Rattle.fp_host.proofs.Framed.{frame_start, frame_looks, frame_within}
-use Rattle.fp_host.proofs.Ending.{ends_on, ends_both, ends_frame, ends_looks, ends_start, ends_to, fault_caused}
+use Rattle.fp_host.proofs.Ending.{ends_on, ends_both, ends_frame, ends_to, fault_caused}
 use Rattle.fp_small.specs.Naming.{ListsIn}
 use Rattle.dep_states.specs.Sound.{Opens}
 use Rattle.dep_tidy.proofs.Clearing.{opens_unkept}

@@ -1,7 +1,7 @@
-use Rattle.std.proofs.Common.{take, arith, subst, sym}
+use Rattle.std.proofs.Common.{arith, subst, sym}
 use Rattle.fp_host.proofs.Cause.{same_fault}
 use Rattle.fp_host.proofs.Framed.{frame_start, frame_looks, frame_within}
-use Rattle.fp_host.proofs.Ending.{ends_on, ends_both, ends_frame, ends_looks, ends_to, fault_caused}
+use Rattle.fp_host.proofs.Ending.{ends_on, ends_both, ends_frame, ends_to, fault_caused}
 use Rattle.ost_refs.specs.Lists.{ListsRefs}
 use Rattle.dep_states.specs.Sound.{Opens}
 use Rattle.dep_states.proofs.Law.{frame_law}

@@ -1,5 +1,5 @@
 use Rattle.std.proofs.Common.{◌+◌, arith, take}
-use Rattle.fp_host.specs.View.{View, IsTree}
+use Rattle.fp_host.specs.View.{IsTree}
 use Rattle.fp_host.proofs.Cause.{same_fault}
 use Rattle.fp_host.proofs.Goes.{goes_on, stays}
 use Rattle.fp_host.proofs.Ending.{ends_on, ends_both, ends_goes, ends_start, ends_in_tree, ends_to, fault_caused}

@@ -1,5 +1,5 @@
 use Rattle.std.proofs.Common.{arith, refl}
-use Rattle.fp_host.specs.View.{View, IsTree}
+use Rattle.fp_host.specs.View.{IsTree}
 use Rattle.fp_host.specs.Outcome.{shows}
 use Rattle.fp_host.proofs.Cause.{same_fault, clash_step}
 use Rattle.fp_host.proofs.Goes.{stays}

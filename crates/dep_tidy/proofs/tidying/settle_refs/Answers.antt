@@ -1,6 +1,4 @@
-use Rattle.std.proofs.Common.{arith, subst, sym}
 use Rattle.std.proofs.lemmas.Result.{on_ok_weaker}
-use Rattle.fp_host.specs.View.{View}
 use Rattle.fp_host.proofs.Cause.{same_fault}
 use Rattle.fp_host.proofs.Ending.{ends_on, ends_both, ends_frame, ends_goes, fault_caused}
 use Rattle.dep_states.specs.Sound.{Opens}
