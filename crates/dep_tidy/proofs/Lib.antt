@@ -1,0 +1,14 @@
+mod Views
+mod Alter
+mod Apart
+mod Clearing
+mod Texts
+mod UnkeptFolders
+mod RowsKept
+mod OldFiles
+mod RefFiles
+mod Pruned
+mod Joined
+mod Ended
+mod Small
+mod Left
