@@ -25,7 +25,7 @@ use Rattle.dep_open.specs.Open.{Opened, NoName, IsOpened, StaysUnread}
 use Rattle.dep_open.specs.Tidy.{Tidies, IsTidy}
 use Rattle.dep_open.specs.declared.open_end.OpenEnd.{OpenEnd}
 use Rattle.op_change.specs.Applied.{Applies, WasApplied}
-use Rattle.fl_words.specs.Lines.{op_text}
+use Rattle.fl_lines.specs.Lines.{op_text}
 use Rattle.fl_words.specs.declared.command.Change.{Change}
 use Rattle.fl_top.specs.World.{World, world_at}
 use Rattle.fl_top.specs.Changes.{Changes}

@@ -14,7 +14,7 @@ use Rattle.dep_states.specs.Sound.{Opens}
 use Rattle.dep_states.specs.After.{Done, plain, after, IsOnConfig}
 use Rattle.dep_open.specs.Tidy.{Tidies, IsTidy}
 use Rattle.op_change.specs.Applied.{IsOneOf, Applies, WasApplied}
-use Rattle.fl_words.specs.Lines.{op_text}
+use Rattle.fl_lines.specs.Lines.{op_text}
 use Rattle.fl_words.specs.declared.command.Change.{Change}
 use Rattle.fl_top.specs.World.{World, world_at, world_after, worlds_after, supplied, used_of}
 use Rattle.fl_top.specs.Answer.{Answer, Piece, joined, ops_in, ops_of, op_answer, nothing, refusal_answer, refusal_of, unless, op_of, change_over}

@@ -35,14 +35,14 @@ use Rattle.fl_words.specs.Forms.{command_of, bad_index}
 use Rattle.fl_words.specs.Batch.{batch_of}
 use Rattle.fl_top.specs.Input.{input_most}
 use Rattle.fl_top.specs.World.{World, used_of, worlds_after}
-use Rattle.fl_words.specs.Lines.{op_text, pins_text, remotes_text, refusal_text}
+use Rattle.fl_lines.specs.Lines.{op_text, pins_text, remotes_text, refusal_text}
 use Rattle.gv_value.specs.Shape.{Shape}
 use Rattle.gv_value.specs.Tree.{Tree}
 use Rattle.gv_value.specs.TypeText.{type_of}
 use Rattle.gv_value.specs.Reading.{value_of}
 use Rattle.ost_model.specs.Contents.{meta_digest}
 use Rattle.ost_model.specs.Readers.{commit_read, tree_read, meta_read}
-use Rattle.fl_words.specs.PrintedWords.{kind_word}
+use Rattle.fl_lines.specs.PrintedWords.{kind_word}
 use Rattle.fl_top.specs.Objects.{head, commit_lines, tree_lines, meta_lines, normal_line}
 
 -- what a run is given beside the installation: its input, and what the remotes hold

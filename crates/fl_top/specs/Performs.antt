@@ -11,7 +11,7 @@ use Rattle.fp_small.specs.declared.op.Op.{Op}
 use Rattle.dep_states.specs.Shown.{Shows}
 use Rattle.dep_states.specs.Sound.{Sound, Opens, IsSound}
 use Rattle.dep_states.specs.After.{Done, plain, after, after_all}
-use Rattle.fl_words.specs.Lines.{op_text}
+use Rattle.fl_lines.specs.Lines.{op_text}
 use Rattle.dep_open.specs.Open.{NotShown}
 use Rattle.dep_open.specs.Tidy.{IsTidy}
 use Rattle.fl_words.specs.declared.command.Command.{Command}

@@ -5,7 +5,7 @@ ghost use Rattle.fp_host.specs.Frame.{AtEnd, Unchanged};
 ghost use Rattle.fp_host.specs.Moments.{Goes, Rose, Always};
 ghost use Rattle.fp_host.specs.Remote.{Holdings};
 ghost use Rattle.fp_small.specs.declared.refusal.Refusal.TheVariants.{BadWords};
-ghost use Rattle.fl_words.specs.Lines.{refusal_text};
+ghost use Rattle.fl_lines.specs.Lines.{refusal_text};
 ghost use Rattle.fl_words.specs.Forms.{command_of};
 ghost use Rattle.fl_words.specs.declared.command.Command.TheVariants.{Show as Showing, Batch};
 ghost use Rattle.fl_top.specs.Answer.{listed, listed_text as text_listed};
@@ -20,10 +20,8 @@ use crate::end::RunEnd;
 use crate::input::read_input;
 use crate::showing::shown_text;
 use dep_open::read_state;
-use fl_words::{
-    Command, Listing, Shown, WordsError, pins_text, read_batch, read_words, refusal_line,
-    remotes_text,
-};
+use fl_lines::{pins_text, refusal_line, remotes_text};
+use fl_words::{Command, Listing, Shown, WordsError, read_batch, read_words};
 use fp_base::Text;
 use fp_host::{Host, HostEnd, Remotes, Source};
 use fp_small::{Refusal, State};

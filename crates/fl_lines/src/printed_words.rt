@@ -1,6 +1,6 @@
 //! The words that enums are printed as. None takes memory.
 ghost use Rattle.std.specs.Prelude.{◌≡◌};
-ghost use Rattle.fl_words.specs.PrintedWords.{kind_word as word_of_kind, rule_word as word_of_rule, what_word as word_of_what, side_word as word_of_side, key_rule_word as word_of_key_rule, meta_rule_word as word_of_meta_rule, metadata_rule_word as word_of_metadata_rule, frame_rule_word as word_of_frame_rule};
+ghost use Rattle.fl_lines.specs.PrintedWords.{kind_word as word_of_kind, rule_word as word_of_rule, what_word as word_of_what, side_word as word_of_side, key_rule_word as word_of_key_rule, meta_rule_word as word_of_meta_rule, metadata_rule_word as word_of_metadata_rule, frame_rule_word as word_of_frame_rule};
 
 use fp_base::{FrameRule, KeyRule, MetaRule, MetadataRule, ObjKind, Rule, Side, What};
 

@@ -1,8 +1,8 @@
 use Rattle.std.proofs.Common.{ℕ, List, sym, ◌∙◌, ap, false, [], Some, ◌^◌, ◌-◌}
 use Rattle.std.specs.Fmt.{styled_digits_output, padded_integral, format_spec, digits}
 use Rattle.std.specs.Option.{option_map}
-use Rattle.fl_words.proofs.Escapes.{pushed-plain, pushed-marked}
-use Rattle.fl_words.proofs.escaping.push_escaped.Goals as goal
+use Rattle.fl_lines.proofs.Escapes.{pushed-plain, pushed-marked}
+use Rattle.fl_lines.proofs.escaping.push_escaped.Goals as goal
 
 pub returns-then-not-is_escaped : goal.returns-then-not-is_escaped
 returns-then-not-is_escaped c =

@@ -8,7 +8,7 @@ use Rattle.std.proofs.lemmas.Fmt.{hex_byte}
 use Rattle.std.proofs.lemmas.List.{append-nil}
 use Rattle.std.proofs.lemmas.List.Concat.{flat_map-append}
 use Rattle.std.proofs.lemmas.Str.{encode_ascii, encodes-append, inside_one}
-use Rattle.fl_words.specs.Lines.{is_escaped, escape_of, escaped}
+use Rattle.fl_lines.specs.Lines.{is_escaped, escape_of, escaped}
 
 -- bytes from 128 on are printed as they are
 high_byte : (b : ℕ) → 128 ≤ b → is_escaped b ≡ false

@@ -2,12 +2,12 @@
 ghost use Rattle.std.specs.Prelude.{◌≡◌, ◌∷◌, ◌++◌, [], true, IfOk, OnOk, codes, decimal, string_bytes};
 ghost use Rattle.fp_name.specs.Hex.{hex, is_digest};
 ghost use Rattle.fp_name.specs.Refs.{ref_text};
-ghost use Rattle.fl_words.specs.Lines.{line_of, object_text, op_text, pins_text, remotes_text};
+ghost use Rattle.fl_lines.specs.Lines.{line_of, object_text, op_text, pins_text, remotes_text, deployed_line, refs_text, skipped_text};
 
 use crate::printed_words::kind_word;
 use fp_base::{ObjKind, Text};
 use fp_name::{Digest, PinPattern, RefName};
-use fp_small::{Op, RemoteRow};
+use fp_small::{Op, RefRow, RemoteRow};
 use std::alloc::{AllocError, Global};
 
 /// The line of two words, which a space parts.
@@ -162,4 +162,33 @@ pub fn remotes_text(alloc: Global, remotes: &[RemoteRow]) -> Result<Text, AllocE
         text.push('\n')?;
     }
     Ok(Text::from_string(text))
+}
+
+/// A line for each ref, in the order given: the ref, the commit that it is at and the remote that it comes from.
+pub fn refs_text(alloc: Global, rows: &[RefRow]) -> Result<Text, AllocError>
+    ensures { IfOk result (λ t. t ≡ refs_text rows.now) }
+{
+    let mut text = String::new(alloc);
+    for row in rows {
+        push_deployed(alloc, &mut text, row)?;
+    }
+    Ok(Text::from_string(text))
+}
+
+/// Puts after a text the line of a deployed ref.
+fn push_deployed(alloc: Global, text: &mut String, row: &RefRow) -> Result<(), AllocError>
+    ensures { OnOk result (string_bytes text.new ≡ string_bytes text.old ++ deployed_line row.now) }
+{
+    let digits = digits_of(alloc, &row.commit)?;
+    text.push_str(row.name.as_str())?;
+    add_word(text, digits.as_str())?;
+    add_word(text, row.origin.as_str())?;
+    text.push('\n')
+}
+
+/// The line of a ref that an update passes over, since its remote isn't there or doesn't offer it.
+pub fn skipped_line(alloc: Global, name: &RefName) -> Result<Text, AllocError>
+    ensures { IfOk result (λ t. t ≡ skipped_text name.now) }
+{
+    ref_line(alloc, "skipped", name)
 }

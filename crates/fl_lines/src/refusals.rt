@@ -3,8 +3,8 @@ ghost use Rattle.std.specs.Prelude.{◌≡◌, ◌∷◌, ◌++◌, [], IfOk, co
 ghost use Rattle.fp_host.specs.Paths.{path_text};
 ghost use Rattle.fp_name.specs.Hex.{hex};
 ghost use Rattle.fp_name.specs.Refs.{ref_text};
-ghost use Rattle.fl_words.specs.Lines.{line_of, escaped, object_text, bits_text, octal, mode_text as text_of_mode, refusal_text};
-ghost use Rattle.fl_words.specs.PrintedWords.{what_word as word_of_what};
+ghost use Rattle.fl_lines.specs.Lines.{line_of, escaped, object_text, bits_text, octal, mode_text as text_of_mode, refusal_text};
+ghost use Rattle.fl_lines.specs.PrintedWords.{what_word as word_of_what};
 
 use crate::escaping::escape;
 use crate::lines::{

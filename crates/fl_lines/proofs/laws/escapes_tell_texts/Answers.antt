@@ -1,5 +1,5 @@
-use Rattle.fl_words.proofs.Unescaped.{escaped_printable, escaped_injective}
-use Rattle.fl_words.proofs.laws.escapes_tell_texts.Goals as goal
+use Rattle.fl_lines.proofs.Unescaped.{escaped_printable, escaped_injective}
+use Rattle.fl_lines.proofs.laws.escapes_tell_texts.Goals as goal
 
 pub returns-clause-printable : goal.returns-clause-printable
 returns-clause-printable c = escaped_printable

@@ -1,5 +1,5 @@
 -- The lines that are printed. Each ends with a newline, which is the byte 10; numbers are decimal.
-use Rattle.std.specs.Prelude.{ℕ, ◌/◌, ◌%◌, ◌==◌, ◌||◌, List, [], ◌∷◌, ◌++◌, Bool, false, nat_lt, codes, decimal, flat_map, if◌then◌else◌}
+use Rattle.std.specs.Prelude.{ℕ, ◌/◌, ◌%◌, ◌==◌, ◌||◌, List, [], ◌∷◌, ◌++◌, Bool, false, Option, Some, None, nat_lt, codes, decimal, flat_map, if◌then◌else◌}
 use Rattle.std.specs.Fmt.{digit_glyph}
 use Rattle.std.specs.List.{join_with_byte}
 use Rattle.fp_base.specs.declared.object.ObjKind.{ObjKind}
@@ -10,9 +10,11 @@ use Rattle.fp_name.specs.Refs.{Ref, ref_text}
 use Rattle.fp_small.specs.declared.refusal.Refusal.{Refusal}
 use Rattle.fp_small.specs.declared.refusal.Refusal.TheVariants as refusals
 use Rattle.fp_small.specs.declared.op.Op.{Op}
+use Rattle.fp_small.specs.declared.state.Previous.{Previous}
+use Rattle.fp_small.specs.declared.state.RefRow.{RefRow}
 use Rattle.fp_small.specs.declared.state.RemoteRow.{RemoteRow}
 use Rattle.fp_small.specs.declared.op.Op.TheVariants.{Install, Update, Uninstall, AddPin, DropPin, AddRemote, ModifyRemote, DropRemote, SetOverride, DropOverride, Migrate, Rollback}
-use Rattle.fl_words.specs.PrintedWords.{kind_word, rule_word, what_word, side_word, metadata_rule_word, frame_rule_word}
+use Rattle.fl_lines.specs.PrintedWords.{kind_word, rule_word, what_word, side_word, metadata_rule_word, frame_rule_word}
 
 -- ---- a text that we didn't make
 
@@ -118,3 +120,39 @@ remote_line row = line (row.name ++ 32 ∷ row.url)
 -- a line for each remote
 abbrev pub remotes_text : List RemoteRow → List ℕ
 remotes_text remotes = flat_map remote_line remotes
+
+-- the ref, the commit that it is at and the remote that it comes from
+abbrev pub deployed_line : RefRow → List ℕ
+deployed_line row = line_of (ref_text row.name ∷ hex row.commit ∷ row.origin ∷ [])
+
+-- a line for each ref
+abbrev pub refs_text : List RefRow → List ℕ
+refs_text rows = flat_map deployed_line rows
+
+-- a ref that an update passes over
+abbrev pub skipped_text : Ref → List ℕ
+skipped_text name = line_of (codes "skipped" ∷ ref_text name ∷ [])
+
+-- ---- what is known of a ref
+
+abbrev pub previous_text : Option Previous → List ℕ
+previous_text None = []
+previous_text (Some previous) = line_of (codes "previous" ∷ hex previous.commit ∷ [])
+
+abbrev pub row_text : RefRow → List ℕ
+row_text row =
+    line_of (codes "ref" ∷ ref_text row.name ∷ [])
+    ++ (line_of (codes "commit" ∷ hex row.commit ∷ [])
+    ++ (line_of (codes "origin" ∷ row.origin ∷ [])
+    ++ (line_of (codes "timestamp" ∷ decimal row.timestamp ∷ []) ++ previous_text row.previous)))
+
+abbrev pub runtime_text : Option Ref → List ℕ
+runtime_text None = []
+runtime_text (Some name) = line_of (codes "runtime" ∷ ref_text name ∷ [])
+
+abbrev pub extension_line : List ℕ → List ℕ
+extension_line name = line_of (codes "extension" ∷ escaped name ∷ [])
+
+-- its row, the runtime that its metadata names, where it does, and a line for each extension
+abbrev pub info_text : RefRow → Option Ref → List (List ℕ) → List ℕ
+info_text row runtime extensions = row_text row ++ (runtime_text runtime ++ flat_map extension_line extensions)
