@@ -22,7 +22,7 @@ use Rattle.fp_small.specs.declared.state.Layout.{Layout}
 use Rattle.fp_small.specs.declared.state.Layout.TheVariants.{One, Two}
 use Rattle.dep_states.specs.After.{plain, after, IsOnConfig}
 use Rattle.dep_open.specs.Open.{Opened, NoName, IsOpened, StaysUnread}
-use Rattle.dep_open.specs.Tidy.{Tidies, IsTidy}
+use Rattle.dep_tidy.specs.Tidy.{Tidies, WasTidied}
 use Rattle.dep_open.specs.declared.open_end.OpenEnd.{OpenEnd}
 use Rattle.op_change.specs.Applied.{Applies, WasApplied}
 use Rattle.fl_lines.specs.Lines.{op_text}
@@ -91,7 +91,7 @@ pub goes_said : {a b c : Option Moments} (holds : Option Holdings) (op : Op) (s 
 goes_said holds op s t piece here known known_b known_c goes done same call =
     ends_trees known known_c
     (goes_on known_b (applied holds op s known goes done) (makes_goes call) (λ u v w tree p q step. saying holds op s (applied_changes s op u v q.0) q.0.printed q.1 (says_as op same step))
-    (λ u v w tree p q step last. said_done op s (applied_changes s op u v q.0) q.0.printed q.1 (was_said (subst (λ (l : List ℕ). Step (says l) (Ok tt) v w) same last))))
+    (λ u v w tree p q step last. said_done op s q.0 q.1 (was_said (subst (λ (l : List ℕ). Step (says l) (Ok tt) v w) same last))))
     (λ u w before now said. done_by op s t here before now said)
 
 -- ---- and tidied after it
@@ -107,22 +107,10 @@ goes_untidied holds op s t e r known goes after tidies is =
     at_end (PerformedOver holds (doing op) s) r (end_of_host e) is
     (goes_on known goes tidies (λ u v w tree p q step. parts.tidying holds op s t after p.changes q step) (λ u v w tree p q step last. parts.untidied holds op s t (end_of_host e) after (host_end e) q last))
 
--- an operation that was done, and the tidying after it
-record IsTidied (op : Op) (s t : State) (u w : View) : Type 0 where
-  between : View
-  tree : IsTree between
-  done : WasDoneBy op s (Ok t) u between
-  tidies : Tidies t between w
-  tidy : IsTidy w
-
-pub goes_tidied : {a b c : Option Moments} (holds : Option Holdings) (op : Op) (s t t' : State) → IsTold a → IsTold b → IsTold c → Goes a b (PerformsOver holds (doing op) s) (WasDoneBy op s (Ok t)) → t ≡ after s (plain op) → t' ≡ t → Goes b c (Tidies t) (Tidies t) → AtEnd (λ u w. IsTidy w) b c → Goes a c (PerformsOver holds (doing op) s) (PerformedOver holds (doing op) s (Ok t'))
-goes_tidied holds op s t t' known known_b known_c goes after same tidies tidy =
-    ends_trees known known_c
-    (goes_on known_b goes (goes_known tidies tidy) (λ u v w tree p q step. parts.tidying holds op s t after p.changes q step) (λ u v w tree p q step last. with_tree u v w tree q last))
-    (λ u w before now q. parts.tidied holds op s t t' q.tree now after same q.done q.tidies q.tidy)
-  where
-    with_tree : (u v w : View) → IsTree v → WasDoneBy op s (Ok t) u v → Tidies t v w × IsTidy w → IsTidied op s t u w
-    with_tree u v w tree done last = record { between = v; tree = tree; done = done; tidies = last.0; tidy = last.1 }
+pub goes_tidied : {a b c : Option Moments} (holds : Option Holdings) (op : Op) (s t t' : State) → IsTold b → Goes a b (PerformsOver holds (doing op) s) (WasDoneBy op s (Ok t)) → t ≡ after s (plain op) → t' ≡ t → Goes b c (Tidies t) (Tidies t) → AtEnd (WasTidied t) b c → Goes a c (PerformsOver holds (doing op) s) (PerformedOver holds (doing op) s (Ok t'))
+goes_tidied holds op s t t' known goes after same tidies tidy =
+    goes_on known goes (goes_known tidies tidy) (λ u v w tree p q step. parts.tidying holds op s t after p.changes q step)
+    (λ u v w tree p q step last. parts.tidied holds op s t t' after same q last.0 last.1.settled)
 
 -- ---- a change
 
@@ -177,11 +165,14 @@ pub goes_untidied_first : {a b : Option Moments} (holds : Option Holdings) (f : 
 goes_untidied_first holds f s e r known tidies is =
     at_end (PerformedOver holds f s) r (end_of_host e) is (begins known tidies (λ u w t p. parts.tidied_first holds f s p) (λ u w t p q. parts.untidied_first holds f s (end_of_host e) (host_end e) q))
 
-pub goes_tidied_first : {a b c : Option Moments} (holds : Option Holdings) (f : Holdings → World → Answer) (s : State) (r : Result State RunEnd) → IsTold a → IsTold b → Goes a b (Tidies s) (Tidies s) → AtEnd (λ u w. IsTidy w) a b → Goes b c (PerformsOver holds f s) (PerformedOver holds f s r) → Goes a c (PerformsOver holds f s) (PerformedOver holds f s r)
+pub goes_tidied_first : {a b c : Option Moments} (holds : Option Holdings) (f : Holdings → World → Answer) (s : State) (r : Result State RunEnd) → IsTold a → IsTold b → Goes a b (Tidies s) (Tidies s) → AtEnd (WasTidied s) a b → Goes b c (PerformsOver holds f s) (PerformedOver holds f s r) → Goes a c (PerformsOver holds f s) (PerformedOver holds f s r)
 goes_tidied_first holds f s r known known_b tidies tidy next =
     goes_on known_b
-    (ends_trees known known_b (begins known (goes_known tidies tidy) (λ u w t p. parts.tidied_first holds f s p) (λ u w t p q. q)) (λ u w before now q. record { before = before; now = now; tidies = q.0; tidy = q.1 })) next
+    (begins known (goes_known tidies tidy) (λ u w t p. parts.tidied_first holds f s p) (λ u w t p q. with_tidied u w q)) next
     (λ u v w t p q step. parts.performs_tidied holds f s q step) (λ u v w t p q step last. parts.performed_tidied holds f s r u v w q last)
+  where
+    with_tidied : (u w : View) → Tidies s u w × WasTidied s u w → parts.Tidied s u w
+    with_tidied u w q = record { tidies = q.0; tidied = q.1 }
 
 -- ---- one answer after another
 

@@ -8,11 +8,13 @@ use Rattle.fp_small.specs.declared.state.State.{State}
 use Rattle.fp_small.specs.declared.op.Op.{Op}
 use Rattle.fp_small.specs.declared.op.Op.TheVariants.{Install, Update, Uninstall, AddPin, DropPin, AddRemote, ModifyRemote, DropRemote, SetOverride, DropOverride, Migrate, Rollback}
 use Rattle.fp_small.specs.Places.{repo}
-use Rattle.ost_model.specs.Objects.{store}
+use Rattle.fp_base.specs.declared.object.ObjKind.{ObjKind}
+use Rattle.ost_model.specs.Objects.{object_path, store}
 use Rattle.fp_small.specs.declared.refusal.Refusal.{Refusal}
 use Rattle.dep_states.specs.Sound.{Opens}
 use Rattle.dep_states.specs.After.{Done, plain, after, IsOnConfig}
-use Rattle.dep_open.specs.Tidy.{Tidies, IsTidy}
+use Rattle.dep_states.specs.Settled.{Settled}
+use Rattle.dep_tidy.specs.Tidy.{Tidies, WasTidied}
 use Rattle.op_change.specs.Applied.{IsOneOf, Applies, WasApplied}
 use Rattle.fl_lines.specs.Lines.{op_text}
 use Rattle.fl_words.specs.declared.command.Change.{Change}
@@ -33,8 +35,8 @@ use Rattle.fp_small.specs.Move.{HasNew, IsNew}
 use Rattle.dep_states.specs.Names.{config}
 use Rattle.dep_states.specs.Shown.{settings_of}
 use Rattle.fl_top.specs.Changes.{Changes, HasText}
-use Rattle.fl_top.proofs.Worlds.{used_twice, used_by_refs, store_same, holds_at, holds_on, world_held}
-use Rattle.fl_top.proofs.Changing.{changes_objects, change_on, change_not, change_untouched, keeps_files, applied_changes, tidied_changes, tidied_on, tidied_not, tidies_only, text_on, text_tidied}
+use Rattle.fl_top.proofs.Worlds.{used_twice, used_by_refs, store_same, holds_at, holds_tidied, world_held}
+use Rattle.fl_top.proofs.Changing.{applied_objects, change_on, change_not, change_untouched, keeps_files, applied_changes, tidied_changes, tidied_on, tidied_not, tidies_only, text_on, text_tidied}
 use Rattle.fl_top.proofs.Same.{same_opens, now_left}
 use Rattle.fl_top.proofs.Starting.{none_yet}
 
@@ -170,19 +172,15 @@ same_refs s (SetOverride row) here = absurd here
 same_refs s (DropOverride name) here = absurd here
 same_refs s (Rollback name commit) here = absurd here
 
-world_changed : (op : Op) (s : State) (held : Holdings) {v w : View} → IsOnConfig op → IsTree v → IsTree w → Changes v w → Opens (after s (plain op)) w → Holds (world_after held (world_at s v) (plain op)) w
-world_changed op s held {v = v} {w = w} here tree_v tree_w changes opens = record { opens = opens; have = have }
+world_changed : (op : Op) (s : State) (held : Holdings) {v w : View} → IsOnConfig op → store repo (shows w) ≡ store repo (shows v) → Opens (after s (plain op)) w → Holds (world_after held (world_at s v) (plain op)) w
+world_changed op s held {v = v} {w = w} here objects opens = record { opens = opens; have = have }
   where
     t : State
     t = after s (plain op)
 
     have : used_of t (supplied held (world_at s v) op) ≡ used_of t (store repo (shows w))
     have = ap (used_of t) (none_supplied held (world_at s v) op here) ∙ used_by_refs s t (used_of s (store repo (shows v))) (same_refs s op here) ∙ used_twice s (store repo (shows v))
-        ∙ ap (used_of s) (sym (store_same v w tree_v tree_w changes.files (changes_objects changes))) ∙ sym (used_by_refs s t (store repo (shows w)) (same_refs s op here))
-
--- where no object changes, a world goes on
-world_stays : {x : World} {v w : View} → IsTree v → IsTree w → Changes v w → Opens x.state w → Holds x v → Holds x w
-world_stays {v = v} {w = w} tree_v tree_w changes opens holds = holds_on opens (store_same v w tree_v tree_w changes.files (changes_objects changes)) holds
+        ∙ ap (used_of s) (sym objects) ∙ sym (used_by_refs s t (store repo (shows w)) (same_refs s op here))
 
 -- ---- the line
 
@@ -219,23 +217,25 @@ saying holds op s {v = v} {w = w} {x = x} changes same applied says = record {
 -- what is known once the line was said
 pub record Said (op : Op) (s : State) (v x : View) : Type 0 where
   pub printed : x.printed ≡ v.printed ++ op_text op
+  pub objects : (d : List ℕ) (kind : ObjKind) → x.names (object_path repo d kind) ≡ v.names (object_path repo d kind)
   pub changes : Changes v x
   pub opens : Opens s v → Opens (after s (plain op)) x
   pub text : HasText (after s (plain op)) x
 
-pub said_done : (op : Op) (s : State) {v w x : View} → Changes v w → w.printed ≡ v.printed → WasApplied s op v w → WasSaid (op_text op) w x → Said op s v x
-said_done op s {v = v} {w = w} {x = x} changes same applied said = record {
-  printed = said.printed ∙ ap (λ (p : List ℕ). p ++ op_text op) same;
-  changes = change_on v w x changes (change_untouched said.untouched);
+pub said_done : (op : Op) (s : State) {v w x : View} → Applies s op v w → WasApplied s op v w → WasSaid (op_text op) w x → Said op s v x
+said_done op s {v = v} {w = w} {x = x} applies applied said = record {
+  printed = said.printed ∙ ap (λ (p : List ℕ). p ++ op_text op) applies.printed;
+  objects = λ d kind. said.untouched.names (object_path repo d kind) ∙ applied_objects s op v w applies d kind;
+  changes = change_on v w x (applied_changes s op v w applies) (change_untouched said.untouched);
   opens = λ opens. same_opens said.follows (applied.opens opens);
   text = text_on (said.untouched.names config) (keeps_files said.untouched) (written applied.text);
 }
 
 pub done_by : (op : Op) (s t : State) {v x : View} → IsOnConfig op → IsTree v → IsTree x → Said op s v x → WasDoneBy op s (Ok t) v x
-done_by op s t here tree_v tree_x said = λ opens. record {
+done_by op s t {v = v} {x = x} here tree_v tree_x said = λ opens. record {
   printed = said.printed;
   opens = said.opens opens;
-  holds = λ held. world_changed op s held here tree_v tree_x said.changes (said.opens opens);
+  holds = λ held. world_changed op s held here (store_same v x tree_v tree_x said.changes.files said.objects) (said.opens opens);
   text = said.text;
 }
 
@@ -269,8 +269,8 @@ tidying holds op s t {v = v} {w = w} {x = x} is changes done tidies = record {
   };
 }
 
-pub tidied : (holds : Option Holdings) (op : Op) (s t t' : State) {v w x : View} → IsTree w → IsTree x → t ≡ after s (plain op) → t' ≡ t → WasDoneBy op s (Ok t) v w → Tidies t w x → IsTidy x → PerformedOver holds (doing op) s (Ok t') v x
-tidied holds op s t t' {v = v} {w = w} {x = x} tree_w tree_x is same done tidies tidy = record {
+pub tidied : (holds : Option Holdings) (op : Op) (s t t' : State) {v w x : View} → t ≡ after s (plain op) → t' ≡ t → WasDoneBy op s (Ok t) v w → Tidies t w x → (Opens t w → Settled (shows x)) → PerformedOver holds (doing op) s (Ok t') v x
+tidied holds op s t t' {v = v} {w = w} {x = x} is same done tidies settled = record {
   opens = λ opens. subst (λ (z : State). Opens z x) (sym (same ∙ is)) (opens_tidied op s t is (done opens) tidies);
   performed = λ held told opens. (
     refl,
@@ -278,8 +278,8 @@ tidied holds op s t t' {v = v} {w = w} {x = x} tree_w tree_x is same done tidies
     record {
       printed = (line_done op v w x (done opens).printed tidies.printed).printed;
       only_tidied = λ none. absurd (made_some op none);
-      holds = world_stays tree_w tree_x (tidied_changes t w x tidies) (opens_tidied op s t is (done opens) tidies) ((done opens).holds held);
-      tidied = λ why. tidy;
+      holds = holds_tidied (subst (λ (z : State). Tidies z w x) is tidies) ((done opens).holds held);
+      tidied = λ why. settled (subst (λ (z : State). Opens z w) (sym is) (done opens).opens);
       text = λ some. text_tidied (tidies_only tidies) tidies.files (done opens).text;
     },
   );
@@ -305,8 +305,8 @@ first_moved : {a : Answer} {said : List Piece} {u v w : View} → v.printed ≡ 
 first_moved {said = said} same printed = record { left = printed.left; pieces = printed.pieces; printed = printed.printed ∙ ap (λ (p : List ℕ). p ++ joined said) same }
 
 -- the world after a tidying is that of before
-pub tidied_world : (s : State) {u v : View} → IsTree u → IsTree v → Tidies s u v → Opens s u → world_at s v ≡ world_at s u
-tidied_world s {u = u} {v = v} tree_u tree_v tidies opens = world_held s refl (world_stays tree_u tree_v (tidied_changes s u v tidies) (tidies.opens opens) (holds_at s u opens))
+tidied_world : (s : State) {u v : View} → Tidies s u v → Opens s u → world_at s v ≡ world_at s u
+tidied_world s {u = u} {v = v} tidies opens = world_held s refl (holds_tidied tidies (holds_at s u opens))
 
 pub tidied_first : (holds : Option Holdings) (f : Holdings → World → Answer) (s : State) {u v : View} → Tidies s u v → PerformsOver holds f s u v
 tidied_first holds f s {u = u} {v = v} tidies = record {
@@ -323,21 +323,19 @@ untidied_first holds f s e {u = u} {v = v} why tidies = elim why [
 performs_moved : (a : Answer) (s : State) {u v w : View} → Tidies s u v → Performs a s v w → Performs a s u w
 performs_moved a s tidies performs = record { said = performs.said; so_far = first_moved tidies.printed performs.so_far; only_tidied = λ none. tidied_on (tidies_only tidies) (performs.only_tidied none); some = performs.some }
 
--- a tidying, with the trees before and after it
+-- a tidying that is done
 pub record Tidied (s : State) (u v : View) : Type 0 where
-  pub before : IsTree u
-  pub now : IsTree v
   pub tidies : Tidies s u v
-  pub tidy : IsTidy v
+  pub tidied : WasTidied s u v
 
 pub performs_tidied : (holds : Option Holdings) (f : Holdings → World → Answer) (s : State) {u v w : View} → Tidied s u v → PerformsOver holds f s v w → PerformsOver holds f s u w
 performs_tidied holds f s {u = u} {v = v} {w = w} t performs = record {
   changes = change_on u v w (tidied_changes s u v t.tidies) performs.changes;
-  performs = λ held is opens. subst (λ (x : World). Performs (f held x) s u w) (tidied_world s t.before t.now t.tidies opens) (performs_moved (f held (world_at s v)) s t.tidies (performs.performs held is (t.tidies.opens opens)));
+  performs = λ held is opens. subst (λ (x : World). Performs (f held x) s u w) (tidied_world s t.tidies opens) (performs_moved (f held (world_at s v)) s t.tidies (performs.performs held is (t.tidies.opens opens)));
 }
 
-done_moved : (held : Holdings) (a : Answer) (x : World) (s : State) {u v w : View} → Tidies s u v → IsTidy v → IsDone held a x v w → IsDone held a x u w
-done_moved held a x s tidies tidy done = record {
+done_moved : (held : Holdings) (a : Answer) (s : State) {u v w : View} → Tidies s u v → Settled (shows v) → IsDone held a (world_at s v) v w → IsDone held a (world_at s v) u w
+done_moved held a s tidies tidy done = record {
   only_tidied = λ none. tidied_on (tidies_only tidies) (done.only_tidied none);
   printed = done.printed ∙ ap (λ (p : List ℕ). p ++ joined a.pieces) tidies.printed;
   holds = done.holds;
@@ -345,11 +343,11 @@ done_moved held a x s tidies tidy done = record {
   text = done.text;
 }
 
-performed_moved : (held : Holdings) (a : Answer) (x : World) (s : State) (r : Result State RunEnd) (u v w : View) → Tidies s u v → IsTidy v → Performed held a x r v w → Performed held a x r u w
-performed_moved held a x s (Ok t) u v w tidies tidy done = (done.0, done.1, done_moved held a x s tidies tidy done.2)
-performed_moved held a x s (Err (Refused refusal)) u v w tidies tidy done = (done.0, done_moved held a x s tidies tidy done.1)
-performed_moved held a x s (Err Fault) u v w tidies tidy done = tt
-performed_moved held a x s (Err NoMemory) u v w tidies tidy done = record { said = done.said; so_far = first_moved tidies.printed done.so_far; opens = done.opens }
+performed_moved : (held : Holdings) (a : Answer) (s : State) (r : Result State RunEnd) (u v w : View) → Tidies s u v → Settled (shows v) → Performed held a (world_at s v) r v w → Performed held a (world_at s v) r u w
+performed_moved held a s (Ok t) u v w tidies tidy done = (done.0, done.1, done_moved held a s tidies tidy done.2)
+performed_moved held a s (Err (Refused refusal)) u v w tidies tidy done = (done.0, done_moved held a s tidies tidy done.1)
+performed_moved held a s (Err Fault) u v w tidies tidy done = tt
+performed_moved held a s (Err NoMemory) u v w tidies tidy done = record { said = done.said; so_far = first_moved tidies.printed done.so_far; opens = done.opens }
 
 opens_moved : (s : State) (r : Result State RunEnd) (u v w : View) → Tidies s u v → OpensBy s r v w → OpensBy s r u w
 opens_moved s (Ok t) u v w tidies opens = λ before. opens (tidies.opens before)
@@ -358,6 +356,6 @@ opens_moved s (Err e) u v w tidies opens = tt
 pub performed_tidied : (holds : Option Holdings) (f : Holdings → World → Answer) (s : State) (r : Result State RunEnd) (u v w : View) → Tidied s u v → PerformedOver holds f s r v w → PerformedOver holds f s r u w
 performed_tidied holds f s r u v w t done = record {
   opens = opens_moved s r u v w t.tidies done.opens;
-  performed = λ held is opens. subst (λ (x : World). Performed held (f held x) x r u w) (tidied_world s t.before t.now t.tidies opens)
-      (performed_moved held (f held (world_at s v)) (world_at s v) s r u v w t.tidies t.tidy (done.performed held is (t.tidies.opens opens)));
+  performed = λ held is opens. subst (λ (x : World). Performed held (f held x) x r u w) (tidied_world s t.tidies opens)
+      (performed_moved held (f held (world_at s v)) s r u v w t.tidies (t.tidied.settled opens) (done.performed held is (t.tidies.opens opens)));
 }

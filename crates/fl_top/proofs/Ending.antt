@@ -39,8 +39,8 @@ use Rattle.fl_top.specs.Says.{Says, WasSaid, Refuses}
 use Rattle.fl_top.specs.Changes.{IsUntouched}
 use Rattle.dep_states.specs.Names.{config}
 use Rattle.fl_top.specs.Status.{status_of, status_by, IsAnswered}
-use Rattle.fl_top.proofs.Same.{unmoved, same_shown, same_sound}
-use Rattle.fl_top.proofs.Starting.{same_tidy, stood, unchanged}
+use Rattle.fl_top.proofs.Same.{unmoved, same_shown, same_sound, same_settled}
+use Rattle.fl_top.proofs.Starting.{stood, unchanged}
 use Rattle.fl_top.proofs.Changing.{tidied_on, tidied_none, untouched_both, text_on, keeps_files}
 use Rattle.fl_top.proofs.Turning.{joined-append}
 use Rattle.fl_top.proofs.Refusing.{of_changing}
@@ -117,14 +117,14 @@ refusing a r {u = u} {v = v} {w = w} is runs done says = elim (says.printed) [
     said = a.pieces;
     so_far = before_last a (none ∙ done.printed);
     prefix = λ sound disk left. prefix_all a a.pieces refl (just_on (ops_of a) says.follows (done.just sound) disk left);
-    only_tidied = λ none. tidied_on (runs.only_tidied none) (tidied_none says.untouched.names);
+    only_tidied = λ none s at. tidied_on (runs.only_tidied none s at) (tidied_none says.untouched.names);
     untouched = λ why. untouched_on (runs.untouched why) says;
   }
   | inr more ↦ record {
     said = lines_of a;
     so_far = all_lines a (with_last a r u v w is done.printed more);
     prefix = λ sound disk left. prefix_all a (lines_of a) (ops_lines a) (just_on (ops_of a) says.follows (done.just sound) disk left);
-    only_tidied = λ none. tidied_on (runs.only_tidied none) (tidied_none says.untouched.names);
+    only_tidied = λ none s at. tidied_on (runs.only_tidied none s at) (tidied_none says.untouched.names);
     untouched = λ why. untouched_on (runs.untouched why) says;
   }
 ]
@@ -146,7 +146,7 @@ answers_all a r status {u = u} {v = v} {w = w} is status_is done said = record {
   status_is = status_is ∙ ap status_by (sym is);
   printed = with_last a r u v w is done.printed said.printed;
   shown = λ sound s at. same_shown said.shown (done.shown sound s at);
-  tidied = λ sound why. same_tidy said.untouched.names (done.tidied sound why);
+  tidied = λ sound why. same_settled said.shown (done.tidied sound why);
   text = λ some s at. text_on (said.untouched.names config) (keeps_files said.untouched) (done.text some s at);
 }
 

@@ -26,9 +26,9 @@ use Rattle.fl_top.specs.Says.{Says, WasSaid}
 use Rattle.fl_top.specs.declared.end.RunEnd.{RunEnd}
 use Rattle.fl_top.specs.declared.end.RunEnd.TheVariants.{NoMemory}
 use Rattle.fl_top.proofs.Saying.{says_step, was_said}
-use Rattle.fl_top.proofs.Same.{same_shown}
+use Rattle.fl_top.proofs.Same.{same_shown, same_settled}
 use Rattle.fl_top.proofs.Changing.{tidied_none, keeps_files, same_untouched}
-use Rattle.fl_top.proofs.Starting.{Keeping, begun, unchanged, look_not_open, halted_look, shows_before, same_tidy}
+use Rattle.fl_top.proofs.Starting.{Keeping, begun, unchanged, look_not_open, halted_look, shows_before}
 use Rattle.fl_top.proofs.Over.{over_is, counts_shown}
 use Rattle.fl_top.proofs.Composing.{is_err}
 
@@ -47,7 +47,7 @@ telling text {u = u} {w = w} says_it = elim (says_it.printed) [
     said = piece_of text ∷ [];
     so_far = told_printed text u w more;
     prefix = λ sound disk left. let just = shows_before says_it.follows sound disk left in record { done = []; undone = []; prefix = refl; more = []; holds = refl; shown = just.shown; sound = just.sound };
-    only_tidied = λ none. tidied_none says_it.untouched.names;
+    only_tidied = λ none s at. tidied_none says_it.untouched.names;
     untouched = λ why. says_it.untouched;
   }
 ]
@@ -57,7 +57,7 @@ tells text {u = u} {w = w} said_it = record {
   printed = (told_printed text u w said_it.printed).printed;
   just = λ sound disk left. shows_before said_it.follows sound disk left;
   shown = λ sound s at. same_shown said_it.shown at;
-  tidied = λ sound why. elim why [ inl tidy ↦ same_tidy said_it.untouched.names tidy | inr some ↦ absurd (some refl) ];
+  tidied = λ sound why. elim why [ inl settled ↦ same_settled said_it.shown settled | inr some ↦ absurd (some refl) ];
   text = λ some s at. absurd (some refl);
 }
 

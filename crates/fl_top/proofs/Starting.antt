@@ -14,13 +14,11 @@ use Rattle.fp_small.proofs.Keeping.{files_stay, files_kept}
 use Rattle.fp_small.specs.declared.state.State.{State}
 use Rattle.fp_small.specs.declared.refusal.Refusal.{Refusal}
 use Rattle.fp_small.specs.declared.refusal.Refusal.TheVariants.{Damaged}
-use Rattle.dep_states.specs.Names.{config, remotes_conf, pins_file}
 use Rattle.dep_states.specs.Shown.{Shows}
 use Rattle.dep_states.specs.Sound.{IsSound, Opens}
 use Rattle.dep_states.specs.After.{Done, after_all}
 use Rattle.dep_states.proofs.Single.{one_state}
 use Rattle.dep_open.specs.Open.{NotShown, NoName, IsOpened, Opened, StaysUnread}
-use Rattle.dep_open.specs.Tidy.{IsTidy}
 use Rattle.dep_open.specs.declared.open_end.OpenEnd.{OpenEnd}
 use Rattle.dep_open.specs.declared.open_end.OpenEnd.TheVariants as open_end
 use Rattle.fl_top.specs.World.{World, world, world_at}
@@ -30,11 +28,11 @@ use Rattle.fl_top.specs.Runs.{ShowsAfter, IsPrefix, IsJust, Printed, Runs, Stand
 use Rattle.fl_top.specs.Performs.{Performs, IsDone, IsHalted, Performed, PerformsOver, PerformedOver, RunsOver, Completes, Ended, EndedOver, LookedOver}
 use Rattle.fl_top.specs.declared.end.RunEnd.{RunEnd}
 use Rattle.fl_top.specs.declared.end.RunEnd.TheVariants.{Refused, Fault, NoMemory}
-use Rattle.fl_top.specs.Changes.{IsUntouched, HasText}
+use Rattle.fl_top.specs.Changes.{IsUntouched, HasText, OnlyTidied}
 use Rattle.fl_top.proofs.Changing.{change_on, change_none, tidied_on, tidied_none, same_untouched}
-use Rattle.fl_top.proofs.Same.{unmoved, same_shown, same_sound, now_left}
+use Rattle.fl_top.proofs.Same.{unmoved, same_shown, same_sound, same_settled, now_left}
 use Rattle.fl_top.proofs.Over.{over_is, over_damaged, not_shown, counts_shown, counts_damaged}
-use Rattle.fl_top.proofs.Worlds.{store_same, worlds_state}
+use Rattle.fl_top.proofs.Worlds.{store_same, shows_same, worlds_state}
 
 -- ---- nothing is printed and nothing shown changes
 
@@ -66,7 +64,7 @@ prefix_none a just = record { done = []; undone = ops_of a; prefix = refl; more 
 
 pub begun : (a : Answer) {u w : View} → Keeping u w → (IsAtOnce a.refusal → IsUntouched u w) → Runs a u w
 begun a keeping untouched = record {
-  only_tidied = λ none. tidied_none keeping.names;
+  only_tidied = λ none s at. tidied_none keeping.names;
   said = [];
   so_far = none_yet a keeping.printed;
   prefix = λ sound disk left. prefix_none a (shows_before keeping.follows sound disk left);
@@ -91,14 +89,6 @@ begun_over holds f late {u = u} keeping unread = record {
 pub stood : (a : Answer) {u w : View} → Keeping u w → Stands a u w
 stood a keeping = record { said = []; so_far = none_yet a keeping.printed; just = shows_before keeping.follows }
 
--- ---- what is tidy stays tidy where no name changes
-
-pub same_tidy : {u w : View} → ((q : Elements) → w.names q ≡ u.names q) → IsTidy u → IsTidy w
-same_tidy same tidy = record {
-  work = λ q below. same q ∙ tidy.work q below;
-  old = λ there. let gone = tidy.old (λ none. there (same config ∙ none)) in (same remotes_conf ∙ gone.0, same pins_file ∙ gone.1);
-}
-
 -- ---- once it was opened
 
 pub shown_after : (u : View) (s : State) (done : List Done) (disk : Disk) → Shows (shows u) s → Shows disk (after_all s done) → ShowsAfter u done disk
@@ -118,13 +108,17 @@ pub record Begun (s : State) (u v : View) : Type 0 where
 ready_sound : {s : State} {u : View} → Shows (shows u) s → IsReady u → IsSound u
 ready_sound {s = s} shown ready = elim ready [ inl sound ↦ sound | inr none ↦ absurd (none s shown) ]
 
+-- what stands was seen before
+begun_seen : {s : State} {u v : View} → Begun s u v → IsTree v → (q : Elements) → shows v q ≡ shows u q
+begun_seen {u = u} {v = v} begun tree q = shows_same u v begun.before tree begun.keeping.files q (begun.keeping.names q)
+
 -- the world that is worked on is the one that the image shows
 begun_world : (s : State) {u v : View} → Begun s u v → IsTree v → world_at s v ≡ world_at s u
 begun_world s {u = u} {v = v} begun tree = ap (world s) (store_same u v begun.before tree begun.keeping.files (λ d kind. begun.keeping.names (object_path repo d kind)))
 
 runs_opened : (a : Answer) (s : State) {u v w : View} → (IsAtOnce a.refusal → ⊥) → IsOpened s u v → Keeping u v → Performs a s v w → Runs a u w
-runs_opened a s {u = u} late opened keeping performs = record {
-  only_tidied = λ none. tidied_on (tidied_none keeping.names) (performs.only_tidied none);
+runs_opened a s {u = u} {w = w} late opened keeping performs = record {
+  only_tidied = λ none t at. subst (λ (z : State). OnlyTidied z u w) (one_state (shows u) s t opened.shown at) (tidied_on (tidied_none keeping.names) (performs.only_tidied none));
   said = performs.said;
   so_far = moved keeping.printed performs.so_far;
   prefix = λ sound disk left.
@@ -151,14 +145,14 @@ runs_over holds f s {u = u} {v = v} {w = w} late begun tree performs = record {
   untouched = λ none. absurd (none s begun.opened.shown);
 }
 
-completes : (held : Holdings) (a : Answer) (s : State) (x : World) {u v w : View} → x.state ≡ s → IsOpened s u v → Keeping u v → IsDone held a x v w → Completes a u w
-completes held a s x {u = u} {w = w} same opened keeping is = record {
+completes : (held : Holdings) (a : Answer) (s : State) (x : World) {u v w : View} → x.state ≡ s → ((q : Elements) → shows v q ≡ shows u q) → IsOpened s u v → Keeping u v → IsDone held a x v w → Completes a u w
+completes held a s x {u = u} {w = w} same seen opened keeping is = record {
   printed = is.printed ∙ ap (λ (p : List ℕ). p ++ joined a.pieces) keeping.printed;
   just = λ sound disk left. record { shown = shown_after u s (ops_of a) disk opened.shown (opens.shown disk left); sound = opens.sound disk left };
   shown = λ sound t at.
       let one : s ≡ t = one_state (shows u) s t opened.shown at in
       subst (λ (z : State). Shows (shows w) (after_all z (ops_of a))) one (opens.shown (shows w) (now_left w));
-  tidied = λ sound why. is.tidied (elim why [ inl tidy ↦ inl (same_tidy keeping.names tidy) | inr some ↦ inr some ]);
+  tidied = λ sound why. is.tidied (elim why [ inl settled ↦ inl (same_settled seen settled) | inr some ↦ inr some ]);
   text = λ some t at.
       let one : s ≡ t = one_state (shows u) s t opened.shown at in
       subst (λ (z : State). HasText (after_all z (ops_of a)) w) (same ∙ one) (is.text some);
@@ -174,17 +168,17 @@ stands a s {u = u} opened keeping is = record {
   just = λ sound disk left. record { shown = shown_after u s (ops_in is.said) disk opened.shown (is.opens.shown disk left); sound = is.opens.sound disk left };
 }
 
-ended : (held : Holdings) (a : Answer) (s : State) (e : RunEnd) {u v : View} (w : View) → IsOpened s u v → Keeping u v → Performed held a (world_at s v) (Err e) v w → Ended a (Err e) u w
-ended held a s (Refused refusal) {v = v} w opened keeping is = (is.0, completes held a s (world_at s v) refl opened keeping is.1)
-ended held a s Fault w opened keeping is = tt
-ended held a s NoMemory w opened keeping is = stands a s opened keeping is
+ended : (held : Holdings) (a : Answer) (s : State) (e : RunEnd) {u v : View} (w : View) → Begun s u v → IsTree v → Performed held a (world_at s v) (Err e) v w → Ended a (Err e) u w
+ended held a s (Refused refusal) {v = v} w begun tree is = (is.0, completes held a s (world_at s v) refl (begun_seen begun tree) begun.opened begun.keeping is.1)
+ended held a s Fault w begun tree is = tt
+ended held a s NoMemory w begun tree is = stands a s begun.opened begun.keeping is
 
 pub failed_over : (holds : Option Holdings) (f : Holdings → World → Answer) (s : State) (e : RunEnd) {u v : View} (w : View) → Begun s u v → IsTree v → PerformedOver holds f s (Err e) v w → EndedOver holds f (Err e) u w
 failed_over holds f s e {u = u} {v = v} w begun tree is = record {
   ended = λ ready held told shown counts.
       let opens = begun.opened.opens (ready_sound begun.opened.shown ready) in
       subst (λ (a : Answer). Ended a (Err e) u w) (ap (f held) (begun_world s begun tree) ∙ sym (over_is (f held) (shows u) shown s begun.opened.shown counts))
-      (ended held (f held (world_at s v)) s e w begun.opened begun.keeping (is.performed held told opens));
+      (ended held (f held (world_at s v)) s e w begun tree (is.performed held told opens));
   given = λ held by. counts_shown (over (f held)) (shows u) s begun.opened.shown;
 }
 
@@ -194,7 +188,7 @@ done_over holds f s t {u = u} {v = v} w begun tree is = record {
       let opens = begun.opened.opens (ready_sound begun.opened.shown ready) in
       let done = is.performed held told opens in
       subst (λ (a : Answer). Ended a (Ok tt) u w) (ap (f held) (begun_world s begun tree) ∙ sym (over_is (f held) (shows u) shown s begun.opened.shown counts))
-      (done.0, completes held (f held (world_at s v)) s (world_at s v) refl begun.opened begun.keeping done.2);
+      (done.0, completes held (f held (world_at s v)) s (world_at s v) refl (begun_seen begun tree) begun.opened begun.keeping done.2);
   given = λ held by. counts_shown (over (f held)) (shows u) s begun.opened.shown;
 }
 
@@ -205,7 +199,7 @@ damaged path {u = u} keeping none = record {
   printed = keeping.printed ∙ sym (append-nil u.printed);
   just = shows_before keeping.follows;
   shown = λ sound s at. absurd (none s at);
-  tidied = λ sound why. elim why [ inl tidy ↦ same_tidy keeping.names tidy | inr some ↦ absurd (some refl) ];
+  tidied = λ sound why. let is = sound.shown (shows u) (now_left u) in absurd (none is.state is.shows);
   text = λ some s at. absurd (some refl);
 }
 

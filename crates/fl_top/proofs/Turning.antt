@@ -17,7 +17,7 @@ use Rattle.fl_words.specs.declared.command.Change.{Change}
 use Rattle.fl_top.specs.World.{World, world_at, world_after, worlds_after}
 use Rattle.fl_top.specs.Answer.{Answer, Piece, lines_of, last_of, joined, ops_in, ops_of, nothing, continued, followed, then_over, change_over, in_turn}
 use Rattle.fl_top.specs.Runs.{Printed}
-use Rattle.fl_top.specs.Changes.{HasText, Changes}
+use Rattle.fl_top.specs.Changes.{HasText, Changes, OnlyTidied}
 use Rattle.fl_top.proofs.Changing.{change_on, change_not, tidied_on, tidied_not, text_tidied}
 use Rattle.fl_top.proofs.Worlds.{holds_at, world_held, worlds_state}
 use Rattle.fl_top.specs.Performs.{IsSome, Performs, Holds, IsDone, Performed, PerformsOver, PerformedOver, OpensBy}
@@ -130,9 +130,13 @@ no_ops pieces b none =
     let none_of = sym (ops-append pieces b.pieces) ∙ none in
     (first_none (ops_in pieces) (ops_in b.pieces) none_of, second_none (ops_in pieces) (ops_in b.pieces) none_of)
 
+-- where no operation was done the state is that of before
+same_state : (held : Holdings) (pieces : List Piece) (x y : World) → y ≡ worlds_after held x (ops_in pieces) → ops_in pieces ≡ [] → y.state ≡ x.state
+same_state held pieces x y is none = ap (λ (q : World). q.state) is ∙ ap (λ (l : List Done). (worlds_after held x l).state) none
+
 performs_onto : (held : Holdings) (pieces : List Piece) (b : Answer) (x y : World) {v w z : View} → y ≡ worlds_after held x (ops_in pieces) → IsDone held (unrefused pieces) x v w → Performs b y.state w z → Performs (continued pieces None b) x.state v z
-performs_onto held pieces b x y is done performs = record {
-  only_tidied = λ none. let both = no_ops pieces b none in tidied_on (done.only_tidied both.0) (performs.only_tidied both.1);
+performs_onto held pieces b x y {w = w} {z = z} is done performs = record {
+  only_tidied = λ none. let both = no_ops pieces b none in tidied_on (done.only_tidied both.0) (subst (λ (s : State). OnlyTidied s w z) (same_state held pieces x y is both.0) (performs.only_tidied both.1));
   said = pieces ++ performs.said;
   so_far = printed_second pieces b performs.said done.printed performs.so_far;
   some = λ disk left. some_second pieces b performs.said x.state y.state (ap (λ (w : World). w.state) is ∙ worlds_state held x (ops_in pieces)) (performs.some disk left);
@@ -145,7 +149,7 @@ one_made (x ∷ xs) ys some = inl (λ none. cc none)
 
 done_onto : (held : Holdings) (pieces : List Piece) (b : Answer) (x y : World) {v w z : View} → y ≡ worlds_after held x (ops_in pieces) → IsDone held (unrefused pieces) x v w → IsDone held b y w z → KeepsFiles w z → IsDone held (continued pieces None b) x v z
 done_onto held pieces b x y {v = v} {w = w} {z = z} is done next kept = record {
-  only_tidied = λ none. let both = no_ops pieces b none in tidied_on (done.only_tidied both.0) (next.only_tidied both.1);
+  only_tidied = λ none. let both = no_ops pieces b none in tidied_on (done.only_tidied both.0) (subst (λ (s : State). OnlyTidied s w z) (same_state held pieces x y is both.0) (next.only_tidied both.1));
   printed = next.printed ∙ ap (λ (p : List ℕ). p ++ joined b.pieces) done.printed ∙ append_assoc v.printed (joined pieces) (joined b.pieces) ∙ ap (λ (p : List ℕ). v.printed ++ p) (sym (joined-append pieces b.pieces));
   holds = subst (λ (q : World). Holds q z) (worlds_pieces held x y pieces b.pieces is) next.holds;
   text = λ some. subst (λ (q : State). HasText q z) after_both (text_of (ops_of b) refl some);

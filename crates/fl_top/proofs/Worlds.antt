@@ -1,5 +1,5 @@
 -- The objects that a state's commits use, and the views that hold a world.
-use Rattle.std.proofs.Common.{◌≡◌, ◌≢◌, ◌⊎◌, inl, inr, ℕ, List, [], ◌∷◌, ◌++◌, length, Bool, true, false, ◌&&◌, ◌||◌, Option, Some, None, if◌then◌else◌, flat_map, refl, sym, ◌∙◌, ap, subst, arith}
+use Rattle.std.proofs.Common.{◌≡◌, ◌≢◌, ◌⊎◌, inl, inr, ℕ, suc, ◌<◌, List, [], ◌∷◌, ◌++◌, length, Bool, true, false, ◌&&◌, ◌||◌, Option, Some, None, if◌then◌else◌, Contains, refl, sym, ◌∙◌, ap, subst, arith}
 use Rattle.std.specs.List.{list_any}
 use Rattle.std.specs.Str.{bytes_eq}
 use Rattle.std.proofs.lemmas.Slice.Eq.{bytes_eq-Decides}
@@ -18,9 +18,14 @@ use Rattle.ost_model.specs.Order.{Place, In, order, Agree}
 use Rattle.ost_model.proofs.Places.{order_same}
 use Rattle.dep_states.specs.Sound.{Opens}
 use Rattle.dep_states.specs.After.{Done, after_all}
-use Rattle.fl_top.specs.World.{World, world, world_at, world_after, worlds_after, same_kind, is_at, kept_by, kept_commits, is_used, used_of}
+use Rattle.dep_states.specs.Settled.{Used}
+use Rattle.dep_tidy.specs.Kept.{kept_of}
+use Rattle.dep_tidy.specs.Tidy.{Tidies}
+use Rattle.dep_tidy.proofs.RowsKept.{kept_both}
+use Rattle.dep_tidy.proofs.Pruned.{row_keeps}
+use Rattle.fl_top.specs.World.{World, world, world_at, world_after, worlds_after, same_kind, is_at, kept_commits, is_used, used_of}
 use Rattle.fl_top.specs.Performs.{Holds}
-use Rattle.fl_top.proofs.Same.{same_opens}
+use Rattle.fl_top.proofs.Same.{same_opens, now_left}
 
 -- ---- what a list has
 
@@ -140,7 +145,7 @@ unfolding used_of
 used_by_refs s t h same = λ i d kind. each d kind i
   where
     each : (d : List ℕ) (kind : ObjKind) → (if is_used t h d kind then h d kind else None) ≡ (if is_used s h d kind then h d kind else None)
-    each d kind = ap (λ refs. if list_any (λ commit. list_any (is_at d kind) (order h commit)) (flat_map kept_by refs) then h d kind else None) same
+    each d kind = ap (λ refs. if list_any (λ commit. list_any (is_at d kind) (order h commit)) (kept_of refs) then h d kind else None) same
 
 -- ---- stores of views
 
@@ -179,3 +184,23 @@ world_held {x = x} {v = v} s same holds = ap (λ (t : State). world_at t v) same
 pub worlds_state : (held : Holdings) (x : World) (ops : List Done) → (worlds_after held x ops).state ≡ after_all x.state ops
 worlds_state held x [] = refl
 worlds_state held x (op ∷ ops) = worlds_state held (world_after held x op) ops
+
+-- ---- tidying
+
+in_contains : {A : Type 0} (xs : List A) (a : A) → In xs a → Contains xs a
+in_contains [] a none = absurd none
+in_contains (x ∷ xs) a (inl is) = (0, omega arith, is)
+in_contains (x ∷ xs) a (inr more) = let c = in_contains xs a more in (suc c.0, omega (arith, c.1), c.2)
+
+-- what a kept commit of the state uses is used in a view that shows it
+is_used_there : (s : State) (u : View) → Opens s u → (commit : List ℕ) → In (kept_commits s) commit → (p : Place) → In (order (store repo (shows u)) commit) p → Used (shows u) p.digest p.kind
+is_used_there s u opens commit kept p inside =
+    let row = (kept_both s.refs commit).0 (in_contains (kept_commits s) commit kept) in
+    record { name = row.0.name; commit = commit; place = p; kept = row_keeps (opens.shown (shows u) (now_left u)) row.0 commit row.1 row.2; inside = inside; digest_is = refl; kind_is = refl }
+
+-- so tidying leaves the world as it is
+pub tidied_store : (s : State) {u w : View} → Tidies s u w → Opens s u → used_of s (store repo (shows w)) ≡ used_of s (store repo (shows u))
+tidied_store s {u = u} {w = w} tidies opens = used_same s (store repo (shows u)) (store repo (shows w)) (λ commit kept p inside. tidies.used opens p.digest p.kind (is_used_there s u opens commit kept p inside))
+
+pub holds_tidied : {x : World} {v w : View} → Tidies x.state v w → Holds x v → Holds x w
+holds_tidied {x = x} tidies holds = record { opens = tidies.opens holds.opens; have = holds.have ∙ sym (tidied_store x.state tidies holds.opens) }

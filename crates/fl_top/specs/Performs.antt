@@ -13,7 +13,7 @@ use Rattle.dep_states.specs.Sound.{Sound, Opens, IsSound}
 use Rattle.dep_states.specs.After.{Done, plain, after, after_all}
 use Rattle.fl_lines.specs.Lines.{op_text}
 use Rattle.dep_open.specs.Open.{NotShown}
-use Rattle.dep_open.specs.Tidy.{IsTidy}
+use Rattle.dep_states.specs.Settled.{Settled}
 use Rattle.fl_words.specs.declared.command.Command.{Command}
 use Rattle.fl_top.specs.World.{World, world_at, used_of, world_after, worlds_after}
 use Rattle.fl_top.specs.Answer.{Answer, Given, Piece, joined, ops_in, ops_of, over, answer_over, op_answer, IsOver}
@@ -37,11 +37,11 @@ pub record IsSome (a : Answer) (acknowledged : List Done) (s : State) (disk : Di
   pub sound : Sound disk
 
 -- At every moment: the first pieces are said, and every stop leaves the state after a prefix of the operations. Where there are
--- none, names only went that are tidied.
+-- none, names only changed by tidying.
 pub record Performs (a : Answer) (s : State) (v w : View) : Type 0 where
   pub said : List Piece
   pub so_far : Printed a said v w
-  pub only_tidied : ops_of a ≡ [] → OnlyTidied v w
+  pub only_tidied : ops_of a ≡ [] → OnlyTidied s v w
   pub some : (disk : Disk) → Leaves w disk → IsSome a (ops_in said) s disk
 
 -- every outcome shows the world's state and is Sound, and what the state's commits use are the world's objects
@@ -49,13 +49,13 @@ pub record Holds (x : World) (v : View) : Type 0 where
   pub opens : Opens x.state v
   pub have : x.have ≡ used_of x.state (store repo (shows v))
 
--- all that isn't the line of a refusal was printed, every stop leaves the state after all operations, and all is tidy, where
--- it was or an operation was done
+-- all that isn't the line of a refusal was printed, every stop leaves the state after all operations, and all is settled,
+-- where it was or an operation was done
 pub record IsDone (held : Holdings) (a : Answer) (x : World) (v w : View) : Type 0 where
   pub printed : w.printed ≡ v.printed ++ joined a.pieces
-  pub only_tidied : ops_of a ≡ [] → OnlyTidied v w
+  pub only_tidied : ops_of a ≡ [] → OnlyTidied x.state v w
   pub holds : Holds (worlds_after held x (ops_of a)) w
-  pub tidied : IsTidy v ⊎ (ops_of a ≢ []) → IsTidy w
+  pub tidied : Settled (shows v) ⊎ (ops_of a ≢ []) → Settled (shows w)
   pub text : ops_of a ≢ [] → HasText (after_all x.state (ops_of a)) w
 
 -- every stop leaves the state after the acknowledged operations
@@ -122,7 +122,7 @@ pub record Completes (a : Answer) (u w : View) : Type 0 where
   pub printed : w.printed ≡ u.printed ++ joined a.pieces
   pub just : IsSound u → (disk : Disk) → Leaves w disk → IsJust (ops_of a) u disk
   pub shown : IsSound u → (s : State) → Shows (shows u) s → Shows (shows w) (after_all s (ops_of a))
-  pub tidied : IsSound u → IsTidy u ⊎ (ops_of a ≢ []) → IsTidy w
+  pub tidied : IsSound u → Settled (shows u) ⊎ (ops_of a ≢ []) → Settled (shows w)
   pub text : ops_of a ≢ [] → (s : State) → Shows (shows u) s → HasText (after_all s (ops_of a)) w
 
 abbrev pub Ended : Answer → Result (Unit {0}) RunEnd → View → View → Type 0

@@ -9,7 +9,7 @@ use Rattle.dep_states.specs.Shown.{Shows}
 use Rattle.dep_states.specs.Sound.{Sound, IsSound}
 use Rattle.dep_states.specs.After.{Done, after_all}
 use Rattle.dep_open.specs.Open.{NotShown}
-use Rattle.dep_open.specs.Tidy.{IsTidy}
+use Rattle.dep_states.specs.Settled.{Settled}
 use Rattle.fl_words.specs.declared.command.Command.{Command}
 use Rattle.fl_words.specs.Forms.{command_of}
 use Rattle.fl_top.specs.World.{World}
@@ -47,12 +47,12 @@ pub record Printed (a : Answer) (said : List Piece) (u w : View) : Type 0 where
 
 -- At every moment: the bytes printed since the start are the first pieces of the answer; every stop leaves the installation
 -- after a prefix of its operations that holds those that these pieces acknowledge. Where the answer has no operation, names
--- only went that are tidied. Where the words or the input are refused, no name changed, and no file.
+-- only changed by tidying. Where the words or the input are refused, no name changed, and no file.
 pub record Runs (a : Answer) (u w : View) : Type 0 where
   pub said : List Piece
   pub so_far : Printed a said u w
   pub prefix : IsSound u → (disk : Disk) → Leaves w disk → IsPrefix a (ops_in said) u disk
-  pub only_tidied : ops_of a ≡ [] → OnlyTidied u w
+  pub only_tidied : ops_of a ≡ [] → (s : State) → Shows (shows u) s → OnlyTidied s u w
   pub untouched : IsAtOnce a.refusal → IsUntouched u w
 
 -- every stop leaves the installation after the acknowledged operations
@@ -61,13 +61,13 @@ pub record Stands (a : Answer) (u w : View) : Type 0 where
   pub so_far : Printed a said u w
   pub just : IsSound u → (disk : Disk) → Leaves w disk → IsJust (ops_in said) u disk
 
--- The whole answer was printed; what stands now is the state after its operations. Where one was done, or all was tidy before,
--- all is tidy. Where one was done `config` has exactly its text, and the permission bits 0644.
+-- The whole answer was printed; what stands now is the state after its operations. Where one was done, or all was settled before,
+-- all is settled. Where one was done `config` has exactly its text, and the permission bits 0644.
 pub record Answers (a : Answer) (status : ℕ) (u w : View) : Type 0 where
   pub status_is : status ≡ status_at a
   pub printed : w.printed ≡ u.printed ++ joined (lines_of a)
   pub shown : IsSound u → (s : State) → Shows (shows u) s → Shows (shows w) (after_all s (ops_of a))
-  pub tidied : IsSound u → IsTidy u ⊎ (ops_of a ≢ []) → IsTidy w
+  pub tidied : IsSound u → Settled (shows u) ⊎ (ops_of a ≢ []) → Settled (shows w)
   pub text : ops_of a ≢ [] → (s : State) → Shows (shows u) s → HasText (after_all s (ops_of a)) w
 
 -- At the return. 3 says that the host failed, 5 that the input did, and 6 that there was no memory.

@@ -1,5 +1,5 @@
 -- What a command works on: the state of the installation, and the objects that it has.
-use Rattle.std.specs.Prelude.{◌≡◌, ℕ, List, [], ◌∷◌, Bool, true, false, ◌&&◌, Option, Some, None, if◌then◌else◌, flat_map}
+use Rattle.std.specs.Prelude.{◌≡◌, ℕ, List, [], ◌∷◌, Bool, true, false, ◌&&◌, Option, Some, None, if◌then◌else◌}
 use Rattle.std.specs.List.{list_any}
 use Rattle.std.specs.Str.{bytes_eq}
 use Rattle.fp_host.specs.Outcome.{Disk, shows}
@@ -11,9 +11,7 @@ use Rattle.fp_base.specs.declared.object.ObjKind.TheVariants as kinds
 use Rattle.fp_small.specs.Places.{repo}
 use Rattle.fp_small.specs.Config.{name_of}
 use Rattle.fp_small.specs.declared.state.State.{State}
-use Rattle.fp_small.specs.declared.state.RefRow.{RefRow}
 use Rattle.fp_small.specs.declared.state.RemoteRow.{RemoteRow}
-use Rattle.fp_small.specs.declared.state.Previous.{Previous}
 use Rattle.fp_small.specs.declared.op.Op.{Op}
 use Rattle.fp_small.specs.declared.op.Op.TheVariants.{Install, Update}
 use Rattle.ost_model.specs.Objects.{Have, store, supply}
@@ -21,6 +19,7 @@ use Rattle.ost_model.specs.Order.{Place, order}
 use Rattle.ost_model.specs.Remotes.{remote}
 use Rattle.dep_states.specs.Shown.{at_name}
 use Rattle.dep_states.specs.After.{Done, after}
+use Rattle.dep_tidy.specs.Kept.{kept_of}
 
 -- ---- the objects that commits use
 
@@ -35,16 +34,9 @@ same_kind _ _ = false
 abbrev pub is_at : List ℕ → ObjKind → Place → Bool
 is_at d kind p = bytes_eq p.digest d && same_kind p.kind kind
 
-abbrev pub previous_commit : Option Previous → List (List ℕ)
-previous_commit None = []
-previous_commit (Some p) = p.commit ∷ []
-
 -- the commits that a state keeps: of each ref its commit and the previous one
-abbrev pub kept_by : RefRow → List (List ℕ)
-kept_by row = row.commit ∷ previous_commit row.previous
-
 abbrev pub kept_commits : State → List (List ℕ)
-kept_commits s = flat_map kept_by s.refs
+kept_commits s = kept_of s.refs
 
 -- the object stands in the order of a commit that the state keeps
 abbrev pub is_used : State → Have → List ℕ → ObjKind → Bool

@@ -14,8 +14,9 @@ ghost use Rattle.fl_top.specs.Runs.{IsReady};
 ghost use Rattle.fl_top.specs.Status.{IsChange};
 
 use crate::end::RunEnd;
-use dep_open::{open, tidy};
+use dep_open::open;
 use dep_states::Opened;
+use dep_tidy::tidy;
 use fl_lines::op_line;
 use fl_words::Change;
 use fp_base::What;

@@ -17,7 +17,7 @@ returns-in_err-tidy-clause-any_moment g c = λ holds.
 
 pub returns-clause-any_moment : goal.returns-clause-any_moment
 returns-clause-any_moment g c = λ holds.
-    goes_tidied holds c.args.op.now c.args.opened c.in_ok-done.done _ (g.met.H.Host.is_tree c.args.host.now) (g.met.H.Host.is_tree c.do_and_say.new.host) (g.met.H.Host.is_tree c.tidy.new.host) (c.in_ok-done.ensures.any_moment holds) c.in_ok-done.ensures.state c.in_ok-tidy.ensures.state c.tidy.ensures.any_moment c.in_ok-tidy.ensures.on_success
+    goes_tidied holds c.args.op.now c.args.opened c.in_ok-done.done _ (g.met.H.Host.is_tree c.do_and_say.new.host) (c.in_ok-done.ensures.any_moment holds) c.in_ok-done.ensures.state c.in_ok-tidy.ensures.state c.tidy.ensures.any_moment c.in_ok-tidy.ensures.on_success
 
 pub returns-in_err-tidy-clause-fault_has_cause : goal.returns-in_err-tidy-clause-fault_has_cause
 returns-in_err-tidy-clause-fault_has_cause g c =
