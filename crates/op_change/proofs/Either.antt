@@ -1,5 +1,5 @@
 -- Replacing `config`: the state of before or the one after.
-use Rattle.std.proofs.Common.{◌≡◌, ◌≢◌, ◌⊎◌, ◌≤◌, inl, inr, ℕ, List, [], ◌∷◌, ◌++◌, length, Option, Some, None, Contains, refl, sym, ◌∙◌, ap, subst, arith, if◌then◌else◌, Ok, codes}
+use Rattle.std.proofs.Common.{◌≡◌, ◌⊎◌, ◌≤◌, inl, inr, ℕ, List, [], ◌∷◌, length, Option, Some, None, Contains, refl, sym, ◌∙◌, ap, subst, arith, if◌then◌else◌, codes}
 use Rattle.std.specs.Prelude.{map}
 use Rattle.std.specs.List.{AllByRecursion}
 use Rattle.std.proofs.lemmas.Bool.{le-leb}
@@ -9,12 +9,11 @@ use Rattle.fp_host.specs.View.{View, Inode, IsTree}
 use Rattle.fp_host.specs.Reads.{is_ascending}
 use Rattle.fp_host.specs.Outcome.{Spot, Disk, Leaves, gone, folder, holds, spot_of, holding, shows}
 use Rattle.fp_host.proofs.Settled.{at_tree}
-use Rattle.fp_name.specs.Kinds.{kind_word}
 use Rattle.fp_name.specs.Refs.{Ref}
 use Rattle.fp_small.specs.Places.{repo, tmp}
 use Rattle.fp_small.specs.Folders.{IsFree}
 use Rattle.fp_small.specs.Move.{IsNew, HasNew}
-use Rattle.fp_small.specs.Replace.{IsStaging, folders_of, ReplacesAt, Replaces, WasReplaced, CanReplace}
+use Rattle.fp_small.specs.Replace.{IsStaging, folders_of, ReplacesAt, ReplacesName, Replaces, WasReplaced, CanReplace}
 use Rattle.fp_small.specs.Config.{config_of, config_text, IsSettings}
 use Rattle.fp_small.specs.declared.config.Settings.{Settings}
 use Rattle.fp_small.specs.declared.state.State.{State}
@@ -23,7 +22,7 @@ use Rattle.fp_small.specs.declared.op.Op.TheVariants.{Install, Update, Uninstall
 use Rattle.fp_small.specs.declared.state.Layout.TheVariants.{Two}
 use Rattle.ost_model.specs.Objects.{object_path}
 use Rattle.dep_states.specs.Names.{config, remotes_conf, pins_file, commit_dir, deploy}
-use Rattle.dep_states.specs.Shown.{Seen, bad, there, read_of, config_at, config_most, layout_two, settings_at, settings_seen, settings_of, setup_of, ref_key, override_key, Shows}
+use Rattle.dep_states.specs.Shown.{bad, there, read_of, config_at, config_most, layout_two, settings_at, settings_seen, settings_of, setup_of, ref_key, override_key, Shows}
 use Rattle.dep_states.specs.Small.{IsSetting}
 use Rattle.dep_states.specs.Zones.{Allowed, IsFileOrGone, IsFolderOrGone}
 use Rattle.dep_states.specs.Sound.{Sound, Fixed, Permits, Opens, IsOld, is_remotes, is_pins}
@@ -36,10 +35,15 @@ use Rattle.dep_states.proofs.Switching.{none_in_tmp}
 use Rattle.fp_host.specs.Moments.{Moments, Goes}
 use Rattle.fp_host.specs.Frame.{AtEnd}
 use Rattle.fp_host.proofs.Goes.{begins}
-use Rattle.fp_host.proofs.Ending.{ends_goes, ends_both, ends_to}
+use Rattle.fp_host.proofs.Ending.{ends_in_tree, goes_known}
+use Rattle.fp_host.proofs.Framed.{IsTold}
+use Rattle.fp_base.specs.declared.object.ObjKind.{ObjKind}
+use Rattle.dep_states.specs.Switch.{OpensEither}
 use Rattle.fp_small.proofs.Pinning.{added, dropped}
 use Rattle.fp_small.proofs.Remoting as remotes
-use Rattle.op_change.specs.Applied.{IsOneOf, Applies, WasApplied}
+use Rattle.op_deploy.specs.Applied.{Does}
+use Rattle.op_deploy.proofs.Objects.{same_objects}
+use Rattle.op_change.specs.Applied.{SettingsDone}
 use Rattle.op_change.proofs.Sizes.{config_fits}
 
 -- what stands now is an outcome
@@ -227,27 +231,42 @@ module _ {s t : State} {u w : View} (next : IsNext s t) (reads : ReadsBack t) (r
     either_there : Shows disk s ⊎ Shows disk t
     either_there = elim (step config) [ inl same ↦ inl (old_there same) | inr given ↦ inr (new_there (given_new u bytes (disk config) given)) ]
 
-  pub either : IsOneOf s t w
+  pub either : OpensEither s t w
   either = record { shown = either_there; sound = sound_there }
 
   pub opens_after : WasReplaced config bytes u w → Opens t w
   opens_after was_replaced = record { shown = λ disk left. new_there disk left (was_replaced.new.each disk left); sound = sound_there }
 
-pub applies : {s : State} {op : Op} {t : State} {u w : View} → t ≡ after s (plain op) → IsNext s t → ReadsBack t → Replaces config (config_text (settings_of t)) u w → Applies s op u w
-applies {s = s} {w = w} is next reads replaces = record {
-  either = λ opens. subst (λ x. IsOneOf s x w) is (either next reads replaces opens);
+abbrev Changes : State → Op → View → View → Type 0
+Changes s op = Does s (after s (plain op)) (ReplacesName config)
+
+pub applies : {s : State} {t : State} {u w : View} (op : Op) → t ≡ after s (plain op) → IsNext s t → ReadsBack t → Replaces config (config_text (settings_of t)) u w → Changes s op u w
+applies {s = s} {w = w} op is next reads replaces = record {
+  either = λ opens. subst (λ x. OpensEither s x w) is (either next reads replaces opens);
   names = replaces.keeps.names;
   files = replaces.files;
   printed = replaces.keeps.printed;
 }
 
-pub was_applied : {s : State} {op : Op} {t : State} {u w : View} → t ≡ after s (plain op) → IsNext s t → ReadsBack t → Replaces config (config_text (settings_of t)) u w → WasReplaced config (config_text (settings_of t)) u w → WasApplied s op u w
-was_applied {t = t} {w = w} is next reads replaces was = record {
-  opens = λ opens. subst (λ x. Opens x w) is (opens_after next reads replaces opens was);
-  text = subst (λ x. HasNew config (config_text (settings_of x)) w) is was.new;
-  config = λ disk left. is_there disk (config_text (settings_of t)) (was.new.each disk left);
-  settled = was.settled;
-  work = was.work;
+-- no name of an object
+no_object : (u : View) (d : List ℕ) (kind : ObjKind) (e : Slot) → ReplacesName config u (object_path repo d kind) e → ⊥
+no_object u d kind e put = elim put [
+  | inl new ↦ cc new.0
+  | inr other ↦ elim other [ inl made ↦ elim (which (object_path repo d kind) made.0) [ inl is ↦ cc is | inr is ↦ cc is ] | inr work ↦ cc work.is ]
+]
+
+pub was_applied : {s : State} {t : State} {u w : View} (op : Op) → IsTree u → IsTree w → t ≡ after s (plain op) → IsNext s t → ReadsBack t → Replaces config (config_text (settings_of t)) u w → WasReplaced config (config_text (settings_of t)) u w → SettingsDone s (after s (plain op)) u w
+was_applied {t = t} {u = u} {w = w} op start after_ is next reads replaces put = record {
+  done = record {
+    opens = λ opens. subst (λ x. Opens x w) is (opens_after next reads replaces opens put);
+    settled = put.settled;
+    objects = same_objects (ReplacesName config u) start after_ replaces.files replaces.keeps.names (no_object u);
+  };
+  settings = record {
+    text = subst (λ x. HasNew config (config_text (settings_of x)) w) is put.new;
+    config = λ disk left. is_there disk (config_text (settings_of t)) (put.new.each disk left);
+    work = put.work;
+  };
 }
 
 -- ---- where it may be written
@@ -304,10 +323,14 @@ next_after s (Rollback name commit) may on good = absurd on
 
 -- ---- what the parts of the call tell of it
 
-pub moments_applied : {a b : Option Moments} {s : State} {op : Op} {t : State} → ((m : Moments) → a ≡ Some m → IsTree m.now) → t ≡ after s (plain op) → IsNext s t → ReadsBack t
-    → Goes a b (Replaces config (config_text (settings_of t))) (Replaces config (config_text (settings_of t))) → Goes a b (Applies s op) (Applies s op)
-moments_applied tree is next reads goes = begins tree goes (λ u w here replaces. applies is next reads replaces) (λ u w here replaces end. applies is next reads replaces)
+pub moments_applied : {a b : Option Moments} {s : State} {t : State} (op : Op) → IsTold a → t ≡ after s (plain op) → IsNext s t → ReadsBack t
+    → Goes a b (Replaces config (config_text (settings_of t))) (Replaces config (config_text (settings_of t))) → Goes a b (Changes s op) (Changes s op)
+moments_applied op tree is next reads goes = begins tree goes (λ u w here replaces. applies op is next reads replaces) (λ u w here replaces end. applies op is next reads replaces)
 
-pub ends_applied : {a b : Option Moments} {s : State} {op : Op} {t : State} → ((m : Moments) → a ≡ Some m → IsTree m.now) → t ≡ after s (plain op) → IsNext s t → ReadsBack t
-    → Goes a b (Replaces config (config_text (settings_of t))) (Replaces config (config_text (settings_of t))) → AtEnd (WasReplaced config (config_text (settings_of t))) a b → AtEnd (WasApplied s op) a b
-ends_applied tree is next reads goes done = ends_to (ends_both (ends_goes tree goes) done) (λ u w both. was_applied is next reads both.0 both.1)
+pub ends_applied : {a b : Option Moments} {s : State} {t : State} (op : Op) → IsTold a → IsTold b → t ≡ after s (plain op) → IsNext s t → ReadsBack t
+    → Goes a b (Replaces config (config_text (settings_of t))) (Replaces config (config_text (settings_of t))) → AtEnd (WasReplaced config (config_text (settings_of t))) a b → AtEnd (SettingsDone s (after s (plain op))) a b
+ends_applied {t = t} op tree last is next reads goes done =
+    let bytes = config_text (settings_of t) in
+    ends_in_tree {Q = λ u w. IsTree u × Replaces config bytes u w × WasReplaced config bytes u w} last
+    (record { goes = begins tree (goes_known goes done) (λ u w here replaces. tt) (λ u w here replaces both. (here, both.0, both.1)) })
+    (λ u w after_ all. was_applied op all.0 after_ is next reads all.1 all.2)

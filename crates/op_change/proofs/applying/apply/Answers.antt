@@ -1,48 +1,73 @@
-use Rattle.std.proofs.Common.{◌≡◌, ◌∙◌, ap, sym, subst, arith, IsErrOf}
-use Rattle.fp_host.proofs.Cause.{passed_on, same_fault}
-use Rattle.fp_host.proofs.Ending.{ends_start}
-use Rattle.fp_host.specs.declared.host.HostEnd.TheVariants.{Fault}
-use Rattle.fp_small.specs.Replace.{CanReplace}
-use Rattle.fp_small.specs.declared.state.State.{State}
-use Rattle.dep_states.specs.After.{after, plain, IsGood}
-use Rattle.dep_states.specs.Shown.{settings_of}
-use Rattle.dep_states.specs.Names.{config}
-use Rattle.dep_states.specs.Sound.{Opens}
-use Rattle.fp_small.proofs.ConfigTexts.{written_back}
-use Rattle.op_change.proofs.Either.{IsNext, next_after, next_good, moments_applied, ends_applied, can_replace}
+use Rattle.std.proofs.Common.{inl, inr, sym, subst}
+use Rattle.std.proofs.lemmas.Result.{on_ok_weaker}
+use Rattle.fp_small.specs.declared.op.Op.TheVariants.{Uninstall, SetOverride, DropOverride, Rollback}
+use Rattle.dep_states.specs.After.{after, plain, IsOnConfig}
+use Rattle.op_change.proofs.Grown.{good_set, good_drop, good_uninstall, good_rollback}
+use Rattle.op_change.proofs.Joined.{on_config, goes_applies, ends_settings, goes_as, done_as, good_if, allowed}
 use Rattle.op_change.proofs.applying.apply.Goals as goal
 
-pub write_state-requires : goal.write_state-requires
-write_state-requires g c =
-    let is : c.in_ok-state.state ≡ after c.args.opened (plain c.args.op.now) = c.in_ok-state.ensures ∙ ap (λ (s : State). after s (plain c.args.op.now)) c.take.ensures in
-    (subst (IsNext c.args.opened) (sym is) (next_after c.args.opened c.args.op.now c.requires.may c.requires.here c.requires.good)).settings
+-- ---- refs
 
-pub returns-in_err-write_state-clause-any_moment : goal.returns-in_err-write_state-clause-any_moment
-returns-in_err-write_state-clause-any_moment g c =
-    let is : c.in_ok-state.state ≡ after c.args.opened (plain c.args.op.now) = c.in_ok-state.ensures ∙ ap (λ (s : State). after s (plain c.args.op.now)) c.take.ensures in
-    let good = subst (IsNext c.args.opened) (sym is) (next_after c.args.opened c.args.op.now c.requires.may c.requires.here c.requires.good) in
-    moments_applied (g.met.H.Host.is_tree c.args.host.now) is good (written_back (settings_of c.in_ok-state.state) good.settings) c.write_state.ensures.any_moment
+pub returns-in-Uninstall-clause-good : goal.returns-in-Uninstall-clause-good
+returns-in-Uninstall-clause-good g c =
+    good_if c.uninstall.result (after c.args.opened (plain (Uninstall c.in-Uninstall.name))) (good_uninstall c.args.opened c.in-Uninstall.name c.requires.good) c.uninstall.ensures.state
 
-pub returns-in_err-write_state-clause-fault_has_cause : goal.returns-in_err-write_state-clause-fault_has_cause
-returns-in_err-write_state-clause-fault_has_cause g c =
-    let t = g.met.H.Host.is_tree c.args.host.now in
-    passed_on _ (IsErrOf c.write_state.result Fault) (Opens c.args.opened) (CanReplace config) _ _ _ t (omega arith) (ends_start t) c.write_state.ensures.fault_has_cause
-    (same_fault c.write_state.result _ c.in_err-write_state.field-0.0 c.in_err-write_state.was c.from_residual-in_err-write_state.ensures.1)
-    (λ u v tree q opens. subst (CanReplace config) (sym q) (can_replace u tree opens))
+pub returns-in-Uninstall-clause-any_moment : goal.returns-in-Uninstall-clause-any_moment
+returns-in-Uninstall-clause-any_moment g c =
+    goes_as c.args.opened c.args.op.now (Uninstall c.in-Uninstall.name) c.in-Uninstall.is (g.met.H.Host.is_tree c.args.host.now) (λ u q e put. put) c.uninstall.ensures.any_moment
 
-pub returns-clause-any_moment : goal.returns-clause-any_moment
-returns-clause-any_moment g c =
-    let is : c.in_ok-state.state ≡ after c.args.opened (plain c.args.op.now) = c.in_ok-state.ensures ∙ ap (λ (s : State). after s (plain c.args.op.now)) c.take.ensures in
-    let good = subst (IsNext c.args.opened) (sym is) (next_after c.args.opened c.args.op.now c.requires.may c.requires.here c.requires.good) in
-    moments_applied (g.met.H.Host.is_tree c.args.host.now) is good (written_back (settings_of c.in_ok-state.state) good.settings) c.write_state.ensures.any_moment
+pub returns-in-Rollback-clause-good : goal.returns-in-Rollback-clause-good
+returns-in-Rollback-clause-good g c =
+    let op = Rollback c.in-Rollback.name c.in-Rollback.commit in
+    good_if c.roll_back.result (after c.args.opened (plain op)) (good_rollback c.args.opened c.in-Rollback.name c.in-Rollback.commit (allowed c.args.opened c.args.op.now op c.in-Rollback.is c.requires.may) c.requires.good) c.roll_back.ensures.state
 
-pub returns-clause-on_success : goal.returns-clause-on_success
-returns-clause-on_success g c =
-    let is : c.in_ok-state.state ≡ after c.args.opened (plain c.args.op.now) = c.in_ok-state.ensures ∙ ap (λ (s : State). after s (plain c.args.op.now)) c.take.ensures in
-    let good = subst (IsNext c.args.opened) (sym is) (next_after c.args.opened c.args.op.now c.requires.may c.requires.here c.requires.good) in
-    ends_applied (g.met.H.Host.is_tree c.args.host.now) is good (written_back (settings_of c.in_ok-state.state) good.settings) c.write_state.ensures.any_moment c.in_ok-write_state.ensures.on_success
+pub returns-in-Rollback-clause-any_moment : goal.returns-in-Rollback-clause-any_moment
+returns-in-Rollback-clause-any_moment g c =
+    goes_as c.args.opened c.args.op.now (Rollback c.in-Rollback.name c.in-Rollback.commit) c.in-Rollback.is (g.met.H.Host.is_tree c.args.host.now) (λ u q e put. put) c.roll_back.ensures.any_moment
 
-pub returns-clause-good : goal.returns-clause-good
-returns-clause-good g c =
-    let is : c.in_ok-state.state ≡ after c.args.opened (plain c.args.op.now) = c.in_ok-state.ensures ∙ ap (λ (s : State). after s (plain c.args.op.now)) c.take.ensures in
-    subst IsGood (sym c.of.ensures) (next_good c.requires.good (subst (IsNext c.args.opened) (sym is) (next_after c.args.opened c.args.op.now c.requires.may c.requires.here c.requires.good)))
+pub returns-in-Rollback-clause-on_success : goal.returns-in-Rollback-clause-on_success
+returns-in-Rollback-clause-on_success g c =
+    on_ok_weaker c.roll_back.result (λ done. done_as c.args.opened c.args.op.now (Rollback c.in-Rollback.name c.in-Rollback.commit) c.in-Rollback.is (λ on. on) done) c.roll_back.ensures.on_success
+
+-- ---- overrides
+
+pub returns-in-SetOverride-clause-good : goal.returns-in-SetOverride-clause-good
+returns-in-SetOverride-clause-good g c =
+    let op = SetOverride c.in-SetOverride.row in
+    let allows = allowed c.args.opened c.args.op.now op c.in-SetOverride.is c.requires.may in
+    good_if c.set_override.result (after c.args.opened (plain op)) (good_set c.args.opened c.in-SetOverride.row allows.0 allows.1 c.requires.good) c.set_override.ensures.state
+
+pub returns-in-SetOverride-clause-any_moment : goal.returns-in-SetOverride-clause-any_moment
+returns-in-SetOverride-clause-any_moment g c =
+    goes_as c.args.opened c.args.op.now (SetOverride c.in-SetOverride.row) c.in-SetOverride.is (g.met.H.Host.is_tree c.args.host.now) (λ u q e put. put) c.set_override.ensures.any_moment
+
+pub returns-in-DropOverride-clause-good : goal.returns-in-DropOverride-clause-good
+returns-in-DropOverride-clause-good g c =
+    good_if c.drop_override.result (after c.args.opened (plain (DropOverride c.in-DropOverride.name))) (good_drop c.args.opened c.in-DropOverride.name c.requires.good) c.drop_override.ensures.state
+
+pub returns-in-DropOverride-clause-any_moment : goal.returns-in-DropOverride-clause-any_moment
+returns-in-DropOverride-clause-any_moment g c =
+    goes_as c.args.opened c.args.op.now (DropOverride c.in-DropOverride.name) c.in-DropOverride.is (g.met.H.Host.is_tree c.args.host.now) (λ u q e put. put) c.drop_override.ensures.any_moment
+
+-- ---- settings
+
+pub returns-in-AddPin-clause-any_moment : goal.returns-in-AddPin-clause-any_moment
+returns-in-AddPin-clause-any_moment g c =
+    let on : IsOnConfig c.args.op.now = elim c.in-AddPin.is [
+      | inl x ↦ subst IsOnConfig (sym x.1) tt
+      | inr o ↦ elim o [
+        | inl x ↦ subst IsOnConfig (sym x.1) tt
+        | inr o ↦ elim o [
+          | inl x ↦ subst IsOnConfig (sym x.1) tt
+          | inr o ↦ elim o [
+            | inl x ↦ subst IsOnConfig (sym x.1) tt
+            | inr o ↦ elim o [ inl x ↦ subst IsOnConfig (sym x.1) tt | inr e ↦ subst IsOnConfig (sym e) tt ]
+          ]
+        ]
+      ]
+    ] in
+    goes_applies c.args.opened c.args.op.now (g.met.H.Host.is_tree c.args.host.now) (on_config c.args.op.now on) c.change_settings.ensures.any_moment
+
+pub returns-in-AddPin-clause-on_success : goal.returns-in-AddPin-clause-on_success
+returns-in-AddPin-clause-on_success g c =
+    on_ok_weaker c.change_settings.result (λ done. ends_settings c.args.opened c.args.op.now done) c.change_settings.ensures.on_success

@@ -1,0 +1,4 @@
+pub mod Objects
+pub mod Deployed
+pub mod Backing
+pub mod Leaving
