@@ -9,12 +9,14 @@ use Rattle.fp_small.specs.Replace.{ReplacesName, folders_of}
 use Rattle.fp_small.proofs.Keeping.{files_stay, files_on}
 use Rattle.fp_small.specs.declared.state.State.{State}
 use Rattle.fp_small.specs.declared.op.Op.{Op}
+use Rattle.fp_small.specs.declared.op.Op.TheVariants.{Install, Update, Uninstall, AddPin, DropPin, AddRemote, ModifyRemote, DropRemote, SetOverride, DropOverride, Migrate, Rollback}
+use Rattle.dep_states.specs.After.{plain, IsOnConfig}
 use Rattle.fp_base.specs.declared.object.ObjKind.{ObjKind}
 use Rattle.ost_model.specs.Objects.{object_path}
 use Rattle.dep_states.specs.Names.{config}
 use Rattle.dep_tidy.specs.Tidy.{MayTidy, Tidies}
 use Rattle.dep_tidy.proofs.Left.{config_left}
-use Rattle.op_change.specs.Applied.{Applies}
+use Rattle.op_change.specs.Applied.{Applies, MayChange}
 use Rattle.fl_top.specs.Changes.{MayHold, new_config, work_folder, some_work, tidied, Changes, OnlyTidied, IsUntouched, HasText}
 
 pub change_on : (u v w : View) → Changes u v → Changes v w → Changes u w
@@ -67,9 +69,24 @@ may_replace u q e put = elim put [
   | inr other ↦ elim other [ inl made ↦ work_folder (which q made.0) made.1 | inr work ↦ some_work (subst (IsAbove tmp) (sym work.is) (inl refl)) ]
 ]
 
-pub applied_changes : (s : State) (op : Op) (u w : View) → Applies s op u w → Changes u w
-applied_changes s op u w applies = record {
-  names = λ q. elim (applies.names q) [ inl same ↦ inl same | inr put ↦ inr (may_replace u q (w.names q) put) ];
+-- an operation on the settings changes the names that a writing of `config` changes
+by_config : (op : Op) → IsOnConfig op → (u : View) (q : Elements) (e : Slot) → MayChange op u q e → ReplacesName config u q e
+by_config (AddPin pin) here u q e put = put
+by_config (DropPin pin) here u q e put = put
+by_config (AddRemote row) here u q e put = put
+by_config (ModifyRemote row) here u q e put = put
+by_config (DropRemote name) here u q e put = put
+by_config Migrate here u q e put = put
+by_config (Install name remote commit) here u q e put = absurd here
+by_config (Update name remote commit) here u q e put = absurd here
+by_config (Uninstall name) here u q e put = absurd here
+by_config (SetOverride row) here u q e put = absurd here
+by_config (DropOverride name) here u q e put = absurd here
+by_config (Rollback name commit) here u q e put = absurd here
+
+pub applied_changes : (s : State) (op : Op) (u w : View) → IsOnConfig op → Applies s (plain op) u w → Changes u w
+applied_changes s op u w here applies = record {
+  names = λ q. elim (applies.names q) [ inl same ↦ inl same | inr put ↦ inr (may_replace u q (w.names q) (by_config op here u q _ put)) ];
   files = applies.files;
 }
 
@@ -122,5 +139,5 @@ no_replace u d kind e put = elim put [
 ]
 
 -- an operation on the settings changes no object's name
-pub applied_objects : (s : State) (op : Op) (u w : View) → Applies s op u w → (d : List ℕ) (kind : ObjKind) → w.names (object_path repo d kind) ≡ u.names (object_path repo d kind)
-applied_objects s op u w applies d kind = elim (applies.names (object_path repo d kind)) [ inl same ↦ same | inr put ↦ absurd (no_replace u d kind _ put) ]
+pub applied_objects : (s : State) (op : Op) (u w : View) → IsOnConfig op → Applies s (plain op) u w → (d : List ℕ) (kind : ObjKind) → w.names (object_path repo d kind) ≡ u.names (object_path repo d kind)
+applied_objects s op u w here applies d kind = elim (applies.names (object_path repo d kind)) [ inl same ↦ same | inr put ↦ absurd (no_replace u d kind _ (by_config op here u (object_path repo d kind) _ put)) ]

@@ -24,7 +24,7 @@ use Rattle.dep_states.specs.After.{plain, after, IsOnConfig}
 use Rattle.dep_open.specs.Open.{Opened, NoName, IsOpened, StaysUnread}
 use Rattle.dep_tidy.specs.Tidy.{Tidies, WasTidied}
 use Rattle.dep_open.specs.declared.open_end.OpenEnd.{OpenEnd}
-use Rattle.op_change.specs.Applied.{Applies, WasApplied}
+use Rattle.op_change.specs.Applied.{Applies, WasApplied, IsStarved}
 use Rattle.fl_lines.specs.Lines.{op_text}
 use Rattle.fl_words.specs.declared.command.Change.{Change}
 use Rattle.fl_top.specs.World.{World, world_at}
@@ -59,17 +59,17 @@ at_end {a = a} {b = b} {R = R} F r e is goes = subst (λ (x : Result State RunEn
 -- ---- one operation, and its line
 
 abbrev HasApplied : State → Op → View → View → Type 0
-HasApplied s op u w = Applies s op u w × WasApplied s op u w
+HasApplied s op u w = Applies s (plain op) u w × WasApplied s (plain op) u w
 
-not_applied : {a b : Option Moments} (holds : Option Holdings) (op : Op) (s : State) (e : HostEnd) → IsTold a → Goes a b (Applies s op) (Applies s op) → (e ≡ host.NoMemory → AtEnd (λ u w. w ≡ u) a b) → Goes a b (PerformsOver holds (doing op) s) (WasDoneBy op s (Err (end_of_host e)))
-not_applied holds op s host.Fault known goes memory = begins known goes (λ u w t r. applying holds op s r) (λ u w t r q. λ held opens. tt)
-not_applied holds op s host.NoMemory known goes memory = begins known (goes_known goes (memory refl)) (λ u w t r. applying holds op s r) (λ u w t r q. λ held opens. halted (op_answer op) s opens q.1)
+not_applied : {a b : Option Moments} (holds : Option Holdings) (op : Op) (s : State) (e : HostEnd) → IsOnConfig op → IsTold a → Goes a b (Applies s (plain op)) (Applies s (plain op)) → (e ≡ host.NoMemory → AtEnd (IsStarved s op) a b) → Goes a b (PerformsOver holds (doing op) s) (WasDoneBy op s (Err (end_of_host e)))
+not_applied holds op s host.Fault here known goes memory = begins known goes (λ u w t r. applying holds op s here r) (λ u w t r q. λ held opens. tt)
+not_applied holds op s host.NoMemory here known goes memory = begins known (goes_known goes (memory refl)) (λ u w t r. applying holds op s here r) (λ u w t r q. λ held opens. halted (op_answer op) s opens (q.1.settings here))
 
-pub goes_not_applied : {a b : Option Moments} (holds : Option Holdings) (op : Op) (s : State) (e : HostEnd) (r : Result State RunEnd) → IsTold a → Goes a b (Applies s op) (Applies s op) → (e ≡ host.NoMemory → AtEnd (λ u w. w ≡ u) a b) → IsErrAnd r (λ end. end ≡ end_of_host e) → Goes a b (PerformsOver holds (doing op) s) (WasDoneBy op s r)
-goes_not_applied holds op s e r known goes memory is = at_end (WasDoneBy op s) r (end_of_host e) is (not_applied holds op s e known goes memory)
+pub goes_not_applied : {a b : Option Moments} (holds : Option Holdings) (op : Op) (s : State) (e : HostEnd) (r : Result State RunEnd) → IsOnConfig op → IsTold a → Goes a b (Applies s (plain op)) (Applies s (plain op)) → (e ≡ host.NoMemory → AtEnd (IsStarved s op) a b) → IsErrAnd r (λ end. end ≡ end_of_host e) → Goes a b (PerformsOver holds (doing op) s) (WasDoneBy op s r)
+goes_not_applied holds op s e r here known goes memory is = at_end (WasDoneBy op s) r (end_of_host e) is (not_applied holds op s e here known goes memory)
 
-applied : {a b : Option Moments} (holds : Option Holdings) (op : Op) (s : State) → IsTold a → Goes a b (Applies s op) (Applies s op) → AtEnd (WasApplied s op) a b → Goes a b (PerformsOver holds (doing op) s) (HasApplied s op)
-applied holds op s known goes done = begins known (goes_known goes done) (λ u w t r. applying holds op s r) (λ u w t r q. q)
+applied : {a b : Option Moments} (holds : Option Holdings) (op : Op) (s : State) → IsOnConfig op → IsTold a → Goes a b (Applies s (plain op)) (Applies s (plain op)) → AtEnd (WasApplied s (plain op)) a b → Goes a b (PerformsOver holds (doing op) s) (HasApplied s op)
+applied holds op s here known goes done = begins known (goes_known goes done) (λ u w t r. applying holds op s here r) (λ u w t r q. q)
 
 says_as : (op : Op) {piece : List ℕ} {r : Result (Unit {0}) HostError} {v w : View} → piece ≡ op_text op → Step (says piece) r v w → Says (op_text op) v w
 says_as op {r = r} {v = v} {w = w} same step = says_step (subst (λ (t : List ℕ). Step (says t) r v w) same step)
@@ -80,18 +80,18 @@ not_said op s piece error.Failed u v w step = λ held opens. tt
 not_said op s piece error.Clash u v w step = λ held opens. tt
 not_said op s piece error.NoMemory u v w step = absurd step.how
 
-pub goes_not_said : {a b c : Option Moments} (holds : Option Holdings) (op : Op) (s : State) (piece : List ℕ) (e : HostError) (r : Result State RunEnd) → IsTold a → IsTold b → Goes a b (Applies s op) (Applies s op) → AtEnd (WasApplied s op) a b → piece ≡ op_text op
+pub goes_not_said : {a b c : Option Moments} (holds : Option Holdings) (op : Op) (s : State) (piece : List ℕ) (e : HostError) (r : Result State RunEnd) → IsOnConfig op → IsTold a → IsTold b → Goes a b (Applies s (plain op)) (Applies s (plain op)) → AtEnd (WasApplied s (plain op)) a b → piece ≡ op_text op
     → Makes (Step (says piece) (Err e)) b c → IsErrAnd r (λ end. end ≡ end_of_host (end_of e)) → Goes a c (PerformsOver holds (doing op) s) (WasDoneBy op s r)
-goes_not_said holds op s piece e r known known_b goes done same call is =
+goes_not_said holds op s piece e r here known known_b goes done same call is =
     at_end (WasDoneBy op s) r (end_of_host (end_of e)) is
-    (goes_on known_b (applied holds op s known goes done) (makes_goes call) (λ u v w t p q step. saying holds op s (applied_changes s op u v q.0) q.0.printed q.1 (says_as op same step)) (λ u v w t p q step last. not_said op s piece e u v w last))
+    (goes_on known_b (applied holds op s here known goes done) (makes_goes call) (λ u v w t p q step. saying holds op s (applied_changes s op u v here q.0) q.0.printed q.1 (says_as op same step)) (λ u v w t p q step last. not_said op s piece e u v w last))
 
-pub goes_said : {a b c : Option Moments} (holds : Option Holdings) (op : Op) (s t : State) (piece : List ℕ) → IsOnConfig op → IsTold a → IsTold b → IsTold c → Goes a b (Applies s op) (Applies s op) → AtEnd (WasApplied s op) a b → piece ≡ op_text op
+pub goes_said : {a b c : Option Moments} (holds : Option Holdings) (op : Op) (s t : State) (piece : List ℕ) → IsOnConfig op → IsTold a → IsTold b → IsTold c → Goes a b (Applies s (plain op)) (Applies s (plain op)) → AtEnd (WasApplied s (plain op)) a b → piece ≡ op_text op
     → Makes (Step (says piece) (Ok tt)) b c → Goes a c (PerformsOver holds (doing op) s) (WasDoneBy op s (Ok t))
 goes_said holds op s t piece here known known_b known_c goes done same call =
     ends_trees known known_c
-    (goes_on known_b (applied holds op s known goes done) (makes_goes call) (λ u v w tree p q step. saying holds op s (applied_changes s op u v q.0) q.0.printed q.1 (says_as op same step))
-    (λ u v w tree p q step last. said_done op s q.0 q.1 (was_said (subst (λ (l : List ℕ). Step (says l) (Ok tt) v w) same last))))
+    (goes_on known_b (applied holds op s here known goes done) (makes_goes call) (λ u v w tree p q step. saying holds op s (applied_changes s op u v here q.0) q.0.printed q.1 (says_as op same step))
+    (λ u v w tree p q step last. said_done op s here q.0 q.1 (was_said (subst (λ (l : List ℕ). Step (says l) (Ok tt) v w) same last))))
     (λ u w before now said. done_by op s t here before now said)
 
 -- ---- and tidied after it

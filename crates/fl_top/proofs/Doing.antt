@@ -15,7 +15,8 @@ use Rattle.dep_states.specs.Sound.{Opens}
 use Rattle.dep_states.specs.After.{Done, plain, after, IsOnConfig}
 use Rattle.dep_states.specs.Settled.{Settled}
 use Rattle.dep_tidy.specs.Tidy.{Tidies, WasTidied}
-use Rattle.op_change.specs.Applied.{IsOneOf, Applies, WasApplied}
+use Rattle.dep_states.specs.Switch.{OpensEither}
+use Rattle.op_change.specs.Applied.{Applies, WasApplied}
 use Rattle.fl_lines.specs.Lines.{op_text}
 use Rattle.fl_words.specs.declared.command.Change.{Change}
 use Rattle.fl_top.specs.World.{World, world_at, world_after, worlds_after, supplied, used_of}
@@ -91,15 +92,15 @@ piece_of op = record { text = op_text op; op = Some (plain op) }
 made_some : (op : Op) → ops_of (op_answer op) ≡ [] → ⊥
 made_some op none = let some : plain op ∷ [] ≡ [] = none in cc some
 
-one_of : (op : Op) (s : State) {w : View} (disk : Disk) → IsOneOf s (after s (plain op)) w → Leaves w disk → IsSome (op_answer op) [] s disk
+one_of : (op : Op) (s : State) {w : View} (disk : Disk) → OpensEither s (after s (plain op)) w → Leaves w disk → IsSome (op_answer op) [] s disk
 one_of op s disk one left = elim (one.shown disk left) [
   | inl shown ↦ record { done = []; undone = plain op ∷ []; prefix = refl; more = []; holds = refl; shown = shown; sound = one.sound disk left }
   | inr shown ↦ record { done = plain op ∷ []; undone = []; prefix = refl; more = plain op ∷ []; holds = refl; shown = shown; sound = one.sound disk left }
 ]
 
-pub applying : (holds : Option Holdings) (op : Op) (s : State) {v w : View} → Applies s op v w → PerformsOver holds (doing op) s v w
-applying holds op s {v = v} {w = w} applies = record {
-  changes = applied_changes s op v w applies;
+pub applying : (holds : Option Holdings) (op : Op) (s : State) {v w : View} → IsOnConfig op → Applies s (plain op) v w → PerformsOver holds (doing op) s v w
+applying holds op s {v = v} {w = w} here applies = record {
+  changes = applied_changes s op v w here applies;
   performs = λ held is opens. record { said = []; so_far = none_yet (op_answer op) applies.printed; only_tidied = λ none. absurd (made_some op none); some = λ disk left. one_of op s disk (applies.either opens) left };
 }
 
@@ -195,7 +196,7 @@ line_printed op v w x same more = record {
 is_done : (op : Op) (s : State) (said : List Done) {x : View} (disk : Disk) → (more : List Done) → (plain op ∷ [] ≡ said ++ more) → Opens (after s (plain op)) x → Leaves x disk → IsSome (op_answer op) said s disk
 is_done op s said disk more holds opens left = record { done = plain op ∷ []; undone = []; prefix = refl; more = more; holds = holds; shown = opens.shown disk left; sound = opens.sound disk left }
 
-pub saying : (holds : Option Holdings) (op : Op) (s : State) {v w x : View} → Changes v w → w.printed ≡ v.printed → WasApplied s op v w → Says (op_text op) w x → PerformsOver holds (doing op) s v x
+pub saying : (holds : Option Holdings) (op : Op) (s : State) {v w x : View} → Changes v w → w.printed ≡ v.printed → WasApplied s (plain op) v w → Says (op_text op) w x → PerformsOver holds (doing op) s v x
 saying holds op s {v = v} {w = w} {x = x} changes same applied says = record {
   changes = change_on v w x changes (change_untouched says.untouched);
   performs = λ held is opens. elim (says.printed) [
@@ -222,13 +223,13 @@ pub record Said (op : Op) (s : State) (v x : View) : Type 0 where
   pub opens : Opens s v → Opens (after s (plain op)) x
   pub text : HasText (after s (plain op)) x
 
-pub said_done : (op : Op) (s : State) {v w x : View} → Applies s op v w → WasApplied s op v w → WasSaid (op_text op) w x → Said op s v x
-said_done op s {v = v} {w = w} {x = x} applies applied said = record {
+pub said_done : (op : Op) (s : State) {v w x : View} → IsOnConfig op → Applies s (plain op) v w → WasApplied s (plain op) v w → WasSaid (op_text op) w x → Said op s v x
+said_done op s {v = v} {w = w} {x = x} here applies applied said = record {
   printed = said.printed ∙ ap (λ (p : List ℕ). p ++ op_text op) applies.printed;
-  objects = λ d kind. said.untouched.names (object_path repo d kind) ∙ applied_objects s op v w applies d kind;
-  changes = change_on v w x (applied_changes s op v w applies) (change_untouched said.untouched);
+  objects = λ d kind. said.untouched.names (object_path repo d kind) ∙ applied_objects s op v w here applies d kind;
+  changes = change_on v w x (applied_changes s op v w here applies) (change_untouched said.untouched);
   opens = λ opens. same_opens said.follows (applied.opens opens);
-  text = text_on (said.untouched.names config) (keeps_files said.untouched) (written applied.text);
+  text = text_on (said.untouched.names config) (keeps_files said.untouched) (written (applied.settings here).text);
 }
 
 pub done_by : (op : Op) (s t : State) {v x : View} → IsOnConfig op → IsTree v → IsTree x → Said op s v x → WasDoneBy op s (Ok t) v x
