@@ -4,11 +4,11 @@ mod Apart
 mod Clearing
 mod Texts
 mod UnkeptFolders
-mod RowsKept
+pub mod RowsKept
 mod OldFiles
 mod RefFiles
-mod Pruned
+pub mod Pruned
 mod Joined
 mod Ended
 mod Small
-mod Left
+pub mod Left
