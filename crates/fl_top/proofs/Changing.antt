@@ -122,7 +122,7 @@ pub text_on : {s : State} {v w : View} → w.names config ≡ v.names config →
 text_on same kept text = record { id = text.id; name = same ∙ text.name; row = kept.rows text.id _ text.row }
 
 pub text_tidied : {s t : State} {v w : View} → OnlyTidied t v w → KeepsFiles v w → HasText s v → HasText s w
-text_tidied {t = t} tidied kept text = elim (tidied.names config) [
+text_tidied {t = t} only kept text = elim (only.names config) [
   | inl same ↦ text_on same kept text
   | inr may ↦ absurd (config_left t _ may)
 ]

@@ -173,8 +173,8 @@ same_refs s (SetOverride row) here = absurd here
 same_refs s (DropOverride name) here = absurd here
 same_refs s (Rollback name commit) here = absurd here
 
-world_changed : (op : Op) (s : State) (held : Holdings) {v w : View} → IsOnConfig op → store repo (shows w) ≡ store repo (shows v) → Opens (after s (plain op)) w → Holds (world_after held (world_at s v) (plain op)) w
-world_changed op s held {v = v} {w = w} here objects opens = record { opens = opens; have = have }
+world_changed : (op : Op) (s : State) (held : Holdings) (v w : View) → IsOnConfig op → store repo (shows w) ≡ store repo (shows v) → Opens (after s (plain op)) w → Holds (world_after held (world_at s v) (plain op)) w
+world_changed op s held v w here objects opens = record { opens = opens; have = have }
   where
     t : State
     t = after s (plain op)
@@ -236,7 +236,7 @@ pub done_by : (op : Op) (s t : State) {v x : View} → IsOnConfig op → IsTree 
 done_by op s t {v = v} {x = x} here tree_v tree_x said = λ opens. record {
   printed = said.printed;
   opens = said.opens opens;
-  holds = λ held. world_changed op s held here (store_same v x tree_v tree_x said.changes.files said.objects) (said.opens opens);
+  holds = λ held. world_changed op s held v x here (store_same v x tree_v tree_x said.changes.files said.objects) (said.opens opens);
   text = said.text;
 }
 
