@@ -31,7 +31,7 @@ fn reads_as(alloc: Global, bytes: &[u8], want: &str) -> Result<bool, AllocError>
 }
 
 /// Batches, and what they read as.
-const BATCHES: [(&[u8], &str); 9] = [
+const BATCHES: [(&[u8], &str); 11] = [
     (b"", ""),
     (b"pin app/*/*/*\n", "Pin app/*/*/*\n"),
     (b"pin app/*/*/*", "Pin app/*/*/*\n"),
@@ -50,6 +50,14 @@ const BATCHES: [(&[u8], &str); 9] = [
     ),
     (b"remote-add lab file:///", "RemoteAdd lab file:///\n"),
     (b"remote-delete 0\n", "RemoteDelete 0\n"),
+    (
+        b"install hub app/org.x.App/x86_64/stable\nupdate\nupdate app/org.x.App/x86_64/stable",
+        "Install hub app/org.x.App/x86_64/stable\nUpdateAll\nUpdateOne app/org.x.App/x86_64/stable\n",
+    ),
+    (
+        b"rollback app/org.x.App/x86_64/stable\nuninstall app/org.x.App/x86_64/stable\nuninstall --unused\n",
+        "Rollback app/org.x.App/x86_64/stable\nUninstall app/org.x.App/x86_64/stable\nUninstallUnused\n",
+    ),
 ];
 
 /// Batches with a bad line, and its number.

@@ -21,6 +21,12 @@ usage: fpk unpin PATTERN
 usage: fpk remote-add NAME URL
 usage: fpk remote-modify NAME URL
 usage: fpk remote-delete NAME
+usage: fpk install NAME REF
+usage: fpk update
+usage: fpk update REF
+usage: fpk uninstall REF
+usage: fpk uninstall --unused
+usage: fpk rollback REF
 usage: fpk list --remotes
 usage: fpk list --pins
 usage: fpk batch
@@ -31,7 +37,23 @@ usage: fpk show value TYPE
 ";
 
 /// Words that are no command, and what is said of them.
-const REASONS: [(&[&str], &str); 10] = [
+const REASONS: [(&[&str], &str); 14] = [
+    (
+        &["install", "hub", "org.x.App"],
+        "fpk: 'org.x.App' is no ref: KIND/ID/ARCH/BRANCH\nusage: fpk install NAME REF\n",
+    ),
+    (
+        &["update", "org.x.App"],
+        "fpk: 'org.x.App' is no ref: KIND/ID/ARCH/BRANCH\nusage: fpk update\nusage: fpk update REF\n",
+    ),
+    (
+        &["uninstall"],
+        "fpk: a word is missing\nusage: fpk uninstall REF\nusage: fpk uninstall --unused\n",
+    ),
+    (
+        &["uninstall", "--unused", "x"],
+        "fpk: 'x' is one word too many\nusage: fpk uninstall --unused\n",
+    ),
     (
         &["pin", "app/*/*"],
         "fpk: 'app/*/*' is no pattern: KIND/ID/ARCH/BRANCH\nusage: fpk pin PATTERN\n",
@@ -153,7 +175,13 @@ const LINES: [(&[u8], Option<&str>); 8] = [
             usage: unpin PATTERN\n\
             usage: remote-add NAME URL\n\
             usage: remote-modify NAME URL\n\
-            usage: remote-delete NAME\n",
+            usage: remote-delete NAME\n\
+            usage: install NAME REF\n\
+            usage: update\n\
+            usage: update REF\n\
+            usage: uninstall REF\n\
+            usage: uninstall --unused\n\
+            usage: rollback REF\n",
         ),
     ),
 ];

@@ -36,6 +36,14 @@ pub fn told_change(alloc: Global, change: &Change) -> Result<String, AllocError>
         Change::RemoteAdd(row) => told_remote(alloc, "RemoteAdd", row),
         Change::RemoteModify(row) => told_remote(alloc, "RemoteModify", row),
         Change::RemoteDelete(name) => format!(in alloc; "RemoteDelete {}", name.as_str()),
+        Change::Install { remote, name } => {
+            format!(in alloc; "Install {} {}", remote.as_str(), name.as_str())
+        }
+        Change::UpdateAll => "UpdateAll".to_string(alloc),
+        Change::UpdateOne(name) => format!(in alloc; "UpdateOne {}", name.as_str()),
+        Change::Uninstall(name) => format!(in alloc; "Uninstall {}", name.as_str()),
+        Change::UninstallUnused => "UninstallUnused".to_string(alloc),
+        Change::Rollback(name) => format!(in alloc; "Rollback {}", name.as_str()),
     }
 }
 
@@ -53,7 +61,7 @@ fn told_remote(alloc: Global, what: &str, row: &RemoteRow) -> Result<String, All
 }
 
 /// Words, and the command that they are, or the place of the first bad one.
-const WORDS: [(&[&str], &str); 67] = [
+const WORDS: [(&[&str], &str); 94] = [
     // remotes
     (
         &["remote-add", "lab", "file:///lab"],
@@ -79,6 +87,73 @@ const WORDS: [(&[&str], &str); 67] = [
     (&["remote-delete", "lab", "file:///lab"], "bad words at 2"),
     (&["remote-remove", "lab"], "bad words at 0"),
     (&["list", "--remote"], "bad words at 1"),
+    // refs
+    (
+        &["install", "hub", "app/org.x.App/x86_64/stable"],
+        "Install hub app/org.x.App/x86_64/stable",
+    ),
+    (
+        &["install", "hub", "runtime/org.x.Y/x/1"],
+        "Install hub runtime/org.x.Y/x/1",
+    ),
+    (&["update"], "UpdateAll"),
+    (
+        &["update", "app/org.x.App/x86_64/stable"],
+        "UpdateOne app/org.x.App/x86_64/stable",
+    ),
+    (
+        &["uninstall", "runtime/org.x.Y/x/1"],
+        "Uninstall runtime/org.x.Y/x/1",
+    ),
+    (&["uninstall", "--unused"], "UninstallUnused"),
+    (
+        &["rollback", "app/org.x.App/x86_64/stable"],
+        "Rollback app/org.x.App/x86_64/stable",
+    ),
+    (&["install"], "bad words at 1"),
+    (
+        &["install", "a/b", "app/org.x.App/x86_64/stable"],
+        "bad words at 1",
+    ),
+    (
+        &["install", "app/org.x.App/x86_64/stable"],
+        "bad words at 1",
+    ),
+    (&["install", "hub"], "bad words at 2"),
+    (&["install", "hub", "org.x.App"], "bad words at 2"),
+    (&["install", "hub", "app/*/*/*"], "bad words at 2"),
+    (
+        &["install", "hub", "app/org.x.App/x86_64/stable", ""],
+        "bad words at 3",
+    ),
+    (&["update", ""], "bad words at 1"),
+    (&["update", "org.x.App"], "bad words at 1"),
+    (&["update", "app/org.x.App/x86_64"], "bad words at 1"),
+    (&["update", "--unused"], "bad words at 1"),
+    (
+        &["update", "app/org.x.App/x86_64/stable", "x"],
+        "bad words at 2",
+    ),
+    (&["uninstall"], "bad words at 1"),
+    (&["uninstall", "--unuse"], "bad words at 1"),
+    (&["uninstall", "app/x/x/x"], "bad words at 1"),
+    (
+        &["uninstall", "--unused", "app/org.x.App/x86_64/stable"],
+        "bad words at 2",
+    ),
+    (
+        &["uninstall", "app/org.x.App/x86_64/stable", "--unused"],
+        "bad words at 2",
+    ),
+    (&["rollback"], "bad words at 1"),
+    (
+        &["rollback", "app/org.x.App/x86_64/stable/"],
+        "bad words at 1",
+    ),
+    (
+        &["rollback", "app/org.x.App/x86_64/stable", "x"],
+        "bad words at 2",
+    ),
     // pins, lists and batches
     (&["batch"], "Batch"),
     (&["batch", ""], "bad words at 1"),

@@ -6,9 +6,10 @@ use Rattle.std.proofs.lemmas.List.{drop_all}
 use Rattle.std.proofs.lemmas.Slice.Eq.{bytes_eq-Decides}
 use Rattle.fp_name.specs.Grammar.{is_remote_name, is_url}
 use Rattle.fp_name.specs.Pins.{is_pin}
+use Rattle.fl_words.proofs.RefTexts.{some_ref}
 use Rattle.fl_words.proofs.TypeTexts.{byte_is}
 use Rattle.fl_words.specs.declared.forms.Form.{Form}
-use Rattle.fl_words.specs.Forms.{Place, literal, pattern, remote, url, type_string, fits, slots_of, reach, reads}
+use Rattle.fl_words.specs.Forms.{Place, literal, pattern, remote, url, ref_name, type_string, fits, slots_of, reach, reads}
 
 -- each place has its word, and each word its place
 abbrev pub AllFit : List Place → List (List ℕ) → Type 0
@@ -74,6 +75,7 @@ sample (literal w) = w
 sample pattern = codes "app/*/*/*"
 sample remote = codes "lab"
 sample url = codes "file:///lab"
+sample ref_name = codes "app/a.b.c/x/1"
 sample type_string = 121 ∷ []
 
 any_pin : is_pin (codes "app/*/*/*") ≡ true
@@ -93,6 +95,7 @@ sample_fits (literal w) = (bytes_eq-Decides w w).1 refl
 sample_fits pattern = any_pin
 sample_fits remote = any_name
 sample_fits url = any_url
+sample_fits ref_name = some_ref
 sample_fits type_string = byte_is
 
 pub samples_fit : (places : List Place) → AllFit places (map sample places)

@@ -2,7 +2,7 @@
 use Rattle.std.proofs.Common.{◌≡◌, ℕ, Bool, true, false, cond, ◌&&◌, List, [], ◌∷◌, Option, Some, None, refl, ap, ◌∙◌, subst}
 use Rattle.std.specs.Prelude.{codes}
 use Rattle.std.specs.List.{find}
-use Rattle.std.specs.Option.{option_map}
+use Rattle.std.specs.Option.{option_map, is_some}
 use Rattle.std.specs.Str.{bytes_eq}
 use Rattle.std.proofs.lemmas.Slice.Eq.{bytes_eq-Decides}
 use Rattle.fp_name.specs.Grammar.{is_remote_name, is_url}
@@ -14,9 +14,12 @@ use Rattle.fl_words.specs.declared.command.Listing.TheVariants as listings
 use Rattle.fl_words.specs.declared.command.Shown.TheVariants as things
 use Rattle.std.proofs.lemmas.Bool.{and_parts}
 use Rattle.fl_words.specs.declared.forms.Form.{Form}
-use Rattle.fl_words.specs.declared.forms.Form.TheVariants.{Pin, Unpin, RemoteAdd, RemoteModify, RemoteDelete, ListRemotes, ListPins, Batch, ShowCommit, ShowDirTree, ShowDirMeta, ShowValue}
-use Rattle.fl_words.specs.Forms.{literal, pattern, remote, url, type_string, forms, slots_of, made, reads, command_of}
+use Rattle.fl_words.specs.declared.forms.Form.TheVariants.{Pin, Unpin, RemoteAdd, RemoteModify, RemoteDelete, Install, UpdateAll, UpdateOne, Uninstall, UninstallUnused, Rollback, ListRemotes, ListPins, Batch, ShowCommit, ShowDirTree, ShowDirMeta, ShowValue}
+use Rattle.fl_words.specs.Forms.{literal, pattern, remote, url, ref_name, type_string, forms, slots_of, made, reads, command_of}
 use Rattle.fl_words.specs.Words.{words_of, is_command}
+use Rattle.fp_name.specs.Refs.{Ref, is_ref, ref_text, ref_of, ref_at}
+use Rattle.fp_name.proofs.Refs.{ref_of-ref_text}
+use Rattle.fl_words.proofs.RefTexts.{same_text, is_good, ref_back, unused_is_none}
 use Rattle.fl_words.proofs.Reaching.{AllFit, reads_fit, one, two, three}
 
 -- the words of a form are those of its command
@@ -32,6 +35,10 @@ after_word w a b h = ap (λ (x : List ℕ). x ∷ b ∷ []) (is_word a w h)
 both_words : (v w a b : List ℕ) → bytes_eq a v ≡ true → bytes_eq b w ≡ true → a ∷ b ∷ [] ≡ v ∷ w ∷ []
 both_words v w a b h g = after_word v a b h ∙ ap (λ (x : List ℕ). v ∷ x ∷ []) (is_word b w g)
 
+-- a word and a ref
+word_and_ref : (w a r : List ℕ) → bytes_eq a w ≡ true → is_some (ref_of r) ≡ true → a ∷ r ∷ [] ≡ w ∷ ref_text (ref_at r) ∷ []
+word_and_ref w a r h g = after_word w a r h ∙ ap (λ (x : List ℕ). w ∷ x ∷ []) (same_text r g)
+
 both_true : (a b : Bool) → a ≡ true → b ≡ true → (a && b) ≡ true
 both_true true b h g = g
 both_true false b h g = absurd (cc h)
@@ -42,6 +49,12 @@ speaks Unpin = two (literal (codes "unpin")) pattern (Speaks Unpin) (λ a p h g.
 speaks RemoteAdd = three (literal (codes "remote-add")) remote url (Speaks RemoteAdd) (λ a n u h g k. (ap (λ (x : List ℕ). x ∷ n ∷ u ∷ []) (is_word a (codes "remote-add") h), both_true (is_remote_name n) (is_url u) g k))
 speaks RemoteModify = three (literal (codes "remote-modify")) remote url (Speaks RemoteModify) (λ a n u h g k. (ap (λ (x : List ℕ). x ∷ n ∷ u ∷ []) (is_word a (codes "remote-modify") h), both_true (is_remote_name n) (is_url u) g k))
 speaks RemoteDelete = two (literal (codes "remote-delete")) remote (Speaks RemoteDelete) (λ a n h g. (after_word (codes "remote-delete") a n h, g))
+speaks Install = three (literal (codes "install")) remote ref_name (Speaks Install) (λ a n r h g k. (ap (λ (x : List ℕ). x ∷ n ∷ r ∷ []) (is_word a (codes "install") h) ∙ ap (λ (x : List ℕ). codes "install" ∷ n ∷ x ∷ []) (same_text r k), both_true (is_remote_name n) (is_ref (ref_at r)) g (is_good r k)))
+speaks UpdateAll = one (literal (codes "update")) (Speaks UpdateAll) (λ a h. (ap (λ (x : List ℕ). x ∷ []) (is_word a (codes "update") h), refl))
+speaks UpdateOne = two (literal (codes "update")) ref_name (Speaks UpdateOne) (λ a r h g. (word_and_ref (codes "update") a r h g, is_good r g))
+speaks Uninstall = two (literal (codes "uninstall")) ref_name (Speaks Uninstall) (λ a r h g. (word_and_ref (codes "uninstall") a r h g, is_good r g))
+speaks UninstallUnused = two (literal (codes "uninstall")) (literal (codes "--unused")) (Speaks UninstallUnused) (λ a b h g. (both_words (codes "uninstall") (codes "--unused") a b h g, refl))
+speaks Rollback = two (literal (codes "rollback")) ref_name (Speaks Rollback) (λ a r h g. (word_and_ref (codes "rollback") a r h g, is_good r g))
 speaks ListRemotes = two (literal (codes "list")) (literal (codes "--remotes")) (Speaks ListRemotes) (λ a b h g. (both_words (codes "list") (codes "--remotes") a b h g, refl))
 speaks ListPins = two (literal (codes "list")) (literal (codes "--pins")) (Speaks ListPins) (λ a b h g. (both_words (codes "list") (codes "--pins") a b h g, refl))
 speaks Batch = one (literal (codes "batch")) (Speaks Batch) (λ a h. (ap (λ (x : List ℕ). x ∷ []) (is_word a (codes "batch") h), refl))
@@ -56,7 +69,7 @@ found_by : (words : List (List ℕ)) (b : Bool) (f g : Form) (o : Option Form) �
 found_by words true f g o is next h = let same : f ≡ g = cc h in subst (λ (x : Form). reads words x ≡ true) same is
 found_by words false f g o is next h = next h
 
-found : (words : List (List ℕ)) (fs : List Form) (g : Form) → find (reads words) fs ≡ Some g → reads words g ≡ true
+pub found : (words : List (List ℕ)) (fs : List Form) (g : Form) → find (reads words) fs ≡ Some g → reads words g ≡ true
 found words [] g h = absurd (cc h)
 found words (f ∷ fs) g h = found_by words (reads words f) f g (find (reads words) fs) refl (found words fs g) h
 
@@ -77,6 +90,12 @@ written (Changing (changes.Unpin p)) h = rw h refl
 written (Changing (changes.RemoteAdd row)) h = let parts = and_parts (is_remote_name row.name) (is_url row.url) h in rw (parts.0, parts.1) refl
 written (Changing (changes.RemoteModify row)) h = let parts = and_parts (is_remote_name row.name) (is_url row.url) h in rw (parts.0, parts.1) refl
 written (Changing (changes.RemoteDelete name)) h = rw h refl
+written (Changing (changes.Install origin name)) h = let parts = and_parts (is_remote_name origin) (is_ref name) h in rw (parts.0, ref_of-ref_text name parts.1) (ap (λ (r : Ref). Some (Changing (changes.Install origin r))) (ref_back name parts.1))
+written (Changing changes.UpdateAll) h = refl
+written (Changing (changes.UpdateOne name)) h = rw (ref_of-ref_text name h) (ap (λ (r : Ref). Some (Changing (changes.UpdateOne r))) (ref_back name h))
+written (Changing (changes.Uninstall name)) h = rw (ref_of-ref_text name h) (ap (λ (r : Ref). Some (Changing (changes.Uninstall r))) (ref_back name h))
+written (Changing changes.UninstallUnused) h = rw unused_is_none refl
+written (Changing (changes.Rollback name)) h = rw (ref_of-ref_text name h) (ap (λ (r : Ref). Some (Changing (changes.Rollback r))) (ref_back name h))
 written (Listed listings.Remotes) h = refl
 written (Listed listings.Pins) h = refl
 written (Showing things.Commit) h = refl

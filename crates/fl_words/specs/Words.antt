@@ -2,10 +2,11 @@
 use Rattle.std.specs.Prelude.{ℕ, List, [], ◌∷◌, ◌++◌, ◌&&◌, Bool, true, false, IsSome, codes}
 use Rattle.fp_name.specs.Grammar.{is_remote_name, is_url}
 use Rattle.fp_name.specs.Pins.{is_pin}
+use Rattle.fp_name.specs.Refs.{is_ref, ref_text}
 use Rattle.fl_words.specs.declared.command.Command.{Command}
 use Rattle.fl_words.specs.declared.command.Command.TheVariants.{Change as Changing, List as Listed, Show as Showing, Batch}
 use Rattle.fl_words.specs.declared.command.Change.{Change}
-use Rattle.fl_words.specs.declared.command.Change.TheVariants.{Pin, Unpin, RemoteAdd, RemoteModify, RemoteDelete}
+use Rattle.fl_words.specs.declared.command.Change.TheVariants.{Pin, Unpin, RemoteAdd, RemoteModify, RemoteDelete, Install, UpdateAll, UpdateOne, Uninstall, UninstallUnused, Rollback}
 use Rattle.fl_words.specs.declared.command.Listing.TheVariants.{Remotes, Pins}
 use Rattle.fl_words.specs.declared.command.Shown.{Shown}
 use Rattle.fl_words.specs.declared.command.Shown.TheVariants.{Commit, DirTree, DirMeta, Value}
@@ -19,6 +20,12 @@ words_of (Changing (Unpin p)) = codes "unpin" ∷ p ∷ []
 words_of (Changing (RemoteAdd row)) = codes "remote-add" ∷ row.name ∷ row.url ∷ []
 words_of (Changing (RemoteModify row)) = codes "remote-modify" ∷ row.name ∷ row.url ∷ []
 words_of (Changing (RemoteDelete name)) = codes "remote-delete" ∷ name ∷ []
+words_of (Changing (Install remote name)) = codes "install" ∷ remote ∷ ref_text name ∷ []
+words_of (Changing UpdateAll) = codes "update" ∷ []
+words_of (Changing (UpdateOne name)) = codes "update" ∷ ref_text name ∷ []
+words_of (Changing (Uninstall name)) = codes "uninstall" ∷ ref_text name ∷ []
+words_of (Changing UninstallUnused) = codes "uninstall" ∷ codes "--unused" ∷ []
+words_of (Changing (Rollback name)) = codes "rollback" ∷ ref_text name ∷ []
 words_of (Listed Remotes) = codes "list" ∷ codes "--remotes" ∷ []
 words_of (Listed Pins) = codes "list" ∷ codes "--pins" ∷ []
 words_of Batch = codes "batch" ∷ []
@@ -34,13 +41,19 @@ may_change (Listed listing) = false
 may_change (Showing thing) = false
 may_change Batch = true
 
--- its patterns, names and URLs are such, as they are in each value of the code
+-- its patterns, names, refs and URLs are such, as they are in each value of the code
 abbrev pub is_change : Change → Bool
 is_change (Pin p) = is_pin p
 is_change (Unpin p) = is_pin p
 is_change (RemoteAdd row) = is_remote_name row.name && is_url row.url
 is_change (RemoteModify row) = is_remote_name row.name && is_url row.url
 is_change (RemoteDelete name) = is_remote_name name
+is_change (Install remote name) = is_remote_name remote && is_ref name
+is_change UpdateAll = true
+is_change (UpdateOne name) = is_ref name
+is_change (Uninstall name) = is_ref name
+is_change UninstallUnused = true
+is_change (Rollback name) = is_ref name
 
 abbrev pub is_shown : Shown → Bool
 is_shown Commit = true

@@ -4,7 +4,7 @@ ghost use Rattle.fl_words.specs.Words.{may_change};
 ghost use Rattle.fl_words.specs.declared.command.WordsError.TheVariants.{NoMemory};
 
 use crate::value_type::ValueType;
-use fp_name::{PinPattern, RemoteName};
+use fp_name::{PinPattern, RefName, RemoteName};
 use fp_small::RemoteRow;
 use std::alloc::AllocError;
 use std::error::Error;
@@ -45,6 +45,18 @@ pub enum Change {
     RemoteModify(RemoteRow),
     /// `remote-delete N`: takes the remote away.
     RemoteDelete(RemoteName),
+    /// `install N REF`: installs a ref from a remote.
+    Install { remote: RemoteName, name: RefName },
+    /// `update`: updates all that is installed.
+    UpdateAll,
+    /// `update REF`: updates one ref.
+    UpdateOne(RefName),
+    /// `uninstall REF`: takes a ref away.
+    Uninstall(RefName),
+    /// `uninstall --unused`: takes the runtimes away that nothing needs.
+    UninstallUnused,
+    /// `rollback REF`: puts a ref back to the commit that it was at before.
+    Rollback(RefName),
 }
 
 /// What is listed, a line each.

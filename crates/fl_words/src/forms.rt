@@ -5,7 +5,7 @@ ghost use Rattle.fl_words.specs.Reading.{IsMisfit};
 ghost use Rattle.fl_words.specs.Reasons.{change_forms};
 
 use crate::command::{Change, Command, Listing, Shown, WordsError};
-use crate::values::{name_at, pattern_at, remote_in, type_at};
+use crate::values::{name_at, pattern_at, ref_at, remote_in, type_at};
 use std::alloc::Global;
 
 /// What may stand at a place of a form.
@@ -19,6 +19,8 @@ pub enum Slot {
     Remote,
     /// The URL of a remote.
     Url,
+    /// A ref.
+    Ref,
     /// The type string of a type of GVariant.
     Type,
 }
@@ -31,6 +33,12 @@ pub enum Form {
     RemoteAdd,
     RemoteModify,
     RemoteDelete,
+    Install,
+    UpdateAll,
+    UpdateOne,
+    Uninstall,
+    UninstallUnused,
+    Rollback,
     ListRemotes,
     ListPins,
     Batch,
@@ -51,6 +59,12 @@ impl Form {
             Form::RemoteAdd,
             Form::RemoteModify,
             Form::RemoteDelete,
+            Form::Install,
+            Form::UpdateAll,
+            Form::UpdateOne,
+            Form::Uninstall,
+            Form::UninstallUnused,
+            Form::Rollback,
             Form::ListRemotes,
             Form::ListPins,
             Form::Batch,
@@ -71,6 +85,12 @@ impl Form {
             Form::RemoteAdd,
             Form::RemoteModify,
             Form::RemoteDelete,
+            Form::Install,
+            Form::UpdateAll,
+            Form::UpdateOne,
+            Form::Uninstall,
+            Form::UninstallUnused,
+            Form::Rollback,
         ]
     }
 
@@ -84,6 +104,12 @@ impl Form {
             Form::RemoteAdd => &[Slot::Word("remote-add"), Slot::Remote, Slot::Url],
             Form::RemoteModify => &[Slot::Word("remote-modify"), Slot::Remote, Slot::Url],
             Form::RemoteDelete => &[Slot::Word("remote-delete"), Slot::Remote],
+            Form::Install => &[Slot::Word("install"), Slot::Remote, Slot::Ref],
+            Form::UpdateAll => &[Slot::Word("update")],
+            Form::UpdateOne => &[Slot::Word("update"), Slot::Ref],
+            Form::Uninstall => &[Slot::Word("uninstall"), Slot::Ref],
+            Form::UninstallUnused => &[Slot::Word("uninstall"), Slot::Word("--unused")],
+            Form::Rollback => &[Slot::Word("rollback"), Slot::Ref],
             Form::ListRemotes => &[Slot::Word("list"), Slot::Word("--remotes")],
             Form::ListPins => &[Slot::Word("list"), Slot::Word("--pins")],
             Form::Batch => &[Slot::Word("batch")],
@@ -105,6 +131,15 @@ impl Form {
             Form::RemoteAdd => Command::Change(Change::RemoteAdd(remote_in(alloc, words)?)),
             Form::RemoteModify => Command::Change(Change::RemoteModify(remote_in(alloc, words)?)),
             Form::RemoteDelete => Command::Change(Change::RemoteDelete(name_at(alloc, words, 1)?)),
+            Form::Install => Command::Change(Change::Install {
+                remote: name_at(alloc, words, 1)?,
+                name: ref_at(alloc, words, 2)?,
+            }),
+            Form::UpdateAll => Command::Change(Change::UpdateAll),
+            Form::UpdateOne => Command::Change(Change::UpdateOne(ref_at(alloc, words, 1)?)),
+            Form::Uninstall => Command::Change(Change::Uninstall(ref_at(alloc, words, 1)?)),
+            Form::UninstallUnused => Command::Change(Change::UninstallUnused),
+            Form::Rollback => Command::Change(Change::Rollback(ref_at(alloc, words, 1)?)),
             Form::ListRemotes => Command::List(Listing::Remotes),
             Form::ListPins => Command::List(Listing::Pins),
             Form::Batch => Command::Batch,

@@ -1,12 +1,13 @@
 //! What stands at the places of a command line.
 ghost use Rattle.std.specs.Prelude.{◌≡◌, Ok, IfOk, IfErr, map, string_bytes};
-ghost use Rattle.fl_words.specs.Forms.{place_of, fits as may_stand, word_at as text_at, remote_in as remote_of, pattern, remote, url, type_string};
+ghost use Rattle.fl_words.specs.Forms.{place_of, fits as may_stand, word_at as text_at, remote_in as remote_of, pattern, remote, url, ref_name, type_string};
+ghost use Rattle.fp_name.specs.Refs.{ref_at as ref_of_text};
 ghost use Rattle.fl_words.specs.Reading.{IsMisplaced, IsRemoteMisplaced, IsReadBy, IsUnread};
 
 use crate::command::WordsError;
 use crate::forms::Slot;
 use crate::value_type::ValueType;
-use fp_name::{NameFault, PinPattern, RemoteName, RemoteUrl};
+use fp_name::{NameFault, PinPattern, RefName, RemoteName, RemoteUrl};
 use fp_small::RemoteRow;
 use std::alloc::{AllocError, Global};
 
@@ -19,6 +20,7 @@ pub fn fits(alloc: Global, slot: &Slot, word: &str) -> Result<bool, AllocError>
         Slot::Pattern => is_read(PinPattern::parse(alloc, word.as_bytes())),
         Slot::Remote => is_read(RemoteName::parse(alloc, word.as_bytes())),
         Slot::Url => is_read(RemoteUrl::parse(alloc, word.as_bytes())),
+        Slot::Ref => is_read(RefName::parse(alloc, word.as_bytes())),
         Slot::Type => is_read(ValueType::parse(alloc, word.as_bytes())),
     }
 }
@@ -74,6 +76,16 @@ fn url_at(alloc: Global, words: &[String], place: usize) -> Result<RemoteUrl, Wo
     ensures bad { IfErr result (IsMisplaced url (text_at place (map string_bytes words.now))) }
 {
     placed(RemoteUrl::parse(alloc, word_at(words, place).as_bytes()))
+}
+
+/// The ref at a place.
+#[tactic(auto, using(crate::proofs::RefTexts::is_read, crate::proofs::RefTexts::is_none))]
+pub(crate) fn ref_at(alloc: Global, words: &[String], place: usize) -> Result<RefName, WordsError>
+    ensures ok { IfOk result (λ name. name ≡ ref_of_text
+        (text_at place (map string_bytes words.now))) }
+    ensures bad { IfErr result (IsMisplaced ref_name (text_at place (map string_bytes words.now))) }
+{
+    placed(RefName::parse(alloc, word_at(words, place).as_bytes()))
 }
 
 /// The type at a place.
