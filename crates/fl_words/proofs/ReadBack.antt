@@ -1,22 +1,22 @@
 -- Words that are a command are the words of that command.
-use Rattle.std.proofs.Common.{◌≡◌, ℕ, Bool, true, false, cond, ◌&&◌, List, [], ◌∷◌, Option, Some, None, refl, ap, ◌∙◌, subst}
+use Rattle.std.proofs.Common.{◌≡◌, ℕ, Bool, true, false, cond, ◌&&◌, ◌||◌, List, [], ◌∷◌, Option, Some, None, refl, ap, sym, ◌∙◌, subst}
 use Rattle.std.specs.Prelude.{codes}
 use Rattle.std.specs.List.{find}
 use Rattle.std.specs.Option.{option_map, is_some}
 use Rattle.std.specs.Str.{bytes_eq}
 use Rattle.std.proofs.lemmas.Slice.Eq.{bytes_eq-Decides}
-use Rattle.fp_name.specs.Grammar.{is_remote_name, is_url}
+use Rattle.fp_name.specs.Grammar.{is_remote_name, is_url, is_id}
 use Rattle.fl_words.specs.declared.command.Command.{Command}
 use Rattle.fl_words.specs.declared.command.Command.TheVariants as commands
 use Rattle.fl_words.specs.declared.command.Command.TheVariants.{Change as Changing, List as Listed, Show as Showing}
 use Rattle.fl_words.specs.declared.command.Change.TheVariants as changes
 use Rattle.fl_words.specs.declared.command.Listing.TheVariants as listings
 use Rattle.fl_words.specs.declared.command.Shown.TheVariants as things
-use Rattle.std.proofs.lemmas.Bool.{and_parts}
+use Rattle.std.proofs.lemmas.Bool.{and_parts, false_from_ne_true, false≢true}
 use Rattle.fl_words.specs.declared.forms.Form.{Form}
-use Rattle.fl_words.specs.declared.forms.Form.TheVariants.{Pin, Unpin, RemoteAdd, RemoteModify, RemoteDelete, Install, UpdateAll, UpdateOne, Uninstall, UninstallUnused, Rollback, ListRemotes, ListPins, Batch, ShowCommit, ShowDirTree, ShowDirMeta, ShowValue}
-use Rattle.fl_words.specs.Forms.{literal, pattern, remote, url, ref_name, type_string, forms, slots_of, made, reads, command_of}
-use Rattle.fl_words.specs.Words.{words_of, is_command}
+use Rattle.fl_words.specs.declared.forms.Form.TheVariants.{Pin, Unpin, RemoteAdd, RemoteModify, RemoteDelete, Install, UpdateAll, UpdateOne, Uninstall, UninstallUnused, Rollback, OverrideReset, OverrideResetApp, ListRefs, ListRemotes, ListPins, Info, OverrideShow, OverrideShowApp, Batch, ShowCommit, ShowDirTree, ShowDirMeta, ShowValue}
+use Rattle.fl_words.specs.Forms.{literal, pattern, remote, url, ref_name, app_id, type_string, forms, slots_of, made, reads, command_of}
+use Rattle.fl_words.specs.Words.{words_of, is_command, is_override_name, override_word}
 use Rattle.fp_name.specs.Refs.{Ref, is_ref, ref_text, ref_of, ref_at}
 use Rattle.fp_name.proofs.Refs.{ref_of-ref_text}
 use Rattle.fl_words.proofs.RefTexts.{same_text, is_good, ref_back, unused_is_none}
@@ -39,6 +39,21 @@ both_words v w a b h g = after_word v a b h ∙ ap (λ (x : List ℕ). v ∷ x �
 word_and_ref : (w a r : List ℕ) → bytes_eq a w ≡ true → is_some (ref_of r) ≡ true → a ∷ r ∷ [] ≡ w ∷ ref_text (ref_at r) ∷ []
 word_and_ref w a r h g = after_word w a r h ∙ ap (λ (x : List ℕ). w ∷ x ∷ []) (same_text r g)
 
+-- no ID is `global`
+global_is_none : is_id (codes "global") ≡ false
+unfolding is_id
+global_is_none = refl
+
+other_than_global : (text : List ℕ) → is_id text ≡ true → bytes_eq text (codes "global") ≡ false
+other_than_global text h = false_from_ne_true (bytes_eq text (codes "global")) (λ e. false≢true (sym global_is_none ∙ ap is_id (sym (is_word text (codes "global") e)) ∙ h))
+
+-- a command on the override of an application
+id_words : (w a b i : List ℕ) → bytes_eq a (codes "override") ≡ true → bytes_eq b w ≡ true → is_id i ≡ true → a ∷ b ∷ i ∷ [] ≡ codes "override" ∷ w ∷ override_word i
+id_words w a b i h g k = rw (other_than_global i k) (ap (λ (x : List ℕ). x ∷ b ∷ i ∷ []) (is_word a (codes "override") h) ∙ ap (λ (x : List ℕ). codes "override" ∷ x ∷ i ∷ []) (is_word b w g))
+
+id_names : (i : List ℕ) → is_id i ≡ true → is_override_name i ≡ true
+id_names i k = rw (other_than_global i k) k
+
 both_true : (a b : Bool) → a ≡ true → b ≡ true → (a && b) ≡ true
 both_true true b h g = g
 both_true false b h g = absurd (cc h)
@@ -55,6 +70,12 @@ speaks UpdateOne = two (literal (codes "update")) ref_name (Speaks UpdateOne) (�
 speaks Uninstall = two (literal (codes "uninstall")) ref_name (Speaks Uninstall) (λ a r h g. (word_and_ref (codes "uninstall") a r h g, is_good r g))
 speaks UninstallUnused = two (literal (codes "uninstall")) (literal (codes "--unused")) (Speaks UninstallUnused) (λ a b h g. (both_words (codes "uninstall") (codes "--unused") a b h g, refl))
 speaks Rollback = two (literal (codes "rollback")) ref_name (Speaks Rollback) (λ a r h g. (word_and_ref (codes "rollback") a r h g, is_good r g))
+speaks OverrideReset = two (literal (codes "override")) (literal (codes "--reset")) (Speaks OverrideReset) (λ a b h g. (both_words (codes "override") (codes "--reset") a b h g, refl))
+speaks OverrideResetApp = three (literal (codes "override")) (literal (codes "--reset")) app_id (Speaks OverrideResetApp) (λ a b i h g k. (id_words (codes "--reset") a b i h g k, id_names i k))
+speaks ListRefs = one (literal (codes "list")) (Speaks ListRefs) (λ a h. (ap (λ (x : List ℕ). x ∷ []) (is_word a (codes "list") h), refl))
+speaks Info = two (literal (codes "info")) ref_name (Speaks Info) (λ a r h g. (word_and_ref (codes "info") a r h g, is_good r g))
+speaks OverrideShow = two (literal (codes "override")) (literal (codes "--show")) (Speaks OverrideShow) (λ a b h g. (both_words (codes "override") (codes "--show") a b h g, refl))
+speaks OverrideShowApp = three (literal (codes "override")) (literal (codes "--show")) app_id (Speaks OverrideShowApp) (λ a b i h g k. (id_words (codes "--show") a b i h g k, id_names i k))
 speaks ListRemotes = two (literal (codes "list")) (literal (codes "--remotes")) (Speaks ListRemotes) (λ a b h g. (both_words (codes "list") (codes "--remotes") a b h g, refl))
 speaks ListPins = two (literal (codes "list")) (literal (codes "--pins")) (Speaks ListPins) (λ a b h g. (both_words (codes "list") (codes "--pins") a b h g, refl))
 speaks Batch = one (literal (codes "batch")) (Speaks Batch) (λ a h. (ap (λ (x : List ℕ). x ∷ []) (is_word a (codes "batch") h), refl))
@@ -84,6 +105,14 @@ read_back words c h = read_by words (find (reads words) forms) c refl h
 
 -- ---- the words of each command are read as it
 
+reset_by : (name : List ℕ) (b : Bool) → bytes_eq name (codes "global") ≡ b → (b || is_id name) ≡ true → command_of (codes "override" ∷ codes "--reset" ∷ cond b [] (name ∷ [])) ≡ Some (Changing (changes.OverrideReset name))
+reset_by name true is h = ap (λ (n : List ℕ). Some (Changing (changes.OverrideReset n))) (sym (is_word name (codes "global") is))
+reset_by name false is h = rw h refl
+
+show_by : (name : List ℕ) (b : Bool) → bytes_eq name (codes "global") ≡ b → (b || is_id name) ≡ true → command_of (codes "override" ∷ codes "--show" ∷ cond b [] (name ∷ [])) ≡ Some (Listed (listings.OverrideShow name))
+show_by name true is h = ap (λ (n : List ℕ). Some (Listed (listings.OverrideShow n))) (sym (is_word name (codes "global") is))
+show_by name false is h = rw h refl
+
 pub written : (c : Command) → is_command c ≡ true → command_of (words_of c) ≡ Some c
 written (Changing (changes.Pin p)) h = rw h refl
 written (Changing (changes.Unpin p)) h = rw h refl
@@ -96,6 +125,10 @@ written (Changing (changes.UpdateOne name)) h = rw (ref_of-ref_text name h) (ap 
 written (Changing (changes.Uninstall name)) h = rw (ref_of-ref_text name h) (ap (λ (r : Ref). Some (Changing (changes.Uninstall r))) (ref_back name h))
 written (Changing changes.UninstallUnused) h = rw unused_is_none refl
 written (Changing (changes.Rollback name)) h = rw (ref_of-ref_text name h) (ap (λ (r : Ref). Some (Changing (changes.Rollback r))) (ref_back name h))
+written (Changing (changes.OverrideReset name)) h = reset_by name (bytes_eq name (codes "global")) refl h
+written (Listed listings.Refs) h = refl
+written (Listed (listings.Info name)) h = rw (ref_of-ref_text name h) (ap (λ (r : Ref). Some (Listed (listings.Info r))) (ref_back name h))
+written (Listed (listings.OverrideShow name)) h = show_by name (bytes_eq name (codes "global")) refl h
 written (Listed listings.Remotes) h = refl
 written (Listed listings.Pins) h = refl
 written (Showing things.Commit) h = refl

@@ -51,7 +51,7 @@ pub pin_and_more : bad_index (codes "pin" ∷ codes "app/*/*/*" ∷ codes "x" �
 unfolding is_pin
 pin_and_more = refl
 
-pub list_alone : bad_index (codes "list" ∷ []) ≡ 1
+pub list_alone : command_of (codes "list" ∷ []) ≡ Some (Listed listings.Refs)
 list_alone = refl
 
 pub list_pin : bad_index (codes "list" ∷ codes "--pin" ∷ []) ≡ 1
@@ -167,8 +167,9 @@ pub bad_pattern : reason_text (codes "pin" ∷ codes "app/*/*" ∷ []) ≡ codes
 unfolding is_pin
 bad_pattern = refl
 
-pub none_listed : reason_text (codes "list" ∷ []) ≡ codes "fpk: a word is missing\nusage: fpk list --remotes\nusage: fpk list --pins\n"
-none_listed = refl
+pub none_shown : reason_text (codes "override" ∷ codes "--reset" ∷ codes "x" ∷ []) ≡ codes "fpk: 'x' is no ID of an application\nusage: fpk override --reset\nusage: fpk override --reset ID\n"
+unfolding is_id
+none_shown = refl
 
 pub one_more_word : reason_text (codes "batch" ∷ codes "x" ∷ []) ≡ codes "fpk: 'x' is one word too many\nusage: fpk batch\n"
 one_more_word = refl

@@ -4,6 +4,7 @@ ghost use Rattle.fl_words.specs.Words.{may_change};
 ghost use Rattle.fl_words.specs.declared.command.WordsError.TheVariants.{NoMemory};
 
 use crate::value_type::ValueType;
+use fp_base::Text;
 use fp_name::{PinPattern, RefName, RemoteName};
 use fp_small::RemoteRow;
 use std::alloc::AllocError;
@@ -57,15 +58,23 @@ pub enum Change {
     UninstallUnused,
     /// `rollback REF`: puts a ref back to the commit that it was at before.
     Rollback(RefName),
+    /// `override --reset` or `override --reset ID`: takes an override away. The name is `global` or the ID.
+    OverrideReset { name: Text },
 }
 
-/// What is listed, a line each.
-#[derive(Clone, Copy, Debug, PartialEq, Eq)]
+/// What is printed of the installation.
+#[derive(Debug, Drop)]
 pub enum Listing {
+    /// `list`: the deployed refs.
+    Refs,
     /// `list --remotes`: the remotes.
     Remotes,
     /// `list --pins`: the patterns.
     Pins,
+    /// `info REF`: what is known of a deployed ref.
+    Info(RefName),
+    /// `override --show` or `override --show ID`: an override. The name is `global` or the ID.
+    OverrideShow { name: Text },
 }
 
 /// What the input is shown as: an object of a kind, or a value of a type.

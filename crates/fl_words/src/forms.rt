@@ -5,7 +5,7 @@ ghost use Rattle.fl_words.specs.Reading.{IsMisfit};
 ghost use Rattle.fl_words.specs.Reasons.{change_forms};
 
 use crate::command::{Change, Command, Listing, Shown, WordsError};
-use crate::values::{name_at, pattern_at, ref_at, remote_in, type_at};
+use crate::values::{global_name, id_at, name_at, pattern_at, ref_at, remote_in, type_at};
 use std::alloc::Global;
 
 /// What may stand at a place of a form.
@@ -21,6 +21,8 @@ pub enum Slot {
     Url,
     /// A ref.
     Ref,
+    /// The ID of an application.
+    Id,
     /// The type string of a type of GVariant.
     Type,
 }
@@ -39,8 +41,14 @@ pub enum Form {
     Uninstall,
     UninstallUnused,
     Rollback,
+    OverrideReset,
+    OverrideResetApp,
+    ListRefs,
     ListRemotes,
     ListPins,
+    Info,
+    OverrideShow,
+    OverrideShowApp,
     Batch,
     ShowCommit,
     ShowDirTree,
@@ -65,8 +73,14 @@ impl Form {
             Form::Uninstall,
             Form::UninstallUnused,
             Form::Rollback,
+            Form::OverrideReset,
+            Form::OverrideResetApp,
+            Form::ListRefs,
             Form::ListRemotes,
             Form::ListPins,
+            Form::Info,
+            Form::OverrideShow,
+            Form::OverrideShowApp,
             Form::Batch,
             Form::ShowCommit,
             Form::ShowDirTree,
@@ -91,6 +105,8 @@ impl Form {
             Form::Uninstall,
             Form::UninstallUnused,
             Form::Rollback,
+            Form::OverrideReset,
+            Form::OverrideResetApp,
         ]
     }
 
@@ -110,8 +126,14 @@ impl Form {
             Form::Uninstall => &[Slot::Word("uninstall"), Slot::Ref],
             Form::UninstallUnused => &[Slot::Word("uninstall"), Slot::Word("--unused")],
             Form::Rollback => &[Slot::Word("rollback"), Slot::Ref],
+            Form::OverrideReset => &[Slot::Word("override"), Slot::Word("--reset")],
+            Form::OverrideResetApp => &[Slot::Word("override"), Slot::Word("--reset"), Slot::Id],
+            Form::ListRefs => &[Slot::Word("list")],
             Form::ListRemotes => &[Slot::Word("list"), Slot::Word("--remotes")],
             Form::ListPins => &[Slot::Word("list"), Slot::Word("--pins")],
+            Form::Info => &[Slot::Word("info"), Slot::Ref],
+            Form::OverrideShow => &[Slot::Word("override"), Slot::Word("--show")],
+            Form::OverrideShowApp => &[Slot::Word("override"), Slot::Word("--show"), Slot::Id],
             Form::Batch => &[Slot::Word("batch")],
             Form::ShowCommit => &[Slot::Word("show"), Slot::Word("commit")],
             Form::ShowDirTree => &[Slot::Word("show"), Slot::Word("dirtree")],
@@ -140,8 +162,22 @@ impl Form {
             Form::Uninstall => Command::Change(Change::Uninstall(ref_at(alloc, words, 1)?)),
             Form::UninstallUnused => Command::Change(Change::UninstallUnused),
             Form::Rollback => Command::Change(Change::Rollback(ref_at(alloc, words, 1)?)),
+            Form::OverrideReset => Command::Change(Change::OverrideReset {
+                name: global_name(alloc)?,
+            }),
+            Form::OverrideResetApp => Command::Change(Change::OverrideReset {
+                name: id_at(alloc, words, 2)?,
+            }),
+            Form::ListRefs => Command::List(Listing::Refs),
             Form::ListRemotes => Command::List(Listing::Remotes),
             Form::ListPins => Command::List(Listing::Pins),
+            Form::Info => Command::List(Listing::Info(ref_at(alloc, words, 1)?)),
+            Form::OverrideShow => Command::List(Listing::OverrideShow {
+                name: global_name(alloc)?,
+            }),
+            Form::OverrideShowApp => Command::List(Listing::OverrideShow {
+                name: id_at(alloc, words, 2)?,
+            }),
             Form::Batch => Command::Batch,
             Form::ShowCommit => Command::Show(Shown::Commit),
             Form::ShowDirTree => Command::Show(Shown::DirTree),

@@ -118,6 +118,7 @@ fn fault_of(slot: &Slot) -> &'static str
         Slot::Remote => "is no name of a remote",
         Slot::Url => "is no URL of a remote: file:///PATH",
         Slot::Ref => "is no ref: KIND/ID/ARCH/BRANCH",
+        Slot::Id => "is no ID of an application",
         Slot::Type => "is no type of GVariant",
     }
 }
@@ -192,6 +193,7 @@ fn name_of(slot: &Slot) -> &str
         Slot::Remote => "NAME",
         Slot::Url => "URL",
         Slot::Ref => "REF",
+        Slot::Id => "ID",
         Slot::Type => "TYPE",
     }
 }

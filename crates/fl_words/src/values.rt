@@ -1,13 +1,14 @@
 //! What stands at the places of a command line.
-ghost use Rattle.std.specs.Prelude.{◌≡◌, Ok, IfOk, IfErr, map, string_bytes};
-ghost use Rattle.fl_words.specs.Forms.{place_of, fits as may_stand, word_at as text_at, remote_in as remote_of, pattern, remote, url, ref_name, type_string};
+ghost use Rattle.std.specs.Prelude.{◌≡◌, Ok, IfOk, IfErr, map, string_bytes, codes};
+ghost use Rattle.fl_words.specs.Forms.{place_of, fits as may_stand, word_at as text_at, remote_in as remote_of, pattern, remote, url, ref_name, app_id, type_string};
 ghost use Rattle.fp_name.specs.Refs.{ref_at as ref_of_text};
 ghost use Rattle.fl_words.specs.Reading.{IsMisplaced, IsRemoteMisplaced, IsReadBy, IsUnread};
 
 use crate::command::WordsError;
 use crate::forms::Slot;
 use crate::value_type::ValueType;
-use fp_name::{NameFault, PinPattern, RefName, RemoteName, RemoteUrl};
+use fp_base::Text;
+use fp_name::{AppId, NameFault, PinPattern, RefName, RemoteName, RemoteUrl};
 use fp_small::RemoteRow;
 use std::alloc::{AllocError, Global};
 
@@ -21,6 +22,7 @@ pub fn fits(alloc: Global, slot: &Slot, word: &str) -> Result<bool, AllocError>
         Slot::Remote => is_read(RemoteName::parse(alloc, word.as_bytes())),
         Slot::Url => is_read(RemoteUrl::parse(alloc, word.as_bytes())),
         Slot::Ref => is_read(RefName::parse(alloc, word.as_bytes())),
+        Slot::Id => is_read(AppId::parse(alloc, word.as_bytes())),
         Slot::Type => is_read(ValueType::parse(alloc, word.as_bytes())),
     }
 }
@@ -86,6 +88,22 @@ pub(crate) fn ref_at(alloc: Global, words: &[String], place: usize) -> Result<Re
     ensures bad { IfErr result (IsMisplaced ref_name (text_at place (map string_bytes words.now))) }
 {
     placed(RefName::parse(alloc, word_at(words, place).as_bytes()))
+}
+
+/// The ID at a place, which names an application's override.
+pub(crate) fn id_at(alloc: Global, words: &[String], place: usize) -> Result<Text, WordsError>
+    ensures ok { IfOk result (λ id. id ≡ text_at place (map string_bytes words.now)) }
+    ensures bad { IfErr result (IsMisplaced app_id (text_at place (map string_bytes words.now))) }
+{
+    let id = placed(AppId::parse(alloc, word_at(words, place).as_bytes()))?;
+    Ok(id.write()?)
+}
+
+/// The name of the override for all applications.
+pub(crate) fn global_name(alloc: Global) -> Result<Text, AllocError>
+    ensures { IfOk result (λ name. name ≡ codes "global") }
+{
+    Text::from_str(alloc, "global")
 }
 
 /// The type at a place.

@@ -26,7 +26,13 @@ fpk update REF               updates one ref
 fpk uninstall REF            takes a ref away
 fpk uninstall --unused       takes the runtimes away that nothing needs
 fpk rollback REF             puts a ref back to the commit that it was at before
+fpk override --reset         takes the override for all applications away
+fpk override --reset ID      takes an application's override away
 fpk batch                    does the commands of standard input, one a line
+fpk list                     prints the installed refs, each with its commit and its remote
+fpk info REF                 prints what is known of an installed ref
+fpk override --show          prints the override for all applications
+fpk override --show ID       prints an application's override
 fpk list --pins              prints the patterns that are pinned
 fpk list --remotes           prints the remotes
 fpk show commit              prints what a commit says
