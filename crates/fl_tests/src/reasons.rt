@@ -27,8 +27,14 @@ usage: fpk update REF
 usage: fpk uninstall REF
 usage: fpk uninstall --unused
 usage: fpk rollback REF
+usage: fpk override --reset
+usage: fpk override --reset ID
+usage: fpk list
 usage: fpk list --remotes
 usage: fpk list --pins
+usage: fpk info REF
+usage: fpk override --show
+usage: fpk override --show ID
 usage: fpk batch
 usage: fpk show commit
 usage: fpk show dirtree
@@ -37,7 +43,11 @@ usage: fpk show value TYPE
 ";
 
 /// Words that are no command, and what is said of them.
-const REASONS: [(&[&str], &str); 14] = [
+const REASONS: [(&[&str], &str); 15] = [
+    (
+        &["override", "--show", "global"],
+        "fpk: 'global' is no ID of an application\nusage: fpk override --show\nusage: fpk override --show ID\n",
+    ),
     (
         &["install", "hub", "org.x.App"],
         "fpk: 'org.x.App' is no ref: KIND/ID/ARCH/BRANCH\nusage: fpk install NAME REF\n",
@@ -72,7 +82,7 @@ const REASONS: [(&[&str], &str); 14] = [
     ),
     (
         &["list", "pins"],
-        "fpk: 'pins' isn't known here\nusage: fpk list --remotes\nusage: fpk list --pins\n",
+        "fpk: 'pins' isn't known here\nusage: fpk list\nusage: fpk list --remotes\nusage: fpk list --pins\n",
     ),
     (
         &["list", "--pins", "x", "y"],
@@ -181,7 +191,9 @@ const LINES: [(&[u8], Option<&str>); 8] = [
             usage: update REF\n\
             usage: uninstall REF\n\
             usage: uninstall --unused\n\
-            usage: rollback REF\n",
+            usage: rollback REF\n\
+            usage: override --reset\n\
+            usage: override --reset ID\n",
         ),
     ),
 ];
