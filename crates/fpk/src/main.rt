@@ -20,7 +20,19 @@ fpk unpin PATTERN            takes the pin away
 fpk remote-add NAME URL      adds a remote
 fpk remote-modify NAME URL   gives a remote another URL
 fpk remote-delete NAME       takes the remote away
+fpk install NAME REF         installs a ref from the remote
+fpk update                   updates all that is installed
+fpk update REF               updates one ref
+fpk uninstall REF            takes a ref away
+fpk uninstall --unused       takes the runtimes away that nothing needs
+fpk rollback REF             puts a ref back to the commit that it was at before
+fpk override --reset         takes the override for all applications away
+fpk override --reset ID      takes an application's override away
 fpk batch                    does the commands of standard input, one a line
+fpk list                     prints the installed refs, each with its commit and its remote
+fpk info REF                 prints what is known of an installed ref
+fpk override --show          prints the override for all applications
+fpk override --show ID       prints an application's override
 fpk list --pins              prints the patterns that are pinned
 fpk list --remotes           prints the remotes
 fpk show commit              prints what a commit says
@@ -30,7 +42,7 @@ fpk show value TYPE          prints the size of a value of a type
 fpk --help                   prints this
 fpk --version                prints the version
 
-A pattern is KIND/ID/ARCH/BRANCH, where KIND is app or runtime, and * may stand for each of the others.
+A REF is KIND/ID/ARCH/BRANCH, where KIND is app or runtime. In a PATTERN * may stand for each of the others.
 What show prints is read from standard input: an object of OSTree, or the normal form of a value of GVariant.
 The installation is the folder that FPK_INSTALLATION names, else the folder `installation` here.
 ";
