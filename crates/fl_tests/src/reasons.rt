@@ -35,6 +35,8 @@ usage: fpk list --pins
 usage: fpk info REF
 usage: fpk override --show
 usage: fpk override --show ID
+usage: fpk override OPTION [OPTION..]
+usage: fpk override OPTION [OPTION..] ID
 usage: fpk batch
 usage: fpk show commit
 usage: fpk show dirtree
@@ -43,7 +45,11 @@ usage: fpk show value TYPE
 ";
 
 /// Words that are no command, and what is said of them.
-const REASONS: [(&[&str], &str); 15] = [
+const REASONS: [(&[&str], &str); 16] = [
+    (
+        &["override", "--share=network", "--share"],
+        "fpk: '--share' is no option that changes permissions, as --share=network\nusage: fpk override OPTION [OPTION..]\nusage: fpk override OPTION [OPTION..] ID\n",
+    ),
     (
         &["override", "--show", "global"],
         "fpk: 'global' is no ID of an application\nusage: fpk override --show\nusage: fpk override --show ID\n",
@@ -192,6 +198,8 @@ const LINES: [(&[u8], Option<&str>); 8] = [
             usage: uninstall REF\n\
             usage: uninstall --unused\n\
             usage: rollback REF\n\
+            usage: override OPTION [OPTION..]\n\
+            usage: override OPTION [OPTION..] ID\n\
             usage: override --reset\n\
             usage: override --reset ID\n",
         ),

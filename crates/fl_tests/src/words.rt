@@ -1,5 +1,6 @@
 //! Words of command lines.
 
+use fl_meta::{Mention, Value};
 use fl_words::{Change, Command, Listing, Shown, WordsError, read_words};
 use fp_small::RemoteRow;
 use std::alloc::{AllocError, Global};
@@ -43,8 +44,24 @@ pub fn told_change(alloc: Global, change: &Change) -> Result<String, AllocError>
         Change::Uninstall(name) => format!(in alloc; "Uninstall {}", name.as_str()),
         Change::UninstallUnused => "UninstallUnused".to_string(alloc),
         Change::Rollback(name) => format!(in alloc; "Rollback {}", name.as_str()),
+        Change::OverrideChange { name, options } => {
+            told_options(alloc, name.as_str(), options.as_slice())
+        }
         Change::OverrideReset { name } => format!(in alloc; "OverrideReset {}", name.as_str()),
     }
+}
+
+fn told_options(alloc: Global, name: &str, options: &[Mention]) -> Result<String, AllocError> {
+    let mut told = format!(in alloc; "OverrideChange {name}")?;
+    for mention in options {
+        let list = mention.permission.list;
+        let of = mention.permission.name.as_str();
+        match &mention.value {
+            Value::Text(text) => write!(told, " {list:?} {of} '{}'", text.as_str())?,
+            value => write!(told, " {list:?} {of} {value:?}")?,
+        }
+    }
+    Ok(told)
 }
 
 fn told_listing(alloc: Global, listing: &Listing) -> Result<String, AllocError> {
@@ -71,7 +88,7 @@ fn told_remote(alloc: Global, what: &str, row: &RemoteRow) -> Result<String, All
 }
 
 /// Words, and the command that they are, or the place of the first bad one.
-const WORDS: [(&[&str], &str); 110] = [
+const WORDS: [(&[&str], &str); 142] = [
     // remotes
     (
         &["remote-add", "lab", "file:///lab"],
@@ -200,6 +217,101 @@ const WORDS: [(&[&str], &str); 110] = [
         "bad words at 3",
     ),
     (&["override", "--show", "--reset"], "bad words at 2"),
+    // options of overrides
+    (
+        &["override", "--share=network"],
+        "OverrideChange global Shared network On",
+    ),
+    (
+        &["override", "--unshare=ipc", "--nosocket=x11", "org.x.App"],
+        "OverrideChange org.x.App Shared ipc Off Sockets x11 Off",
+    ),
+    (
+        &[
+            "override",
+            "--socket=wayland",
+            "--device=dri",
+            "--nodevice=all",
+        ],
+        "OverrideChange global Sockets wayland On Devices dri On Devices all Off",
+    ),
+    (
+        &["override", "--allow=gizmo", "--disallow=devel"],
+        "OverrideChange global UnknownFeatures gizmo On Features devel Off",
+    ),
+    (
+        &[
+            "override",
+            "--filesystem=~/x:ro",
+            "--nofilesystem=host:ro",
+            "--filesystem=a b:ro:create",
+        ],
+        "OverrideChange global Filesystems ~/x Ro Filesystems host Off Filesystems a b Create",
+    ),
+    (
+        &["override", "--persist=.x", "--filesystem=home"],
+        "OverrideChange global Persistent .x On Filesystems home Rw",
+    ),
+    (
+        &["override", "--env=A=b=c;d ", "--env=_1=", "org.x.App"],
+        "OverrideChange org.x.App Environment A 'b=c;d ' Environment _1 ''",
+    ),
+    (
+        &[
+            "override",
+            "--talk-name=org.foo.*",
+            "--own-name=org.foo",
+            "--no-talk-name=a.b",
+        ],
+        "OverrideChange global SessionBus org.foo.* Talk SessionBus org.foo Own SessionBus a.b NoBus",
+    ),
+    (
+        &[
+            "override",
+            "--system-talk-name=a.b",
+            "--system-own-name=a.b",
+            "--system-no-talk-name=a.b",
+        ],
+        "OverrideChange global SystemBus a.b Talk SystemBus a.b Own SystemBus a.b NoBus",
+    ),
+    (
+        &["override", "--share=é"],
+        "OverrideChange global UnknownShared é On",
+    ),
+    (&["override", "--share="], "bad words at 1"),
+    (&["override", "--share"], "bad words at 1"),
+    (&["override", "--share=a;b"], "bad words at 1"),
+    (&["override", "--share=a=b"], "bad words at 1"),
+    (&["override", "--share=!a"], "bad words at 1"),
+    (&["override", "--share= a"], "bad words at 1"),
+    (&["override", "--share=a\n"], "bad words at 1"),
+    (&["override", "--filesystem=:ro"], "bad words at 1"),
+    (&["override", "--nofilesystem=:ro:rw"], "bad words at 1"),
+    (&["override", "--unpersist=x"], "bad words at 1"),
+    (&["override", "--env=1A=b"], "bad words at 1"),
+    (&["override", "--env=A"], "bad words at 1"),
+    (&["override", "--env=A= b"], "bad words at 1"),
+    (&["override", "--env=A=b\x7f"], "bad words at 1"),
+    (&["override", "--talk-name=foo"], "bad words at 1"),
+    (&["override", "--talk-name=:1.2"], "bad words at 1"),
+    (&["override", "--command=x"], "bad words at 1"),
+    (&["override", "--share=network", "global"], "bad words at 2"),
+    (
+        &["override", "--share=network", "--share"],
+        "bad words at 2",
+    ),
+    (
+        &["override", "--share=network", "org.x.App", "--share=ipc"],
+        "bad words at 3",
+    ),
+    (
+        &["override", "org.x.App", "--share=network"],
+        "bad words at 1",
+    ),
+    (
+        &["override", "--reset", "--share=network"],
+        "bad words at 2",
+    ),
     // pins, lists and batches
     (&["batch"], "Batch"),
     (&["batch", ""], "bad words at 1"),

@@ -3,6 +3,7 @@ pub mod Beginnings
 pub mod Finding
 pub mod FirstWords
 pub mod LineWords
+pub mod OverrideWords
 pub mod Reaching
 pub mod ReadBack
 pub mod RefTexts

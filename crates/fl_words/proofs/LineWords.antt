@@ -1,12 +1,11 @@
 -- The words of a line, one after another.
-use Rattle.std.proofs.Common.{subst, Result, Ok, Err, IsErrAnd, IfErr, ◌≡◌, ℕ, ◌+◌, ◌≤◌, suc, Bool, true, false, eqb, List, [], ◌∷◌, ◌++◌, length, take, drop, Some, None, refl, ap, sym, ◌∙◌, inl, inr, arith}
+use Rattle.std.proofs.Common.{subst, Result, Ok, Err, IsErrAnd, IfErr, ◌≡◌, ℕ, ◌+◌, ◌≤◌, suc, Bool, true, false, eqb, List, [], ◌∷◌, ◌++◌, length, take, drop, Option, Some, None, refl, ap, sym, ◌∙◌, inl, inr, arith}
 use Rattle.std.specs.List.{position, list_all, onto_first, find}
 use Rattle.std.specs.Option.{option_map, is_some}
-use Rattle.std.proofs.lemmas.List.{length-append}
 use Rattle.std.proofs.lemmas.Slice.Eq.{bytes_eq-Decides}
 use Rattle.std.specs.Prelude.{option_and_then}
 use Rattle.std.specs.Str.{is_utf8, IsUtf8}
-use Rattle.std.proofs.lemmas.Bool.{cases_Bool, false≢true, and_parts, false_from_ne_true}
+use Rattle.std.proofs.lemmas.Bool.{cases_Bool, false≢true, and_parts, and_from, false_from_ne_true}
 use Rattle.std.proofs.lemmas.Str.{IsUtf8-from_is_utf8, is_utf8-from_IsUtf8}
 use Rattle.fp_name.specs.Bytes.{is_dotted}
 use Rattle.fp_name.specs.Grammar.{is_remote_name, is_url, is_id}
@@ -19,14 +18,16 @@ use Rattle.fl_words.specs.declared.command.Command.{Command}
 use Rattle.fl_words.specs.declared.command.WordsError.{WordsError}
 use Rattle.fl_words.specs.declared.command.WordsError.TheVariants.{BadWords, NoMemory}
 use Rattle.fl_words.specs.declared.forms.Form.{Form}
-use Rattle.fl_words.specs.declared.forms.Form.TheVariants.{Pin, Unpin, RemoteAdd, RemoteModify, RemoteDelete, Install, UpdateAll, UpdateOne, Uninstall, UninstallUnused, Rollback, OverrideReset, OverrideResetApp, ListRefs, ListRemotes, ListPins, Info, OverrideShow, OverrideShowApp, Batch, ShowCommit, ShowDirTree, ShowDirMeta, ShowValue}
+use Rattle.fl_words.specs.declared.forms.Form.TheVariants.{Pin, Unpin, RemoteAdd, RemoteModify, RemoteDelete, Install, UpdateAll, UpdateOne, Uninstall, UninstallUnused, Rollback, OverrideChange, OverrideChangeApp, OverrideReset, OverrideResetApp, ListRefs, ListRemotes, ListPins, Info, OverrideShow, OverrideShowApp, Batch, ShowCommit, ShowDirTree, ShowDirMeta, ShowValue}
 use Rattle.fl_words.proofs.RefTexts.{no_text as no_text_no_ref}
+use Rattle.fl_options.specs.Options.{is_option}
+use Rattle.fl_options.proofs.Lines.{no_text_no_option}
 use Rattle.fl_words.proofs.TypeTexts.{no_text_no_type}
 use Rattle.fl_words.specs.Types.{is_type_text}
-use Rattle.fl_words.specs.Forms.{Place, literal, pattern, remote, url, ref_name, app_id, type_string, fits, forms, slots_of, made, reads, command_of}
+use Rattle.fl_words.specs.Forms.{Place, literal, pattern, remote, url, ref_name, app_id, permission, type_string, fits, fits_some, filled, fills, forms, slots_of, further_of, last_of, made, reads, command_of}
 use Rattle.fl_words.specs.Reading.{IsNoCommand}
 use Rattle.fl_words.specs.Batch.{words_in, change_of, batch_change, IsNoText, IsNoWords, IsNoRecord}
-use Rattle.fl_words.proofs.Reaching.{AllFit, reads_fit, fit_length}
+use Rattle.fl_words.proofs.Reaching.{filled_parts}
 
 -- ---- where the first space stands
 
@@ -50,59 +51,17 @@ words_last (b ∷ bytes) h =
     let a = at_none (λ x. eqb x 32) b bytes h in
     rw a.0 (ap (onto_first b) (words_last bytes a.1))
 
--- there is a word in each line
-words_in_cons : (bytes : List ℕ) → (word : List ℕ) × (more : List (List ℕ)) × (words_in bytes ≡ word ∷ more)
-words_in_cons [] = ([], [], refl)
-words_in_cons (b ∷ bytes) =
-    let rest = words_in_cons bytes in
-    elim (cases_Bool (eqb b 32)) [
-      | inl yes' ↦ ([], words_in bytes, rw yes' refl)
-      | inr no' ↦ (b ∷ rest.0, rest.1, rw no' (ap (onto_first b) rest.2))
-    ]
-
 -- ---- words that are no command
-
--- more than three
-few_places : (form : Form) → length (slots_of form) ≤ 3
-few_places Pin = omega arith
-few_places Unpin = omega arith
-few_places RemoteAdd = omega arith
-few_places RemoteModify = omega arith
-few_places RemoteDelete = omega arith
-few_places Install = omega arith
-few_places UpdateAll = omega arith
-few_places UpdateOne = omega arith
-few_places Uninstall = omega arith
-few_places UninstallUnused = omega arith
-few_places Rollback = omega arith
-few_places OverrideReset = omega arith
-few_places OverrideResetApp = omega arith
-few_places ListRefs = omega arith
-few_places Info = omega arith
-few_places OverrideShow = omega arith
-few_places OverrideShowApp = omega arith
-few_places ListRemotes = omega arith
-few_places ListPins = omega arith
-few_places Batch = omega arith
-few_places ShowCommit = omega arith
-few_places ShowDirTree = omega arith
-few_places ShowDirMeta = omega arith
-few_places ShowValue = omega arith
 
 -- no form is found where none reads
 find_none : (words : List (List ℕ)) (fs : List Form) → ((form : Form) → reads words form ≡ true → ⊥) → find (reads words) fs ≡ None
 find_none words [] none = refl
 find_none words (f ∷ fs) none = rw (false_from_ne_true (reads words f) (none f)) (find_none words fs none)
 
-pub no_command_where : (words : List (List ℕ)) → ((form : Form) → AllFit (slots_of form) words → ⊥) → command_of words ≡ None
-no_command_where words none = ap (option_map (λ form. made form words)) (find_none words forms (λ form h. none form (reads_fit words form h)))
+no_command_where : (words : List (List ℕ)) → ((form : Form) → reads words form ≡ true → ⊥) → command_of words ≡ None
+no_command_where words none = ap (option_map (λ form. made form words)) (find_none words forms none)
 
-pub too_many : (words : List (List ℕ)) (word : List ℕ) (more : List (List ℕ)) → length words ≡ 3 → command_of (words ++ word ∷ more) ≡ None
-too_many words word more h = no_command_where (words ++ word ∷ more) (λ form fit.
-    let same = fit_length (slots_of form) (words ++ word ∷ more) fit in
-    omega (arith, h, few_places form, same, length-append words (word ∷ more)))
-
--- and those of which one isn't text
+-- one of which isn't text
 
 -- a text of letters, digits, `-` and such
 ascii : (text : List ℕ) → list_all is_dotted text ≡ true → is_utf8 text ≡ true
@@ -123,6 +82,7 @@ is_plain remote = true
 is_plain url = true
 is_plain ref_name = true
 is_plain app_id = true
+is_plain permission = true
 is_plain type_string = true
 
 plain_places : (form : Form) → list_all is_plain (slots_of form) ≡ true
@@ -137,19 +97,82 @@ plain_places UpdateOne = refl
 plain_places Uninstall = refl
 plain_places UninstallUnused = refl
 plain_places Rollback = refl
+plain_places OverrideChange = refl
+plain_places OverrideChangeApp = refl
 plain_places OverrideReset = refl
 plain_places OverrideResetApp = refl
 plain_places ListRefs = refl
+plain_places ListRemotes = refl
+plain_places ListPins = refl
 plain_places Info = refl
 plain_places OverrideShow = refl
 plain_places OverrideShowApp = refl
-plain_places ListRemotes = refl
-plain_places ListPins = refl
 plain_places Batch = refl
 plain_places ShowCommit = refl
 plain_places ShowDirTree = refl
 plain_places ShowDirMeta = refl
 plain_places ShowValue = refl
+
+-- and so are those of the places that are repeated, and of the last
+abbrev IsPlainPlace : Option Place → Type 0
+IsPlainPlace None = Unit {0}
+IsPlainPlace (Some place) = is_plain place ≡ true
+
+plain_further : (form : Form) → IsPlainPlace (further_of form)
+plain_further Pin = tt
+plain_further Unpin = tt
+plain_further RemoteAdd = tt
+plain_further RemoteModify = tt
+plain_further RemoteDelete = tt
+plain_further Install = tt
+plain_further UpdateAll = tt
+plain_further UpdateOne = tt
+plain_further Uninstall = tt
+plain_further UninstallUnused = tt
+plain_further Rollback = tt
+plain_further OverrideChange = refl
+plain_further OverrideChangeApp = refl
+plain_further OverrideReset = tt
+plain_further OverrideResetApp = tt
+plain_further ListRefs = tt
+plain_further ListRemotes = tt
+plain_further ListPins = tt
+plain_further Info = tt
+plain_further OverrideShow = tt
+plain_further OverrideShowApp = tt
+plain_further Batch = tt
+plain_further ShowCommit = tt
+plain_further ShowDirTree = tt
+plain_further ShowDirMeta = tt
+plain_further ShowValue = tt
+
+plain_last : (form : Form) → IsPlainPlace (last_of form)
+plain_last Pin = tt
+plain_last Unpin = tt
+plain_last RemoteAdd = tt
+plain_last RemoteModify = tt
+plain_last RemoteDelete = tt
+plain_last Install = tt
+plain_last UpdateAll = tt
+plain_last UpdateOne = tt
+plain_last Uninstall = tt
+plain_last UninstallUnused = tt
+plain_last Rollback = tt
+plain_last OverrideChange = tt
+plain_last OverrideChangeApp = refl
+plain_last OverrideReset = tt
+plain_last OverrideResetApp = tt
+plain_last ListRefs = tt
+plain_last ListRemotes = tt
+plain_last ListPins = tt
+plain_last Info = tt
+plain_last OverrideShow = tt
+plain_last OverrideShowApp = tt
+plain_last Batch = tt
+plain_last ShowCommit = tt
+plain_last ShowDirTree = tt
+plain_last ShowDirMeta = tt
+plain_last ShowValue = tt
 
 fit_text : (place : Place) (text : List ℕ) → is_plain place ≡ true → fits place text ≡ true → is_utf8 text ≡ true
 fit_text (literal w) text plain fit = ap is_utf8 ((bytes_eq-Decides text w).0 fit) ∙ ascii w plain
@@ -157,31 +180,39 @@ fit_text pattern text plain fit = text_where is_pin no_text_no_pin text fit
 fit_text remote text plain fit = text_where is_remote_name no_text_no_remote_name text fit
 fit_text url text plain fit = text_where is_url no_text_no_url text fit
 fit_text ref_name text plain fit = text_where (λ t. is_some (ref_of t)) no_text_no_ref text fit
+fit_text permission text plain fit = text_where is_option no_text_no_option text fit
 fit_text app_id text plain fit = text_where is_id no_text_no_id text fit
 fit_text type_string text plain fit = text_where is_type_text no_text_no_type text fit
 
-fit_texts : (places : List Place) (words : List (List ℕ)) → list_all is_plain places ≡ true → AllFit places words → list_all is_utf8 words ≡ true
-fit_texts [] [] plain fit = refl
-fit_texts [] (text ∷ words) plain fit = absurd fit
-fit_texts (place ∷ places) [] plain fit = absurd fit
-fit_texts (place ∷ places) (text ∷ words) plain fit =
+some_text : (place : Option Place) (text : List ℕ) → IsPlainPlace place → fits_some place text ≡ true → is_utf8 text ≡ true
+some_text None text plain fit = absurd (false≢true fit)
+some_text (Some place) text plain fit = fit_text place text plain fit
+
+rest_texts : (further last : Option Place) (words : List (List ℕ)) → IsPlainPlace further → IsPlainPlace last → filled further last words ≡ true → list_all is_utf8 words ≡ true
+rest_texts further last [] more end fill = refl
+rest_texts further last (text ∷ words) more end fill =
+    elim (filled_parts further last text words fill) [
+      | inl on ↦ and_from (is_utf8 text) (list_all is_utf8 words) (some_text further text more on.0) (rest_texts further last words more end on.1)
+      | inr done ↦ and_from (is_utf8 text) (list_all is_utf8 words) (some_text last text end done.1) (ap (list_all is_utf8) done.0)
+    ]
+
+fill_texts : (places : List Place) (further last : Option Place) (words : List (List ℕ)) → list_all is_plain places ≡ true → IsPlainPlace further → IsPlainPlace last → fills places further last words ≡ true → list_all is_utf8 words ≡ true
+fill_texts [] further last words plain more end fill = rest_texts further last words more end fill
+fill_texts (place ∷ places) further last [] plain more end fill = absurd (false≢true fill)
+fill_texts (place ∷ places) further last (text ∷ words) plain more end fill =
     let parts = and_parts (is_plain place) (list_all is_plain places) plain in
-    rw (fit_text place text parts.0 fit.0) (fit_texts places words parts.1 fit.1)
+    let fit = and_parts (fits place text) (fills places further last words) fill in
+    and_from (is_utf8 text) (list_all is_utf8 words) (fit_text place text parts.0 fit.0) (fill_texts places further last words parts.1 more end fit.1)
 
 one_of : (words : List (List ℕ)) (word : List ℕ) (more : List (List ℕ)) → list_all is_utf8 (words ++ word ∷ more) ≡ true → is_utf8 word ≡ true
 one_of [] word more h = (and_parts (is_utf8 word) (list_all is_utf8 more) h).0
 one_of (first ∷ words) word more h = one_of words word more (and_parts (is_utf8 first) (list_all is_utf8 (words ++ word ∷ more)) h).1
 
-pub no_text : (words : List (List ℕ)) (word : List ℕ) (more : List (List ℕ)) → (IsUtf8 word → ⊥) → command_of (words ++ word ∷ more) ≡ None
-no_text words word more bad = no_command_where (words ++ word ∷ more) (λ form fit.
-    bad (IsUtf8-from_is_utf8 word (one_of words word more (fit_texts (slots_of form) (words ++ word ∷ more) (plain_places form) fit))))
+no_text : (words : List (List ℕ)) (word : List ℕ) (more : List (List ℕ)) → (IsUtf8 word → ⊥) → command_of (words ++ word ∷ more) ≡ None
+no_text words word more bad = no_command_where (words ++ word ∷ more) (λ form is.
+    bad (IsUtf8-from_is_utf8 word (one_of words word more (fill_texts (slots_of form) (further_of form) (last_of form) (words ++ word ∷ more) (plain_places form) (plain_further form) (plain_last form) is))))
 
 -- ---- the errors of the words of a line
-
-pub crowded_line : (words : List (List ℕ)) (text line : List ℕ) → words ++ words_in text ≡ words_in line → length words ≡ 3 → command_of (words_in line) ≡ None
-crowded_line words text line is h =
-    let parts = words_in_cons text in
-    ap command_of (sym is ∙ ap (λ (ws : List (List ℕ)). words ++ ws) parts.2) ∙ too_many words parts.0 parts.1 h
 
 pub bad_word : (words more : List (List ℕ)) (text word line : List ℕ) (e : WordsError) → words ++ words_in text ≡ words_in line → words_in text ≡ word ∷ more → IsNoText word e → IsNoWords line e
 bad_word words more text word line (BadWords index) is cut bad = ap command_of (sym is ∙ ap (λ (ws : List (List ℕ)). words ++ ws) cut) ∙ no_text words word more bad

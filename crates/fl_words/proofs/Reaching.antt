@@ -1,72 +1,66 @@
 -- Words at the places of forms.
-use Rattle.std.proofs.Common.{◌≡◌, ℕ, ◌+◌, ◌<◌, ◌≤◌, suc, zero, Bool, true, false, cond, eqb, List, [], ◌∷◌, ◌++◌, length, take, drop, map, refl, ap, ◌∙◌, arith}
+use Rattle.std.proofs.Common.{◌≡◌, ◌⊎◌, ℕ, ◌+◌, ◌<◌, ◌≤◌, suc, zero, Bool, true, false, cond, ◌&&◌, List, [], ◌∷◌, ◌++◌, length, take, drop, map, Option, Some, None, refl, ap, ◌∙◌, inl, inr, arith}
 use Rattle.std.specs.Prelude.{codes}
-use Rattle.std.proofs.lemmas.Bool.{and_parts, eqb-true, eq-eqb}
+use Rattle.std.specs.List.{list_all}
+use Rattle.std.specs.Option.{is_some}
+use Rattle.std.proofs.lemmas.Bool.{cases_Bool, and_parts, and_from, false≢true}
 use Rattle.std.proofs.lemmas.List.{drop_all}
 use Rattle.std.proofs.lemmas.Slice.Eq.{bytes_eq-Decides}
 use Rattle.fp_name.specs.Grammar.{is_remote_name, is_url, is_id}
 use Rattle.fp_name.specs.Pins.{is_pin}
+use Rattle.fl_options.specs.Options.{is_option}
+use Rattle.fl_options.proofs.Rows.{some_option}
 use Rattle.fl_words.proofs.RefTexts.{some_ref}
 use Rattle.fl_words.proofs.TypeTexts.{byte_is}
 use Rattle.fl_words.specs.declared.forms.Form.{Form}
-use Rattle.fl_words.specs.Forms.{Place, literal, pattern, remote, url, ref_name, app_id, type_string, fits, slots_of, reach, reads}
+use Rattle.fl_words.specs.Forms.{Place, literal, pattern, remote, url, ref_name, app_id, permission, type_string, fits, fits_some, ended, filled, fills, repeated, reach}
 
--- each place has its word, and each word its place
-abbrev pub AllFit : List Place → List (List ℕ) → Type 0
-AllFit [] [] = Unit {0}
-AllFit [] (text ∷ words) = ⊥
-AllFit (place ∷ places) [] = ⊥
-AllFit (place ∷ places) (text ∷ words) = (fits place text ≡ true) × AllFit places words
+-- ---- a form of one, two or three places, without others
 
--- ---- by how far the words reach
+pub one : (p : Place) (P : List (List ℕ) → Type 0) → ((a : List ℕ) → fits p a ≡ true → P (a ∷ [])) → (words : List (List ℕ)) → fills (p ∷ []) None None words ≡ true → P words
+one p P then [] h = absurd (false≢true h)
+one p P then (a ∷ []) h = then a (and_parts (fits p a) true h).0
+one p P then (a ∷ b ∷ words) h = absurd (false≢true (and_parts (fits p a) false h).1)
 
-goes : (b : Bool) (n k : ℕ) → cond b (n + 1) 0 ≡ suc k → (b ≡ true) × (n ≡ k)
-goes true n k h = (refl, omega (arith, h))
-goes false n k h = absurd (omega (arith, h))
+pub two : (p q : Place) (P : List (List ℕ) → Type 0) → ((a b : List ℕ) → fits p a ≡ true → fits q b ≡ true → P (a ∷ b ∷ [])) → (words : List (List ℕ)) → fills (p ∷ q ∷ []) None None words ≡ true → P words
+two p q P then [] h = absurd (false≢true h)
+two p q P then (a ∷ words) h =
+    let parts = and_parts (fits p a) (fills (q ∷ []) None None words) h in
+    one q (λ (ws : List (List ℕ)). P (a ∷ ws)) (λ b is. then a b parts.0 is) words parts.1
 
-all_fit : (places : List Place) (words : List (List ℕ)) → length places ≡ length words → reach places words ≡ length words → AllFit places words
-all_fit [] [] l r = tt
-all_fit [] (text ∷ words) l r = absurd (omega (arith, l))
-all_fit (place ∷ places) [] l r = absurd (omega (arith, l))
-all_fit (place ∷ places) (text ∷ words) l r =
-    let on = goes (fits place text) (reach places words) (length words) r in
-    (on.0, all_fit places words (omega (arith, l)) on.1)
+pub three : (p q r : Place) (P : List (List ℕ) → Type 0) → ((a b c : List ℕ) → fits p a ≡ true → fits q b ≡ true → fits r c ≡ true → P (a ∷ b ∷ c ∷ [])) → (words : List (List ℕ)) → fills (p ∷ q ∷ r ∷ []) None None words ≡ true → P words
+three p q r P then [] h = absurd (false≢true h)
+three p q r P then (a ∷ words) h =
+    let parts = and_parts (fits p a) (fills (q ∷ r ∷ []) None None words) h in
+    two q r (λ (ws : List (List ℕ)). P (a ∷ ws)) (λ b c is at. then a b c parts.0 is at) words parts.1
 
-pub reads_fit : (words : List (List ℕ)) (form : Form) → reads words form ≡ true → AllFit (slots_of form) words
-reads_fit words form h =
-    let parts = and_parts (eqb (length (slots_of form)) (length words)) (eqb (reach (slots_of form) words) (length words)) h in
-    all_fit (slots_of form) words (eqb-true (length (slots_of form)) (length words) parts.0) (eqb-true (reach (slots_of form) words) (length words) parts.1)
+-- ---- words that are repeated, and the last
 
-pub fit_length : (places : List Place) (words : List (List ℕ)) → AllFit places words → length places ≡ length words
-fit_length [] [] fit = refl
-fit_length [] (text ∷ words) fit = absurd fit
-fit_length (place ∷ places) [] fit = absurd fit
-fit_length (place ∷ places) (text ∷ words) fit = ap (λ n. suc n) (fit_length places words fit.1)
+pub filled_more : (further last : Option Place) (text : List ℕ) (rest : List (List ℕ)) → fits_some further text ≡ true → filled further last rest ≡ true → filled further last (text ∷ rest) ≡ true
+filled_more further None text rest fit h = and_from (fits_some further text) (list_all (fits_some further) rest) fit h
+filled_more further (Some p) text [] fit h = absurd (false≢true h)
+filled_more further (Some p) text (next ∷ rest) fit h = and_from (fits_some further text) (ended further p next rest) fit h
 
-fit_reach : (places : List Place) (words : List (List ℕ)) → AllFit places words → reach places words ≡ length words
-fit_reach [] [] fit = refl
-fit_reach [] (text ∷ words) fit = absurd fit
-fit_reach (place ∷ places) [] fit = absurd fit
-fit_reach (place ∷ places) (text ∷ words) fit = rw fit.0 (omega (arith, fit_reach places words fit.1))
+last_filled : (further last : Option Place) (text : List ℕ) → fits_some last text ≡ true → filled further last (text ∷ []) ≡ true
+last_filled further None text h = absurd (false≢true h)
+last_filled further (Some p) text h = h
 
-pub fit_reads : (words : List (List ℕ)) (form : Form) → AllFit (slots_of form) words → reads words form ≡ true
-fit_reads words form fit =
-    rw (eq-eqb (length (slots_of form)) (length words) (fit_length (slots_of form) words fit), eq-eqb (reach (slots_of form) words) (length words) (fit_reach (slots_of form) words fit)) refl
+pub filled_parts : (further last : Option Place) (text : List ℕ) (rest : List (List ℕ)) → filled further last (text ∷ rest) ≡ true → ((fits_some further text ≡ true) × (filled further last rest ≡ true)) ⊎ ((rest ≡ []) × (fits_some last text ≡ true))
+filled_parts further None text rest h = inl (and_parts (fits_some further text) (list_all (fits_some further) rest) h)
+filled_parts further (Some p) text [] h = inr (refl, h)
+filled_parts further (Some p) text (next ∷ rest) h = inl (and_parts (fits_some further text) (ended further p next rest) h)
 
--- ---- a form of one, two or three places
+and_assoc : (a b c : Bool) → (a && (b && c)) ≡ ((a && b) && c)
+and_assoc true b c = refl
+and_assoc false b c = refl
 
-pub one : (p : Place) (P : List (List ℕ) → Type 0) → ((a : List ℕ) → fits p a ≡ true → P (a ∷ [])) → (words : List (List ℕ)) → AllFit (p ∷ []) words → P words
-one p P then [] fit = absurd fit
-one p P then (a ∷ []) fit = then a fit.0
-one p P then (a ∷ b ∷ words) fit = absurd fit.1
-
-pub two : (p q : Place) (P : List (List ℕ) → Type 0) → ((a b : List ℕ) → fits p a ≡ true → fits q b ≡ true → P (a ∷ b ∷ [])) → (words : List (List ℕ)) → AllFit (p ∷ q ∷ []) words → P words
-two p q P then [] fit = absurd fit
-two p q P then (a ∷ words) fit = one q (λ (ws : List (List ℕ)). P (a ∷ ws)) (λ b is. then a b fit.0 is) words fit.1
-
-pub three : (p q r : Place) (P : List (List ℕ) → Type 0) → ((a b c : List ℕ) → fits p a ≡ true → fits q b ≡ true → fits r c ≡ true → P (a ∷ b ∷ c ∷ [])) → (words : List (List ℕ)) → AllFit (p ∷ q ∷ r ∷ []) words → P words
-three p q r P then [] fit = absurd fit
-three p q r P then (a ∷ words) fit = two q r (λ (ws : List (List ℕ)). P (a ∷ ws)) (λ b c is at. then a b c fit.0 is at) words fit.1
+-- with a last place the word at the end stands there
+pub filled_end : (further : Option Place) (last : Place) (front : List (List ℕ)) (text : List ℕ) → filled further (Some last) (front ++ text ∷ []) ≡ (list_all (fits_some further) front && fits last text)
+filled_end further last [] text = refl
+filled_end further last (a ∷ []) text = and_assoc (fits_some further a) true (fits last text)
+filled_end further last (a ∷ b ∷ front) text =
+    ap (λ (t : Bool). fits_some further a && t) (filled_end further last (b ∷ front) text)
+    ∙ and_assoc (fits_some further a) (list_all (fits_some further) (b ∷ front)) (fits last text)
 
 -- ---- some word for each place
 
@@ -77,6 +71,7 @@ sample remote = codes "lab"
 sample url = codes "file:///lab"
 sample ref_name = codes "app/a.b.c/x/1"
 sample app_id = codes "a.b.c"
+sample permission = codes "--share=ipc"
 sample type_string = 121 ∷ []
 
 any_pin : is_pin (codes "app/*/*/*") ≡ true
@@ -102,45 +97,106 @@ sample_fits remote = any_name
 sample_fits url = any_url
 sample_fits ref_name = some_ref
 sample_fits app_id = any_id
+sample_fits permission = some_option
 sample_fits type_string = byte_is
 
-pub samples_fit : (places : List Place) → AllFit places (map sample places)
-samples_fit [] = tt
-samples_fit (place ∷ places) = (sample_fits place, samples_fit places)
+abbrev last_sample : Option Place → List (List ℕ)
+last_sample None = []
+last_sample (Some place) = sample place ∷ []
 
--- where the first words stand at their places, others may follow them
-less : (b : Bool) (n i : ℕ) → i < cond b (n + 1) 0 → (b ≡ true) × (i ≤ n)
-less true n i h = (refl, omega (arith, h))
-less false n i h = absurd (omega (arith, h))
+last_sample_fills : (further last : Option Place) → filled further last (last_sample last) ≡ true
+last_sample_fills further None = refl
+last_sample_fills further (Some place) = sample_fits place
 
-pub completed : (places : List Place) (words : List (List ℕ)) (i : ℕ) → i < reach places words → AllFit places (take (suc i) words ++ map sample (drop (suc i) places))
-completed [] words i h = absurd (omega (arith, h))
-completed (place ∷ places) [] i h = absurd (omega (arith, h))
-completed (place ∷ places) (text ∷ words) zero h = ((less (fits place text) (reach places words) 0 h).0, samples_fit places)
-completed (place ∷ places) (text ∷ words) (suc i) h =
-    let on = less (fits place text) (reach places words) (suc i) h in
-    (on.0, completed places words i (omega (arith, on.1)))
+samples_fill : (places : List Place) (further last : Option Place) → fills places further last (map sample places ++ last_sample last) ≡ true
+samples_fill [] further last = last_sample_fills further last
+samples_fill (place ∷ places) further last = and_from (fits place (sample place)) (fills places further last (map sample places ++ last_sample last)) (sample_fits place) (samples_fill places further last)
 
--- and the first words of words in a form stand at theirs
-pub far : (places : List Place) (words more : List (List ℕ)) (n : ℕ) → n ≤ length words → AllFit places (take n words ++ more) → n ≤ reach places words
-far places words more zero h fit = omega arith
-far places [] more (suc n) h fit = absurd (omega (arith, h))
-far [] (text ∷ words) more (suc n) h fit = absurd fit
-far (place ∷ places) (text ∷ words) more (suc n) h fit = rw fit.0 (omega (arith, far places words more n (omega (arith, h)) fit.1))
+-- ---- where the first words stand at their places, others may follow them
 
-pub reach-within : (places : List Place) (words : List (List ℕ)) → reach places words ≤ length words
-reach-within [] words = omega arith
-reach-within (place ∷ places) [] = omega arith
-reach-within (place ∷ places) (text ∷ words) =
-    let on = reach-within places words in
-    elim (fits place text) as (λ b. cond b (reach places words + 1) 0 ≤ length (text ∷ words)) [ true ↦ omega (arith, on) | false ↦ omega arith ]
+-- words that may follow the first n
+pub record Completes (places : List Place) (further last : Option Place) (words : List (List ℕ)) (n : ℕ) : Type 0 where
+  pub more : List (List ℕ)
+  pub fill : fills places further last (take n words ++ more) ≡ true
 
--- ---- as the words are gone through
+first_counts : (b : Bool) (n i : ℕ) → i < cond b (n + 1) 0 → (b ≡ true) × (i ≤ n)
+first_counts true n i h = (refl, omega (arith, h))
+first_counts false n i h = absurd (omega (arith, h))
 
-reach_none : (places : List Place) → reach places [] ≡ 0
-reach_none [] = refl
-reach_none (place ∷ places) = refl
+-- the word is repeated, or is the last
+one_counts : (b c : Bool) (n i : ℕ) → i < cond b (n + 1) (cond c 1 0) → ((b ≡ true) × (i ≤ n)) ⊎ ((c ≡ true) × (i ≡ 0))
+one_counts true c n i h = inl (refl, omega (arith, h))
+one_counts false true n i h = inr (refl, omega (arith, h))
+one_counts false false n i h = absurd (omega (arith, h))
 
--- no word is left
-pub reach_end : {A : Type 0} (view : A → List ℕ) (places : List Place) (words : List A) (n : ℕ) → length words ≤ n → reach places (map view (drop n words)) ≡ 0
-reach_end {A = A} view places words n h = ap (λ (ws : List A). reach places (map view ws)) (drop_all n words h) ∙ reach_none places
+completed_rest : (further last : Option Place) (words : List (List ℕ)) (n : ℕ) → n ≤ repeated further last words → Completes [] further last words n
+completed_rest further last words zero h = record { more = last_sample last; fill = last_sample_fills further last }
+completed_rest further last [] (suc n) h = absurd (omega (arith, h))
+completed_rest further last (text ∷ words) (suc n) h =
+    elim (one_counts (fits_some further text) (fits_some last text) (repeated further last words) n (omega (arith, h))) [
+      | inl on ↦
+          let next = completed_rest further last words n on.1 in
+          record { more = next.more; fill = filled_more further last text (take n words ++ next.more) on.0 next.fill }
+      | inr end ↦ ending n end.1 end.0
+    ]
+  where
+    ending : (k : ℕ) → k ≡ 0 → fits_some last text ≡ true → Completes [] further last (text ∷ words) (suc k)
+    ending zero is fit = record { more = []; fill = last_filled further last text fit }
+    ending (suc k) is fit = absurd (omega (arith, is))
+
+pub completed : (places : List Place) (further last : Option Place) (words : List (List ℕ)) (n : ℕ) → n ≤ reach places further last words → Completes places further last words n
+completed places further last words zero h = record { more = map sample places ++ last_sample last; fill = samples_fill places further last }
+completed [] further last words (suc n) h = completed_rest further last words (suc n) h
+completed (place ∷ places) further last [] (suc n) h = absurd (omega (arith, h))
+completed (place ∷ places) further last (text ∷ words) (suc n) h =
+    let on = first_counts (fits place text) (reach places further last words) n (omega (arith, h)) in
+    let next = completed places further last words n on.1 in
+    record { more = next.more; fill = and_from (fits place text) (fills places further last (take n words ++ next.more)) on.0 next.fill }
+
+-- ---- and the first words of words in a form stand at theirs
+
+none_before : (words more : List (List ℕ)) (n : ℕ) → n ≤ length words → take n words ++ more ≡ [] → n ≡ 0
+none_before words more zero h e = refl
+none_before [] more (suc n) h e = absurd (omega (arith, h))
+none_before (text ∷ words) more (suc n) h e = absurd (cc e)
+
+some_counts : (b : Bool) (n : ℕ) → 1 ≤ cond b (n + 1) 1
+some_counts true n = omega arith
+some_counts false n = omega arith
+
+far_rest : (further last : Option Place) (words more : List (List ℕ)) (n : ℕ) → n ≤ length words → filled further last (take n words ++ more) ≡ true → n ≤ repeated further last words
+far_rest further last words more zero h fill = omega arith
+far_rest further last [] more (suc n) h fill = absurd (omega (arith, h))
+far_rest further last (text ∷ words) more (suc n) h fill =
+    elim (filled_parts further last text (take n words ++ more) fill) [
+      | inl on ↦ rw on.0 (omega (arith, far_rest further last words more n (omega (arith, h)) on.1))
+      | inr end ↦
+          let none = none_before words more n (omega (arith, h)) end.0 in
+          rw end.1 (omega (arith, none, some_counts (fits_some further text) (repeated further last words)))
+    ]
+
+pub far : (places : List Place) (further last : Option Place) (words more : List (List ℕ)) (n : ℕ) → n ≤ length words → fills places further last (take n words ++ more) ≡ true → n ≤ reach places further last words
+far places further last words more zero h fill = omega arith
+far [] further last words more (suc n) h fill = far_rest further last words more (suc n) h fill
+far (place ∷ places) further last [] more (suc n) h fill = absurd (omega (arith, h))
+far (place ∷ places) further last (text ∷ words) more (suc n) h fill =
+    let parts = and_parts (fits place text) (fills places further last (take n words ++ more)) fill in
+    rw parts.0 (omega (arith, far places further last words more n (omega (arith, h)) parts.1))
+
+counted : (b : Bool) (n m : ℕ) → n ≤ m → cond b (n + 1) 0 ≤ suc m
+counted true n m h = omega (arith, h)
+counted false n m h = omega arith
+
+counted_end : (b c : Bool) (n m : ℕ) → n ≤ m → cond b (n + 1) (cond c 1 0) ≤ suc m
+counted_end true c n m h = omega (arith, h)
+counted_end false true n m h = omega arith
+counted_end false false n m h = omega arith
+
+pub repeated-within : (further last : Option Place) (words : List (List ℕ)) → repeated further last words ≤ length words
+repeated-within further last [] = omega arith
+repeated-within further last (text ∷ words) = counted_end (fits_some further text) (fits_some last text) (repeated further last words) (length words) (repeated-within further last words)
+
+pub reach-within : (places : List Place) (further last : Option Place) (words : List (List ℕ)) → reach places further last words ≤ length words
+reach-within [] further last words = repeated-within further last words
+reach-within (place ∷ places) further last [] = omega arith
+reach-within (place ∷ places) further last (text ∷ words) = counted (fits place text) (reach places further last words) (length words) (reach-within places further last words)

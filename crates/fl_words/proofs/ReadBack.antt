@@ -1,7 +1,7 @@
 -- Words that are a command are the words of that command.
-use Rattle.std.proofs.Common.{◌≡◌, ℕ, Bool, true, false, cond, ◌&&◌, ◌||◌, List, [], ◌∷◌, Option, Some, None, refl, ap, sym, ◌∙◌, subst}
+use Rattle.std.proofs.Common.{◌≡◌, ℕ, Bool, true, false, cond, ◌&&◌, ◌||◌, List, [], ◌∷◌, Option, Some, None, ◌++◌, refl, ap, ap₂, sym, ◌∙◌, subst, append-nil}
 use Rattle.std.specs.Prelude.{codes}
-use Rattle.std.specs.List.{find}
+use Rattle.std.specs.List.{find, list_all}
 use Rattle.std.specs.Option.{option_map, is_some}
 use Rattle.std.specs.Str.{bytes_eq}
 use Rattle.std.proofs.lemmas.Slice.Eq.{bytes_eq-Decides}
@@ -12,22 +12,19 @@ use Rattle.fl_words.specs.declared.command.Command.TheVariants.{Change as Changi
 use Rattle.fl_words.specs.declared.command.Change.TheVariants as changes
 use Rattle.fl_words.specs.declared.command.Listing.TheVariants as listings
 use Rattle.fl_words.specs.declared.command.Shown.TheVariants as things
-use Rattle.std.proofs.lemmas.Bool.{and_parts, false_from_ne_true, false≢true}
+use Rattle.std.proofs.lemmas.Bool.{and_parts}
 use Rattle.fl_words.specs.declared.forms.Form.{Form}
-use Rattle.fl_words.specs.declared.forms.Form.TheVariants.{Pin, Unpin, RemoteAdd, RemoteModify, RemoteDelete, Install, UpdateAll, UpdateOne, Uninstall, UninstallUnused, Rollback, OverrideReset, OverrideResetApp, ListRefs, ListRemotes, ListPins, Info, OverrideShow, OverrideShowApp, Batch, ShowCommit, ShowDirTree, ShowDirMeta, ShowValue}
+use Rattle.fl_words.specs.declared.forms.Form.TheVariants.{Pin, Unpin, RemoteAdd, RemoteModify, RemoteDelete, Install, UpdateAll, UpdateOne, Uninstall, UninstallUnused, Rollback, OverrideChange, OverrideChangeApp, OverrideReset, OverrideResetApp, ListRefs, ListRemotes, ListPins, Info, OverrideShow, OverrideShowApp, Batch, ShowCommit, ShowDirTree, ShowDirMeta, ShowValue}
 use Rattle.fl_words.specs.Forms.{literal, pattern, remote, url, ref_name, app_id, type_string, forms, slots_of, made, reads, command_of}
-use Rattle.fl_words.specs.Words.{words_of, is_command, is_override_name, override_word}
+use Rattle.fl_words.specs.Words.{AreWords, is_command, override_word}
 use Rattle.fp_name.specs.Refs.{Ref, is_ref, ref_text, ref_of, ref_at}
 use Rattle.fp_name.proofs.Refs.{ref_of-ref_text}
 use Rattle.fl_words.proofs.RefTexts.{same_text, is_good, ref_back, unused_is_none}
-use Rattle.fl_words.proofs.Reaching.{AllFit, reads_fit, one, two, three}
-
--- the words of a form are those of its command
-abbrev Speaks : Form → List (List ℕ) → Type 0
-Speaks form words = (words ≡ words_of (made form words)) × (is_command (made form words) ≡ true)
-
-is_word : (text w : List ℕ) → bytes_eq text w ≡ true → text ≡ w
-is_word text w h = (bytes_eq-Decides text w).0 h
+use Rattle.fl_meta.specs.declared.permission.Mention.{Mention}
+use Rattle.fl_options.specs.Options.{is_option, layer_of}
+use Rattle.fl_words.proofs.OverrideWords.{Speaks, is_word, other_than_global, id_names, speaks_change, speaks_change_app, found_change, found_app, last_is, layer_last, id_uncut}
+use Rattle.fl_options.proofs.Lines.{uncut_layer}
+use Rattle.fl_words.proofs.Reaching.{one, two, three}
 
 after_word : (w a b : List ℕ) → bytes_eq a w ≡ true → a ∷ b ∷ [] ≡ w ∷ b ∷ []
 after_word w a b h = ap (λ (x : List ℕ). x ∷ b ∷ []) (is_word a w h)
@@ -39,26 +36,15 @@ both_words v w a b h g = after_word v a b h ∙ ap (λ (x : List ℕ). v ∷ x �
 word_and_ref : (w a r : List ℕ) → bytes_eq a w ≡ true → is_some (ref_of r) ≡ true → a ∷ r ∷ [] ≡ w ∷ ref_text (ref_at r) ∷ []
 word_and_ref w a r h g = after_word w a r h ∙ ap (λ (x : List ℕ). w ∷ x ∷ []) (same_text r g)
 
--- no ID is `global`
-global_is_none : is_id (codes "global") ≡ false
-unfolding is_id
-global_is_none = refl
-
-other_than_global : (text : List ℕ) → is_id text ≡ true → bytes_eq text (codes "global") ≡ false
-other_than_global text h = false_from_ne_true (bytes_eq text (codes "global")) (λ e. false≢true (sym global_is_none ∙ ap is_id (sym (is_word text (codes "global") e)) ∙ h))
-
 -- a command on the override of an application
 id_words : (w a b i : List ℕ) → bytes_eq a (codes "override") ≡ true → bytes_eq b w ≡ true → is_id i ≡ true → a ∷ b ∷ i ∷ [] ≡ codes "override" ∷ w ∷ override_word i
 id_words w a b i h g k = rw (other_than_global i k) (ap (λ (x : List ℕ). x ∷ b ∷ i ∷ []) (is_word a (codes "override") h) ∙ ap (λ (x : List ℕ). codes "override" ∷ x ∷ i ∷ []) (is_word b w g))
-
-id_names : (i : List ℕ) → is_id i ≡ true → is_override_name i ≡ true
-id_names i k = rw (other_than_global i k) k
 
 both_true : (a b : Bool) → a ≡ true → b ≡ true → (a && b) ≡ true
 both_true true b h g = g
 both_true false b h g = absurd (cc h)
 
-speaks : (form : Form) (words : List (List ℕ)) → AllFit (slots_of form) words → Speaks form words
+speaks : (form : Form) (words : List (List ℕ)) → reads words form ≡ true → Speaks form words
 speaks Pin = two (literal (codes "pin")) pattern (Speaks Pin) (λ a p h g. (after_word (codes "pin") a p h, g))
 speaks Unpin = two (literal (codes "unpin")) pattern (Speaks Unpin) (λ a p h g. (after_word (codes "unpin") a p h, g))
 speaks RemoteAdd = three (literal (codes "remote-add")) remote url (Speaks RemoteAdd) (λ a n u h g k. (ap (λ (x : List ℕ). x ∷ n ∷ u ∷ []) (is_word a (codes "remote-add") h), both_true (is_remote_name n) (is_url u) g k))
@@ -70,6 +56,8 @@ speaks UpdateOne = two (literal (codes "update")) ref_name (Speaks UpdateOne) (�
 speaks Uninstall = two (literal (codes "uninstall")) ref_name (Speaks Uninstall) (λ a r h g. (word_and_ref (codes "uninstall") a r h g, is_good r g))
 speaks UninstallUnused = two (literal (codes "uninstall")) (literal (codes "--unused")) (Speaks UninstallUnused) (λ a b h g. (both_words (codes "uninstall") (codes "--unused") a b h g, refl))
 speaks Rollback = two (literal (codes "rollback")) ref_name (Speaks Rollback) (λ a r h g. (word_and_ref (codes "rollback") a r h g, is_good r g))
+speaks OverrideChange = speaks_change
+speaks OverrideChangeApp = speaks_change_app
 speaks OverrideReset = two (literal (codes "override")) (literal (codes "--reset")) (Speaks OverrideReset) (λ a b h g. (both_words (codes "override") (codes "--reset") a b h g, refl))
 speaks OverrideResetApp = three (literal (codes "override")) (literal (codes "--reset")) app_id (Speaks OverrideResetApp) (λ a b i h g k. (id_words (codes "--reset") a b i h g k, id_names i k))
 speaks ListRefs = one (literal (codes "list")) (Speaks ListRefs) (λ a h. (ap (λ (x : List ℕ). x ∷ []) (is_word a (codes "list") h), refl))
@@ -94,13 +82,13 @@ pub found : (words : List (List ℕ)) (fs : List Form) (g : Form) → find (read
 found words [] g h = absurd (cc h)
 found words (f ∷ fs) g h = found_by words (reads words f) f g (find (reads words) fs) refl (found words fs g) h
 
-read_by : (words : List (List ℕ)) (o : Option Form) (c : Command) → find (reads words) forms ≡ o → option_map (λ form. made form words) o ≡ Some c → (words ≡ words_of c) × (is_command c ≡ true)
+read_by : (words : List (List ℕ)) (o : Option Form) (c : Command) → find (reads words) forms ≡ o → option_map (λ form. made form words) o ≡ Some c → AreWords c words × (is_command c ≡ true)
 read_by words None c is h = absurd (cc h)
 read_by words (Some form) c is h =
     let same : made form words ≡ c = cc h in
-    subst (λ (x : Command). (words ≡ words_of x) × (is_command x ≡ true)) same (speaks form words (reads_fit words form (found words forms form is)))
+    subst (λ (x : Command). AreWords x words × (is_command x ≡ true)) same (speaks form words (found words forms form is))
 
-pub read_back : (words : List (List ℕ)) (c : Command) → command_of words ≡ Some c → (words ≡ words_of c) × (is_command c ≡ true)
+pub read_back : (words : List (List ℕ)) (c : Command) → command_of words ≡ Some c → AreWords c words × (is_command c ≡ true)
 read_back words c h = read_by words (find (reads words) forms) c refl h
 
 -- ---- the words of each command are read as it
@@ -113,26 +101,37 @@ show_by : (name : List ℕ) (b : Bool) → bytes_eq name (codes "global") ≡ b 
 show_by name true is h = ap (λ (n : List ℕ). Some (Listed (listings.OverrideShow n))) (sym (is_word name (codes "global") is))
 show_by name false is h = rw h refl
 
-pub written : (c : Command) → is_command c ≡ true → command_of (words_of c) ≡ Some c
-written (Changing (changes.Pin p)) h = rw h refl
-written (Changing (changes.Unpin p)) h = rw h refl
-written (Changing (changes.RemoteAdd row)) h = let parts = and_parts (is_remote_name row.name) (is_url row.url) h in rw (parts.0, parts.1) refl
-written (Changing (changes.RemoteModify row)) h = let parts = and_parts (is_remote_name row.name) (is_url row.url) h in rw (parts.0, parts.1) refl
-written (Changing (changes.RemoteDelete name)) h = rw h refl
-written (Changing (changes.Install origin name)) h = let parts = and_parts (is_remote_name origin) (is_ref name) h in rw (parts.0, ref_of-ref_text name parts.1) (ap (λ (r : Ref). Some (Changing (changes.Install origin r))) (ref_back name parts.1))
-written (Changing changes.UpdateAll) h = refl
-written (Changing (changes.UpdateOne name)) h = rw (ref_of-ref_text name h) (ap (λ (r : Ref). Some (Changing (changes.UpdateOne r))) (ref_back name h))
-written (Changing (changes.Uninstall name)) h = rw (ref_of-ref_text name h) (ap (λ (r : Ref). Some (Changing (changes.Uninstall r))) (ref_back name h))
-written (Changing changes.UninstallUnused) h = rw unused_is_none refl
-written (Changing (changes.Rollback name)) h = rw (ref_of-ref_text name h) (ap (λ (r : Ref). Some (Changing (changes.Rollback r))) (ref_back name h))
-written (Changing (changes.OverrideReset name)) h = reset_by name (bytes_eq name (codes "global")) refl h
-written (Listed listings.Refs) h = refl
-written (Listed (listings.Info name)) h = rw (ref_of-ref_text name h) (ap (λ (r : Ref). Some (Listed (listings.Info r))) (ref_back name h))
-written (Listed (listings.OverrideShow name)) h = show_by name (bytes_eq name (codes "global")) refl h
-written (Listed listings.Remotes) h = refl
-written (Listed listings.Pins) h = refl
-written (Showing things.Commit) h = refl
-written (Showing things.DirTree) h = refl
-written (Showing things.DirMeta) h = refl
-written (Showing (things.Value of)) h = rw h refl
-written commands.Batch h = refl
+change_by : (name first : List ℕ) (more : List (List ℕ)) (b : Bool) → bytes_eq name (codes "global") ≡ b → (b || is_id name) ≡ true → list_all is_option (first ∷ more) ≡ true
+    → command_of (codes "override" ∷ first ∷ (more ++ cond b [] (name ∷ []))) ≡ Some (Changing (changes.OverrideChange name (layer_of (first ∷ more))))
+change_by name first more true is h each =
+    ap (λ (ws : List (List ℕ)). command_of (codes "override" ∷ first ∷ ws)) (append-nil more)
+    ∙ ap (option_map (λ form. made form (codes "override" ∷ first ∷ more))) (found_change first more each)
+    ∙ ap (λ (n : List ℕ). Some (Changing (changes.OverrideChange n (layer_of (first ∷ more))))) (sym (is_word name (codes "global") is))
+change_by name first more false is h each =
+    ap (option_map (λ form. made form (codes "override" ∷ first ∷ (more ++ name ∷ [])))) (found_app first more name each h)
+    ∙ ap₂ (λ (n : List ℕ) (ms : List Mention). Some (Changing (changes.OverrideChange n ms))) (last_is (codes "override" ∷ first ∷ more) name) (layer_last (first ∷ more) name (uncut_layer name (id_uncut name h)))
+
+pub written : (c : Command) (words : List (List ℕ)) → is_command c ≡ true → AreWords c words → command_of words ≡ Some c
+written (Changing (changes.Pin p)) words h is = ap command_of is ∙ (rw h refl)
+written (Changing (changes.Unpin p)) words h is = ap command_of is ∙ (rw h refl)
+written (Changing (changes.RemoteAdd row)) words h is = ap command_of is ∙ (let parts = and_parts (is_remote_name row.name) (is_url row.url) h in rw (parts.0, parts.1) refl)
+written (Changing (changes.RemoteModify row)) words h is = ap command_of is ∙ (let parts = and_parts (is_remote_name row.name) (is_url row.url) h in rw (parts.0, parts.1) refl)
+written (Changing (changes.RemoteDelete name)) words h is = ap command_of is ∙ (rw h refl)
+written (Changing (changes.Install origin name)) words h is = ap command_of is ∙ (let parts = and_parts (is_remote_name origin) (is_ref name) h in rw (parts.0, ref_of-ref_text name parts.1) (ap (λ (r : Ref). Some (Changing (changes.Install origin r))) (ref_back name parts.1)))
+written (Changing changes.UpdateAll) words h is = ap command_of is ∙ (refl)
+written (Changing (changes.UpdateOne name)) words h is = ap command_of is ∙ (rw (ref_of-ref_text name h) (ap (λ (r : Ref). Some (Changing (changes.UpdateOne r))) (ref_back name h)))
+written (Changing (changes.Uninstall name)) words h is = ap command_of is ∙ (rw (ref_of-ref_text name h) (ap (λ (r : Ref). Some (Changing (changes.Uninstall r))) (ref_back name h)))
+written (Changing changes.UninstallUnused) words h is = ap command_of is ∙ (rw unused_is_none refl)
+written (Changing (changes.Rollback name)) words h is = ap command_of is ∙ (rw (ref_of-ref_text name h) (ap (λ (r : Ref). Some (Changing (changes.Rollback r))) (ref_back name h)))
+written (Changing (changes.OverrideChange name options)) words h are = ap command_of are.whole ∙ change_by name are.first are.more (bytes_eq name (codes "global")) refl h are.each ∙ ap (λ (ms : List Mention). Some (Changing (changes.OverrideChange name ms))) are.mentioned
+written (Changing (changes.OverrideReset name)) words h is = ap command_of is ∙ (reset_by name (bytes_eq name (codes "global")) refl h)
+written (Listed listings.Refs) words h is = ap command_of is ∙ (refl)
+written (Listed (listings.Info name)) words h is = ap command_of is ∙ (rw (ref_of-ref_text name h) (ap (λ (r : Ref). Some (Listed (listings.Info r))) (ref_back name h)))
+written (Listed (listings.OverrideShow name)) words h is = ap command_of is ∙ (show_by name (bytes_eq name (codes "global")) refl h)
+written (Listed listings.Remotes) words h is = ap command_of is ∙ (refl)
+written (Listed listings.Pins) words h is = ap command_of is ∙ (refl)
+written (Showing things.Commit) words h is = ap command_of is ∙ (refl)
+written (Showing things.DirTree) words h is = ap command_of is ∙ (refl)
+written (Showing things.DirMeta) words h is = ap command_of is ∙ (refl)
+written (Showing (things.Value of)) words h is = ap command_of is ∙ (rw h refl)
+written commands.Batch words h is = ap command_of is ∙ (refl)

@@ -3,6 +3,9 @@ use Rattle.std.proofs.Common.{◌≡◌, ℕ, true, List, [], ◌∷◌, Some, N
 use Rattle.std.specs.Prelude.{codes}
 use Rattle.std.specs.Fmt.{digits}
 use Rattle.std.specs.List.{list_all}
+use lib.Utf8.{encode}
+use Rattle.std.specs.Str.{is_utf8, chars}
+use Rattle.fl_options.specs.Options.{option_layer, option_lines}
 use Rattle.std.specs.Str.Lossy.{utf8_lossy}
 use Rattle.std.proofs.lemmas.Str.{utf8_lossy-IsUtf8}
 use Rattle.fp_name.specs.Bytes.{is_dotted}
@@ -168,7 +171,7 @@ unfolding is_pin
 bad_pattern = refl
 
 pub none_shown : reason_text (codes "override" ∷ codes "--reset" ∷ codes "x" ∷ []) ≡ codes "fpk: 'x' is no ID of an application\nusage: fpk override --reset\nusage: fpk override --reset ID\n"
-unfolding is_id
+unfolding is_id option_layer option_lines is_utf8 chars encode
 none_shown = refl
 
 pub one_more_word : reason_text (codes "batch" ∷ codes "x" ∷ []) ≡ codes "fpk: 'x' is one word too many\nusage: fpk batch\n"

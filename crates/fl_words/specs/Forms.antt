@@ -1,8 +1,9 @@
 -- The forms of words. A row says what stands at each place of a command line; P is the pattern of a pin, N the name of a remote
--- and U its URL, R a ref, I the ID of an application, and T the type string of a type of GVariant.
-use Rattle.std.specs.Prelude.{ℕ, ◌+◌, ◌==◌, ◌&&◌, List, [], ◌∷◌, length, max, slice_index_or, Bool, Option, codes, if◌then◌else◌}
-use Rattle.std.specs.List.{find}
-use Rattle.std.specs.Option.{option_map, is_some}
+-- and U its URL, R a ref, I the ID of an application, O an option
+-- that changes permissions, and T the type string of a type of GVariant.
+use Rattle.std.specs.Prelude.{ℕ, ◌+◌, ◌-◌, ◌&&◌, List, [], ◌∷◌, length, drop, max, slice_get, slice_index_or, Bool, false, Option, Some, None, codes, if◌then◌else◌}
+use Rattle.std.specs.List.{find, list_all}
+use Rattle.std.specs.Option.{option_map, option_or, is_some}
 use Rattle.std.specs.Str.{bytes_eq}
 use Rattle.fp_name.specs.Grammar.{is_remote_name, is_url, is_id}
 use Rattle.fp_name.specs.Pins.{is_pin}
@@ -16,12 +17,13 @@ use Rattle.fl_words.specs.declared.command.Shown.TheVariants as things
 use Rattle.fl_words.specs.declared.forms.Slot.{Slot}
 use Rattle.fl_words.specs.declared.forms.Slot.TheVariants as slots
 use Rattle.fl_words.specs.declared.forms.Form.{Form}
-use Rattle.fl_words.specs.declared.forms.Form.TheVariants.{Pin, Unpin, RemoteAdd, RemoteModify, RemoteDelete, Install, UpdateAll, UpdateOne, Uninstall, UninstallUnused, Rollback, OverrideReset, OverrideResetApp, ListRefs, ListRemotes, ListPins, Info, OverrideShow, OverrideShowApp, Batch, ShowCommit, ShowDirTree, ShowDirMeta, ShowValue}
+use Rattle.fl_words.specs.declared.forms.Form.TheVariants.{Pin, Unpin, RemoteAdd, RemoteModify, RemoteDelete, Install, UpdateAll, UpdateOne, Uninstall, UninstallUnused, Rollback, OverrideChange, OverrideChangeApp, OverrideReset, OverrideResetApp, ListRefs, ListRemotes, ListPins, Info, OverrideShow, OverrideShowApp, Batch, ShowCommit, ShowDirTree, ShowDirMeta, ShowValue}
+use Rattle.fl_options.specs.Options.{is_option, layer_of}
 use Rattle.fl_words.specs.Types.{is_type_text}
 
 -- ---- places
 
--- what may stand at a place: this word alone, P, N, U, R, I or T
+-- what may stand at a place: this word alone, P, N, U, R, I, O or T
 pub data Place : Type 0 where
   literal : List ℕ → Place
   pattern : Place
@@ -29,6 +31,7 @@ pub data Place : Type 0 where
   url : Place
   ref_name : Place
   app_id : Place
+  permission : Place
   type_string : Place
 
 abbrev pub place_of : Slot → Place
@@ -38,6 +41,7 @@ place_of slots.Remote = remote
 place_of slots.Url = url
 place_of slots.Ref = ref_name
 place_of slots.Id = app_id
+place_of slots.Permission = permission
 place_of slots.Type = type_string
 
 -- a text may stand there
@@ -48,6 +52,7 @@ fits remote text = is_remote_name text
 fits url text = is_url text
 fits ref_name text = is_some (ref_of text)
 fits app_id text = is_id text
+fits permission text = is_option text
 fits type_string text = is_type_text text
 
 -- ---- the table
@@ -56,9 +61,11 @@ abbrev pub forms : List Form
 forms =
     Pin ∷ Unpin ∷ RemoteAdd ∷ RemoteModify ∷ RemoteDelete
     ∷ Install ∷ UpdateAll ∷ UpdateOne ∷ Uninstall ∷ UninstallUnused ∷ Rollback ∷ OverrideReset ∷ OverrideResetApp
-    ∷ ListRefs ∷ ListRemotes ∷ ListPins ∷ Info ∷ OverrideShow ∷ OverrideShowApp ∷ Batch
+    ∷ ListRefs ∷ ListRemotes ∷ ListPins ∷ Info ∷ OverrideShow ∷ OverrideShowApp
+    ∷ OverrideChange ∷ OverrideChangeApp ∷ Batch
     ∷ ShowCommit ∷ ShowDirTree ∷ ShowDirMeta ∷ ShowValue ∷ []
 
+-- what stands at the places of a form, from the first on
 abbrev pub slots_of : Form → List Place
 slots_of Pin = literal (codes "pin") ∷ pattern ∷ []
 slots_of Unpin = literal (codes "unpin") ∷ pattern ∷ []
@@ -71,6 +78,8 @@ slots_of UpdateOne = literal (codes "update") ∷ ref_name ∷ []
 slots_of Uninstall = literal (codes "uninstall") ∷ ref_name ∷ []
 slots_of UninstallUnused = literal (codes "uninstall") ∷ literal (codes "--unused") ∷ []
 slots_of Rollback = literal (codes "rollback") ∷ ref_name ∷ []
+slots_of OverrideChange = literal (codes "override") ∷ permission ∷ []
+slots_of OverrideChangeApp = literal (codes "override") ∷ permission ∷ []
 slots_of OverrideReset = literal (codes "override") ∷ literal (codes "--reset") ∷ []
 slots_of OverrideResetApp = literal (codes "override") ∷ literal (codes "--reset") ∷ app_id ∷ []
 slots_of ListRefs = literal (codes "list") ∷ []
@@ -85,8 +94,26 @@ slots_of ShowDirTree = literal (codes "show") ∷ literal (codes "dirtree") ∷ 
 slots_of ShowDirMeta = literal (codes "show") ∷ literal (codes "dirmeta") ∷ []
 slots_of ShowValue = literal (codes "show") ∷ literal (codes "value") ∷ type_string ∷ []
 
+-- what each word after those may be, where any number of them may follow
+abbrev pub further_of : Form → Option Place
+further_of OverrideChange = Some permission
+further_of OverrideChangeApp = Some permission
+further_of form = None
+
+-- what the last word after all others is, where there is one more
+abbrev pub last_of : Form → Option Place
+last_of OverrideChangeApp = Some app_id
+last_of form = None
+
+-- the place of a word by its index, where it isn't the last one
+abbrev pub place_at : Form → ℕ → Option Place
+place_at form index = option_or (slice_get (slots_of form) index) (further_of form)
+
 abbrev pub word_at : ℕ → List (List ℕ) → List ℕ
 word_at i words = slice_index_or words i []
+
+abbrev pub last_word : List (List ℕ) → List ℕ
+last_word words = word_at (length words - 1) words
 
 -- the remote N U after the first word
 abbrev pub remote_in : List (List ℕ) → RemoteRow
@@ -105,6 +132,8 @@ made UpdateOne words = Changing (changes.UpdateOne (ref_at (word_at 1 words)))
 made Uninstall words = Changing (changes.Uninstall (ref_at (word_at 1 words)))
 made UninstallUnused words = Changing changes.UninstallUnused
 made Rollback words = Changing (changes.Rollback (ref_at (word_at 1 words)))
+made OverrideChange words = Changing (changes.OverrideChange (codes "global") (layer_of (drop 1 words)))
+made OverrideChangeApp words = Changing (changes.OverrideChange (last_word words) (layer_of (drop 1 words)))
 made OverrideReset words = Changing (changes.OverrideReset (codes "global"))
 made OverrideResetApp words = Changing (changes.OverrideReset (word_at 2 words))
 made ListRefs words = Listed listings.Refs
@@ -121,15 +150,28 @@ made ShowValue words = Showing (things.Value (word_at 2 words))
 
 -- ---- words in a form
 
--- how many words, from the first on, may stand at their places
-abbrev pub reach : List Place → List (List ℕ) → ℕ
-reach [] words = 0
-reach (place ∷ places) [] = 0
-reach (place ∷ places) (text ∷ words) = if fits place text then reach places words + 1 else 0
+abbrev pub fits_some : Option Place → List ℕ → Bool
+fits_some None text = false
+fits_some (Some place) text = fits place text
 
--- each place has its word, and each word its place
+-- each word may stand at the place that is repeated, and the last one at the last place, where there is one
+abbrev pub ended : Option Place → Place → List ℕ → List (List ℕ) → Bool
+ended further last text [] = fits last text
+ended further last text (next ∷ words) = fits_some further text && ended further last next words
+
+abbrev pub filled : Option Place → Option Place → List (List ℕ) → Bool
+filled further None words = list_all (fits_some further) words
+filled further (Some last) [] = false
+filled further (Some last) (text ∷ words) = ended further last text words
+
+-- each word has its place, and each place its word
+abbrev pub fills : List Place → Option Place → Option Place → List (List ℕ) → Bool
+fills [] further last words = filled further last words
+fills (place ∷ places) further last [] = false
+fills (place ∷ places) further last (text ∷ words) = fits place text && fills places further last words
+
 abbrev pub reads : List (List ℕ) → Form → Bool
-reads words form = (length (slots_of form) == length words) && (reach (slots_of form) words == length words)
+reads words form = fills (slots_of form) (further_of form) (last_of form) words
 
 -- the command of the words of a command line, where they are one
 abbrev pub command_of : List (List ℕ) → Option Command
@@ -137,9 +179,23 @@ command_of words = option_map (λ form. made form words) (find (reads words) for
 
 -- ---- where words go wrong
 
+-- how many words, from the first on, may stand at their places: those that are repeated, and the last
+abbrev pub repeated : Option Place → Option Place → List (List ℕ) → ℕ
+repeated further last [] = 0
+repeated further last (text ∷ words) = if fits_some further text then repeated further last words + 1 else (if fits_some last text then 1 else 0)
+
+-- and all of them
+abbrev pub reach : List Place → Option Place → Option Place → List (List ℕ) → ℕ
+reach [] further last words = repeated further last words
+reach (place ∷ places) further last [] = 0
+reach (place ∷ places) further last (text ∷ words) = if fits place text then reach places further last words + 1 else 0
+
+abbrev pub reach_of : Form → List (List ℕ) → ℕ
+reach_of form words = reach (slots_of form) (further_of form) (last_of form) words
+
 abbrev pub most : List (List ℕ) → List Form → ℕ
 most words [] = 0
-most words (form ∷ more) = max (reach (slots_of form) words) (most words more)
+most words (form ∷ more) = max (reach_of form words) (most words more)
 
 -- The most words that begin one form. So it is the least i such that the first i + 1 words begin none, or the number of words.
 abbrev pub bad_index : List (List ℕ) → ℕ

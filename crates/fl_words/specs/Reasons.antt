@@ -1,13 +1,12 @@
 -- What is said of words that are of none of some forms: what is wrong with them, and how the forms are written that they begin.
-use Rattle.std.specs.Prelude.{ℕ, ◌+◌, ◌-◌, nat_le, List, [], ◌∷◌, ◌++◌, take, map, slice_get, slice_index_or, Bool, Option, Some, None, Result, Ok, Err, codes, decimal, flat_map, if◌then◌else◌}
+use Rattle.std.specs.Prelude.{ℕ, ◌-◌, nat_le, List, [], ◌∷◌, ◌++◌, map, slice_get, slice_index_or, Bool, Option, Some, None, Result, Ok, Err, codes, decimal, flat_map, if◌then◌else◌}
 use Rattle.std.specs.Option.{option_or}
 use Rattle.std.specs.Str.Lossy.{utf8_lossy}
 use Rattle.fp_keyfile.specs.Lines.{lines_of}
-use Rattle.fl_words.specs.declared.batch.TheConstants.{MOST_WORDS}
 use Rattle.fl_words.specs.declared.command.Change.{Change}
 use Rattle.fl_words.specs.declared.forms.Form.{Form}
-use Rattle.fl_words.specs.declared.forms.Form.TheVariants.{Pin, Unpin, RemoteAdd, RemoteModify, RemoteDelete, Install, UpdateAll, UpdateOne, Uninstall, UninstallUnused, Rollback, OverrideReset, OverrideResetApp}
-use Rattle.fl_words.specs.Forms.{Place, literal, pattern, remote, url, ref_name, app_id, type_string, forms, slots_of, reach, most}
+use Rattle.fl_words.specs.declared.forms.Form.TheVariants.{Pin, Unpin, RemoteAdd, RemoteModify, RemoteDelete, Install, UpdateAll, UpdateOne, Uninstall, UninstallUnused, Rollback, OverrideChange, OverrideChangeApp, OverrideReset, OverrideResetApp}
+use Rattle.fl_words.specs.Forms.{Place, literal, pattern, remote, url, ref_name, app_id, permission, type_string, forms, slots_of, further_of, last_of, place_at, reach_of, most}
 use Rattle.fl_words.specs.Batch.{words_in, batch_of}
 use Rattle.fl_lines.specs.Lines.{line, escaped}
 
@@ -21,18 +20,28 @@ place_name remote = codes "NAME"
 place_name url = codes "URL"
 place_name ref_name = codes "REF"
 place_name app_id = codes "ID"
+place_name permission = codes "OPTION"
 place_name type_string = codes "TYPE"
 
 abbrev pub named_place : Place → List ℕ
 named_place place = 32 ∷ place_name place
 
+-- what may be repeated, or left out
+abbrev pub further_text : Option Place → List ℕ
+further_text None = []
+further_text (Some place) = codes " [" ++ (place_name place ++ codes "..]")
+
+abbrev pub last_text : Option Place → List ℕ
+last_text None = []
+last_text (Some place) = named_place place
+
 -- a form after what runs it, which is ` fpk` on a command line and nothing in a batch
 abbrev pub usage : List ℕ → Form → List ℕ
-usage program form = line (codes "usage:" ++ (program ++ flat_map named_place (slots_of form)))
+usage program form = line (codes "usage:" ++ (program ++ (flat_map named_place (slots_of form) ++ (further_text (further_of form) ++ last_text (last_of form)))))
 
 -- so many of the words, from the first on, may stand at their places of the form
 abbrev pub begins : List (List ℕ) → ℕ → Form → Bool
-begins words count form = nat_le count (reach (slots_of form) words)
+begins words count form = nat_le count (reach_of form words)
 
 abbrev pub usage_begun : List ℕ → List (List ℕ) → ℕ → Form → List ℕ
 usage_begun program words count form = if begins words count form then usage program form else []
@@ -45,7 +54,7 @@ usages program words count fs = flat_map (usage_begun program words count) fs
 
 -- the place of a form at an index, where the words before it begin the form
 abbrev pub place_begun : List (List ℕ) → ℕ → Form → Option Place
-place_begun words index form = if begins words index form then slice_get (slots_of form) index else None
+place_begun words index form = if begins words index form then place_at form index else None
 
 -- the first such place of some forms
 abbrev pub place_wanted : List (List ℕ) → ℕ → List Form → Option Place
@@ -61,6 +70,7 @@ fault_at (Some remote) = codes "is no name of a remote"
 fault_at (Some url) = codes "is no URL of a remote: file:///PATH"
 fault_at (Some ref_name) = codes "is no ref: KIND/ID/ARCH/BRANCH"
 fault_at (Some app_id) = codes "is no ID of an application"
+fault_at (Some permission) = codes "is no option that changes permissions, as --share=network"
 fault_at (Some type_string) = codes "is no type of GVariant"
 
 -- the word there, and what is wrong with it, or that there is none
@@ -86,11 +96,11 @@ reason_text words = codes "fpk: " ++ why (codes " fpk") forms words
 abbrev pub change_forms : List Form
 change_forms =
     Pin ∷ Unpin ∷ RemoteAdd ∷ RemoteModify ∷ RemoteDelete
-    ∷ Install ∷ UpdateAll ∷ UpdateOne ∷ Uninstall ∷ UninstallUnused ∷ Rollback ∷ OverrideReset ∷ OverrideResetApp ∷ []
+    ∷ Install ∷ UpdateAll ∷ UpdateOne ∷ Uninstall ∷ UninstallUnused ∷ Rollback ∷ OverrideChange ∷ OverrideChangeApp ∷ OverrideReset ∷ OverrideResetApp ∷ []
 
--- The first words of a line, one more than a change has at most. What is no UTF-8 in them is replaced.
+-- The words of a line. What is no UTF-8 in them is replaced.
 abbrev pub words_shown : List ℕ → List (List ℕ)
-words_shown line = map utf8_lossy (take (MOST_WORDS + 1) (words_in line))
+words_shown line = map utf8_lossy (words_in line)
 
 abbrev pub line_reason : ℕ → List ℕ → List ℕ
 line_reason number line = codes "fpk: line " ++ (decimal number ++ (codes ": " ++ why [] change_forms (words_shown line)))

@@ -1,5 +1,6 @@
 -- The words of commands.
-use Rattle.std.specs.Prelude.{ℕ, List, [], ◌∷◌, ◌++◌, ◌&&◌, Bool, true, false, ◌||◌, IsSome, codes, if◌then◌else◌}
+use Rattle.std.specs.Prelude.{◌≡◌, ℕ, List, [], ◌∷◌, ◌++◌, ◌&&◌, Bool, true, false, ◌||◌, IsSome, codes, if◌then◌else◌}
+use Rattle.std.specs.List.{list_all}
 use Rattle.std.specs.Str.{bytes_eq}
 use Rattle.fp_name.specs.Grammar.{is_remote_name, is_url, is_id}
 use Rattle.fp_name.specs.Pins.{is_pin}
@@ -7,11 +8,13 @@ use Rattle.fp_name.specs.Refs.{is_ref, ref_text}
 use Rattle.fl_words.specs.declared.command.Command.{Command}
 use Rattle.fl_words.specs.declared.command.Command.TheVariants.{Change as Changing, List as Listed, Show as Showing, Batch}
 use Rattle.fl_words.specs.declared.command.Change.{Change}
-use Rattle.fl_words.specs.declared.command.Change.TheVariants.{Pin, Unpin, RemoteAdd, RemoteModify, RemoteDelete, Install, UpdateAll, UpdateOne, Uninstall, UninstallUnused, Rollback, OverrideReset}
+use Rattle.fl_words.specs.declared.command.Change.TheVariants.{Pin, Unpin, RemoteAdd, RemoteModify, RemoteDelete, Install, UpdateAll, UpdateOne, Uninstall, UninstallUnused, Rollback, OverrideChange, OverrideReset}
 use Rattle.fl_words.specs.declared.command.Listing.{Listing}
 use Rattle.fl_words.specs.declared.command.Listing.TheVariants.{Refs, Remotes, Pins, Info, OverrideShow}
 use Rattle.fl_words.specs.declared.command.Shown.{Shown}
 use Rattle.fl_words.specs.declared.command.Shown.TheVariants.{Commit, DirTree, DirMeta, Value}
+use Rattle.fl_meta.specs.declared.permission.Mention.{Mention}
+use Rattle.fl_options.specs.Options.{is_option, layer_of}
 use Rattle.fl_words.specs.Forms.{command_of}
 use Rattle.fl_words.specs.Types.{is_type_text}
 
@@ -23,30 +26,39 @@ is_override_name name = bytes_eq name (codes "global") || is_id name
 abbrev pub override_word : List ℕ → List (List ℕ)
 override_word name = if bytes_eq name (codes "global") then [] else name ∷ []
 
+-- the words of a change of an override: options that mention these, one or more, and the word for the override
+pub record AreOverrideWords (name : List ℕ) (options : List Mention) (words : List (List ℕ)) : Type 0 where
+  pub first : List ℕ
+  pub more : List (List ℕ)
+  pub whole : words ≡ codes "override" ∷ first ∷ (more ++ override_word name)
+  pub each : list_all is_option (first ∷ more) ≡ true
+  pub mentioned : layer_of (first ∷ more) ≡ options
+
 -- the words of each command
-abbrev pub words_of : Command → List (List ℕ)
-words_of (Changing (Pin p)) = codes "pin" ∷ p ∷ []
-words_of (Changing (Unpin p)) = codes "unpin" ∷ p ∷ []
-words_of (Changing (RemoteAdd row)) = codes "remote-add" ∷ row.name ∷ row.url ∷ []
-words_of (Changing (RemoteModify row)) = codes "remote-modify" ∷ row.name ∷ row.url ∷ []
-words_of (Changing (RemoteDelete name)) = codes "remote-delete" ∷ name ∷ []
-words_of (Changing (Install remote name)) = codes "install" ∷ remote ∷ ref_text name ∷ []
-words_of (Changing UpdateAll) = codes "update" ∷ []
-words_of (Changing (UpdateOne name)) = codes "update" ∷ ref_text name ∷ []
-words_of (Changing (Uninstall name)) = codes "uninstall" ∷ ref_text name ∷ []
-words_of (Changing UninstallUnused) = codes "uninstall" ∷ codes "--unused" ∷ []
-words_of (Changing (Rollback name)) = codes "rollback" ∷ ref_text name ∷ []
-words_of (Changing (OverrideReset name)) = codes "override" ∷ codes "--reset" ∷ override_word name
-words_of (Listed Refs) = codes "list" ∷ []
-words_of (Listed Remotes) = codes "list" ∷ codes "--remotes" ∷ []
-words_of (Listed Pins) = codes "list" ∷ codes "--pins" ∷ []
-words_of (Listed (Info name)) = codes "info" ∷ ref_text name ∷ []
-words_of (Listed (OverrideShow name)) = codes "override" ∷ codes "--show" ∷ override_word name
-words_of Batch = codes "batch" ∷ []
-words_of (Showing Commit) = codes "show" ∷ codes "commit" ∷ []
-words_of (Showing DirTree) = codes "show" ∷ codes "dirtree" ∷ []
-words_of (Showing DirMeta) = codes "show" ∷ codes "dirmeta" ∷ []
-words_of (Showing (Value of)) = codes "show" ∷ codes "value" ∷ of ∷ []
+abbrev pub AreWords : Command → List (List ℕ) → Type 0
+AreWords (Changing (Pin p)) words = words ≡ codes "pin" ∷ p ∷ []
+AreWords (Changing (Unpin p)) words = words ≡ codes "unpin" ∷ p ∷ []
+AreWords (Changing (RemoteAdd row)) words = words ≡ codes "remote-add" ∷ row.name ∷ row.url ∷ []
+AreWords (Changing (RemoteModify row)) words = words ≡ codes "remote-modify" ∷ row.name ∷ row.url ∷ []
+AreWords (Changing (RemoteDelete name)) words = words ≡ codes "remote-delete" ∷ name ∷ []
+AreWords (Changing (Install remote name)) words = words ≡ codes "install" ∷ remote ∷ ref_text name ∷ []
+AreWords (Changing UpdateAll) words = words ≡ codes "update" ∷ []
+AreWords (Changing (UpdateOne name)) words = words ≡ codes "update" ∷ ref_text name ∷ []
+AreWords (Changing (Uninstall name)) words = words ≡ codes "uninstall" ∷ ref_text name ∷ []
+AreWords (Changing UninstallUnused) words = words ≡ codes "uninstall" ∷ codes "--unused" ∷ []
+AreWords (Changing (Rollback name)) words = words ≡ codes "rollback" ∷ ref_text name ∷ []
+AreWords (Changing (OverrideChange name options)) words = AreOverrideWords name options words
+AreWords (Changing (OverrideReset name)) words = words ≡ codes "override" ∷ codes "--reset" ∷ override_word name
+AreWords (Listed Refs) words = words ≡ codes "list" ∷ []
+AreWords (Listed Remotes) words = words ≡ codes "list" ∷ codes "--remotes" ∷ []
+AreWords (Listed Pins) words = words ≡ codes "list" ∷ codes "--pins" ∷ []
+AreWords (Listed (Info name)) words = words ≡ codes "info" ∷ ref_text name ∷ []
+AreWords (Listed (OverrideShow name)) words = words ≡ codes "override" ∷ codes "--show" ∷ override_word name
+AreWords Batch words = words ≡ codes "batch" ∷ []
+AreWords (Showing Commit) words = words ≡ codes "show" ∷ codes "commit" ∷ []
+AreWords (Showing DirTree) words = words ≡ codes "show" ∷ codes "dirtree" ∷ []
+AreWords (Showing DirMeta) words = words ≡ codes "show" ∷ codes "dirmeta" ∷ []
+AreWords (Showing (Value of)) words = words ≡ codes "show" ∷ codes "value" ∷ of ∷ []
 
 -- it may change the installation
 abbrev pub may_change : Command → Bool
@@ -68,6 +80,7 @@ is_change (UpdateOne name) = is_ref name
 is_change (Uninstall name) = is_ref name
 is_change UninstallUnused = true
 is_change (Rollback name) = is_ref name
+is_change (OverrideChange name options) = is_override_name name
 is_change (OverrideReset name) = is_override_name name
 
 abbrev pub is_listing : Listing → Bool

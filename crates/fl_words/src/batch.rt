@@ -39,9 +39,6 @@ impl From<AllocError> for BatchError {
     }
 }
 
-/// The most words that a change has.
-pub(crate) const MOST_WORDS: usize = 3;
-
 /// The changes that a batch asks for, one by each line. `BadRecord` comes exactly where a line asks for none.
 pub fn read_batch(alloc: Global, bytes: &[u8]) -> Result<Items<Change>, BatchError>
     ensures ok { IfOk result (λ changes. batch_of bytes.now ≡ Ok changes) }
@@ -105,9 +102,6 @@ fn read_line(alloc: Global, line: &[u8]) -> Result<Vec<String>, WordsError>
     let mut words = Vec::new(alloc);
     let mut rest = Some(line);
     while let Some(text) = rest {
-        if words.len() == MOST_WORDS {
-            return Err(WordsError::BadWords { index: 0 });
-        }
         let (word, after) = first_word(text);
         add_word(alloc, &mut words, word)?;
         rest = after;

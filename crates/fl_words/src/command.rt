@@ -4,6 +4,7 @@ ghost use Rattle.fl_words.specs.Words.{may_change};
 ghost use Rattle.fl_words.specs.declared.command.WordsError.TheVariants.{NoMemory};
 
 use crate::value_type::ValueType;
+use fl_meta::Layer;
 use fp_base::Text;
 use fp_name::{PinPattern, RefName, RemoteName};
 use fp_small::RemoteRow;
@@ -12,7 +13,7 @@ use std::error::Error;
 use std::fmt;
 
 /// A command, by its kind.
-#[derive(Debug, Drop)]
+#[derive(Drop)]
 pub enum Command {
     /// Changes the installation.
     Change(Change),
@@ -34,7 +35,7 @@ impl Command {
 }
 
 /// What changes the installation.
-#[derive(Debug, Drop)]
+#[derive(Drop)]
 pub enum Change {
     /// `pin P`: pins what the pattern matches.
     Pin(PinPattern),
@@ -58,6 +59,9 @@ pub enum Change {
     UninstallUnused,
     /// `rollback REF`: puts a ref back to the commit that it was at before.
     Rollback(RefName),
+    /// `override OPTION..` or `override OPTION.. ID`: changes the permissions of all applications, or of one. The name is
+    /// `global` or the ID.
+    OverrideChange { name: Text, options: Layer },
     /// `override --reset` or `override --reset ID`: takes an override away. The name is `global` or the ID.
     OverrideReset { name: Text },
 }

@@ -1,11 +1,13 @@
 //! The forms of words: what stands at each place of a command line, and the command that it asks for.
-ghost use Rattle.std.specs.Prelude.{◌≡◌, IfOk, IfErr, map, string_bytes};
-ghost use Rattle.fl_words.specs.Forms.{place_of, forms, slots_of, made};
+ghost use Rattle.std.specs.Prelude.{◌≡◌, IfOk, IfErr, map, option_map, string_bytes};
+ghost use Rattle.fl_words.specs.Forms.{place_of, forms, slots_of, further_of, last_of, place_at, made};
 ghost use Rattle.fl_words.specs.Reading.{IsMisfit};
 ghost use Rattle.fl_words.specs.Reasons.{change_forms};
 
 use crate::command::{Change, Command, Listing, Shown, WordsError};
-use crate::values::{global_name, id_at, name_at, pattern_at, ref_at, remote_in, type_at};
+use crate::values::{
+    global_name, id_at, last_id, name_at, options_in, pattern_at, ref_at, remote_in, type_at,
+};
 use std::alloc::Global;
 
 /// What may stand at a place of a form.
@@ -23,6 +25,8 @@ pub enum Slot {
     Ref,
     /// The ID of an application.
     Id,
+    /// An option that changes permissions.
+    Permission,
     /// The type string of a type of GVariant.
     Type,
 }
@@ -41,6 +45,8 @@ pub enum Form {
     Uninstall,
     UninstallUnused,
     Rollback,
+    OverrideChange,
+    OverrideChangeApp,
     OverrideReset,
     OverrideResetApp,
     ListRefs,
@@ -81,6 +87,8 @@ impl Form {
             Form::Info,
             Form::OverrideShow,
             Form::OverrideShowApp,
+            Form::OverrideChange,
+            Form::OverrideChangeApp,
             Form::Batch,
             Form::ShowCommit,
             Form::ShowDirTree,
@@ -105,12 +113,14 @@ impl Form {
             Form::Uninstall,
             Form::UninstallUnused,
             Form::Rollback,
+            Form::OverrideChange,
+            Form::OverrideChangeApp,
             Form::OverrideReset,
             Form::OverrideResetApp,
         ]
     }
 
-    /// What stands at each of its places.
+    /// What stands at each of its places, but for those that `further` and `last` tell.
     pub fn slots(self) -> &'static [Slot]
         ensures { map place_of result.now ≡ slots_of self }
     {
@@ -126,6 +136,8 @@ impl Form {
             Form::Uninstall => &[Slot::Word("uninstall"), Slot::Ref],
             Form::UninstallUnused => &[Slot::Word("uninstall"), Slot::Word("--unused")],
             Form::Rollback => &[Slot::Word("rollback"), Slot::Ref],
+            Form::OverrideChange => &[Slot::Word("override"), Slot::Permission],
+            Form::OverrideChangeApp => &[Slot::Word("override"), Slot::Permission],
             Form::OverrideReset => &[Slot::Word("override"), Slot::Word("--reset")],
             Form::OverrideResetApp => &[Slot::Word("override"), Slot::Word("--reset"), Slot::Id],
             Form::ListRefs => &[Slot::Word("list")],
@@ -139,6 +151,83 @@ impl Form {
             Form::ShowDirTree => &[Slot::Word("show"), Slot::Word("dirtree")],
             Form::ShowDirMeta => &[Slot::Word("show"), Slot::Word("dirmeta")],
             Form::ShowValue => &[Slot::Word("show"), Slot::Word("value"), Slot::Type],
+        }
+    }
+
+    /// What each word after those may be, where any number of them may follow.
+    pub fn further(self) -> Option<Slot>
+        ensures { option_map place_of result ≡ further_of self }
+    {
+        match self {
+            Form::OverrideChange | Form::OverrideChangeApp => Some(Slot::Permission),
+            Form::Pin
+            | Form::Unpin
+            | Form::RemoteAdd
+            | Form::RemoteModify
+            | Form::RemoteDelete
+            | Form::Install
+            | Form::UpdateAll
+            | Form::UpdateOne
+            | Form::Uninstall
+            | Form::UninstallUnused
+            | Form::Rollback
+            | Form::OverrideReset
+            | Form::OverrideResetApp
+            | Form::ListRefs
+            | Form::ListRemotes
+            | Form::ListPins
+            | Form::Info
+            | Form::OverrideShow
+            | Form::OverrideShowApp
+            | Form::Batch
+            | Form::ShowCommit
+            | Form::ShowDirTree
+            | Form::ShowDirMeta
+            | Form::ShowValue => None,
+        }
+    }
+
+    /// What the last word after all others is, where there is one more.
+    pub fn last(self) -> Option<Slot>
+        ensures { option_map place_of result ≡ last_of self }
+    {
+        match self {
+            Form::OverrideChangeApp => Some(Slot::Id),
+            Form::Pin
+            | Form::Unpin
+            | Form::RemoteAdd
+            | Form::RemoteModify
+            | Form::RemoteDelete
+            | Form::Install
+            | Form::UpdateAll
+            | Form::UpdateOne
+            | Form::Uninstall
+            | Form::UninstallUnused
+            | Form::Rollback
+            | Form::OverrideReset
+            | Form::OverrideResetApp
+            | Form::ListRefs
+            | Form::ListRemotes
+            | Form::ListPins
+            | Form::Info
+            | Form::OverrideShow
+            | Form::OverrideShowApp
+            | Form::OverrideChange
+            | Form::Batch
+            | Form::ShowCommit
+            | Form::ShowDirTree
+            | Form::ShowDirMeta
+            | Form::ShowValue => None,
+        }
+    }
+
+    /// What the word at an index is, where it isn't the last one.
+    pub fn slot(self, index: usize) -> Option<Slot>
+        ensures { option_map place_of result ≡ place_at self index }
+    {
+        match self.slots().get(index) {
+            Some(slot) => Some(*slot),
+            None => self.further(),
         }
     }
 
@@ -162,6 +251,14 @@ impl Form {
             Form::Uninstall => Command::Change(Change::Uninstall(ref_at(alloc, words, 1)?)),
             Form::UninstallUnused => Command::Change(Change::UninstallUnused),
             Form::Rollback => Command::Change(Change::Rollback(ref_at(alloc, words, 1)?)),
+            Form::OverrideChange => Command::Change(Change::OverrideChange {
+                name: global_name(alloc)?,
+                options: options_in(alloc, words)?,
+            }),
+            Form::OverrideChangeApp => Command::Change(Change::OverrideChange {
+                name: last_id(alloc, words)?,
+                options: options_in(alloc, words)?,
+            }),
             Form::OverrideReset => Command::Change(Change::OverrideReset {
                 name: global_name(alloc)?,
             }),

@@ -5,15 +5,16 @@ ghost use Rattle.fl_words.specs.Batch.{batch_of};
 ghost use Rattle.fl_words.specs.declared.forms.Form.{Form};
 ghost use Rattle.fl_words.specs.Forms.{command_of, bad_index, reads};
 ghost use Rattle.fl_words.specs.Reasons.{begins};
-ghost use Rattle.fl_words.specs.Words.{Begins, words_of, is_change, is_command};
+ghost use Rattle.fl_words.specs.Words.{Begins, AreWords, is_change, is_command};
 
 use crate::command::{Change, Command};
 
 /// The words of each command read as it, and only they do.
 pub fn words_read_back()
-    ensures written { (c : Command) → is_command c ≡ true → command_of (words_of c) ≡ Some c }
-    ensures read { (words : List (List ℕ)) (c : Command) → command_of words ≡ Some c →
-        (words ≡ words_of c) × (is_command c ≡ true) }
+    ensures written { (c : Command) (words : List (List ℕ)) → is_command c ≡ true → AreWords c words
+        → command_of words ≡ Some c }
+    ensures read { (words : List (List ℕ)) (c : Command) → command_of words ≡ Some c → AreWords c
+        words × (is_command c ≡ true) }
 {}
 
 /// The bad index is the least i such that the first i + 1 words begin no command, or the number of words where each

@@ -2,7 +2,7 @@
 ghost use Rattle.std.specs.Prelude.{◌≡◌, ◌++◌, ◌∷◌, nat_le, IfOk, OnOk, Some, None, map, option_map, flat_map, string_bytes, slice_get, codes};
 ghost use Rattle.fl_words.specs.Forms.{place_of, slots_of, most};
 ghost use Rattle.fl_lines.specs.Lines.{line, escaped};
-ghost use Rattle.fl_words.specs.Reasons.{place_name, named_place, usage as usage_text, begins as does_begin, usage_begun, usages, place_begun, place_wanted, fault_at, fault_text, why, reason_text};
+ghost use Rattle.fl_words.specs.Reasons.{place_name, named_place, further_text, last_text, usage as usage_text, begins as does_begin, usage_begun, usages, place_begun, place_wanted, fault_at, fault_text, why, reason_text};
 
 use crate::forms::{Form, Slot};
 use crate::reading::{furthest, reach};
@@ -78,7 +78,7 @@ fn fault_in(
 {
     for form in forms {
         if let Some(slot) = slot_begun(alloc, *form, words, index)? {
-            return Ok(fault_of(slot));
+            return Ok(fault_of(&slot));
         }
     }
     Ok("is one word too many")
@@ -90,12 +90,12 @@ fn slot_begun(
     form: Form,
     words: &[String],
     index: usize,
-) -> Result<Option<&'static Slot>, AllocError>
-    ensures { IfOk result (λ slot. option_map (λ s. place_of s.now) slot
+) -> Result<Option<Slot>, AllocError>
+    ensures { IfOk result (λ slot. option_map place_of slot
         ≡ place_begun (map string_bytes words.now) index form) }
 {
     if begins(alloc, form, words, index)? {
-        Ok(form.slots().get(index))
+        Ok(form.slot(index))
     } else {
         Ok(None)
     }
@@ -105,7 +105,7 @@ fn slot_begun(
 fn begins(alloc: Global, form: Form, words: &[String], count: usize) -> Result<bool, AllocError>
     ensures { IfOk result (λ b. b ≡ does_begin (map string_bytes words.now) count form) }
 {
-    Ok(count <= reach(alloc, form.slots(), words)?)
+    Ok(count <= reach(alloc, form, words)?)
 }
 
 /// What a word is that may not stand at a place.
@@ -119,6 +119,7 @@ fn fault_of(slot: &Slot) -> &'static str
         Slot::Url => "is no URL of a remote: file:///PATH",
         Slot::Ref => "is no ref: KIND/ID/ARCH/BRANCH",
         Slot::Id => "is no ID of an application",
+        Slot::Permission => "is no option that changes permissions, as --share=network",
         Slot::Type => "is no type of GVariant",
     }
 }
@@ -168,6 +169,8 @@ fn push_usage(text: &mut String, program: &str, form: Form) -> Result<(), AllocE
     text.push_str("usage:")?;
     text.push_str(program)?;
     push_places(text, form.slots())?;
+    push_further(text, form.further())?;
+    push_last(text, form.last())?;
     text.push('\n')
 }
 
@@ -183,6 +186,35 @@ fn push_places(text: &mut String, slots: &[Slot]) -> Result<(), AllocError>
     Ok(())
 }
 
+/// Puts after a text what may be repeated, or left out.
+fn push_further(text: &mut String, slot: Option<Slot>) -> Result<(), AllocError>
+    ensures { OnOk result (string_bytes text.new ≡ string_bytes text.old
+        ++ further_text (option_map place_of slot)) }
+{
+    match slot {
+        Some(slot) => {
+            text.push_str(" [")?;
+            text.push_str(name_of(&slot))?;
+            text.push_str("..]")
+        }
+        None => Ok(()),
+    }
+}
+
+/// Puts after a text what the last word is, after a space.
+fn push_last(text: &mut String, slot: Option<Slot>) -> Result<(), AllocError>
+    ensures { OnOk result (string_bytes text.new ≡ string_bytes text.old
+        ++ last_text (option_map place_of slot)) }
+{
+    match slot {
+        Some(slot) => {
+            text.push(' ')?;
+            text.push_str(name_of(&slot))
+        }
+        None => Ok(()),
+    }
+}
+
 /// What stands at a place, as usage has it.
 fn name_of(slot: &Slot) -> &str
     ensures { result.now ≡ place_name (place_of slot.now) }
@@ -194,6 +226,7 @@ fn name_of(slot: &Slot) -> &str
         Slot::Url => "URL",
         Slot::Ref => "REF",
         Slot::Id => "ID",
+        Slot::Permission => "OPTION",
         Slot::Type => "TYPE",
     }
 }

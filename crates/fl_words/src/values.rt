@@ -1,12 +1,15 @@
 //! What stands at the places of a command line.
-ghost use Rattle.std.specs.Prelude.{◌≡◌, Ok, IfOk, IfErr, map, string_bytes, codes};
-ghost use Rattle.fl_words.specs.Forms.{place_of, fits as may_stand, word_at as text_at, remote_in as remote_of, pattern, remote, url, ref_name, app_id, type_string};
+ghost use Rattle.std.specs.Prelude.{◌≡◌, Ok, IfOk, IfErr, map, option_map, drop, string_bytes, codes};
+ghost use Rattle.fl_options.specs.Options.{layer_of as mentions_of};
+ghost use Rattle.fl_words.specs.Forms.{place_of, fits as may_stand, fits_some as may_stand_at, word_at as text_at, last_word, remote_in as remote_of, pattern, remote, url, ref_name, app_id, type_string};
 ghost use Rattle.fp_name.specs.Refs.{ref_at as ref_of_text};
 ghost use Rattle.fl_words.specs.Reading.{IsMisplaced, IsRemoteMisplaced, IsReadBy, IsUnread};
 
 use crate::command::WordsError;
 use crate::forms::Slot;
 use crate::value_type::ValueType;
+use fl_meta::Layer;
+use fl_options::{is_option, layer_of};
 use fp_base::Text;
 use fp_name::{AppId, NameFault, PinPattern, RefName, RemoteName, RemoteUrl};
 use fp_small::RemoteRow;
@@ -23,7 +26,18 @@ pub fn fits(alloc: Global, slot: &Slot, word: &str) -> Result<bool, AllocError>
         Slot::Url => is_read(RemoteUrl::parse(alloc, word.as_bytes())),
         Slot::Ref => is_read(RefName::parse(alloc, word.as_bytes())),
         Slot::Id => is_read(AppId::parse(alloc, word.as_bytes())),
+        Slot::Permission => is_option(alloc, word),
         Slot::Type => is_read(ValueType::parse(alloc, word.as_bytes())),
+    }
+}
+
+/// Whether a word may stand at a place, where there is one.
+pub(crate) fn fits_some(alloc: Global, slot: Option<Slot>, word: &str) -> Result<bool, AllocError>
+    ensures { IfOk result (λ good. good ≡ may_stand_at (option_map place_of slot) word.now) }
+{
+    match slot {
+        Some(slot) => fits(alloc, &slot, word),
+        None => Ok(false),
     }
 }
 
@@ -97,6 +111,24 @@ pub(crate) fn id_at(alloc: Global, words: &[String], place: usize) -> Result<Tex
 {
     let id = placed(AppId::parse(alloc, word_at(words, place).as_bytes()))?;
     Ok(id.write()?)
+}
+
+/// The ID that is the last word.
+pub(crate) fn last_id(alloc: Global, words: &[String]) -> Result<Text, WordsError>
+    ensures ok { IfOk result (λ id. id ≡ last_word (map string_bytes words.now)) }
+    ensures bad { IfErr result (IsMisplaced app_id (last_word (map string_bytes words.now))) }
+{
+    id_at(alloc, words, words.len().saturating_sub(1))
+}
+
+/// What the words after the first mention as options.
+pub(crate) fn options_in(alloc: Global, words: &[String]) -> Result<Layer, AllocError>
+    ensures { IfOk result (λ layer. layer ≡ mentions_of (drop 1 (map string_bytes words.now))) }
+{
+    match words {
+        [_, options @ ..] => layer_of(alloc, options),
+        [] => Ok(Layer::new(alloc)),
+    }
 }
 
 /// The name of the override for all applications.
