@@ -1,0 +1,34 @@
+//! What a state says of a ref.
+ghost use Rattle.std.specs.Prelude.{◌≡◌};
+ghost use Rattle.fl_extension.specs.Found.{has_ref};
+ghost use Rattle.fl_plan.specs.Plans.{deployed, is_at, time_of};
+
+use fp_name::{Digest, RefName};
+use fp_small::State;
+
+/// Whether the ref is deployed.
+pub(crate) fn has_ref(state: &State, name: &RefName) -> bool
+    ensures { result ≡ has_ref state.now name.now }
+{
+    state.refs.as_slice().iter().any(|row| row.name == *name)
+}
+
+/// Whether the ref is deployed at this commit.
+pub(crate) fn is_at(state: &State, name: &RefName, commit: &Digest) -> bool
+    ensures { result ≡ is_at commit.now (deployed state.now name.now) }
+{
+    match state.refs.as_slice().iter().find(|row| row.name == *name) {
+        Some(row) => row.commit == *commit,
+        None => false,
+    }
+}
+
+/// The time of the commit at which the ref is deployed.
+pub(crate) fn time_of(state: &State, name: &RefName) -> Option<u64>
+    ensures { result ≡ time_of (deployed state.now name.now) }
+{
+    match state.refs.as_slice().iter().find(|row| row.name == *name) {
+        Some(row) => Some(row.timestamp),
+        None => None,
+    }
+}
