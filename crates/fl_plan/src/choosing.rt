@@ -6,7 +6,7 @@ ghost use Rattle.fl_plan.specs.Offers.{chosen};
 
 use crate::offer::{Chosen, Offer};
 use fp_host::{Host, Remotes};
-use ost_head::{Head, PullEnd, read_head};
+use ost_head::{PullEnd, read_head};
 use std::alloc::Global;
 
 /// The offer of what isn't deployed, with its head checked.
@@ -30,7 +30,10 @@ pub(crate) fn choose<H: Host, R: Remotes>(
         &offer.commit,
         None,
     ) {
-        Ok(Head { metadata, .. }) => Ok(Chosen { offer, metadata }),
+        Ok(head) => Ok(Chosen {
+            offer,
+            metadata: head.metadata,
+        }),
         Err(end) => Err(end),
     }
 }

@@ -21,7 +21,7 @@ use fp_base::{Items, What};
 use fp_host::{Host, Remotes};
 use fp_name::{RefName, RemoteName};
 use fp_small::{Op, Refusal, RemoteRow, State};
-use ost_head::{Head, PullEnd, offer, read_head};
+use ost_head::{PullEnd, offer, read_head};
 use std::alloc::{AllocError, Global};
 
 /// The most refs that are deployed.
@@ -227,7 +227,10 @@ fn target_of<H: Host, R: Remotes>(
         &offer.commit,
         since,
     ) {
-        Ok(Head { metadata, .. }) => Ok(Chosen { offer, metadata }),
+        Ok(head) => Ok(Chosen {
+            offer,
+            metadata: head.metadata,
+        }),
         Err(end) => Err(end),
     }
 }
