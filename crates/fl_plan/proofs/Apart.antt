@@ -148,6 +148,6 @@ pub begun_plan : (s : State) (runtime : Option Chosen) (target : Chosen) → May
     → IfSome runtime (λ c. MayCome s c.offer × (bytes_eq (ref_text c.offer.name) (ref_text target.offer.name) ≡ false)) → IsPlan s (begun runtime target)
 begun_plan s None target may others = record { each = (may, tt); apart = (refl, tt) }
 begun_plan s (Some c) target may others = record {
-  each = (others.0, may, tt);
-  apart = (ap (λ b. b || false) (bytes_eq-differ (ref_text c.offer.name) (ref_text target.offer.name) others.1), refl, tt);
+  each = (others.0, (may, tt));
+  apart = (ap (λ b. b || false) (bytes_eq-differ (ref_text c.offer.name) (ref_text target.offer.name) others.1), (refl, tt));
 }

@@ -5,5 +5,6 @@ pub mod Points
 pub mod Skips
 pub mod Turns
 pub mod Apart
+pub mod Parts
 pub mod Rows
 pub mod Samples

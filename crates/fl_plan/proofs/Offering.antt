@@ -78,28 +78,42 @@ none_first None a rest none is = ap (λ z. option_or z rest) (sym is)
 pub at_item : {A : Type 0} (xs : List A) (i : ℕ) (x : A) → i < length xs → x ≡ get_or xs i x → drop i xs ≡ x ∷ drop (i + 1) xs
 at_item {A = A} xs i x within is = drop-cons xs i x within ∙ ap (λ (y : A). y ∷ drop (suc i) xs) (sym is) ∙ ap (λ (n : ℕ). x ∷ drop n xs) (sym (add-one i))
 
-module _ {A : Type 0} (f : Holdings → A → Option Offer) (xs : List A) {old mid new : Option Holdings} {before between now : ℕ} (same : mid ≡ old) (later : before ≤ between) where
+-- the same by another name
+pub asks_same : {A : Type 0} {answer : Holdings → A} {result : Result A PullEnd} {old new : Option Holdings} {before now : ℕ} (whole : Holdings → A)
+    → ((held : Holdings) → whole held ≡ answer held) → Asks answer result old new before now → Asks whole result old new before now
+asks_same {result = result} whole same asks = record {
+  same = asks.same;
+  tells = λ held is. subst (λ a. Tells (λ x. x ≡ a) result) (sym (same held)) (asks.tells held is);
+  host = asks.host;
+  remote = asks.remote;
+}
+
+module _ {A : Type 0} (f : Holdings → A → Option Offer) (xs : List A) where
   abbrev whole : Holdings → Option Offer
   whole held = first_of (f held) xs
 
-  module _ (i : ℕ) (rest : (held : Holdings) → old ≡ Some held → whole held ≡ first_of (f held) (drop i xs)) where
-    module _ (x : A) (here : drop i xs ≡ x ∷ drop (i + 1) xs) where
-      known : (held : Holdings) → old ≡ Some held → whole held ≡ option_or (f held x) (first_of (f held) (drop (i + 1) xs))
-      known held is = rest held is ∙ ap (first_of (f held)) here
+  module _ {old : Option Holdings} (i : ℕ) (rest : (held : Holdings) → old ≡ Some held → whole held ≡ first_of (f held) (drop i xs)) where
+    known : (x : A) → drop i xs ≡ x ∷ drop (i + 1) xs → (held : Holdings) → old ≡ Some held → whole held ≡ option_or (f held x) (first_of (f held) (drop (i + 1) xs))
+    known x here held is = rest held is ∙ ap (first_of (f held)) here
 
+    -- none was found
+    pub asks_none : {mid : Option Holdings} {before between : ℕ} → mid ≡ old → before ≤ between → drop i xs ≡ [] → Asks whole (Ok None) old mid before between
+    asks_none same later none = record {
+      same = same;
+      tells = λ held is. sym (rest held is ∙ ap (first_of (f held)) none);
+      host = λ e. absurd (cc e);
+      remote = record { later = later; rose = λ e. absurd (cc e) };
+    }
+
+    module _ {mid new : Option Holdings} {before between now : ℕ} (same : mid ≡ old) (later : before ≤ between) (x : A) (here : drop i xs ≡ x ∷ drop (i + 1) xs) where
       -- one of them was found
       pub asks_found : (found : Option Offer) → Asks (λ held. f held x) (Ok found) mid new between now → is_some found ≡ true → Asks whole (Ok found) old new before now
       asks_found found asks some = record {
         same = asks.same ∙ same;
-        tells = λ held is. some_first found (f held x) (first_of (f held) (drop (i + 1) xs)) some (asks.tells held (same ∙ is)) ∙ sym (known held is);
+        tells = λ held is. some_first found (f held x) (first_of (f held) (drop (i + 1) xs)) some (asks.tells held (same ∙ is)) ∙ sym (known x here held is);
         host = λ e. absurd (cc e);
         remote = record { later = omega (arith, later, asks.remote.later); rose = λ e. absurd (cc e) };
       }
-
-      -- it wasn't this one
-      pub asks_next : (found : Option Offer) → Asks (λ held. f held x) (Ok found) mid new between now → is_some found ≡ false
-          → (held : Holdings) → old ≡ Some held → whole held ≡ first_of (f held) (drop (i + 1) xs)
-      asks_next found asks none held is = known held is ∙ none_first found (f held x) (first_of (f held) (drop (i + 1) xs)) none (asks.tells held (same ∙ is))
 
       -- a fault
       pub asks_failed : (end : PullEnd) → Asks (λ held. f held x) (Err end) mid new between now → Asks whole (Err end) old new before now
@@ -110,39 +124,37 @@ module _ {A : Type 0} (f : Holdings → A → Option Offer) (xs : List A) {old m
         remote = record { later = omega (arith, later, asks.remote.later); rose = λ e. Rose-later _ _ _ later (asks.remote.rose e) };
       }
 
-    -- none was found
-    pub asks_none : drop i xs ≡ [] → Asks whole (Ok None) old mid before between
-    asks_none none = record {
-      same = same;
-      tells = λ held is. sym (rest held is ∙ ap (first_of (f held)) none);
-      host = λ e. absurd (cc e);
-      remote = record { later = later; rose = λ e. absurd (cc e) };
-    }
+    -- it wasn't this one
+    pub asks_next : {mid new : Option Holdings} {between now : ℕ} → mid ≡ old → (x : A) → drop i xs ≡ x ∷ drop (i + 1) xs
+        → (found : Option Offer) → Asks (λ held. f held x) (Ok found) mid new between now → is_some found ≡ false
+        → (held : Holdings) → old ≡ Some held → whole held ≡ first_of (f held) (drop (i + 1) xs)
+    asks_next same x here found asks none held is = known x here held is ∙ none_first found (f held x) (first_of (f held) (drop (i + 1) xs)) none (asks.tells held (same ∙ is))
 
 -- the questions of two lists, one after the other
-module _ {A : Type 0} (f : Holdings → A → Option Offer) (xs ys : List A) {old mid new : Option Holdings} {before between now : ℕ} where
+module _ {A : Type 0} (f : Holdings → A → Option Offer) (xs ys : List A) where
   abbrev both : Holdings → Option Offer
   both held = first_of (f held) (xs ++ ys)
 
-  pub both_first : (found : Option Offer) → Asks (λ held. first_of (f held) xs) (Ok found) old mid before between → is_some found ≡ true → Asks both (Ok found) old mid before between
-  both_first found asks some = record {
-    same = asks.same;
-    tells = λ held is. some_first found (first_of (f held) xs) (first_of (f held) ys) some (asks.tells held is) ∙ sym (first_append (f held) xs ys);
-    host = λ e. absurd (cc e);
-    remote = record { later = asks.remote.later; rose = λ e. absurd (cc e) };
-  }
+  module _ {old mid : Option Holdings} {before between : ℕ} where
+    pub both_first : (found : Option Offer) → Asks (λ held. first_of (f held) xs) (Ok found) old mid before between → is_some found ≡ true → Asks both (Ok found) old mid before between
+    both_first found asks some = record {
+      same = asks.same;
+      tells = λ held is. some_first found (first_of (f held) xs) (first_of (f held) ys) some (asks.tells held is) ∙ sym (first_append (f held) xs ys);
+      host = λ e. absurd (cc e);
+      remote = record { later = asks.remote.later; rose = λ e. absurd (cc e) };
+    }
 
-  pub both_failed : (end : PullEnd) → Asks (λ held. first_of (f held) xs) (Err end) old mid before between → Asks both (Err end) old mid before between
-  both_failed end asks = record { same = asks.same; tells = asks.tells; host = asks.host; remote = asks.remote }
+    pub both_failed : (end : PullEnd) → Asks (λ held. first_of (f held) xs) (Err end) old mid before between → Asks both (Err end) old mid before between
+    both_failed end asks = record { same = asks.same; tells = asks.tells; host = asks.host; remote = asks.remote }
 
-  pub both_second : (found : Option Offer) (result : Result (Option Offer) PullEnd) → Asks (λ held. first_of (f held) xs) (Ok found) old mid before between → is_some found ≡ false
-      → Asks (λ held. first_of (f held) ys) result mid new between now → Asks both result old new before now
-  both_second found result first none second = record {
-    same = second.same ∙ first.same;
-    tells = λ held is. subst (λ o. Tells (λ a. a ≡ o) result) (sym (first_append (f held) xs ys ∙ none_first found (first_of (f held) xs) (first_of (f held) ys) none (first.tells held is))) (second.tells held (first.same ∙ is));
-    host = second.host;
-    remote = record { later = omega (arith, first.remote.later, second.remote.later); rose = λ e. Rose-later _ _ _ first.remote.later (second.remote.rose e) };
-  }
+    pub both_second : {new : Option Holdings} {now : ℕ} (found : Option Offer) (result : Result (Option Offer) PullEnd) → Asks (λ held. first_of (f held) xs) (Ok found) old mid before between → is_some found ≡ false
+        → Asks (λ held. first_of (f held) ys) result mid new between now → Asks both result old new before now
+    both_second found result first none second = record {
+      same = second.same ∙ first.same;
+      tells = λ held is. subst (λ o. Tells (λ a. a ≡ o) result) (sym (first_append (f held) xs ys ∙ none_first found (first_of (f held) xs) (first_of (f held) ys) none (first.tells held is))) (second.tells held (first.same ∙ is));
+      host = second.host;
+      remote = record { later = omega (arith, first.remote.later, second.remote.later); rose = λ e. Rose-later _ _ _ first.remote.later (second.remote.rose e) };
+    }
 
 -- ---- one question, asked
 

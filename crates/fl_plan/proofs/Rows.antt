@@ -86,7 +86,7 @@ module _ (held : Holdings) (stored : Have) (state : State) where
     own = offer_with remote name commit
 
     pub up_to_date : offered held remote name ≡ Ok commit → is_at commit (deployed state name) ≡ true → plan_of held stored state remote name ≡ Ok []
-    unfolding plan_of, planned_at
+    unfolding plan_of planned_at
     up_to_date offers is =
         ap (λ r. and_then r (λ c. planned_at held stored state (offer_with remote name c))) offers
         ∙ ap (λ b. if b then Ok [] else and_then (target_of held stored state own) (planned held stored state)) is
@@ -96,7 +96,7 @@ module _ (held : Holdings) (stored : Have) (state : State) where
       checked = chosen_with own head
 
       at_target : plan_of held stored state remote name ≡ planned held stored state checked
-      unfolding plan_of, planned_at, target_of
+      unfolding plan_of planned_at target_of
       at_target =
           ap (λ r. and_then r (λ c. planned_at held stored state (offer_with remote name c))) target.heads.offers
           ∙ ap (λ b. if b then Ok [] else and_then (target_of held stored state own) (planned held stored state)) target.moves
@@ -173,4 +173,4 @@ own_first other own differ =
 
 pub second_offers : (held : Holdings) (first second : RemoteRow) (name : Ref) (r : Refusal) (d : List ℕ) → offered held first name ≡ Err r → offered held second name ≡ Ok d
     → first_offer held (first ∷ second ∷ []) name ≡ Some (offer_with second name d)
-second_offers held first second name r d no yes = rw (no, yes) refl
+second_offers held first second name r d refused offers = rw (refused, offers) refl

@@ -103,15 +103,15 @@ never_root commit v = some_if (is_nothing (entry_in (codes "deploy") (Some v))) 
 
 never_meta : (name : Ref) (read : Result Meta MetaRule) → NeverSome (meta_refused name read)
 never_meta name (Ok meta) = none_refused
-never_meta name (Err rule) r n is = absurd (cc is)
+never_meta name (Err rule) = λ r n is. absurd (cc is)
 
 never_lines : (name : Ref) (read : Result (List Group) KeyFault) → NeverSome (lines_refused name read)
 never_lines name (Ok file) = never_meta name (meta_of (meta_kind name.kind) file)
-never_lines name (Err fault) r n is = absurd (cc is)
+never_lines name (Err fault) = λ r n is. absurd (cc is)
 
 module _ (name : Ref) (commit : List ℕ) where
   never_content : (time : ℕ) (content : Option (List ℕ)) → Never (with_content name commit time content)
-  never_content time None r n is = absurd (cc is)
+  never_content time None = λ r n is. absurd (cc is)
   never_content time (Some bytes) =
       never_unless (metadata_refused name bytes) (Ok (record { commit = commit; timestamp = time; metadata = bytes }))
       (some_if (leb (length bytes) (1024 * 1024)) (lines_refused name (file_of bytes)) (Some (refusals.Limit whats.MetadataFile (length bytes))) (never_lines name (file_of bytes)) (λ r n is. absurd (cc is)))
@@ -119,8 +119,8 @@ module _ (name : Ref) (commit : List ℕ) where
 
   module _ (have : Have) where
     never_metadata : (time : ℕ) (found : Found) → Never (metadata_at have name commit time found)
-    never_metadata time nothing r n is = absurd (cc is)
-    never_metadata time (directory e) r n is = absurd (cc is)
+    never_metadata time nothing = λ r n is. absurd (cc is)
+    never_metadata time (directory e) = λ r n is. absurd (cc is)
     never_metadata time (file_at d) =
         never_unless (object_refused have d kinds.File) (with_content name commit time (content_in (have d kinds.File))) (never_object have d kinds.File) (never_content time (content_in (have d kinds.File)))
 
@@ -134,11 +134,11 @@ module _ (name : Ref) (commit : List ℕ) where
           (never_metadata c.timestamp (entry_in (codes "metadata") (Some v)))
 
       never_tree : (c : CommitView) (v : Option TreeView) → Never (with_tree have name commit since c v)
-      never_tree c None r n is = absurd (cc is)
+      never_tree c None = λ r n is. absurd (cc is)
       never_tree c (Some v) = never_unless (object_refused have c.meta kinds.DirMeta) (head_in have name commit since c v) (never_object have c.meta kinds.DirMeta) (never_in c v)
 
       never_commit : (c : Option CommitView) → Never (with_commit have name commit since c)
-      never_commit None r n is = absurd (cc is)
+      never_commit None = λ r n is. absurd (cc is)
       never_commit (Some c) = never_unless (object_refused have c.tree kinds.DirTree) (with_tree have name commit since c (tree_at have c.tree)) (never_object have c.tree kinds.DirTree) (never_tree c (tree_at have c.tree))
 
       never_head : Never (head_of have name commit since)
@@ -153,7 +153,7 @@ module _ (held : Holdings) (stored : Have) where
 
   module _ (state : State) where
     never_offered : (runtime : Ref) (offer : Option Offer) → Never (if_offered held stored runtime offer)
-    never_offered runtime None r n is = absurd (cc is)
+    never_offered runtime None = λ r n is. absurd (cc is)
     never_offered runtime (Some offer) = never_mapped (λ c. Some c) (chosen held stored offer) (never_chosen offer)
 
     never_runtime : (own : List ℕ) (runtime : Ref) → Never (runtime_for held stored state own runtime)
@@ -207,7 +207,7 @@ module _ (held : Holdings) (stored : Have) where
         (λ runtime. never_then (extended held stored state target runtime) (within state) (never_extended target runtime) never_within)
 
     never_at : (offer : Offer) → Never (planned_at held stored state offer)
-    unfolding planned_at, target_of
+    unfolding planned_at target_of
     never_at offer =
         let have = have_at held stored offer.remote in
         let since = time_of (deployed state offer.name) in

@@ -96,9 +96,9 @@ refused_on P Q ends.NoMemory leads is = tt
 
 -- ---- steps of a plan
 
-module _ {A B : Type 0} {u v w : Outside} where
+module _ {A B : Type 0} {u w : Outside} where
   -- a step, and what follows it
-  pub plans_on : {first : Holdings → Have → Result A Refusal} {next : Holdings → Have → Result B Refusal} {second : Result B PullEnd} (whole : Holdings → Have → Result B Refusal) (a : A)
+  pub plans_on : {v : Outside} {first : Holdings → Have → Result A Refusal} {next : Holdings → Have → Result B Refusal} {second : Result B PullEnd} (whole : Holdings → Have → Result B Refusal) (a : A)
       → IsTold v.told → Plans first (Ok a) u v → Plans next second v w
       → ((held : Holdings) (stored : Have) → first held stored ≡ Ok a → whole held stored ≡ next held stored) → Plans whole second u w
   plans_on {second = second} whole a told before after same = record {

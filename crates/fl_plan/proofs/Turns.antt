@@ -4,6 +4,7 @@ use Rattle.std.specs.Prelude.{cond, not, is_some, find, count_by, ◌||◌, if�
 use Rattle.std.specs.List.{list_any, AllByRecursion}
 use Rattle.std.specs.Str.{bytes_eq}
 use Rattle.std.proofs.lemmas.Bool.{cases_Bool}
+use Rattle.std.proofs.lemmas.List.Sums.{sum_by-cons, count_by-le-length}
 use Rattle.fp_name.specs.Refs.{Ref, ref_text}
 use Rattle.fp_small.specs.Config.{name_of}
 use Rattle.fp_small.specs.Order.{has_name, inserted, removed, replaced}
@@ -27,11 +28,11 @@ use Rattle.fl_plan.specs.declared.offer.Offer.{Offer}
 
 has_row : (rows : List RefRow) (text : List ℕ) → list_any (λ row. bytes_eq (ref_text row.name) text) rows ≡ is_some (at_name ref_key rows text)
 has_row [] text = refl
-has_row (y ∷ ys) text = go (bytes_eq (ref_text y.name) text)
+has_row (y ∷ ys) text = go (bytes_eq (ref_text y.name) text) (has_row ys text)
   where
-    go : (b : Bool) → (b || list_any (λ row. bytes_eq (ref_text row.name) text) ys) ≡ is_some (if b then Some y else at_name ref_key ys text)
-    go true = refl
-    go false = has_row ys text
+    go : (b : Bool) → list_any (λ row. bytes_eq (ref_text row.name) text) ys ≡ is_some (at_name ref_key ys text) → (b || list_any (λ row. bytes_eq (ref_text row.name) text) ys) ≡ is_some (if b then Some y else at_name ref_key ys text)
+    go true rest = refl
+    go false rest = rest
 
 find_row : (rows : List RefRow) (text : List ℕ) → find (λ row. bytes_eq (ref_text row.name) text) rows ≡ at_name ref_key rows text
 find_row [] text = refl
@@ -66,6 +67,13 @@ or_left false b is = refl
 or_right : (a b : Bool) → (a || b) ≡ false → b ≡ false
 or_right true b is = absurd (cc is)
 or_right false b is = is
+
+-- one more that is new counts
+new_cons : (s : State) (p : Offer) (ps : List Offer) → new_ones s (p ∷ ps) ≡ cond (not (has_ref s p.name)) 1 0 + new_ones s ps
+new_cons s p ps = sum_by-cons (λ (o : Offer). cond (not (has_ref s o.name)) 1 0) p ps
+
+pub new_few : (s : State) (plan : List Offer) → new_ones s plan ≤ length plan
+new_few s plan = count_by-le-length (λ (o : Offer). not (has_ref s o.name)) plan
 
 -- ---- one operation
 
@@ -151,7 +159,9 @@ module _ (s : State) (o : Offer) (t : ℕ) where
 
   new_after : (ps : List Offer) → is_coming ps o.name ≡ false → new_ones came ps ≡ new_ones s ps
   new_after [] is = refl
-  new_after (p ∷ ps) is = ap (λ b. cond (not b) 1 0 + new_ones came ps) (has_after p (apart_head p ps is)) ∙ ap (λ (n : ℕ). cond (not (has_ref s p.name)) 1 0 + n) (new_after ps (apart_tail p ps is))
+  new_after (p ∷ ps) is =
+      new_cons came p ps ∙ ap (λ b. cond (not b) 1 0 + new_ones came ps) (has_after p (apart_head p ps is))
+      ∙ ap (λ (n : ℕ). cond (not (has_ref s p.name)) 1 0 + n) (new_after ps (apart_tail p ps is)) ∙ sym (new_cons s p ps)
 
   -- it may be done
   may_be_done : MayCome s o → length s.refs + cond (not (has_ref s o.name)) 1 0 ≤ 4096 → Allows s (op_of s o)
@@ -170,10 +180,14 @@ module _ (s : State) (o : Offer) (t : ℕ) where
 pub allowed : (plan : List Offer) (s : State) → AllByRecursion (MayCome s) plan → AreApart plan → number_after s plan ≤ 4096 → AreAllowed s (map (op_of s) plan)
 allowed [] s each apart few = tt
 allowed (o ∷ os) s each apart few =
-    (may_be_done s o 0 each.0 (omega (arith, few)),
+    (may_be_done s o 0 each.0 (let c = new_cons s o os in omega (arith, few, c)),
      λ t. subst (AreAllowed (after_op s t (op_of s o))) (ops_after s o t os apart.0)
        (allowed os (after_op s t (op_of s o)) (each_after s o t os apart.0 each.1) apart.1
-         (let l = length_after s o t in let n = new_after s o t os apart.0 in omega (arith, few, l, n))))
+         (let l = length_after s o t in let n = new_after s o t os apart.0 in let c = new_cons s o os in omega (arith, few, l, n, c))))
+
+-- the operations of a plan
+pub ops_allowed : (s : State) (plan : List Offer) (ops : List Op) → ops ≡ map (op_of s) plan → number_after s plan ≤ 4096 → IsPlan s plan → AreAllowed s ops
+ops_allowed s plan ops are few is = subst (AreAllowed s) (sym are) (allowed plan s is.each is.apart few)
 
 -- ---- plans that grow
 

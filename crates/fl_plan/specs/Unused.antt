@@ -16,9 +16,16 @@ use Rattle.fl_plan.specs.Targets.{is_kind, names_of}
 abbrev pub is_name : Ref → Option Ref → Bool
 is_name name other = option_map_or (λ o. bytes_eq (ref_text o) (ref_text name)) other false
 
--- an application's metadata names the runtime, or a pin matches it
+-- an application's metadata names the runtime
+abbrev pub is_named : List (Ref × Meta) → Ref → Bool
+is_named metas name = list_any (λ app. is_name name app.1.runtime) metas
+
+abbrev pub is_pinned : State → Ref → Bool
+is_pinned state name = list_any (λ pin. pin_matches pin name) state.pins
+
+-- one of both
 abbrev pub is_needed : State → List (Ref × Meta) → Ref → Bool
-is_needed state metas name = list_any (λ app. is_name name app.1.runtime) metas || list_any (λ pin. pin_matches pin name) state.pins
+is_needed state metas name = is_named metas name || is_pinned state name
 
 -- the ref that the point finds
 abbrev pub found_at : State → Point → Option Ref

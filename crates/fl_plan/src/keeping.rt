@@ -20,12 +20,25 @@ fn names_runtime(meta: &Meta, name: &RefName) -> bool
     }
 }
 
+/// Whether an application names the runtime.
+fn is_named(metas: &[(RefName, Meta)], name: &RefName) -> bool
+    ensures { result ≡ spec.is_named metas.now name.now }
+{
+    metas.iter().any(|app| names_runtime(&app.1, name))
+}
+
+/// Whether a pin matches the ref.
+fn is_pinned(state: &State, name: &RefName) -> bool
+    ensures { result ≡ spec.is_pinned state.now name.now }
+{
+    state.pins.as_slice().iter().any(|pin| pin.matches(name))
+}
+
 /// Whether an application needs the runtime, or a pin matches it.
 fn is_needed(state: &State, metas: &[(RefName, Meta)], name: &RefName) -> bool
     ensures { result ≡ spec.is_needed state.now metas.now name.now }
 {
-    metas.iter().any(|app| names_runtime(&app.1, name))
-        || state.pins.as_slice().iter().any(|pin| pin.matches(name))
+    is_named(metas, name) || is_pinned(state, name)
 }
 
 /// Whether the point finds the ref.

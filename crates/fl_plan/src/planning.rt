@@ -1,5 +1,5 @@
 //! The operations of an install or an update.
-ghost use Rattle.std.specs.Prelude.{◌≡◌, ◌++◌, ◌∷◌, [], map, true, false, Some, IfOk, IfSome, OnOk};
+ghost use Rattle.std.specs.Prelude.{◌≡◌, ◌≤◌, ◌++◌, ◌∷◌, [], length, map, true, false, Some, IfOk, IfSome, OnOk};
 ghost use Rattle.std.specs.Str.{bytes_eq};
 ghost use Rattle.fp_name.specs.Refs.{ref_text};
 ghost use Rattle.fp_small.specs.Config.{name_of};
@@ -68,12 +68,23 @@ fn ops_of(alloc: Global, state: &State, plan: &[Offer]) -> Result<Items<Op>, All
 }
 
 /// How many of what is to come aren't deployed.
+#[tactic(auto, using(crate::proofs::Turns::new_few))]
 fn new_ones(state: &State, plan: &[Offer]) -> usize
-    ensures { result ≡ spec.new_ones state.now plan.now }
+    ensures number { result ≡ spec.new_ones state.now plan.now }
+    ensures few { result ≤ length plan.now }
 {
     plan.iter()
         .filter(|offer| !has_ref(state, &offer.name))
         .count()
+}
+
+/// How many refs are deployed when all of what is to come is done.
+fn number_after(state: &State, plan: &[Offer]) -> u64
+    ensures { result ≡ spec.number_after state.now plan.now }
+{
+    let rows = state.refs.as_slice();
+    let _most = plan.len();
+    rows.len() as u64 + new_ones(state, plan) as u64
 }
 
 /// The operations of what is to come, where no more refs would be deployed than may be.
@@ -82,7 +93,7 @@ fn within(alloc: Global, state: &State, plan: &[Offer]) -> Result<Items<Op>, Pul
     ensures faults { NoFault result }
     ensures allowed { IsPlan state.now plan.now → IfOk result (AreAllowed state.now) }
 {
-    let number = state.refs.len() as u64 + new_ones(state, plan) as u64;
+    let number = number_after(state, plan);
     if number > MOST_REFS {
         return Err(PullEnd::Refused(Refusal::Limit {
             what: What::Refs,

@@ -5,6 +5,7 @@ use Rattle.ost_model.specs.Objects.{Have}
 use Rattle.ost_model.specs.Remotes.{Stores}
 use Rattle.ost_walk.specs.Ends.{outside}
 use Rattle.ost_head.specs.Ends.{Looks}
+use Rattle.fl_plan.specs.Allowed.{IsPlan}
 use Rattle.fl_plan.specs.Extensions.{with_points}
 use Rattle.fl_plan.proofs.extensions.with_points.Given as goal
 
@@ -14,4 +15,5 @@ invariant-loop-point g l = record {
       (outside (g.H.Host.moments l.host) (g.H.Host.faults l.host) (g.R.Remotes.holds l.remotes) (g.R.Remotes.faults l.remotes));
   rest : (held : Holdings) (stored : Have) → g.R.Remotes.holds l.fn.remotes ≡ Some held → Stores repo (g.H.Host.moments l.fn.host) stored
       → with_points held stored l.state l.remote l.points l.fn.plan ≡ with_points held stored l.state l.remote (drop l.point-index l.points) l.plan;
+  good : IsPlan l.state l.plan;
 }
