@@ -1,4 +1,5 @@
 use Rattle.std.proofs.Common.{◌≡◌, filter, sym, ◌∙◌}
+use Rattle.std.proofs.lemmas.List.{drop_all}
 use Rattle.fl_plan.specs.Offers.{first_offer, is_in_turn, offer_if, offer_of}
 use Rattle.fl_plan.proofs.Offering.{asks_same, asks_found, asks_none, each_in_turn, at_item}
 use Rattle.fl_plan.proofs.Parts.{found_among}
@@ -22,4 +23,4 @@ returns-clause-asks g c =
     let inv = c.loop-row.invariant in
     asks_same (λ held. first_offer held (filter (is_in_turn c.args.own.now c.args.others) rows) c.args.name.now)
     (λ held. sym (each_in_turn (λ row. offer_of held row c.args.name.now) (is_in_turn c.args.own.now c.args.others) rows))
-    (asks_none (λ held. offer_if held c.args.own.now c.args.others c.args.name.now) rows c.loop-row.row-index inv.rest inv.same inv.later c.loop-row-test.false)
+    (asks_none (λ held. offer_if held c.args.own.now c.args.others c.args.name.now) rows c.loop-row.row-index inv.rest inv.same inv.later (drop_all c.loop-row.row-index rows c.loop-row-test.false))
