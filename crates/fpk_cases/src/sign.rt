@@ -22,6 +22,14 @@ pub enum Sign {
     Folder,
     /// `@ PATH TEXT`: a symlink with this text stands there.
     Link,
+    /// `remote URL`: what follows is about the remote at this url.
+    Remote,
+    /// `commit LABEL REF TIME`: a commit of the remote, with what follows, which it offers under the ref.
+    Commit,
+    /// `offer REF LABEL`: the remote offers this commit under the ref.
+    Offer,
+    /// `break LABEL KIND HOW`, `break LABEL file PATH HOW`: an object of the remote is broken.
+    Break,
     /// `$ WORDS`: a command, and the lines that it prints.
     Command,
     /// `< LINE`: a line of its input.
@@ -62,7 +70,7 @@ pub struct Line<'a> {
 }
 
 /// The signs that a text follows.
-const BEFORE_TEXT: [(&str, Sign); 22] = [
+const BEFORE_TEXT: [(&str, Sign); 26] = [
     ("  ", Sign::Content),
     ("#", Sign::Blank),
     ("case ", Sign::Case),
@@ -71,6 +79,10 @@ const BEFORE_TEXT: [(&str, Sign); 22] = [
     ("+x ", Sign::Fixture(Form::Hex)),
     ("/ ", Sign::Folder),
     ("@ ", Sign::Link),
+    ("remote ", Sign::Remote),
+    ("commit ", Sign::Commit),
+    ("offer ", Sign::Offer),
+    ("break ", Sign::Break),
     ("$ ", Sign::Command),
     ("< ", Sign::Input(Form::Lines)),
     ("<- ", Sign::Input(Form::Open)),
