@@ -86,6 +86,12 @@ pub fn with_digits(alloc: Global, wares: &Wares, bytes: &[u8]) -> Result<Vec<u8>
     Ok(made)
 }
 
+/// The same of a text.
+pub fn text_with_digits(alloc: Global, wares: &Wares, text: &str) -> Result<String, AllocError> {
+    let made = with_digits(alloc, wares, text.as_bytes())?;
+    String::from_str(alloc, str::from_utf8(&made).unwrap_or(text))
+}
+
 /// Adds what stood after a brace.
 fn push_piece(made: &mut Vec<u8>, wares: &Wares, piece: &str) -> Result<(), AllocError> {
     if let Some((name, rest)) = piece.split_once('}') {

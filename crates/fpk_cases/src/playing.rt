@@ -1,6 +1,6 @@
 //! The steps of a case, one after another.
 use crate::case::{Action, Case, Command, Fixture, Step};
-use crate::naming::with_digits;
+use crate::naming::{text_with_digits, with_digits};
 use crate::stage::{Ending, PathState, Stage};
 use crate::wares::Wares;
 use crate::wrong::{Wrong, difference, message};
@@ -48,10 +48,13 @@ fn play_step<T: Threads + Sync, R: Files + AllocGlobal>(
             play_command(rt, alloc, stage, command, &expected, wares)
         }
         Action::ExpectFile { path, mode } => {
-            let found = stage.find(path.as_str())?;
-            judge_file(alloc, &found, path.as_str(), *mode, step.bytes())
+            let path = text_with_digits(alloc, wares, path)?;
+            let expected = with_digits(alloc, wares, step.bytes())?;
+            judge_file(alloc, &stage.find(&path)?, &path, *mode, &expected)
         }
-        Action::ExpectNothing { path } => expect_nothing(alloc, stage, path.as_str()),
+        Action::ExpectNothing { path } => {
+            expect_nothing(alloc, stage, &text_with_digits(alloc, wares, path)?)
+        }
     }
 }
 
