@@ -137,6 +137,13 @@ def file_digest(mode, content):
     return hashlib.sha256(head + content).hexdigest()
 
 
+def link_digest(text):
+    """The digest of a link of at most some 200 bytes."""
+    value = bytes(8) + (0o120777).to_bytes(4, "big") + bytes(4) + text.encode() + b"\0"
+    value += bytes([len(value)])
+    return hashlib.sha256(len(value).to_bytes(4, "big") + bytes(4) + value).hexdigest()
+
+
 def turned(content):
     return bytes([content[0] ^ 1]) + content[1:]
 
@@ -151,6 +158,33 @@ def tell_spoiled(repo, digest):
     print("with a changed bit:", file_digest(0o644, turned(METADATA)))
     print("a zero byte:", file_digest(0o644, b"\0"))
     print("with the bits 0755:", file_digest(0o755, METADATA))
+
+
+def harmed(path, kind, others):
+    """The digests of what stands in the place of an object that is cut by a byte, longer by one, and another of its kind."""
+    if path.is_symlink():
+        text = os.readlink(path)
+        return [link_digest(t) for t in (text[:-1], text + "n", "other")]
+    content = path.read_bytes()
+    if kind == "file":
+        mode = path.stat().st_mode & 0o7777
+        return [file_digest(mode, content[:-1]), file_digest(mode, content + b"\0"), file_digest(0o644, b"")]
+    return [hashlib.sha256(c).hexdigest() for c in (content[:-1], content + b"\0", others[kind])]
+
+
+def tell_harmed(repo, other):
+    """The refusals of a pull where one object is broken."""
+    others = {"dirmeta": bytes.fromhex("0000000000000000000041c0")}
+    for name, kind in order(other, NAME):
+        if kind in ("commit", "dirtree"):
+            name = ostree(other, "rev-parse", NAME) if kind == "commit" else name
+            others[kind] = (other / object_path(name, kind)).read_bytes()
+    print("-- objects that are broken")
+    for line in objects_in(repo).splitlines():
+        kind = line.split(".")[1]
+        name = line[len("objects/"):].split(".")[0].replace("/", "")
+        for got in harmed(repo / line, kind, others):
+            print(f"error: corrupt object {name}.{kind} {got}")
 
 
 def tell_pruned(work):
@@ -179,6 +213,7 @@ def main():
         looked = ["/metadata"] + ["/" + path_of_many(i) for i in range(300)]
         tell("what each tenth path of many leads to", "".join(paths[p][0][0] + "\n" for p in looked[::10]))
         tell_spoiled(work / "repo-few", ostree(work / "repo-few", "rev-parse", NAME))
+        tell_harmed(work / "repo-few", work / "repo-reserved")
         tell_pruned(work)
 
 

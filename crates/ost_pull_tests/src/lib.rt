@@ -1,4 +1,4 @@
-//! Tests of commits in a store and at a remote: walked, offered, laid out, and pruned.
+//! Tests of commits in a store and at a remote: walked, offered, pulled, laid out, and pruned.
 #![tactic(auto)]
 
 #[cfg(test)]
@@ -11,6 +11,8 @@ mod hostile;
 mod liars;
 #[cfg(test)]
 mod prunes;
+#[cfg(test)]
+mod pulls;
 #[cfg(test)]
 mod trees;
 #[cfg(test)]

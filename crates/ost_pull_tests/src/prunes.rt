@@ -22,7 +22,7 @@ fn both(rt: &(impl Threads + Sync), alloc: Global) -> Result<(MemHost, Digest), 
 }
 
 /// The files and links below `objects`, one a line, by their paths in the store.
-fn listed(alloc: Global, host: &mut MemHost) -> Result<Text, Fail> {
+pub fn listed(alloc: Global, host: &mut MemHost) -> Result<Text, Fail> {
     let paths = names(alloc, host, &repo(alloc)?)?;
     let mut text = String::new(alloc);
     for path in paths.as_slice() {

@@ -94,7 +94,7 @@ pub fn repo(alloc: Global) -> Result<Path, AllocError> {
 }
 
 /// Puts the object into the store, where it isn't there.
-fn store_object(
+pub fn store_object(
     alloc: Global,
     host: &mut MemHost,
     root: &Path,
@@ -156,7 +156,8 @@ pub fn give_text(
     give_file(remotes, &path, 0o644, bytes)
 }
 
-fn node_of(object: &Object) -> Result<MemNode, AllocError> {
+/// The object, as it stands at a remote.
+pub fn node_of(object: &Object) -> Result<MemNode, AllocError> {
     match object {
         Object::Meta(bytes) => Ok(MemNode::File {
             mode: 0o644,
