@@ -36,10 +36,15 @@ use Rattle.dep_states.proofs.Switching.{none_in_tmp}
 use Rattle.fp_host.specs.Moments.{Moments, Goes}
 use Rattle.fp_host.specs.Frame.{AtEnd}
 use Rattle.fp_host.proofs.Goes.{begins}
-use Rattle.fp_host.proofs.Ending.{ends_goes, ends_both, ends_to}
+use Rattle.fp_host.proofs.Ending.{ends_in_tree, goes_known}
+use Rattle.fp_host.proofs.Framed.{IsTold}
+use Rattle.fp_base.specs.declared.object.ObjKind.{ObjKind}
+use Rattle.dep_states.specs.Switch.{OpensEither}
 use Rattle.fp_small.proofs.Pinning.{added, dropped}
 use Rattle.fp_small.proofs.Remoting as remotes
-use Rattle.op_change.specs.Applied.{IsOneOf, Applies, WasApplied}
+use Rattle.op_deploy.specs.Applied.{Does, SameObjects}
+use Rattle.op_deploy.proofs.Objects.{same_objects}
+use Rattle.op_change.specs.Applied.{HasSettings, SettingsDone}
 use Rattle.op_change.proofs.Sizes.{config_fits}
 
 -- what stands now is an outcome
@@ -227,27 +232,42 @@ module _ {s t : State} {u w : View} (next : IsNext s t) (reads : ReadsBack t) (r
     either_there : Shows disk s ⊎ Shows disk t
     either_there = elim (step config) [ inl same ↦ inl (old_there same) | inr given ↦ inr (new_there (given_new u bytes (disk config) given)) ]
 
-  pub either : IsOneOf s t w
+  pub either : OpensEither s t w
   either = record { shown = either_there; sound = sound_there }
 
   pub opens_after : WasReplaced config bytes u w → Opens t w
   opens_after was_replaced = record { shown = λ disk left. new_there disk left (was_replaced.new.each disk left); sound = sound_there }
 
-pub applies : {s : State} {op : Op} {t : State} {u w : View} → t ≡ after s (plain op) → IsNext s t → ReadsBack t → Replaces config (config_text (settings_of t)) u w → Applies s op u w
+abbrev Changes : State → Op → View → View → Type 0
+Changes s op = Does s (after s (plain op)) (ReplacesName config)
+
+pub applies : {s : State} {op : Op} {t : State} {u w : View} → t ≡ after s (plain op) → IsNext s t → ReadsBack t → Replaces config (config_text (settings_of t)) u w → Changes s op u w
 applies {s = s} {w = w} is next reads replaces = record {
-  either = λ opens. subst (λ x. IsOneOf s x w) is (either next reads replaces opens);
+  either = λ opens. subst (λ x. OpensEither s x w) is (either next reads replaces opens);
   names = replaces.keeps.names;
   files = replaces.files;
   printed = replaces.keeps.printed;
 }
 
-pub was_applied : {s : State} {op : Op} {t : State} {u w : View} → t ≡ after s (plain op) → IsNext s t → ReadsBack t → Replaces config (config_text (settings_of t)) u w → WasReplaced config (config_text (settings_of t)) u w → WasApplied s op u w
-was_applied {t = t} {w = w} is next reads replaces was = record {
-  opens = λ opens. subst (λ x. Opens x w) is (opens_after next reads replaces opens was);
-  text = subst (λ x. HasNew config (config_text (settings_of x)) w) is was.new;
-  config = λ disk left. is_there disk (config_text (settings_of t)) (was.new.each disk left);
-  settled = was.settled;
-  work = was.work;
+-- no name of an object
+no_object : (u : View) (d : List ℕ) (kind : ObjKind) (e : Slot) → ReplacesName config u (object_path repo d kind) e → ⊥
+no_object u d kind e put = elim put [
+  | inl new ↦ cc new.0
+  | inr other ↦ elim other [ inl made ↦ elim (which (object_path repo d kind) made.0) [ inl is ↦ cc is | inr is ↦ cc is ] | inr work ↦ cc work.is ]
+]
+
+pub was_applied : {s : State} {op : Op} {t : State} {u w : View} → IsTree u → IsTree w → t ≡ after s (plain op) → IsNext s t → ReadsBack t → Replaces config (config_text (settings_of t)) u w → WasReplaced config (config_text (settings_of t)) u w → SettingsDone s (after s (plain op)) u w
+was_applied {t = t} {u = u} {w = w} before after_ is next reads replaces was = record {
+  done = record {
+    opens = λ opens. subst (λ x. Opens x w) is (opens_after next reads replaces opens was);
+    settled = was.settled;
+    objects = same_objects {W = ReplacesName config u} before after_ replaces.files replaces.keeps.names (no_object u);
+  };
+  settings = record {
+    text = subst (λ x. HasNew config (config_text (settings_of x)) w) is was.new;
+    config = λ disk left. is_there disk (config_text (settings_of t)) (was.new.each disk left);
+    work = was.work;
+  };
 }
 
 -- ---- where it may be written
@@ -304,10 +324,14 @@ next_after s (Rollback name commit) may on good = absurd on
 
 -- ---- what the parts of the call tell of it
 
-pub moments_applied : {a b : Option Moments} {s : State} {op : Op} {t : State} → ((m : Moments) → a ≡ Some m → IsTree m.now) → t ≡ after s (plain op) → IsNext s t → ReadsBack t
-    → Goes a b (Replaces config (config_text (settings_of t))) (Replaces config (config_text (settings_of t))) → Goes a b (Applies s op) (Applies s op)
+pub moments_applied : {a b : Option Moments} {s : State} {op : Op} {t : State} → IsTold a → t ≡ after s (plain op) → IsNext s t → ReadsBack t
+    → Goes a b (Replaces config (config_text (settings_of t))) (Replaces config (config_text (settings_of t))) → Goes a b (Changes s op) (Changes s op)
 moments_applied tree is next reads goes = begins tree goes (λ u w here replaces. applies is next reads replaces) (λ u w here replaces end. applies is next reads replaces)
 
-pub ends_applied : {a b : Option Moments} {s : State} {op : Op} {t : State} → ((m : Moments) → a ≡ Some m → IsTree m.now) → t ≡ after s (plain op) → IsNext s t → ReadsBack t
-    → Goes a b (Replaces config (config_text (settings_of t))) (Replaces config (config_text (settings_of t))) → AtEnd (WasReplaced config (config_text (settings_of t))) a b → AtEnd (WasApplied s op) a b
-ends_applied tree is next reads goes done = ends_to (ends_both (ends_goes tree goes) done) (λ u w both. was_applied is next reads both.0 both.1)
+pub ends_applied : {a b : Option Moments} {s : State} {op : Op} {t : State} → IsTold a → IsTold b → t ≡ after s (plain op) → IsNext s t → ReadsBack t
+    → Goes a b (Replaces config (config_text (settings_of t))) (Replaces config (config_text (settings_of t))) → AtEnd (WasReplaced config (config_text (settings_of t))) a b → AtEnd (SettingsDone s (after s (plain op))) a b
+ends_applied {t = t} tree last is next reads goes done =
+    let bytes = config_text (settings_of t) in
+    ends_in_tree {Q = λ u w. IsTree u × Replaces config bytes u w × WasReplaced config bytes u w} last
+    (record { goes = begins tree (goes_known goes done) (λ u w here replaces. tt) (λ u w here replaces both. (here, both.0, both.1)) })
+    (λ u w after_ all. was_applied all.0 after_ is next reads all.1 all.2)

@@ -1,2 +1,5 @@
 pub mod Sizes
 pub mod Either
+pub mod Layers
+pub mod Grown
+pub mod Joined

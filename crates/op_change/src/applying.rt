@@ -3,25 +3,22 @@ ghost use Rattle.std.specs.Prelude.{◌≡◌, IfOk, OnOk, IsErrOf};
 ghost use Rattle.fp_host.specs.Causes.{IsCaused};
 ghost use Rattle.fp_host.specs.Frame.{AtEnd};
 ghost use Rattle.fp_host.specs.Moments.{Always};
-ghost use Rattle.fp_small.specs.Config.{config_text, IsSettings};
-ghost use Rattle.fp_small.specs.Replace.{Replaces, WasReplaced, CanReplace};
-ghost use Rattle.dep_states.specs.Names.{config};
-ghost use Rattle.dep_states.specs.Shown.{settings_of};
 ghost use Rattle.dep_states.specs.Sound.{Opens};
-ghost use Rattle.dep_states.specs.After.{after, plain, May, IsOnConfig, IsGood};
-ghost use Rattle.op_change.specs.Applied.{Applies, WasApplied};
+ghost use Rattle.dep_states.specs.After.{after, plain, May, IsGood};
+ghost use Rattle.op_change.specs.Applied.{Brings, IsShort, Applies, WasApplied, IsStarved};
 
+use crate::overriding::{drop_override, set_override};
+use crate::settings::change_settings;
 use dep_states::Opened;
-use fp_base::Items;
-use fp_host::{Host, HostEnd, Path};
-use fp_small::{
-    Layout, Op, State, insert_pin, insert_remote, remove_pin, remove_remote, replace, write_config,
-};
-use std::alloc::{AllocError, Global};
+use fp_host::{Host, HostEnd};
+use fp_small::Op;
+use op_deploy::{roll_back, uninstall};
+use std::alloc::Global;
 
-/// Does one operation on the pins, the remotes or the layout of an opened installation: every stop leaves the state of before
-/// or the one after, and once it is done, the one after. A migration writes `config`, and leaves the files of layout 1 where
-/// they are. Whatever the end but Ok, the installation is opened again before anything else is done with it.
+/// Does one operation on an opened installation: every stop leaves the state of before or the one after, and once it is done, the
+/// one after. A migration writes `config`, and leaves the files of layout 1 where they are. What isn't deployed any more is left for
+/// a tidying. Whatever the end but Ok, the installation is opened again before anything else is done with it. It is for operations
+/// that bring no commit.
 pub fn apply<H: Host>(
     alloc: Global,
     host: &mut H,
@@ -29,71 +26,32 @@ pub fn apply<H: Host>(
     op: &Op,
 ) -> Result<Opened, HostEnd>
     requires may { May opened op.now }
-    requires here { IsOnConfig op.now }
     requires good { IsGood opened }
+    requires short { IsShort op.now }
+    requires brings_none { Brings op.now → ⊥ }
     ensures state { IfOk result (λ o. o ≡ after opened (plain op.now)) }
     ensures good { IfOk result IsGood }
     // A stop at any moment leaves the one state or the other.
-    ensures any_moment { Always (Applies opened op.now) (H.moments host.old) (H.moments host.new) }
-    ensures on_success { OnOk result (AtEnd (WasApplied opened op.now)
+    ensures any_moment { Always (Applies opened (plain op.now))
+        (H.moments host.old) (H.moments host.new) }
+    ensures on_success { OnOk result (AtEnd (WasApplied opened (plain op.now))
         (H.moments host.old) (H.moments host.new)) }
     ensures fault_has_cause { IsCaused (IsErrOf result HostEnd.Fault) (H.moments host.old)
         (Opens opened) (H.faults host.old) (H.faults host.new) }
-    ensures starved_unchanged { IsErrOf result HostEnd.NoMemory → AtEnd (λ u w. w ≡ u)
+    ensures starved { IsErrOf result HostEnd.NoMemory → AtEnd (IsStarved opened op.now)
         (H.moments host.old) (H.moments host.new) }
 {
-    let state = changed(opened.take(), op)?;
-    write_state(alloc, host, &state)?;
-    Ok(Opened::of(state))
-}
-
-/// The state after the operation.
-fn changed(state: State, op: &Op) -> Result<State, AllocError>
-    requires { IsOnConfig op.now }
-    ensures { IfOk result (λ s. s ≡ after state (plain op.now)) }
-{
-    let mut pins = state.pins.into_vec();
-    let mut remotes = state.remotes.into_vec();
-    let mut layout = state.layout;
     match op {
-        Op::AddPin(pin) => insert_pin(&mut pins, pin.copy()?)?,
-        Op::DropPin(pin) => remove_pin(&mut pins, pin),
-        Op::AddRemote(row) => insert_remote(&mut remotes, row.copy()?)?,
-        Op::ModifyRemote(row) => {
-            remove_remote(&mut remotes, &row.name);
-            insert_remote(&mut remotes, row.copy()?)?;
-        }
-        Op::DropRemote(name) => remove_remote(&mut remotes, name),
-        Op::Migrate => layout = Layout::Two,
-        Op::Install { .. }
-        | Op::Update { .. }
-        | Op::Uninstall { .. }
-        | Op::SetOverride(_)
-        | Op::DropOverride(_)
-        | Op::Rollback { .. } => unreachable!(),
+        Op::Uninstall { name } => uninstall(alloc, host, opened, name),
+        Op::Rollback { name, commit } => roll_back(alloc, host, opened, name, commit),
+        Op::SetOverride(row) => set_override(alloc, host, opened, row),
+        Op::DropOverride(name) => drop_override(alloc, host, opened, name),
+        Op::Install { .. } | Op::Update { .. } => unreachable!(),
+        Op::AddPin(_)
+        | Op::DropPin(_)
+        | Op::AddRemote(_)
+        | Op::ModifyRemote(_)
+        | Op::DropRemote(_)
+        | Op::Migrate => change_settings(alloc, host, opened, op),
     }
-    Ok(State {
-        layout,
-        refs: state.refs,
-        remotes: Items::from_vec(remotes),
-        pins: Items::from_vec(pins),
-        overrides: state.overrides,
-    })
-}
-
-/// Writes `config` anew.
-fn write_state<H: Host>(alloc: Global, host: &mut H, state: &State) -> Result<(), HostEnd>
-    requires { IsSettings (settings_of state.now) }
-    ensures any_moment { Always (Replaces config (config_text (settings_of state.now)))
-        (H.moments host.old) (H.moments host.new) }
-    ensures on_success { OnOk result (AtEnd (WasReplaced config
-        (config_text (settings_of state.now))) (H.moments host.old) (H.moments host.new)) }
-    ensures fault_has_cause { IsCaused (IsErrOf result HostEnd.Fault) (H.moments host.old)
-        (CanReplace config) (H.faults host.old) (H.faults host.new) }
-    ensures starved_unchanged { IsErrOf result HostEnd.NoMemory → AtEnd (λ u w. w ≡ u)
-        (H.moments host.old) (H.moments host.new) }
-{
-    let path = Path::root(alloc).child("config")?;
-    let text = write_config(alloc, state.remotes.as_slice(), state.pins.as_slice())?;
-    replace(alloc, host, &path, text.as_str().as_bytes())
 }

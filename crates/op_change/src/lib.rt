@@ -2,6 +2,8 @@
 #![tactic(auto)]
 
 mod applying;
+mod overriding;
+mod settings;
 
 pub use applying::apply;
 pub use fp_small::Op;

@@ -10,7 +10,7 @@ use Rattle.dep_states.specs.Names.{config}
 use Rattle.dep_states.specs.Sound.{Opens}
 use Rattle.fp_small.proofs.ConfigTexts.{written_back}
 use Rattle.op_change.proofs.Either.{IsNext, next_after, next_good, moments_applied, ends_applied, can_replace}
-use Rattle.op_change.proofs.applying.apply.Goals as goal
+use Rattle.op_change.proofs.settings.change_settings.Goals as goal
 
 pub write_state-requires : goal.write_state-requires
 write_state-requires g c =
@@ -40,7 +40,7 @@ pub returns-clause-on_success : goal.returns-clause-on_success
 returns-clause-on_success g c =
     let is : c.in_ok-state.state ≡ after c.args.opened (plain c.args.op.now) = c.in_ok-state.ensures ∙ ap (λ (s : State). after s (plain c.args.op.now)) c.take.ensures in
     let good = subst (IsNext c.args.opened) (sym is) (next_after c.args.opened c.args.op.now c.requires.may c.requires.here c.requires.good) in
-    ends_applied (g.met.H.Host.is_tree c.args.host.now) is good (written_back (settings_of c.in_ok-state.state) good.settings) c.write_state.ensures.any_moment c.in_ok-write_state.ensures.on_success
+    ends_applied (g.met.H.Host.is_tree c.args.host.now) (g.met.H.Host.is_tree c.write_state.new.host) is good (written_back (settings_of c.in_ok-state.state) good.settings) c.write_state.ensures.any_moment c.in_ok-write_state.ensures.on_success
 
 pub returns-clause-good : goal.returns-clause-good
 returns-clause-good g c =

@@ -1,0 +1,11 @@
+pub mod Texts
+pub mod Named
+pub mod Ends
+pub mod Spots
+pub mod Sparing
+pub mod Writes
+pub mod Prepared
+pub mod Readying
+pub mod Switches
+pub mod Retires
+pub mod Sample

@@ -1,0 +1,114 @@
+-- A file that is written anew.
+use Rattle.std.proofs.Common.{◌≡◌, ◌≢◌, ◌⊎◌, inl, inr, ℕ, List, [], ◌∷◌, Option, Some, None, Result, Ok, refl, sym, ◌∙◌, ap, subst, ◌≤◌, arith}
+use Rattle.fp_host.specs.Paths.{Elements, Slot, absent, dir, file, link}
+use Rattle.fp_host.specs.View.{View, Inode, IsTree}
+use Rattle.fp_host.specs.Calls.{appends, creates, Step, Creates, CanCreate, HasFolder, IsFile, IsNoDir}
+use Rattle.fp_host.specs.Outcome.{Spot, gone, Follows}
+use Rattle.fp_host.specs.Frame.{Keeps, NoPath}
+use Rattle.fp_host.specs.declared.host.HostError.{HostError}
+use Rattle.fp_host.proofs.Follow.{follows_on, follows_to, follows_call, follows_refl, called}
+use Rattle.fp_host.proofs.Filed.{files_kept}
+use Rattle.fp_host.proofs.Keep.{names_kept, printed_kept}
+use Rattle.fp_host.specs.Frame.{Frame, AtEnd}
+use Rattle.fp_host.specs.Moments.{Moments, Goes, Makes}
+use Rattle.fp_host.proofs.Ending.{ends_call, ends_frame, ends_on, goes_known}
+use Rattle.fp_host.proofs.Framed.{IsTold, frame_start, frame_within, frame_create}
+use Rattle.fp_host.proofs.Goes.{begins, goes_on, makes_goes}
+use Rattle.fp_small.specs.Clear.{GoneAt, AbsentAt}
+use Rattle.fp_small.specs.Files.{KeepsFiles}
+use Rattle.fp_small.specs.Replace.{IsFreeFile}
+use Rattle.fp_small.proofs.Keeping as keeping
+use Rattle.fp_small.proofs.Staging.{Written, written_create, written_append}
+use Rattle.dep_states.specs.Zones.{IsFileOrGone}
+use Rattle.dep_switch.specs.Writing.{FileAt, FileName, WritesFile, HasFile, CanWrite}
+
+-- what was done until the new file gets bytes
+pub writes_keeps : {p : Elements} {u w : View} → Keeps (FileAt p) (FileName p) NoPath u w → WritesFile p u w
+writes_keeps keeps = record { follows = keeps.follows; names = keeps.names; files = keeping.files_kept keeps; printed = keeps.printed }
+
+pub gone_file : {p : Elements} (q : Elements) (spot : Spot) → GoneAt p q spot → FileAt p q spot
+gone_file q spot h = (h.0, subst IsFileOrGone (sym h.1) tt)
+
+pub absent_file : {p : Elements} (q : Elements) (e : Slot) → AbsentAt p q e → FileName p q e
+absent_file q e h = (h.0, inl h.1)
+
+-- the new file, and that it is new
+pub record IsBegun (p : Elements) (u v : View) : Type 0 where
+  pub written : Written p [] u v
+  pub free : u.files written.id ≡ None
+
+pub begun : {p : Elements} {G : Elements → Spot → Type 0} {W : Elements → Slot → Type 0} {u v w : View} → Keeps G W NoPath u v → Creates p 420 (Ok tt) v w → IsBegun p u w
+unfolding written_create
+begun {u = u} first step =
+    let made = written_create step in
+    record { written = record { id = made.id; name = made.name; row = made.row; dirty = made.dirty }; free = first.rows made.id step.how.1.0.1 }
+
+some_none : {A : Type 0} {a : A} {o : Option A} → o ≡ Some a → o ≡ None → ⊥
+some_none some none = cc (sym some ∙ none)
+
+same_id : {i j : ℕ} {e : Slot} → e ≡ file i → e ≡ file j → i ≡ j
+same_id a b = cc (sym a ∙ b)
+
+-- it gets bytes
+pub writes_append : {p : Elements} {bytes : List ℕ} {r : Result (Unit {0}) HostError} {u v w : View} → IsTree v → Keeps (FileAt p) (FileName p) NoPath u v → IsBegun p u v → Step (appends p bytes) r v w → WritesFile p u w
+writes_append {p = p} {u = u} {v = v} {w = w} tree first new step = record {
+  follows = follows_on first.follows (follows_to (λ q spot none. absurd none) (follows_call tree (called step)));
+  names = λ q. let same = names_kept (called step) q (λ none. none) in elim (first.names q) [
+    | inl was ↦ inl (same ∙ was)
+    | inr put ↦ inr (subst (FileName p q) (sym same) put)
+  ];
+  files = record {
+    rows = λ id f some. let kept = first.files id f some (λ q none is. none) in
+        files_kept (called step) id f kept (λ fills. some_none some (ap u.files (same_id fills new.written.name) ∙ new.free));
+  };
+  printed = printed_kept (called step) tt ∙ first.printed;
+}
+
+pub has_file : {p : Elements} {bytes : List ℕ} {u w : View} → Written p bytes u w → HasFile p bytes w
+has_file made = record { id = made.id; name = made.name; row = made.row }
+
+pub file_written : {p : Elements} {bytes : List ℕ} {u v w : View} → IsBegun p u v → Step (appends p bytes) (Ok tt) v w → HasFile p bytes w
+file_written new step = has_file (written_append new.written step)
+
+-- ---- where it may be
+
+pub no_dir : {p : Elements} {v : View} → IsFreeFile p v → IsNoDir (v.names p)
+no_dir (inl none) = subst IsNoDir (sym none) tt
+no_dir (inr is) = subst IsNoDir (sym is.1) tt
+
+no_loop : (x : List ℕ) (p : Elements) → p ≡ x ∷ p → ⊥
+no_loop x p e = not_longer x p e
+  where
+    not_longer : (x : List ℕ) (p : Elements) → p ≡ x ∷ p → ⊥
+    not_longer x [] e = cc e
+    not_longer x (y ∷ p) e = not_longer y p cc
+
+folder_stays : {G : Elements → Spot → Type 0} {A : Elements → Type 0} (p : Elements) {u v : View} → Keeps G (AbsentAt p) A u v → HasFolder u p → HasFolder v p
+folder_stays [] keeps above = above
+folder_stays (x ∷ up) keeps above = elim (keeps.names up) [ inl same ↦ same ∙ above | inr put ↦ absurd (no_loop x up put.0) ]
+
+pub can_create : {G : Elements → Spot → Type 0} {A : Elements → Type 0} {p : Elements} {u v : View} → Keeps G (AbsentAt p) A u v → v.names p ≡ absent → CanWrite p u → CanCreate p 420 v
+can_create {p = p} keeps none can = (folder_stays p keeps can.above, none, mode)
+  where
+    mode : 420 ≤ 4095
+    mode = omega arith
+
+-- ---- call by call
+
+pub taken : {p : Elements} {a b : Option Moments} → IsTold a → Frame (GoneAt p) (AbsentAt p) NoPath a b → Frame (FileAt p) (FileName p) NoPath a b
+taken told frame = frame_within frame (frame_start told) told gone_file absent_file (λ q h. h) (λ q id h put. h)
+
+pub created : {p : Elements} {r : Result (Unit {0}) HostError} {a b c : Option Moments} → IsTold b → Frame (FileAt p) (FileName p) NoPath a b → Makes (Creates p 420 r) b c → Frame (FileAt p) (FileName p) NoPath a c
+created told frame call = frame_create call frame told (λ id bytes. (refl, tt)) (λ id. (refl, inr (id, refl)))
+
+pub written_so_far : {p : Elements} {a b : Option Moments} → IsTold a → Frame (FileAt p) (FileName p) NoPath a b → Goes a b (WritesFile p) (WritesFile p)
+written_so_far told frame = begins told frame.goes (λ u w t k. writes_keeps k) (λ u w t k e. writes_keeps e)
+
+-- after the create
+pub begun_end : {p : Elements} {a b c : Option Moments} → IsTold a → IsTold b → Frame (FileAt p) (FileName p) NoPath a b → Makes (Creates p 420 (Ok tt)) b c → AtEnd (IsBegun p) a c
+begun_end told then frame call = ends_on (ends_call then call) (ends_frame told frame) then (λ u v w tree k s. begun k s)
+
+-- and after the append
+pub appended : {p : Elements} {bytes : List ℕ} {r : Result (Unit {0}) HostError} {a c d : Option Moments} → IsTold a → IsTold c → Frame (FileAt p) (FileName p) NoPath a c → AtEnd (IsBegun p) a c → Makes (Step (appends p bytes) r) c d → Goes a d (WritesFile p) (WritesFile p)
+appended told then frame new call =
+    goes_on then (begins told (goes_known frame.goes new) (λ u w t k. writes_keeps k) (λ u w t k e. e)) (makes_goes call) (λ u v w tree r q s. writes_append tree q.0 q.1 s) (λ u v w tree r q s e. writes_append tree q.0 q.1 e)

@@ -1,0 +1,48 @@
+use Rattle.std.proofs.Common.{◌≡◌, Ok, sym, subst, arith}
+use Rattle.std.specs.Prelude.{IsErr}
+use Rattle.fp_host.specs.View.{View, IsTree}
+use Rattle.fp_host.specs.Calls.{Can, renames, syncs, Step}
+use Rattle.fp_host.proofs.Cause.{caused, clash_step}
+use Rattle.fp_host.proofs.Goes.{begins, goes_on, makes_goes}
+use Rattle.fp_host.proofs.Ending.{ends_start, ends_call, ends_on, ends_in_tree}
+use Rattle.dep_switch.specs.Staging.{CanSwitch}
+use Rattle.dep_switch.proofs.Ends.{host_failed}
+use Rattle.dep_switch.proofs.Switches.{IsRenamed, switches_rename, switches_sync, renamed, was_switched, can_rename}
+use Rattle.dep_switch.proofs.staged.Staged.switch.Goals as goal
+
+pub returns-in_err-rename-clause-any_moment : goal.returns-in_err-rename-clause-any_moment
+returns-in_err-rename-clause-any_moment g c = begins (g.met.H.Host.is_tree c.args.host.now) (makes_goes c.rename.ensures.step) (λ u w t s. switches_rename t s) (λ u w t s e. switches_rename t e)
+
+pub returns-in_err-rename-clause-fault_has_cause : goal.returns-in_err-rename-clause-fault_has_cause
+returns-in_err-rename-clause-fault_has_cause g c =
+    let t = g.met.H.Host.is_tree in
+    let e = c.in_err-rename.ensures in
+    let staged = c.args.self in
+    caused (IsErr _) (CanSwitch staged) (Can (renames staged.from staged.to)) _ _ _ _ (t c.args.host.now) (omega arith) (ends_start (t c.args.host.now)) e.step e.fault_has_cause (λ is. host_failed _ e.needs_no_memory) (λ v w step. clash_step step)
+    (λ u v tree same can. subst (Can (renames staged.from staged.to)) (sym same) (can_rename tree can))
+
+pub returns-in_err-sync-clause-any_moment : goal.returns-in_err-sync-clause-any_moment
+returns-in_err-sync-clause-any_moment g c =
+    let t = g.met.H.Host.is_tree in
+    let first = begins (t c.args.host.now) (makes_goes c.rename.ensures.step) (λ u w t s. switches_rename t s) (λ u w t s e. switches_rename t e) in
+    goes_on (t c.rename.new.self) first (makes_goes c.sync.ensures.step) (λ u v w t r q s. switches_sync t q s) (λ u v w t r q s e. switches_sync t q e)
+
+pub returns-in_err-sync-clause-fault_has_cause : goal.returns-in_err-sync-clause-fault_has_cause
+returns-in_err-sync-clause-fault_has_cause g c =
+    let t = g.met.H.Host.is_tree in
+    let e = c.in_err-sync.ensures in
+    caused (IsErr _) (CanSwitch c.args.self) (Can syncs) _ _ _ _ (t c.args.host.now) c.rename.ensures.fault_has_cause.later (ends_call (t c.args.host.now) c.rename.ensures.step) e.step e.fault_has_cause (λ is. host_failed _ e.needs_no_memory) (λ v w step. clash_step step)
+    (λ u v tree q can. tt)
+
+pub returns-clause-any_moment : goal.returns-clause-any_moment
+returns-clause-any_moment g c =
+    let t = g.met.H.Host.is_tree in
+    let first = begins (t c.args.host.now) (makes_goes c.rename.ensures.step) (λ u w t s. switches_rename t s) (λ u w t s e. switches_rename t e) in
+    goes_on (t c.rename.new.self) first (makes_goes c.sync.ensures.step) (λ u v w t r q s. switches_sync t q s) (λ u v w t r q s e. switches_sync t q e)
+
+pub returns-clause-on_success : goal.returns-clause-on_success
+returns-clause-on_success g c =
+    let t = g.met.H.Host.is_tree in
+    let first = record { goes = begins (t c.args.host.now) (makes_goes c.in_ok-rename.ensures.step) (λ u w tree s. tt) (λ u w tree s e. renamed tree e) } in
+    ends_in_tree (t c.sync.new.self) (ends_on {Q' = λ u w. (v : View) × IsTree v × IsRenamed c.args.self u v × Step syncs (Ok tt) v w} (ends_call (t c.rename.new.self) c.in_ok-sync.ensures.step) first (t c.rename.new.self) (λ u v w tree q s. (v, tree, q, s)))
+    (λ u w tree q. was_switched q.1 tree q.2 q.3)

@@ -1,0 +1,5 @@
+pub mod Rows
+pub mod Writing
+pub mod Staging
+pub mod Retiring
+pub mod Samples

@@ -1,0 +1,41 @@
+-- A ref that goes.
+use Rattle.std.specs.Prelude.{◌≡◌, ◌≢◌, ◌⊎◌, ℕ, true, None}
+use Rattle.fp_host.specs.Paths.{Elements, Slot, absent}
+use Rattle.fp_host.specs.View.{View}
+use Rattle.fp_host.specs.Outcome.{Spot, gone, IsSettled}
+use Rattle.fp_name.specs.Refs.{Ref, is_ref}
+use Rattle.fp_small.specs.declared.state.State.{State}
+use Rattle.dep_states.specs.After.{row_at}
+use Rattle.dep_states.specs.Names.{active}
+use Rattle.dep_states.specs.Sound.{Opens}
+use Rattle.dep_states.specs.Switch.{OpensEither}
+use Rattle.dep_switch.specs.Rows.{without_row}
+use Rattle.dep_switch.specs.declared.retiring.RetirePlan.{RetirePlan}
+
+-- `active` goes
+abbrev pub RetiresAt : Ref → Elements → Spot → Type 0
+RetiresAt name p spot = (p ≡ active name) × (spot ≡ gone)
+
+-- the plan is for this ref
+pub record IsPlanOf (asked : Ref) (plan : RetirePlan) : Type 0 where
+  pub name : plan.name ≡ asked
+  pub good : is_ref asked ≡ true
+  pub link : plan.link ≡ active asked
+
+-- the ref is in the state that every stop leaves
+pub record CanRetire (s : State) (plan : RetirePlan) (v : View) : Type 0 where
+  pub opens : Opens s v
+  pub planned : IsPlanOf plan.name plan
+  pub there : row_at s plan.name ≢ None
+
+-- At every moment each stop leaves the state of before or the one without the ref. No file changes, and nothing is printed.
+pub record Retires (s : State) (plan : RetirePlan) (u w : View) : Type 0 where
+  pub either : IsPlanOf plan.name plan → Opens s u → OpensEither s (without_row s plan.name) w
+  pub names : (q : Elements) → (w.names q ≡ u.names q) ⊎ ((q ≡ plan.link) × (w.names q ≡ absent))
+  pub files : (id : ℕ) → w.files id ≡ u.files id
+  pub printed : w.printed ≡ u.printed
+
+-- in the end the one without it, and what stands
+pub record WasRetired (s : State) (plan : RetirePlan) (u w : View) : Type 0 where
+  pub opens : IsPlanOf plan.name plan → Opens s u → Opens (without_row s plan.name) w
+  pub settled : IsSettled w

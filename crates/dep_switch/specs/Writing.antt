@@ -1,0 +1,83 @@
+-- What is made before a switch: a file that is written anew, and a link.
+use Rattle.std.specs.Prelude.{◌≡◌, ◌≢◌, ◌⊎◌, ◌∷◌, ℕ, List, Some, Contains, codes}
+use Rattle.fp_host.specs.Paths.{Elements, Slot, absent, dir, file, link}
+use Rattle.fp_host.specs.View.{View}
+use Rattle.fp_host.specs.Calls.{HasFolder, IsFile}
+use Rattle.fp_host.specs.Outcome.{Spot, folder, points, Follows, IsSettled}
+use Rattle.fp_small.specs.Files.{KeepsFiles}
+use Rattle.fp_small.specs.Folders.{ancestors, AreFree}
+use Rattle.fp_small.specs.Places.{tmp}
+use Rattle.fp_small.specs.Replace.{IsFreeFile}
+use Rattle.fp_small.specs.declared.state.RefRow.{RefRow}
+use Rattle.dep_states.specs.Zones.{IsFileOrGone}
+use Rattle.dep_states.specs.declared.deploy.DeployData.{DeployData}
+
+-- what a row's `deploy` says
+abbrev pub data_of : RefRow → DeployData
+data_of row = record { origin = row.origin; commit = row.commit; timestamp = row.timestamp; previous = row.previous }
+
+-- where the link to a new commit is made
+abbrev pub new_link : Elements
+new_link = codes "active" ∷ tmp
+
+-- ---- a file
+
+-- a file or nothing may come to stand at the path
+abbrev pub FileAt : Elements → Elements → Spot → Type 0
+FileAt p q spot = (q ≡ p) × IsFileOrGone spot
+
+abbrev pub FileName : Elements → Elements → Slot → Type 0
+FileName p q e = (q ≡ p) × ((e ≡ absent) ⊎ IsFile e)
+
+-- Each file that was there keeps its mode and its bytes, also the one that stood at the path.
+pub record WritesFile (p : Elements) (u w : View) : Type 0 where
+  pub follows : Follows (FileAt p) u w
+  pub names : (q : Elements) → (w.names q ≡ u.names q) ⊎ FileName p q (w.names q)
+  pub files : KeepsFiles u w
+  pub printed : w.printed ≡ u.printed
+
+-- a file with these bytes and the permission bits 0644
+pub record HasFile (p : Elements) (bytes : List ℕ) (v : View) : Type 0 where
+  pub id : ℕ
+  pub name : v.names p ≡ file id
+  pub row : v.files id ≡ Some (record { mode = 420; bytes = bytes })
+
+-- where it may be written
+pub record CanWrite (p : Elements) (v : View) : Type 0 where
+  pub above : HasFolder v p
+  pub free : IsFreeFile p v
+
+-- ---- the file, and the link
+
+-- what may come to stand: nothing or a file as the `deploy`, the folders of the new link, and that link
+pub data PreparesAt (deploy : Elements) (text : List ℕ) (q : Elements) (spot : Spot) : Type 0 where
+  a_deploy : q ≡ deploy → IsFileOrGone spot → PreparesAt deploy text q spot
+  a_folder : Contains (ancestors new_link) q → spot ≡ folder → PreparesAt deploy text q spot
+  a_link : q ≡ new_link → spot ≡ points text → PreparesAt deploy text q spot
+
+-- and what the names may come to hold
+pub data PreparesName (deploy : Elements) (text : List ℕ) (q : Elements) (e : Slot) : Type 0 where
+  new_deploy : q ≡ deploy → (e ≡ absent) ⊎ IsFile e → PreparesName deploy text q e
+  new_folder : Contains (ancestors new_link) q → e ≡ dir → PreparesName deploy text q e
+  the_link : q ≡ new_link → e ≡ link text → PreparesName deploy text q e
+
+-- Each file that was there keeps its mode and its bytes, and nothing is printed.
+pub record Prepares (deploy : Elements) (text : List ℕ) (u w : View) : Type 0 where
+  pub follows : Follows (PreparesAt deploy text) u w
+  pub names : (q : Elements) → (w.names q ≡ u.names q) ⊎ PreparesName deploy text q (w.names q)
+  pub files : KeepsFiles u w
+  pub printed : w.printed ≡ u.printed
+
+-- both are there, and every stop leaves what stands
+pub record WasPrepared (deploy : Elements) (text bytes : List ℕ) (w : View) : Type 0 where
+  pub written : HasFile deploy bytes w
+  pub linked : w.names new_link ≡ link text
+  pub settled : IsSettled w
+
+-- where they may be made
+pub record CanPrepare (deploy : Elements) (v : View) : Type 0 where
+  pub write : CanWrite deploy v
+  pub folders : AreFree (ancestors new_link) v
+  pub link_free : v.names new_link ≡ absent
+  pub apart : Contains (ancestors new_link) deploy → ⊥
+  pub other : deploy ≢ new_link

@@ -1,0 +1,40 @@
+//! Laws of the step that changes a ref's deployed commit. Each is the contract of a function that does nothing.
+ghost use Rattle.std.specs.Prelude.{◌≡◌, ℕ, List, None, true};
+ghost use Rattle.fp_host.specs.Paths.{Elements};
+ghost use Rattle.fp_host.specs.View.{View, IsTree};
+ghost use Rattle.fp_host.specs.Outcome.{Disk, Follows, IsSettled, shows};
+ghost use Rattle.fp_name.specs.Hex.{is_digest};
+ghost use Rattle.fp_name.specs.Refs.{Ref, is_ref};
+ghost use Rattle.fp_small.specs.declared.state.State.{State};
+ghost use Rattle.dep_states.specs.Deployed.{deployed_row};
+ghost use Rattle.dep_states.specs.Names.{commit_dir, deploy};
+ghost use Rattle.dep_states.specs.Shown.{Shows};
+ghost use Rattle.dep_states.specs.Sound.{Sound, Opens, Spares};
+ghost use Rattle.dep_states.specs.Switch.{IsWith, OpensEither};
+ghost use Rattle.dep_switch.specs.Retiring.{RetiresAt};
+ghost use Rattle.dep_switch.specs.Rows.{IsAt};
+ghost use Rattle.dep_switch.specs.Samples.{undeployed_disk, undeployed_state};
+ghost use Rattle.dep_switch.specs.Staging.{CanStage};
+ghost use Rattle.dep_switch.specs.Writing.{FileAt};
+
+/// The removal of an `active`: each outcome shows the state of before or the one without the ref, and is sound.
+pub fn a_retirement_is_old_or_new()
+    ensures { (u w : View) (s t : State) (name : Ref) → is_ref name ≡ true → IsWith s name None t
+        → Follows (RetiresAt name) u w → Opens s u → OpensEither s t w }
+{}
+
+/// The `deploy` of a commit that isn't the deployed one may be written, also where the commit is kept as the previous one.
+pub fn a_deploy_may_be_written()
+    ensures { (s : State) (v : View) (name : Ref) (commit : List ℕ) → is_digest commit ≡ true
+        → Opens s v → (IsAt s name commit → ⊥) → Spares v (FileAt (deploy (commit_dir name commit))) }
+{}
+
+/// What is asked before a switch can be met: in the image that has a commit's folder, its objects and a `deploy`, but no `active` of
+/// the ref.
+pub fn a_switch_can_be_staged()
+    ensures shown { Shows undeployed_disk undeployed_state }
+    ensures sound { Sound undeployed_disk }
+    ensures stages { (v : View) → IsTree v → IsSettled v
+        → ((p : Elements) → shows v p ≡ undeployed_disk p)
+        → CanStage undeployed_state deployed_row v }
+{}

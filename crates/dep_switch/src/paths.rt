@@ -1,0 +1,64 @@
+// The paths of a switch.
+ghost use Rattle.std.specs.Prelude.{◌≡◌, ◌∷◌, [], codes, true, IfOk, OnOk};
+ghost use Rattle.fp_host.specs.Paths.{is_link_text};
+ghost use Rattle.fp_name.specs.Hex.{hex, is_digest};
+ghost use Rattle.dep_states.specs.Names.{branch_dir, active, commit_dir, deploy};
+ghost use Rattle.dep_switch.specs.Writing.{new_link};
+
+use fp_base::Text;
+use fp_host::Path;
+use fp_name::{Digest, RefName};
+use std::alloc::{AllocError, Global};
+
+/// The path at which the link to the new commit is made.
+pub fn new_link_path(alloc: Global) -> Result<Path, AllocError>
+    ensures { IfOk result (λ p. p ≡ new_link) }
+{
+    Path::root(alloc)
+        .child("repo")?
+        .child("tmp")?
+        .child("active")
+}
+
+/// The branch directory of a ref.
+#[tactic(auto, using(crate::proofs::Texts::kind_element, crate::proofs::Texts::id_element, crate::proofs::Texts::arch_element, crate::proofs::Texts::branch_element))]
+fn branch_path(alloc: Global, name: &RefName) -> Result<Path, AllocError>
+    ensures { IfOk result (λ p. p ≡ branch_dir name.now) }
+{
+    let kind = Path::root(alloc).child(name.kind().word())?;
+    let id = kind.child(name.id())?;
+    let arch = id.child(name.arch())?;
+    arch.child(name.branch())
+}
+
+/// The path of a ref's `active`.
+pub(crate) fn active_path(alloc: Global, name: &RefName) -> Result<Path, AllocError>
+    ensures { IfOk result (λ p. p ≡ active name.now) }
+{
+    branch_path(alloc, name)?.child("active")
+}
+
+/// The path of the `deploy` of a commit of the ref.
+#[tactic(auto, using(crate::proofs::Texts::element_digits))]
+pub(crate) fn deploy_path(
+    alloc: Global,
+    name: &RefName,
+    commit: &Digest,
+) -> Result<Path, AllocError>
+    ensures { IfOk result (λ p. p ≡ deploy (commit_dir name.now commit.now)) }
+{
+    let digits = commit.write(alloc)?;
+    branch_path(alloc, name)?
+        .child(digits.as_str())?
+        .child("deploy")
+}
+
+/// The text of the link to a commit: its digits.
+#[tactic(auto, using(crate::proofs::Texts::link_digits))]
+pub(crate) fn commit_text(alloc: Global, commit: &Digest) -> Result<Text, AllocError>
+    ensures text { IfOk result (λ text. text ≡ hex commit.now) }
+    ensures link { OnOk result (is_link_text (hex commit.now) ≡ true) }
+    ensures good { OnOk result (is_digest commit.now ≡ true) }
+{
+    commit.write(alloc)
+}

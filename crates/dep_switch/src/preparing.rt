@@ -1,0 +1,91 @@
+// What is made before a switch.
+ghost use Rattle.std.specs.Prelude.{◌≡◌, ◌≤◌, true, false, Some, length, IfOk, OnOk, IsErrOf};
+ghost use Rattle.fp_host.specs.Paths.{is_link_text};
+ghost use Rattle.fp_host.specs.Causes.{IsCaused};
+ghost use Rattle.fp_host.specs.Frame.{AtEnd};
+ghost use Rattle.fp_host.specs.Moments.{Always};
+ghost use Rattle.fp_name.specs.Refs.{is_ref};
+ghost use Rattle.dep_states.specs.Deploy.{deploy_of, goes_back_to};
+ghost use Rattle.dep_states.specs.Shown.{small_most};
+ghost use Rattle.dep_switch.specs.Rows.{with_row};
+ghost use Rattle.dep_switch.specs.Writing.{data_of, new_link, WritesFile, HasFile, CanWrite, Prepares, WasPrepared, CanPrepare};
+
+use crate::rows::put_ref;
+use dep_states::DeployData;
+use fp_base::{Blob, Items};
+use fp_host::{Host, HostEnd, Path};
+use fp_small::{RefRow, State, make_above, take_away};
+use std::alloc::{AllocError, Global};
+
+/// The bytes of the row's `deploy`.
+pub(crate) fn deploy_bytes(alloc: Global, row: &RefRow) -> Result<Blob, AllocError>
+    requires moves { goes_back_to row.now.commit row.now.previous ≡ false }
+    ensures says { IfOk result (λ bytes. deploy_of bytes ≡ Some (data_of row.now)) }
+    ensures short { IfOk result (λ bytes. length bytes ≤ small_most) }
+{
+    let data = DeployData {
+        origin: row.origin.copy()?,
+        commit: row.commit,
+        timestamp: row.timestamp,
+        previous: row.previous,
+    };
+    data.write(alloc)
+}
+
+/// The state with the row in the place of the one of its ref.
+pub(crate) fn with_row(state: State, row: RefRow) -> Result<State, AllocError>
+    ensures state { IfOk result (λ s. s ≡ with_row state row) }
+    ensures good { OnOk result (is_ref row.name ≡ true) }
+{
+    let mut rows = state.refs.into_vec();
+    put_ref(&mut rows, row)?;
+    Ok(State {
+        layout: state.layout,
+        refs: Items::from_vec(rows),
+        remotes: state.remotes,
+        pins: state.pins,
+        overrides: state.overrides,
+    })
+}
+
+/// Writes a new file with the permission bits 0644, in the place of one that is there. Nothing is synced.
+pub(crate) fn write_new<H: Host>(host: &mut H, path: &Path, bytes: &[u8]) -> Result<(), HostEnd>
+    ensures any_moment { Always (WritesFile path.now) (H.moments host.old) (H.moments host.new) }
+    ensures on_success { OnOk result (AtEnd (λ u w. HasFile path.now bytes.now w)
+        (H.moments host.old) (H.moments host.new)) }
+    ensures fault_has_cause { IsCaused (IsErrOf result HostEnd.Fault) (H.moments host.old)
+        (CanWrite path.now) (H.faults host.old) (H.faults host.new) }
+    ensures needs_no_memory { IsErrOf result HostEnd.NoMemory → ⊥ }
+{
+    take_away(host, path)?;
+    host.create(path, 0o644)?;
+    Ok(host.append(path, bytes)?)
+}
+
+/// Writes the `deploy`, makes a link of this text, and syncs. The folders above the link are made where they are absent. All memory
+/// is taken before the first change.
+pub(crate) fn prepare<H: Host>(
+    alloc: Global,
+    host: &mut H,
+    deploy: &Path,
+    bytes: &[u8],
+    link: &Path,
+    text: &str,
+) -> Result<(), HostEnd>
+    requires place { link.now ≡ new_link }
+    requires text { is_link_text text.now ≡ true }
+    ensures any_moment { Always (Prepares deploy.now text.now)
+        (H.moments host.old) (H.moments host.new) }
+    ensures on_success { OnOk result (AtEnd
+        (λ u w. WasPrepared deploy.now text.now bytes.now w)
+        (H.moments host.old) (H.moments host.new)) }
+    ensures fault_has_cause { IsCaused (IsErrOf result HostEnd.Fault) (H.moments host.old)
+        (CanPrepare deploy.now) (H.faults host.old) (H.faults host.new) }
+    ensures starved_unchanged { IsErrOf result HostEnd.NoMemory → AtEnd (λ u w. w ≡ u)
+        (H.moments host.old) (H.moments host.new) }
+{
+    make_above(alloc, host, link)?;
+    write_new(host, deploy, bytes)?;
+    host.symlink(text, link)?;
+    Ok(host.sync()?)
+}

@@ -1,0 +1,87 @@
+// A ref that goes.
+ghost use Rattle.std.specs.Prelude.{◌≡◌, ◌≢◌, None, IfOk, OnOk, IsErr, IsErrOf};
+ghost use Rattle.fp_host.specs.Causes.{IsCaused};
+ghost use Rattle.fp_host.specs.Frame.{AtEnd};
+ghost use Rattle.fp_host.specs.Moments.{Always};
+ghost use Rattle.dep_states.specs.After.{row_at};
+ghost use Rattle.dep_switch.specs.Rows.{without_row};
+ghost use Rattle.dep_switch.specs.Retiring.{IsPlanOf, CanRetire, Retires, WasRetired};
+
+use crate::paths::active_path;
+use crate::rows::{find_ref, remove_ref};
+use crate::switched::{Faulted, Switched};
+use dep_states::Opened;
+use fp_base::Items;
+use fp_host::{Host, Path};
+use fp_name::RefName;
+use fp_small::State;
+use std::alloc::{AllocError, Global};
+
+/// Why there is no plan.
+#[derive(Clone, Copy, Debug, PartialEq, Eq)]
+pub enum RetireError {
+    /// The ref isn't deployed.
+    NotThere,
+    NoMemory,
+}
+
+impl From<AllocError> for RetireError {
+    ghost use Rattle.std.specs.Prelude.{◌≡◌};
+    ghost use Rattle.dep_switch.specs.declared.retiring.RetireError.TheVariants.{NoMemory};
+
+    ghost from_gives = { λ _ e. e ≡ NoMemory };
+
+    fn from(_: AllocError) -> RetireError {
+        RetireError::NoMemory
+    }
+}
+
+/// What it takes to retire a ref. All memory is taken.
+#[derive(Drop)]
+pub struct RetirePlan {
+    name: RefName,
+    link: Path,
+}
+
+impl RetirePlan {
+    /// The plan for a ref of the state. `NotThere` comes exactly where the state has no such ref.
+    pub fn new(alloc: Global, state: &State, name: &RefName) -> Result<RetirePlan, RetireError>
+        ensures plan { IfOk result (IsPlanOf name.now) }
+        ensures there { OnOk result (row_at state.now name.now ≢ None) }
+        ensures not_there { IsErrOf result RetireError.NotThere
+            → row_at state.now name.now ≡ None }
+    {
+        if find_ref(state.refs.as_slice(), name).is_none() {
+            return Err(RetireError::NotThere);
+        }
+        Ok(RetirePlan {
+            name: name.copy()?,
+            link: active_path(alloc, name)?,
+        })
+    }
+
+    /// Takes the ref's `active` away, and syncs. It is for the state of which the plan was made. It takes no memory.
+    pub fn retire<H: Host>(self, host: &mut H, opened: Opened) -> Result<Switched, Faulted>
+        ensures state { IfOk result (λ s. s ≡ without_row opened self.name) }
+        // A stop at any moment leaves the state with the ref or the one without it.
+        ensures any_moment { Always (Retires opened self) (H.moments host.old)
+            (H.moments host.new) }
+        ensures on_success { OnOk result (AtEnd (WasRetired opened self)
+            (H.moments host.old) (H.moments host.new)) }
+        ensures fault_has_cause { IsCaused (IsErr result) (H.moments host.old)
+            (CanRetire opened self) (H.faults host.old) (H.faults host.new) }
+    {
+        host.unlink(&self.link)?;
+        host.sync()?;
+        let state = opened.take();
+        let mut rows = state.refs.into_vec();
+        remove_ref(&mut rows, &self.name);
+        Ok(Switched::of(State {
+            layout: state.layout,
+            refs: Items::from_vec(rows),
+            remotes: state.remotes,
+            pins: state.pins,
+            overrides: state.overrides,
+        }))
+    }
+}

@@ -1,0 +1,105 @@
+//! Rows of a state, ascending by their names.
+ghost use Rattle.std.specs.Prelude.{◌≡◌, ◌≤◌, true, length, OnOk};
+ghost use Rattle.std.specs.List.{insert};
+ghost use Rattle.std.specs.Option.{option_copied};
+ghost use Rattle.fp_name.specs.Refs.{ref_text, is_ref};
+ghost use Rattle.fp_small.specs.Order.{inserted, removed, replaced};
+ghost use Rattle.dep_states.specs.Shown.{at_name, ref_key, override_key};
+
+use fp_base::Text;
+use fp_name::RefName;
+use fp_small::{OverrideRow, RefRow};
+use std::alloc::AllocError;
+
+/// What rows are ordered by.
+trait Named {
+    ghost use Rattle.std.specs.Prelude.{List, ℕ, ◌≡◌};
+
+    ghost name_of: { Self → List ℕ };
+
+    fn key(&self) -> &str
+        ensures { result.now ≡ name_of self.now };
+}
+
+impl Named for RefRow {
+    ghost use Rattle.dep_states.specs.Shown.{ref_key};
+
+    ghost name_of = { λ row. ref_key row };
+
+    fn key(&self) -> &str {
+        self.name.as_str()
+    }
+}
+
+impl Named for OverrideRow {
+    ghost name_of = { λ row. row.name };
+
+    fn key(&self) -> &str {
+        self.name.as_str()
+    }
+}
+
+/// Where a name belongs: before the first that doesn't come before it.
+fn place_of<T: Named>(rows: &[T], name: &str) -> usize
+    ensures within { result ≤ length rows.now }
+    ensures before { (row : T) → T.name_of row ≡ name.now → inserted T.name_of rows.now row ≡
+        insert rows.now result row }
+{
+    for (place, row) in rows.iter().enumerate() {
+        if row.key() >= name {
+            return place;
+        }
+    }
+    rows.len()
+}
+
+/// Puts a row where its name belongs.
+fn insert_row<T: Named + Drop>(rows: &mut Vec<T>, row: T) -> Result<(), AllocError>
+    ensures { OnOk result (rows.new.items ≡ inserted T.name_of rows.old.items row) }
+{
+    let place = place_of(rows, row.key());
+    rows.insert(place, row)?;
+    Ok(())
+}
+
+/// The row of a ref.
+pub fn find_ref<'a>(rows: &'a [RefRow], name: &RefName) -> Option<&'a RefRow>
+    ensures row { option_copied result ≡ at_name ref_key rows.now (ref_text name.now) }
+    ensures good { is_ref name.now ≡ true }
+{
+    let text = name.as_str();
+    rows.iter().find(|row| row.name.as_str() == text)
+}
+
+/// Takes the row of a ref away, which takes no memory. Where there is none, nothing changes.
+pub(crate) fn remove_ref(rows: &mut Vec<RefRow>, name: &RefName)
+    ensures rows { rows.new.items ≡ removed ref_key rows.old.items (ref_text name.now) }
+    ensures good { is_ref name.now ≡ true }
+{
+    let text = name.as_str();
+    rows.retain(|row| row.name.as_str() != text);
+}
+
+/// Puts a row in the place of the one of its ref.
+pub(crate) fn put_ref(rows: &mut Vec<RefRow>, row: RefRow) -> Result<(), AllocError>
+    ensures rows { OnOk result (rows.new.items ≡ replaced ref_key rows.old.items row) }
+    ensures good { is_ref row.name ≡ true }
+{
+    remove_ref(rows, &row.name);
+    insert_row(rows, row)
+}
+
+/// Takes the override of a name away, which takes no memory. Where there is none, nothing changes.
+pub fn remove_override(rows: &mut Vec<OverrideRow>, name: &Text)
+    ensures { rows.new.items ≡ removed override_key rows.old.items name.now }
+{
+    rows.retain(|row| row.name.as_str() != name.as_str());
+}
+
+/// Puts an override in the place of the one of its name.
+pub fn put_override(rows: &mut Vec<OverrideRow>, row: OverrideRow) -> Result<(), AllocError>
+    ensures { OnOk result (rows.new.items ≡ replaced override_key rows.old.items row) }
+{
+    remove_override(rows, &row.name);
+    insert_row(rows, row)
+}

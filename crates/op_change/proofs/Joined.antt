@@ -1,0 +1,57 @@
+-- One operation of several, by what it is.
+use Rattle.std.proofs.Common.{◌≡◌, ◌⊎◌, inl, inr, Option, sym, subst}
+use Rattle.fp_host.specs.Paths.{Elements, Slot}
+use Rattle.fp_host.specs.View.{View}
+use Rattle.fp_host.specs.Frame.{AtEnd}
+use Rattle.fp_host.specs.Moments.{Moments, Goes}
+use Rattle.fp_host.proofs.Ending.{ends_to}
+use Rattle.fp_host.proofs.Framed.{IsTold}
+use Rattle.fp_host.proofs.Goes.{begins}
+use Rattle.fp_small.specs.Replace.{ReplacesName}
+use Rattle.fp_small.specs.declared.op.Op.{Op}
+use Rattle.fp_small.specs.declared.op.Op.TheVariants.{Install, Update, Uninstall, AddPin, DropPin, AddRemote, ModifyRemote, DropRemote, SetOverride, DropOverride, Migrate, Rollback}
+use Rattle.fp_small.specs.declared.state.State.{State}
+use Rattle.dep_states.specs.After.{after, plain, IsOnConfig}
+use Rattle.dep_states.specs.Names.{config}
+use Rattle.dep_states.specs.Sound.{Opens}
+use Rattle.op_deploy.specs.Applied.{Does, WasDone}
+use Rattle.op_change.specs.Applied.{MayChange, Applies, SettingsDone, WasApplied, IsStarved}
+
+-- the settings' operations change the names that a writing of `config` changes
+pub on_config : (op : Op) → IsOnConfig op → (u : View) (q : Elements) (e : Slot) → ReplacesName config u q e → MayChange op u q e
+on_config (AddPin pin) on u q e put = put
+on_config (DropPin pin) on u q e put = put
+on_config (AddRemote row) on u q e put = put
+on_config (ModifyRemote row) on u q e put = put
+on_config (DropRemote name) on u q e put = put
+on_config Migrate on u q e put = put
+on_config (Install name remote commit) on u q e put = absurd on
+on_config (Update name remote commit) on u q e put = absurd on
+on_config (Uninstall name) on u q e put = absurd on
+on_config (SetOverride row) on u q e put = absurd on
+on_config (DropOverride name) on u q e put = absurd on
+on_config (Rollback name commit) on u q e put = absurd on
+
+module _ {s : State} {op : Op} where
+  pub does_applies : {W : View → Elements → Slot → Type 0} → ((u : View) (q : Elements) (e : Slot) → W u q e → MayChange op u q e) → {u w : View} → Does s (after s (plain op)) W u w → Applies s (plain op) u w
+  does_applies may {u = u} does = record {
+    either = does.either;
+    names = λ q. elim (does.names q) [ inl same ↦ inl same | inr put ↦ inr (may u q _ put) ];
+    files = does.files;
+    printed = does.printed;
+  }
+
+  pub goes_applies : {W : View → Elements → Slot → Type 0} {a b : Option Moments} → IsTold a → ((u : View) (q : Elements) (e : Slot) → W u q e → MayChange op u q e) → Goes a b (Does s (after s (plain op)) W) (Does s (after s (plain op)) W) → Goes a b (Applies s (plain op)) (Applies s (plain op))
+  goes_applies told may goes = begins told goes (λ u w t r. does_applies may r) (λ u w t r e. does_applies may e)
+
+  pub ends_done : {a b : Option Moments} → (IsOnConfig op → ⊥) → AtEnd (WasDone s (after s (plain op))) a b → AtEnd (WasApplied s (plain op)) a b
+  ends_done off done = ends_to done (λ u w d. record { opens = d.opens; settled = d.settled; objects = λ brings. d.objects; settings = λ on. absurd (off on) })
+
+  pub ends_settings : {a b : Option Moments} → AtEnd (SettingsDone s (after s (plain op))) a b → AtEnd (WasApplied s (plain op)) a b
+  ends_settings done = ends_to done (λ u w d. record { opens = d.done.opens; settled = d.done.settled; objects = λ brings. d.done.objects; settings = λ on. d.settings })
+
+  pub starved_same : {a b : Option Moments} → AtEnd (λ u w. w ≡ u) a b → AtEnd (IsStarved s op) a b
+  starved_same same = ends_to same (λ u w e. record { opens = λ opens. subst (Opens s) (sym e) opens; settings = λ on. e })
+
+  pub starved_opens : {a b : Option Moments} → (IsOnConfig op → ⊥) → AtEnd (λ u w. Opens s u → Opens s w) a b → AtEnd (IsStarved s op) a b
+  starved_opens off opens = ends_to opens (λ u w o. record { opens = o; settings = λ on. absurd (off on) })

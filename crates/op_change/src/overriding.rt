@@ -1,0 +1,121 @@
+// Overrides, set and dropped.
+ghost use Rattle.std.specs.Prelude.{◌≡◌, ◌≤◌, ◌∷◌, true, length, IfOk, OnOk, IsErrOf};
+ghost use Rattle.fp_host.specs.Causes.{IsCaused};
+ghost use Rattle.fp_host.specs.Frame.{AtEnd};
+ghost use Rattle.fp_host.specs.Moments.{Always};
+ghost use Rattle.fp_keyfile.specs.KeyFile.{text_of};
+ghost use Rattle.fp_small.specs.Clear.{AbsentAt};
+ghost use Rattle.fp_small.specs.Replace.{ReplacesName};
+ghost use Rattle.fp_small.specs.declared.op.Op.TheVariants.{SetOverride, DropOverride};
+ghost use Rattle.dep_states.specs.After.{after, plain};
+ghost use Rattle.dep_states.specs.Names.{is_override, override_path};
+ghost use Rattle.dep_states.specs.Shown.{small_most};
+ghost use Rattle.dep_states.specs.Sound.{Opens};
+ghost use Rattle.op_deploy.specs.Applied.{Does, WasDone};
+ghost use Rattle.op_change.specs.Overriding.{with_layer, without_layer, AbsentAtPath};
+
+use dep_states::Opened;
+use dep_switch::{put_override, remove_override};
+use fp_base::{Items, Text};
+use fp_host::{Host, HostEnd, Path};
+use fp_small::{OverrideRow, State, replace, take_away};
+use std::alloc::{AllocError, Global};
+
+/// The path of an override.
+#[tactic(auto, using(crate::proofs::Layers::element_override))]
+fn path_of(alloc: Global, name: &Text) -> Result<Path, AllocError>
+    requires { is_override name.now ≡ true }
+    ensures { IfOk result (λ p. p ≡ override_path name.now) }
+{
+    Path::root(alloc).child("overrides")?.child(name.as_str())
+}
+
+/// The same override again.
+fn copy_of(row: &OverrideRow) -> Result<OverrideRow, AllocError>
+    ensures { IfOk result (λ r. r ≡ row.now) }
+{
+    Ok(OverrideRow {
+        name: row.name.copy()?,
+        file: row.file.copy()?,
+    })
+}
+
+/// The state with the override in the place of the one of its name.
+fn with_override(state: State, row: OverrideRow) -> Result<State, AllocError>
+    ensures { IfOk result (λ s. s ≡ with_layer state row) }
+{
+    let mut overrides = state.overrides.into_vec();
+    put_override(&mut overrides, row)?;
+    Ok(State {
+        layout: state.layout,
+        refs: state.refs,
+        remotes: state.remotes,
+        pins: state.pins,
+        overrides: Items::from_vec(overrides),
+    })
+}
+
+/// The state without the override of this name.
+fn without_override(state: State, name: &Text) -> State
+    ensures { result ≡ without_layer state name.now }
+{
+    let mut overrides = state.overrides.into_vec();
+    remove_override(&mut overrides, name);
+    State {
+        layout: state.layout,
+        refs: state.refs,
+        remotes: state.remotes,
+        pins: state.pins,
+        overrides: Items::from_vec(overrides),
+    }
+}
+
+/// Sets an override: its file is written anew.
+pub(crate) fn set_override<H: Host>(
+    alloc: Global,
+    host: &mut H,
+    opened: Opened,
+    row: &OverrideRow,
+) -> Result<Opened, HostEnd>
+    requires name { is_override row.now.name ≡ true }
+    requires short { length (text_of row.now.file) ≤ small_most }
+    ensures state { IfOk result (λ o. o ≡ after opened (plain (SetOverride row.now))) }
+    ensures any_moment { Always (Does opened (after opened (plain (SetOverride row.now)))
+        (ReplacesName (override_path row.now.name))) (H.moments host.old) (H.moments host.new) }
+    ensures on_success { OnOk result (AtEnd (WasDone opened
+        (after opened (plain (SetOverride row.now)))) (H.moments host.old) (H.moments host.new)) }
+    ensures fault_has_cause { IsCaused (IsErrOf result HostEnd.Fault) (H.moments host.old)
+        (Opens opened) (H.faults host.old) (H.faults host.new) }
+    ensures starved_unchanged { IsErrOf result HostEnd.NoMemory → AtEnd (λ u w. w ≡ u)
+        (H.moments host.old) (H.moments host.new) }
+{
+    let path = path_of(alloc, &row.name)?;
+    let text = row.file.write()?;
+    let state = with_override(opened.take(), copy_of(row)?)?;
+    replace(alloc, host, &path, text.as_str().as_bytes())?;
+    Ok(Opened::of(state))
+}
+
+/// Drops an override: its file is taken away.
+pub(crate) fn drop_override<H: Host>(
+    alloc: Global,
+    host: &mut H,
+    opened: Opened,
+    name: &Text,
+) -> Result<Opened, HostEnd>
+    requires { is_override name.now ≡ true }
+    ensures state { IfOk result (λ o. o ≡ after opened (plain (DropOverride name.now))) }
+    ensures any_moment { Always (Does opened (after opened (plain (DropOverride name.now)))
+        (AbsentAtPath (override_path name.now))) (H.moments host.old) (H.moments host.new) }
+    ensures on_success { OnOk result (AtEnd (WasDone opened
+        (after opened (plain (DropOverride name.now)))) (H.moments host.old) (H.moments host.new)) }
+    ensures fault_has_cause { IsCaused (IsErrOf result HostEnd.Fault) (H.moments host.old)
+        (Opens opened) (H.faults host.old) (H.faults host.new) }
+    ensures starved_unchanged { IsErrOf result HostEnd.NoMemory → AtEnd (λ u w. w ≡ u)
+        (H.moments host.old) (H.moments host.new) }
+{
+    let path = path_of(alloc, name)?;
+    take_away(host, &path)?;
+    host.sync()?;
+    Ok(Opened::of(without_override(opened.take(), name)))
+}

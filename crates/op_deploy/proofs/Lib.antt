@@ -1,0 +1,4 @@
+pub mod Objects
+pub mod Deploying
+pub mod Backing
+pub mod Leaving

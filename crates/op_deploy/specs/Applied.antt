@@ -1,0 +1,58 @@
+-- One operation, done wholly or not at all.
+use Rattle.std.specs.Prelude.{◌≡◌, ◌⊎◌, ℕ, List, true, Some}
+use Rattle.fp_base.specs.declared.object.ObjKind.{ObjKind}
+use Rattle.fp_host.specs.Paths.{Elements, Slot, absent, link}
+use Rattle.fp_host.specs.View.{View}
+use Rattle.fp_host.specs.Outcome.{IsSettled, shows}
+use Rattle.fp_name.specs.Hex.{hex, is_digest}
+use Rattle.fp_name.specs.Refs.{Ref}
+use Rattle.fp_small.specs.Clear.{IsWithin}
+use Rattle.fp_small.specs.Files.{KeepsFiles}
+use Rattle.fp_small.specs.Places.{repo}
+use Rattle.fp_small.specs.declared.state.State.{State}
+use Rattle.fp_small.specs.declared.state.RefRow.{RefRow}
+use Rattle.ost_model.specs.Objects.{store}
+use Rattle.dep_states.specs.Names.{active, commit_dir, deploy}
+use Rattle.dep_states.specs.Sound.{Opens}
+use Rattle.dep_states.specs.Switch.{OpensEither}
+use Rattle.dep_switch.specs.Rows.{with_row}
+use Rattle.dep_switch.specs.Staging.{CanStage}
+use Rattle.dep_switch.specs.Writing.{new_link, PreparesName}
+
+-- ---- from a state to another
+
+-- At every moment the state of before or the one after. No name changes but these, each file that was there keeps its mode and its
+-- bytes, and nothing is printed.
+pub record Does (s t : State) (W : View → Elements → Slot → Type 0) (u w : View) : Type 0 where
+  pub either : Opens s u → OpensEither s t w
+  pub names : (q : Elements) → (w.names q ≡ u.names q) ⊎ W u q (w.names q)
+  pub files : KeepsFiles u w
+  pub printed : w.printed ≡ u.printed
+
+-- the store has the same objects
+abbrev pub SameObjects : View → View → Type 0
+SameObjects u w = (d : List ℕ) (kind : ObjKind) → is_digest d ≡ true → store repo (shows w) d kind ≡ store repo (shows u) d kind
+
+-- in the end the one after, and every stop leaves what stands
+pub record WasDone (s t : State) (u w : View) : Type 0 where
+  pub opens : Opens s u → Opens t w
+  pub settled : IsSettled w
+  pub objects : SameObjects u w
+
+-- ---- a row that is deployed
+
+-- the names: the new link's, what is made before the switch, and `active`
+pub data DeploysName (name : Ref) (commit : List ℕ) (q : Elements) (e : Slot) : Type 0 where
+  work_goes : IsWithin new_link q → e ≡ absent → DeploysName name commit q e
+  before_switch : PreparesName (deploy (commit_dir name commit)) (hex commit) q e → DeploysName name commit q e
+  at_active : q ≡ active name → e ≡ link (hex commit) → DeploysName name commit q e
+
+pub record Deploys (s : State) (row : RefRow) (u w : View) : Type 0 where
+  pub either : CanStage s row u → OpensEither s (with_row s row) w
+  pub names : (q : Elements) → (w.names q ≡ u.names q) ⊎ DeploysName row.name row.commit q (w.names q)
+  pub files : KeepsFiles u w
+  pub printed : w.printed ≡ u.printed
+
+pub record WasDeployed (s : State) (row : RefRow) (u w : View) : Type 0 where
+  pub opens : CanStage s row u → Opens (with_row s row) w
+  pub settled : IsSettled w

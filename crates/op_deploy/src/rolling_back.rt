@@ -1,0 +1,81 @@
+//! A ref that goes back to its previous commit.
+ghost use Rattle.std.specs.Prelude.{◌≡◌, false, Some, IfOk, OnOk, IsErrOf};
+ghost use Rattle.fp_host.specs.Causes.{IsCaused};
+ghost use Rattle.fp_host.specs.Frame.{AtEnd};
+ghost use Rattle.fp_host.specs.Moments.{Always};
+ghost use Rattle.fp_small.specs.declared.op.Op.TheVariants.{Rollback};
+ghost use Rattle.fp_small.specs.declared.state.Previous.{Previous};
+ghost use Rattle.fp_small.specs.declared.state.RefRow.{RefRow};
+ghost use Rattle.fp_name.specs.Refs.{ref_text};
+ghost use Rattle.dep_states.specs.After.{after, plain, exchanged, HasRow, HasPrevious, IsGood};
+ghost use Rattle.dep_states.specs.Shown.{at_name, ref_key};
+ghost use Rattle.dep_states.specs.Sound.{Opens};
+ghost use Rattle.op_deploy.specs.Applied.{Does, DeploysName, WasDone};
+
+use crate::deploying::deploy_row;
+use dep_states::Opened;
+use dep_switch::{find_ref, new_link_path};
+use fp_host::{Host, HostEnd};
+use fp_name::{Digest, RefName};
+use fp_small::{Previous, RefRow, clear};
+use std::alloc::{AllocError, Global};
+
+/// The row with its commit and the previous one in each other's places.
+fn exchanged(row: &RefRow, previous: &Previous) -> Result<RefRow, AllocError>
+    ensures { IfOk result (λ r. r ≡ exchanged row.now previous.now) }
+{
+    Ok(RefRow {
+        name: row.name.copy()?,
+        origin: row.origin.copy()?,
+        commit: previous.commit,
+        timestamp: previous.timestamp,
+        previous: Some(Previous {
+            commit: row.commit,
+            timestamp: row.timestamp,
+        }),
+    })
+}
+
+/// The row of the ref after it went back. It is for a ref that has a previous commit.
+fn row_back(rows: &[RefRow], name: &RefName) -> Result<RefRow, AllocError>
+    requires { (row : RefRow) × (p : Previous) × (at_name ref_key rows.now (ref_text name.now) ≡
+        Some row) × (row.previous ≡ Some p) }
+    ensures { IfOk result (λ r. (row : RefRow) × (p : Previous)
+        × (at_name ref_key rows.now (ref_text name.now) ≡ Some row) × (row.previous ≡ Some p)
+        × (r ≡ exchanged row p)) }
+{
+    let Some(row) = find_ref(rows, name) else {
+        unreachable!();
+    };
+    let Some(previous) = &row.previous else {
+        unreachable!();
+    };
+    exchanged(row, previous)
+}
+
+/// Takes a ref back to its previous commit, which this is: the folder of that commit is there. No remote is asked.
+pub fn roll_back<H: Host>(
+    alloc: Global,
+    host: &mut H,
+    opened: Opened,
+    name: &RefName,
+    commit: &Digest,
+) -> Result<Opened, HostEnd>
+    requires back { HasRow opened name.now (HasPrevious commit.now) }
+    requires good { IsGood opened }
+    ensures state { IfOk result (λ o. o ≡ after opened (plain (Rollback name.now commit.now))) }
+    ensures any_moment { Always (Does opened (after opened (plain (Rollback name.now commit.now)))
+        (λ u. DeploysName name.now commit.now)) (H.moments host.old) (H.moments host.new) }
+    ensures on_success { OnOk result (AtEnd (WasDone opened
+        (after opened (plain (Rollback name.now commit.now))))
+        (H.moments host.old) (H.moments host.new)) }
+    ensures fault_has_cause { IsCaused (IsErrOf result HostEnd.Fault) (H.moments host.old)
+        (Opens opened) (H.faults host.old) (H.faults host.new) }
+    ensures starved_opens { IsErrOf result HostEnd.NoMemory → AtEnd
+        (λ u w. Opens opened u → Opens opened w) (H.moments host.old) (H.moments host.new) }
+{
+    let row = row_back(opened.state().refs.as_slice(), name)?;
+    let link = new_link_path(alloc)?;
+    clear(alloc, host, &link)?;
+    deploy_row(alloc, host, opened, row)
+}

@@ -1,0 +1,46 @@
+//! A ref that is uninstalled.
+ghost use Rattle.std.specs.Prelude.{◌≡◌, ◌≢◌, None, IfOk, OnOk, IsErrOf};
+ghost use Rattle.fp_host.specs.Causes.{IsCaused};
+ghost use Rattle.fp_host.specs.Frame.{AtEnd};
+ghost use Rattle.fp_host.specs.Moments.{Always};
+ghost use Rattle.fp_small.specs.Clear.{AbsentAt};
+ghost use Rattle.fp_small.specs.declared.op.Op.TheVariants.{Uninstall};
+ghost use Rattle.dep_states.specs.After.{after, plain, row_at};
+ghost use Rattle.dep_states.specs.Names.{active};
+ghost use Rattle.dep_states.specs.Sound.{Opens};
+ghost use Rattle.op_deploy.specs.Applied.{Does, WasDone};
+
+use dep_states::Opened;
+use dep_switch::{Faulted, RetireError, RetirePlan};
+use fp_host::{Host, HostEnd};
+use fp_name::RefName;
+use std::alloc::Global;
+
+/// Takes a deployed ref away: its `active` goes. Its folders and its objects stay for a tidying.
+pub fn uninstall<H: Host>(
+    alloc: Global,
+    host: &mut H,
+    opened: Opened,
+    name: &RefName,
+) -> Result<Opened, HostEnd>
+    requires there { row_at opened name.now ≢ None }
+    ensures state { IfOk result (λ o. o ≡ after opened (plain (Uninstall name.now))) }
+    ensures any_moment { Always (Does opened (after opened (plain (Uninstall name.now)))
+        (λ u. AbsentAt (active name.now))) (H.moments host.old) (H.moments host.new) }
+    ensures on_success { OnOk result (AtEnd (WasDone opened
+        (after opened (plain (Uninstall name.now)))) (H.moments host.old) (H.moments host.new)) }
+    ensures fault_has_cause { IsCaused (IsErrOf result HostEnd.Fault) (H.moments host.old)
+        (Opens opened) (H.faults host.old) (H.faults host.new) }
+    ensures starved_unchanged { IsErrOf result HostEnd.NoMemory → AtEnd (λ u w. w ≡ u)
+        (H.moments host.old) (H.moments host.new) }
+{
+    let plan = match RetirePlan::new(alloc, opened.state(), name) {
+        Ok(plan) => plan,
+        Err(RetireError::NoMemory) => return Err(HostEnd::NoMemory),
+        Err(RetireError::NotThere) => unreachable!(),
+    };
+    match plan.retire(host, opened) {
+        Ok(switched) => Ok(switched.settled()),
+        Err(Faulted) => Err(HostEnd::Fault),
+    }
+}
