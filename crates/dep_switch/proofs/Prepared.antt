@@ -1,5 +1,5 @@
 -- What is made before a switch.
-use Rattle.std.proofs.Common.{◌≡◌, ◌≢◌, ◌⊎◌, inl, inr, ℕ, List, [], ◌∷◌, Option, Some, None, Result, Ok, true, refl, sym, ◌∙◌, ap, subst, Contains, codes}
+use Rattle.std.proofs.Common.{◌≡◌, ◌≢◌, ◌⊎◌, ◌<◌, inl, inr, ℕ, List, [], ◌∷◌, Option, Some, None, Result, Ok, true, refl, sym, ◌∙◌, ap, subst, Contains, codes, arith}
 use Rattle.std.proofs.lemmas.List.Elements.{Contains-push_cases}
 use Rattle.fp_host.specs.Paths.{Elements, Slot, absent, dir, file, link, is_link_text, set_at}
 use Rattle.fp_host.specs.View.{View, Inode, IsTree}
@@ -64,8 +64,8 @@ module _ {deploy : Elements} {text : List ℕ} where
   }
 
   pub prepares_link : {l : Elements} {r : Result (Unit {0}) HostError} {v w : View} → l ≡ new_link → IsTree v → Step (makes_link text l) r v w → Prepares deploy text v w
-  prepares_link is tree step = prepares_keeps (λ q spot h. a_link (h.0 ∙ is) h.1) (λ q e h. the_link (h.0 ∙ is) h.1)
-      (keeps_call {G = λ q spot. (q ≡ _) × (spot ≡ points text)} {W = λ q e. (q ≡ _) × (e ≡ link text)} {A = NoPath} tree (λ q spot h. h) (λ q e h. h) (λ x i h. absurd h) tt tt (called step))
+  prepares_link {l = l} is tree step = prepares_keeps (λ q spot h. a_link (h.0 ∙ is) h.1) (λ q e h. the_link (h.0 ∙ is) h.1)
+      (keeps_call {G = λ q spot. (q ≡ l) × (spot ≡ points text)} {W = λ q e. (q ≡ l) × (e ≡ link text)} {A = NoPath} tree (λ q spot h. h) (λ q e h. h) (λ x i h. absurd h) tt tt (called step))
 
   pub prepares_sync : {r : Result (Unit {0}) HostError} {v w : View} → IsTree v → Step syncs r v w → Prepares deploy text v w
   prepares_sync tree step = prepares_keeps (λ q spot h. absurd h) (λ q e h. absurd h)
@@ -140,7 +140,7 @@ housed {deploy = deploy} {l = l} {u = u} {v = v} is keeps made = record {
 }
 
 tmp_in : Contains (ancestors new_link) tmp
-tmp_in = (1, refl)
+tmp_in = (1, omega arith, refl)
 
 -- and after the file
 pub can_link : {deploy l : Elements} {text : List ℕ} {u v w : View} → l ≡ new_link → is_link_text text ≡ true → IsHoused deploy u v → WritesFile deploy v w → CanPrepare deploy u → Can (makes_link text l) w

@@ -3,6 +3,7 @@ use Rattle.std.proofs.Common.{◌≡◌, ◌≢◌, ◌⊎◌, ◌≤◌, inl, i
 use Rattle.std.specs.Prelude.{if◌then◌else◌, leb}
 use Rattle.std.specs.Str.{bytes_eq}
 use Rattle.std.proofs.lemmas.Bool.{le-leb}
+use Rattle.fp_base.specs.declared.object.ObjKind.{ObjKind}
 use Rattle.fp_host.specs.Paths.{Elements, Slot, absent, dir, file, link}
 use Rattle.fp_host.specs.View.{View, IsTree}
 use Rattle.fp_host.specs.Calls.{HasFolder, IsFile}
@@ -20,14 +21,14 @@ use Rattle.fp_small.specs.declared.state.State.{State}
 use Rattle.fp_small.specs.declared.state.RefRow.{RefRow}
 use Rattle.fp_small.proofs.Ordered.{bytes_eq-itself}
 use Rattle.ost_model.specs.Look.{Found, nothing, directory, file_at, look, next, at_root}
-use Rattle.ost_model.specs.Fields.{CommitView}
+use Rattle.ost_model.specs.Fields.{CommitView, DirRow}
 use Rattle.ost_model.specs.Objects.{object_path, store}
-use Rattle.ost_model.specs.Order.{commit_at}
+use Rattle.ost_model.specs.Order.{commit_at, root_row}
 use Rattle.ost_model.specs.Standing.{expected, is_metadata, deploy_name, metadata_name, Stands}
 use Rattle.ost_model.proofs.Local.{stands_same}
 use Rattle.dep_states.specs.Names.{commit_dir, deploy}
 use Rattle.dep_states.specs.Deploy.{deploy_of}
-use Rattle.dep_states.specs.Shown.{there, read_of, read_file, row_in, deploy_at, small_most, Shows}
+use Rattle.dep_states.specs.Shown.{bad, there, read_of, read_file, row_in, deploy_at, small_most, Shows}
 use Rattle.dep_states.specs.Sound.{reads_as, IsPrevious, Keeps, Sound, Opens}
 use Rattle.dep_states.specs.Switch.{Prepared, Stages}
 use Rattle.dep_states.proofs.Deployed.{top}
@@ -68,7 +69,7 @@ inside_stays row rest off (new_folder has is) = top_inside rest row.name row.com
 inside_stays row rest off (the_link at is) = top_inside rest row.name row.commit (rest ++ commit_dir row.name row.commit) refl (ap top at)
 
 -- an object
-object_stays : (row : RefRow) (d : List ℕ) (kind : _) {e : Slot} → PreparesName (row_deploy row) (hex row.commit) (object_path repo d kind) e → ⊥
+object_stays : (row : RefRow) (d : List ℕ) (kind : ObjKind) {e : Slot} → PreparesName (row_deploy row) (hex row.commit) (object_path repo d kind) e → ⊥
 object_stays row d kind (new_deploy at is) = cc at
 object_stays row d kind (new_folder has is) = elim (which (object_path repo d kind) has) [ inl at ↦ cc at | inr at ↦ cc at ]
 object_stays row d kind (the_link at is) = cc at
@@ -87,9 +88,9 @@ module _ {row : RefRow} {u w : View} (before : IsTree u) (after : IsTree w) (pre
 bytes_read : (name : Ref) (id : ℕ) (bytes : List ℕ) (row : RefRow) → row.name ≡ name → deploy_of bytes ≡ Some (data_of row) → length bytes ≤ small_most → deploy_at name (hex row.commit) (holds id 420 bytes) ≡ there row
 unfolding deploy_at
 bytes_read name id bytes row is says short =
-    ap (λ b. row_in name (hex row.commit) (if b then read_of (deploy_of bytes) else _)) (le-leb (length bytes) small_most short)
+    ap (λ b. row_in name (hex row.commit) (if b then read_of (deploy_of bytes) else bad)) (le-leb (length bytes) small_most short)
     ∙ ap (λ o. row_in name (hex row.commit) (read_of o)) says
-    ∙ ap (λ b. if b then there (record { name = name; origin = row.origin; commit = row.commit; timestamp = row.timestamp; previous = row.previous }) else _) (bytes_eq-itself (hex row.commit))
+    ∙ ap (λ b. if b then there (record { name = name; origin = row.origin; commit = row.commit; timestamp = row.timestamp; previous = row.previous }) else bad) (bytes_eq-itself (hex row.commit))
     ∙ ap (λ n. there (record { name = n; origin = row.origin; commit = row.commit; timestamp = row.timestamp; previous = row.previous })) (sym is)
 
 file_shown : {p : Elements} {bytes : List ℕ} {w : View} → IsTree w → (made : HasFile p bytes w) → shows w p ≡ holds made.id 420 bytes
@@ -126,9 +127,9 @@ module _ {s : State} {row : RefRow} {bytes : List ℕ} {u w : View} (good : is_r
 
 -- ---- where it may be
 
-root_cases : (c : Option CommitView) → (at_root c ≡ nothing) ⊎ ((e : _) × (at_root c ≡ directory e))
+root_cases : (c : Option CommitView) → (at_root c ≡ nothing) ⊎ ((e : DirRow) × (at_root c ≡ directory e))
 root_cases None = inl refl
-root_cases (Some c) = inr (_, refl)
+root_cases (Some c) = inr (root_row c, refl)
 
 -- the folder of a commit that stands is there
 pub folder_stands : {reads : List ℕ → Bool} {disk : Disk} {commit : List ℕ} {p : Elements} → Stands reads repo disk commit p → disk p ≡ folder

@@ -23,6 +23,7 @@ use Rattle.dep_states.proofs.Deployed.{row_is, deployed_sound, deployed_shows}
 use Rattle.dep_states.proofs.Openings.{shown_opens}
 use Rattle.dep_states.proofs.Switch.{retired, shows_changed, sound_changed, inside_apart, deploy_apart, length_apart}
 use Rattle.dep_states.proofs.Switching.{permits_gone}
+use Rattle.dep_states.proofs.Total.{ref_is}
 use Rattle.dep_switch.specs.Samples.{undeployed_disk, undeployed_state}
 use Rattle.dep_switch.specs.Staging.{CanStage}
 use Rattle.dep_switch.specs.Writing.{new_link}
@@ -47,7 +48,7 @@ with_none : IsWith deployed_state platform None undeployed_state
 with_none = changes.without_row deployed_state refl platform
 
 pub undeployed_shows : Shows undeployed_disk undeployed_state
-undeployed_shows = shows_changed {i = deployed_disk} {j = undeployed_disk} {name = platform} refl changed with_none deployed_shows
+undeployed_shows = shows_changed {i = deployed_disk} {j = undeployed_disk} {name = platform} (ref_is deployed_disk platform deployed_row row_is).0 changed with_none deployed_shows
 
 pub undeployed_sound : Sound undeployed_disk
 undeployed_sound = sound_changed changed deployed_sound

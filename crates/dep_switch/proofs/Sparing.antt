@@ -23,7 +23,7 @@ use Rattle.fp_small.specs.declared.state.RefRow.{RefRow}
 use Rattle.ost_model.specs.Standing.{deploy_name}
 use Rattle.dep_states.specs.Names.{active, branch_dir, text_dir, commit_dir, deploy}
 use Rattle.dep_states.specs.Shown.{Seen, away, bad, there, seen_of, row_of, row_in, deploy_at, by_active, ref_seen, row_seen, Shows}
-use Rattle.dep_states.specs.Zones.{Zone, anything, a_link, a_folder, here, is, IsFileOrGone, Fits, zone, outward, Allowed}
+use Rattle.dep_states.specs.Zones.{Zone, anything, is, IsFileOrGone, Fits, zone, outward, Allowed}
 use Rattle.dep_states.specs.Sound.{Keeps, Sound, Fixed, is_remotes, is_pins, is_config, is_old, is_active, is_deploy, is_layer, is_inside, is_object, Permits, Opens, Spares}
 use Rattle.dep_states.specs.After.{row_at}
 use Rattle.dep_states.specs.declared.deploy.DeployData.{DeployData}
@@ -37,7 +37,7 @@ use Rattle.dep_states.proofs.Switching.{none_in_tmp, word_no_repo}
 use Rattle.dep_states.proofs.Total.{row_there}
 use Rattle.dep_states.proofs.Worked.{active_same}
 use Rattle.dep_switch.specs.Rows.{IsAt}
-use Rattle.dep_switch.specs.Writing.{new_link, FileAt, PreparesAt, a_deploy, a_folder as made_folder, a_link as new_link_at}
+use Rattle.dep_switch.specs.Writing.{new_link, FileAt, PreparesAt, a_deploy, a_folder, a_link}
 
 -- ---- what is shown at an `active`
 
@@ -143,13 +143,13 @@ folder_permitted i p (inr at) = record { allowed = subst (λ q. Allowed q folder
 module _ {v : View} {path : Elements} (text : List ℕ) (spares : Spares v (FileAt path)) where
   avoids : (disk : Disk) → Leaves v disk → (p : Elements) (spot : Spot) → Fixed disk p → PreparesAt path text p spot → ⊥
   avoids disk left p spot f (a_deploy at fits) = spares.avoids disk left p spot f (at, fits)
-  avoids disk left p spot f (made_folder has at) = elim (which p has) [ inl here ↦ unfixed_repo disk p here f | inr here ↦ none_in_tmp [] here f ]
-  avoids disk left p spot f (new_link_at at here) = none_in_tmp (codes "active" ∷ []) at f
+  avoids disk left p spot f (a_folder has at) = elim (which p has) [ inl here ↦ unfixed_repo disk p here f | inr here ↦ none_in_tmp [] here f ]
+  avoids disk left p spot f (a_link at here) = none_in_tmp (codes "active" ∷ []) at f
 
   permits : (disk : Disk) → Leaves v disk → (p : Elements) (spot : Spot) → PreparesAt path text p spot → Permits disk p spot
   permits disk left p spot (a_deploy at fits) = spares.permits disk left p spot (at, fits)
-  permits disk left p spot (made_folder has at) = subst (Permits disk p) (sym at) (folder_permitted disk p (which p has))
-  permits disk left p spot (new_link_at at here) = record {
+  permits disk left p spot (a_folder has at) = subst (Permits disk p) (sym at) (folder_permitted disk p (which p has))
+  permits disk left p spot (a_link at here) = record {
     allowed = subst (λ q. Allowed q spot) (sym at) (record { fits = tt; short = inr (omega arith) });
     deploy = λ n c k is. absurd (no_deploy_in_repo p (ap top at) n c is);
   }

@@ -1,5 +1,6 @@
 -- The rename of the link onto `active`.
-use Rattle.std.proofs.Common.{◌≡◌, ◌≢◌, ◌⊎◌, inl, inr, ℕ, List, [], ◌∷◌, ◌++◌, Option, Some, None, Result, Ok, Bool, true, ◌&&◌, codes, refl, sym, ◌∙◌, ap, subst}
+use Rattle.std.proofs.Common.{◌≡◌, ◌≢◌, ◌⊎◌, inl, inr, ℕ, List, [], ◌∷◌, ◌++◌, Option, Some, None, Result, Ok, Bool, true, false, ◌&&◌, codes, refl, sym, ◌∙◌, ap, subst}
+use Rattle.std.specs.Prelude.{if◌then◌else◌}
 use Rattle.std.proofs.lemmas.Bool.{and_parts}
 use Rattle.fp_host.specs.Paths.{Elements, Slot, absent, dir, file, link, set_at}
 use Rattle.fp_host.specs.View.{View, IsTree}
@@ -28,7 +29,7 @@ use Rattle.dep_states.specs.Deploy.{deploy_of}
 use Rattle.dep_states.specs.Shown.{there, deploy_at, small_most, Shows}
 use Rattle.dep_states.specs.Sound.{Sound, Opens}
 use Rattle.dep_states.specs.Switch.{IsWith, SwitchesAt, Stages, Prepared, OpensEither}
-use Rattle.dep_states.specs.Zones.{IsLinkOrGone, Fits, zone, outward, Allowed}
+use Rattle.dep_states.specs.Zones.{Zone, anything, a_link, IsLinkOrGone, Fits, zone, outward, Allowed}
 use Rattle.dep_states.proofs.Changes as changes
 use Rattle.dep_states.proofs.Deploys.{deploy_reads}
 use Rattle.dep_states.proofs.Good.{row_in_good, file_says}
@@ -43,12 +44,12 @@ use Rattle.dep_switch.proofs.Spots.{now_left, folder_dir, link_free, leaf_no_dir
 
 -- what stands at the end of nothing
 pub either_follows : {s t : State} {v w : View} → Follows Nothing v w → OpensEither s t v → OpensEither s t w
-either_follows {s = s} {t = t} follows either = record {
+either_follows {s = s} {t = t} {w = w} follows either = record {
   shown = λ disk left. let b = follows.from disk left in subst (λ (i : Disk). Shows i s ⊎ Shows i t) (same disk left) (either.shown b.0 b.1);
   sound = λ disk left. let b = follows.from disk left in subst Sound (same disk left) (either.sound b.0 b.1);
 }
   where
-    same : (disk : Disk) (left : Leaves _ disk) → (follows.from disk left).0 ≡ disk
+    same : (disk : Disk) (left : Leaves w disk) → (follows.from disk left).0 ≡ disk
     same disk left = λ k p. (elim ((follows.from disk left).2 p) [ inl is ↦ sym is | inr none ↦ absurd none ]) k
 
 -- the state after is the one of before with the row
@@ -123,10 +124,14 @@ module _ {staged : Staged} {u v w : View} (tree : IsTree v) (after : IsTree w) (
 
 -- ---- where it may be
 
+unless_any : (b : Bool) (z : Zone) (p : Elements) (spot : Spot) → b ≡ true → Fits (if b then z else anything) p spot → Fits z p spot
+unless_any true z p spot e fits = fits
+unless_any false z p spot e fits = absurd (cc e)
+
 active_fits : (k : RefKind) (id arch branch : List ℕ) (p : Elements) (spot : Spot) → is_id id ≡ true → is_arch arch ≡ true → is_branch branch ≡ true
     → Fits (zone (outward (codes "active" ∷ (branch ∷ (arch ∷ (id ∷ (kind_word k ∷ []))))))) p spot → IsLinkOrGone spot
-active_fits App id arch branch p spot i a b fits = rw (i, a, b) at fits
-active_fits Runtime id arch branch p spot i a b fits = rw (i, a, b) at fits
+active_fits App id arch branch p spot i a b fits = unless_any (is_branch branch) a_link p spot b (unless_any (is_arch arch) _ p spot a (unless_any (is_id id) _ p spot i fits))
+active_fits Runtime id arch branch p spot i a b fits = unless_any (is_branch branch) a_link p spot b (unless_any (is_arch arch) _ p spot a (unless_any (is_id id) _ p spot i fits))
 
 pub active_link : (name : Ref) {spot : Spot} → is_ref name ≡ true → Allowed (active name) spot → IsLinkOrGone spot
 active_link name {spot = spot} good allowed =

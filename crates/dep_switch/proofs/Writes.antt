@@ -6,7 +6,7 @@ use Rattle.fp_host.specs.Calls.{appends, creates, Step, Creates, CanCreate, HasF
 use Rattle.fp_host.specs.Outcome.{Spot, gone, Follows}
 use Rattle.fp_host.specs.Frame.{Keeps, NoPath}
 use Rattle.fp_host.specs.declared.host.HostError.{HostError}
-use Rattle.fp_host.proofs.Follow.{follows_on, follows_to, follows_call, follows_refl, called}
+use Rattle.fp_host.proofs.Follow.{follows_on, follows_to, follows_call, called, no_loop}
 use Rattle.fp_host.proofs.Filed.{files_kept}
 use Rattle.fp_host.proofs.Keep.{names_kept, printed_kept}
 use Rattle.fp_host.specs.Frame.{Frame, AtEnd}
@@ -76,16 +76,9 @@ pub no_dir : {p : Elements} {v : View} → IsFreeFile p v → IsNoDir (v.names p
 no_dir (inl none) = subst IsNoDir (sym none) tt
 no_dir (inr is) = subst IsNoDir (sym is.1) tt
 
-no_loop : (x : List ℕ) (p : Elements) → p ≡ x ∷ p → ⊥
-no_loop x p e = not_longer x p e
-  where
-    not_longer : (x : List ℕ) (p : Elements) → p ≡ x ∷ p → ⊥
-    not_longer x [] e = cc e
-    not_longer x (y ∷ p) e = not_longer y p cc
-
 folder_stays : {G : Elements → Spot → Type 0} {A : Elements → Type 0} (p : Elements) {u v : View} → Keeps G (AbsentAt p) A u v → HasFolder u p → HasFolder v p
 folder_stays [] keeps above = above
-folder_stays (x ∷ up) keeps above = elim (keeps.names up) [ inl same ↦ same ∙ above | inr put ↦ absurd (no_loop x up put.0) ]
+folder_stays (x ∷ up) keeps above = elim (keeps.names up) [ inl same ↦ same ∙ above | inr put ↦ absurd (no_loop x up (sym put.0)) ]
 
 pub can_create : {G : Elements → Spot → Type 0} {A : Elements → Type 0} {p : Elements} {u v : View} → Keeps G (AbsentAt p) A u v → v.names p ≡ absent → CanWrite p u → CanCreate p 420 v
 can_create {p = p} keeps none can = (folder_stays p keeps can.above, none, mode)

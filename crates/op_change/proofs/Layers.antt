@@ -1,5 +1,5 @@
 -- One override that changes.
-use Rattle.std.proofs.Common.{◌≡◌, ◌≢◌, ◌⊎◌, ◌≤◌, ◌||◌, inl, inr, ℕ, List, [], ◌∷◌, ◌++◌, length, map, Bool, true, Option, Some, None, Result, Ok, Contains, codes, refl, sym, ◌∙◌, ap, subst, arith}
+use Rattle.std.proofs.Common.{◌≡◌, ◌≢◌, ◌⊎◌, ◌≤◌, ◌||◌, inl, inr, ℕ, List, [], ◌∷◌, ◌++◌, length, map, Bool, true, false, Option, Some, None, Result, Ok, Contains, codes, refl, sym, ◌∙◌, ap, subst, arith}
 use Rattle.std.specs.Prelude.{if◌then◌else◌, leb}
 use Rattle.std.specs.Str.{bytes_eq}
 use Rattle.std.proofs.lemmas.Bool.{le-leb, or_cases, cond-true}
@@ -21,7 +21,8 @@ use Rattle.fp_host.proofs.Separate.{path_cases}
 use Rattle.fp_host.proofs.Settled.{settled_disk}
 use Rattle.fp_host.specs.Reads.{is_ascending}
 use Rattle.fp_name.specs.Refs.{Ref}
-use Rattle.fp_keyfile.specs.KeyFile.{text_of, file_of}
+use Rattle.fp_keyfile.specs.KeyFile.{text_of, file_of, is_good}
+use Rattle.fp_keyfile.proofs.Read.{file_of-text_of}
 use Rattle.fp_name.specs.FileNames.{is_file_name}
 use Rattle.fp_name.specs.Grammar.{is_id}
 use Rattle.fp_name.proofs.Files.{file_id}
@@ -172,12 +173,15 @@ file_reads row id back short =
     ∙ ap (λ r. named_override row.name (read_of (if_file r))) back
 
 set_there : (s : State) (row : OverrideRow) → at_name override_key (set_state s row).overrides row.name ≡ Some row
-set_there s row = at_replaced override_key s.overrides row row.name ∙ rw (bytes_eq-itself row.name) refl
+set_there s row = at_replaced override_key s.overrides row (override_key row) ∙ rw (bytes_eq-itself (override_key row)) refl
 
 ascending : {s : State} {v : View} → Opens s v → is_ascending (map override_key s.overrides) ≡ true
 ascending {v = v} opens = (opens.shown (shows v) (now_left v)).overrides_ascend
 
-module _ {s : State} {row : OverrideRow} (name_good : is_override row.name ≡ true) (back : file_of (text_of row.file) ≡ Ok row.file) (short : length (text_of row.file) ≤ small_most) where
+module _ {s : State} {row : OverrideRow} (name_good : is_override row.name ≡ true) (fine : is_good row.file ≡ true) (short : length (text_of row.file) ≤ small_most) where
+  back : file_of (text_of row.file) ≡ Ok row.file
+  back = file_of-text_of row.file fine
+
   abbrev path : Elements
   path = override_path row.name
 
@@ -248,8 +252,12 @@ module _ {s : State} {row : OverrideRow} (name_good : is_override row.name ≡ t
       (record { goes = begins told (goes_known goes done) (λ u w t r. tt) (λ u w t r q. (t, q.0, q.1)) })
       (λ u w after_ q. was_set q.0 after_ q.1 q.2)
 
+unless_any : (b : Bool) (z : Zone) (p : Elements) (spot : Spot) → b ≡ true → Fits (if b then z else anything) p spot → Fits z p spot
+unless_any true z p spot e fits = fits
+unless_any false z p spot e fits = absurd (cc e)
+
 layer_fits : (name : List ℕ) (spot : Spot) → is_override name ≡ true → Allowed (override_path name) spot → IsFileOrGone spot
-layer_fits name spot good allowed = let fits = allowed.fits in rw good at fits
+layer_fits name spot good allowed = unless_any (is_override name) a_file (override_path name) spot good allowed.fits
 
 pub can_set : {s : State} {name : List ℕ} {v : View} → is_override name ≡ true → IsTree v → Opens s v → CanReplace (override_path name) v
 can_set {name = name} {v = v} good tree opens =
@@ -354,3 +362,9 @@ no_dir_file (inr is) = subst IsNoDir (sym is.1) tt
 
 pub can_drop : {s : State} {name : List ℕ} {v : View} → is_override name ≡ true → IsTree v → Opens s v → IsNoDir (v.names (override_path name))
 can_drop good tree opens = no_dir_file (can_set good tree opens).entry
+
+pub framed_at : {p q : Elements} {a b : Option Moments} → p ≡ q → Frame (GoneAt p) (AbsentAt p) NoPath a b → Frame (GoneAt q) (AbsentAt q) NoPath a b
+framed_at {a = a} {b = b} is frame = subst (λ (r : Elements). Frame (GoneAt r) (AbsentAt r) NoPath a b) is frame
+
+pub gone_at : {p q : Elements} {a b : Option Moments} → p ≡ q → AtEnd (λ u w. w.names p ≡ absent) a b → AtEnd (λ u w. w.names q ≡ absent) a b
+gone_at {a = a} {b = b} is none = subst (λ (r : Elements). AtEnd (λ u w. w.names r ≡ absent) a b) is none

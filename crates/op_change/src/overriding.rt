@@ -3,9 +3,9 @@ ghost use Rattle.std.specs.Prelude.{◌≡◌, ◌≤◌, ◌∷◌, true, lengt
 ghost use Rattle.fp_host.specs.Causes.{IsCaused};
 ghost use Rattle.fp_host.specs.Frame.{AtEnd};
 ghost use Rattle.fp_host.specs.Moments.{Always};
-ghost use Rattle.fp_keyfile.specs.KeyFile.{text_of};
+ghost use Rattle.fp_keyfile.specs.KeyFile.{text_of, is_good};
 ghost use Rattle.fp_small.specs.Clear.{AbsentAt};
-ghost use Rattle.fp_small.specs.Replace.{ReplacesName};
+ghost use Rattle.fp_small.specs.Replace.{Replaces, ReplacesName, WasReplaced, CanReplace};
 ghost use Rattle.fp_small.specs.declared.op.Op.TheVariants.{SetOverride, DropOverride};
 ghost use Rattle.dep_states.specs.After.{after, plain};
 ghost use Rattle.dep_states.specs.Names.{is_override, override_path};
@@ -70,6 +70,23 @@ fn without_override(state: State, name: &Text) -> State
     }
 }
 
+/// Writes the file of an override anew.
+fn write_layer<H: Host>(alloc: Global, host: &mut H, row: &OverrideRow) -> Result<(), HostEnd>
+    requires { is_override row.now.name ≡ true }
+    ensures any_moment { Always (Replaces (override_path row.now.name) (text_of row.now.file))
+        (H.moments host.old) (H.moments host.new) }
+    ensures on_success { OnOk result (AtEnd (WasReplaced (override_path row.now.name)
+        (text_of row.now.file)) (H.moments host.old) (H.moments host.new)) }
+    ensures fault_has_cause { IsCaused (IsErrOf result HostEnd.Fault) (H.moments host.old)
+        (CanReplace (override_path row.now.name)) (H.faults host.old) (H.faults host.new) }
+    ensures starved_unchanged { IsErrOf result HostEnd.NoMemory → AtEnd (λ u w. w ≡ u)
+        (H.moments host.old) (H.moments host.new) }
+{
+    let path = path_of(alloc, &row.name)?;
+    let text = row.file.write()?;
+    replace(alloc, host, &path, text.as_str().as_bytes())
+}
+
 /// Sets an override: its file is written anew.
 pub(crate) fn set_override<H: Host>(
     alloc: Global,
@@ -78,6 +95,7 @@ pub(crate) fn set_override<H: Host>(
     row: &OverrideRow,
 ) -> Result<Opened, HostEnd>
     requires name { is_override row.now.name ≡ true }
+    requires file { is_good row.now.file ≡ true }
     requires short { length (text_of row.now.file) ≤ small_most }
     ensures state { IfOk result (λ o. o ≡ after opened (plain (SetOverride row.now))) }
     ensures any_moment { Always (Does opened (after opened (plain (SetOverride row.now)))
@@ -89,10 +107,8 @@ pub(crate) fn set_override<H: Host>(
     ensures starved_unchanged { IsErrOf result HostEnd.NoMemory → AtEnd (λ u w. w ≡ u)
         (H.moments host.old) (H.moments host.new) }
 {
-    let path = path_of(alloc, &row.name)?;
-    let text = row.file.write()?;
     let state = with_override(opened.take(), copy_of(row)?)?;
-    replace(alloc, host, &path, text.as_str().as_bytes())?;
+    write_layer(alloc, host, row)?;
     Ok(Opened::of(state))
 }
 

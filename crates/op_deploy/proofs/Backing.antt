@@ -42,7 +42,7 @@ use Rattle.dep_switch.specs.Staging.{CanStage}
 use Rattle.dep_switch.specs.Writing.{new_link, PreparesName, new_deploy, new_folder, the_link}
 use Rattle.dep_switch.proofs.Sparing.{which}
 use Rattle.dep_switch.proofs.Spots.{now_left, gone_absent, file_free}
-use Rattle.op_deploy.specs.Applied.{DeploysName, work_goes, before_switch, at_active, Deploys, WasDeployed, Does, WasDone}
+use Rattle.op_deploy.specs.Applied.{DeploysName, work_goes, before_switch, at_active, Deploys, WasDeployed, Does, WasDone, HasBack, IsRowBack}
 use Rattle.op_deploy.proofs.Objects.{same_objects}
 
 -- ---- the row
@@ -65,21 +65,25 @@ no_moves : (commit : List ℕ) (o : Option Previous) (p : Previous) → o ≡ So
 no_moves commit None p e f = absurd (cc e)
 no_moves commit (Some q) p e f = subst (λ (x : Previous). bytes_eq x.commit commit ≡ false) (some_is e) f
 
-pub is_back : {s : State} {name : Ref} {commit : List ℕ} {new row : RefRow} {p : Previous} → is_ref name ≡ true → IsGood s → HasRow s name (HasPrevious commit) → row_at s name ≡ Some row → row.previous ≡ Some p → new ≡ exchanged row p → IsBack s name commit new
-is_back {s = s} {name = name} {commit = commit} {row = row} {p = p} good state has found was is =
-    let listed = at_found ref_key IsGoodRow s.refs (ref_text name) row state.rows found in
-    let row_good = listed.0 in
-    let same : has.0 ≡ row = some_is (sym has.1 ∙ found) in
-    let same_previous : has.2.0 ≡ p = some_is (sym has.2.1 ∙ ap (λ (r : RefRow). r.previous) same ∙ was) in
+pub has_back : {s : State} {name : Ref} {commit : List ℕ} → HasRow s name (HasPrevious commit) → HasBack s.refs name
+has_back has = record { row = has.0; previous = has.2.0; has = has.1; was = has.2.1 }
+
+pub is_back : {s : State} {name : Ref} {commit : List ℕ} {new : RefRow} → IsGood s → HasRow s name (HasPrevious commit) → IsRowBack s.refs name new → IsBack s name commit new
+is_back {s = s} {name = name} {commit = commit} state has found =
+    let row = found.row in
+    let p = found.previous in
+    let listed = at_found ref_key IsGoodRow s.refs (ref_text name) row state.rows found.has in
+    let same : has.0 ≡ row = some_is (sym has.1 ∙ found.has) in
+    let same_previous : has.2.0 ≡ p = some_is (sym has.2.1 ∙ ap (λ (r : RefRow). r.previous) same ∙ found.was) in
     record {
       row = row;
       previous = p;
-      has = found;
-      was = was;
+      has = found.has;
+      was = found.was;
       at = ap (λ (x : Previous). x.commit) (sym same_previous) ∙ has.2.2;
-      is = is;
-      named = same_ref row.name name row_good.name good listed.1;
-      moves = no_moves row.commit row.previous p was row_good.moves;
+      is = found.is;
+      named = same_ref row.name name listed.0.name found.good listed.1;
+      moves = no_moves row.commit row.previous p found.was listed.0.moves;
     }
 
 pub back_moves : {s : State} {name : Ref} {commit : List ℕ} {new : RefRow} → IsBack s name commit new → goes_back_to new.commit new.previous ≡ false
@@ -221,3 +225,9 @@ module _ {s : State} {name : Ref} {commit : List ℕ} {new : RefRow} (good : is_
       ends_in_tree {Q = λ u w. (v : View) × IsTree u × IsTree v × Ready u v × Deploys s new v w × WasDeployed s new v w} last
       (ends_on (ends_both (ends_goes then deploys) done) start then (λ u v w tree q e. (v, q.0, tree, (q.1, q.2), e.0, e.1)))
       (λ u w after q. was_backed q.1 q.2 after q.3.0 q.3.1 q.4 q.5)
+
+pub within_at : {p q : Elements} {a b : Option Moments} → p ≡ q → Frame (GoneWithin p) (AbsentWithin p) NoPath a b → Frame (GoneWithin q) (AbsentWithin q) NoPath a b
+within_at {a = a} {b = b} is frame = subst (λ (r : Elements). Frame (GoneWithin r) (AbsentWithin r) NoPath a b) is frame
+
+pub cleared_at : {p q : Elements} {a b : Option Moments} → p ≡ q → AtEnd (λ u w. IsCleared p w) a b → AtEnd (λ u w. IsCleared q w) a b
+cleared_at {a = a} {b = b} is cleared = subst (λ (r : Elements). AtEnd (λ u w. IsCleared r w) a b) is cleared

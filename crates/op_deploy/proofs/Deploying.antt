@@ -31,7 +31,7 @@ module _ {s : State} {row : RefRow} where
   }
 
   module _ {staged : Staged} (leads : LeadsTo s row staged) where
-    can_now : {u v : View} → WasStaged s row u v → CanStage s row u → CanSwitch staged v
+    pub can_now : {u v : View} → WasStaged s row u v → CanStage s row u → CanSwitch staged v
     can_now was can = record { old = s; row = row; leads = leads; ready = was.staged can }
 
     -- and switched

@@ -5,13 +5,16 @@ use Rattle.fp_host.specs.Paths.{Elements, Slot, absent, link}
 use Rattle.fp_host.specs.View.{View}
 use Rattle.fp_host.specs.Outcome.{IsSettled, shows}
 use Rattle.fp_name.specs.Hex.{hex, is_digest}
-use Rattle.fp_name.specs.Refs.{Ref}
+use Rattle.fp_name.specs.Refs.{Ref, is_ref, ref_text}
 use Rattle.fp_small.specs.Clear.{IsWithin}
 use Rattle.fp_small.specs.Files.{KeepsFiles}
 use Rattle.fp_small.specs.Places.{repo}
 use Rattle.fp_small.specs.declared.state.State.{State}
+use Rattle.fp_small.specs.declared.state.Previous.{Previous}
 use Rattle.fp_small.specs.declared.state.RefRow.{RefRow}
 use Rattle.ost_model.specs.Objects.{store}
+use Rattle.dep_states.specs.After.{exchanged}
+use Rattle.dep_states.specs.Shown.{at_name, ref_key}
 use Rattle.dep_states.specs.Names.{active, commit_dir, deploy}
 use Rattle.dep_states.specs.Sound.{Opens}
 use Rattle.dep_states.specs.Switch.{OpensEither}
@@ -56,3 +59,19 @@ pub record Deploys (s : State) (row : RefRow) (u w : View) : Type 0 where
 pub record WasDeployed (s : State) (row : RefRow) (u w : View) : Type 0 where
   pub opens : CanStage s row u → Opens (with_row s row) w
   pub settled : IsSettled w
+
+-- the row of a ref among these after it went back: its commit and the previous one in each other's places
+pub record IsRowBack (rows : List RefRow) (name : Ref) (new : RefRow) : Type 0 where
+  pub row : RefRow
+  pub previous : Previous
+  pub has : at_name ref_key rows (ref_text name) ≡ Some row
+  pub was : row.previous ≡ Some previous
+  pub is : new ≡ exchanged row previous
+  pub good : is_ref name ≡ true
+
+-- the ref among these has a previous commit
+pub record HasBack (rows : List RefRow) (name : Ref) : Type 0 where
+  pub row : RefRow
+  pub previous : Previous
+  pub has : at_name ref_key rows (ref_text name) ≡ Some row
+  pub was : row.previous ≡ Some previous

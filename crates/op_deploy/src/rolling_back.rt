@@ -1,16 +1,12 @@
 //! A ref that goes back to its previous commit.
-ghost use Rattle.std.specs.Prelude.{◌≡◌, false, Some, IfOk, OnOk, IsErrOf};
+ghost use Rattle.std.specs.Prelude.{◌≡◌, IfOk, OnOk, IsErrOf};
 ghost use Rattle.fp_host.specs.Causes.{IsCaused};
 ghost use Rattle.fp_host.specs.Frame.{AtEnd};
 ghost use Rattle.fp_host.specs.Moments.{Always};
 ghost use Rattle.fp_small.specs.declared.op.Op.TheVariants.{Rollback};
-ghost use Rattle.fp_small.specs.declared.state.Previous.{Previous};
-ghost use Rattle.fp_small.specs.declared.state.RefRow.{RefRow};
-ghost use Rattle.fp_name.specs.Refs.{ref_text};
 ghost use Rattle.dep_states.specs.After.{after, plain, exchanged, HasRow, HasPrevious, IsGood};
-ghost use Rattle.dep_states.specs.Shown.{at_name, ref_key};
 ghost use Rattle.dep_states.specs.Sound.{Opens};
-ghost use Rattle.op_deploy.specs.Applied.{Does, DeploysName, WasDone};
+ghost use Rattle.op_deploy.specs.Applied.{Does, DeploysName, WasDone, HasBack, IsRowBack};
 
 use crate::deploying::deploy_row;
 use dep_states::Opened;
@@ -24,25 +20,23 @@ use std::alloc::{AllocError, Global};
 fn exchanged(row: &RefRow, previous: &Previous) -> Result<RefRow, AllocError>
     ensures { IfOk result (λ r. r ≡ exchanged row.now previous.now) }
 {
+    let left = Previous {
+        commit: row.commit,
+        timestamp: row.timestamp,
+    };
     Ok(RefRow {
         name: row.name.copy()?,
         origin: row.origin.copy()?,
         commit: previous.commit,
         timestamp: previous.timestamp,
-        previous: Some(Previous {
-            commit: row.commit,
-            timestamp: row.timestamp,
-        }),
+        previous: Some(left),
     })
 }
 
 /// The row of the ref after it went back. It is for a ref that has a previous commit.
 fn row_back(rows: &[RefRow], name: &RefName) -> Result<RefRow, AllocError>
-    requires { (row : RefRow) × (p : Previous) × (at_name ref_key rows.now (ref_text name.now) ≡
-        Some row) × (row.previous ≡ Some p) }
-    ensures { IfOk result (λ r. (row : RefRow) × (p : Previous)
-        × (at_name ref_key rows.now (ref_text name.now) ≡ Some row) × (row.previous ≡ Some p)
-        × (r ≡ exchanged row p)) }
+    requires { HasBack rows.now name.now }
+    ensures { IfOk result (IsRowBack rows.now name.now) }
 {
     let Some(row) = find_ref(rows, name) else {
         unreachable!();

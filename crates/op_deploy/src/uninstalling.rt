@@ -8,13 +8,27 @@ ghost use Rattle.fp_small.specs.declared.op.Op.TheVariants.{Uninstall};
 ghost use Rattle.dep_states.specs.After.{after, plain, row_at};
 ghost use Rattle.dep_states.specs.Names.{active};
 ghost use Rattle.dep_states.specs.Sound.{Opens};
+ghost use Rattle.dep_switch.specs.Retiring.{IsPlanOf};
 ghost use Rattle.op_deploy.specs.Applied.{Does, WasDone};
 
 use dep_states::Opened;
 use dep_switch::{Faulted, RetireError, RetirePlan};
 use fp_host::{Host, HostEnd};
 use fp_name::RefName;
-use std::alloc::Global;
+use fp_small::State;
+use std::alloc::{AllocError, Global};
+
+/// The plan for a ref that is deployed.
+fn plan_for(alloc: Global, state: &State, name: &RefName) -> Result<RetirePlan, AllocError>
+    requires { row_at state.now name.now ≢ None }
+    ensures { IfOk result (IsPlanOf name.now) }
+{
+    match RetirePlan::new(alloc, state, name) {
+        Ok(plan) => Ok(plan),
+        Err(RetireError::NoMemory) => Err(AllocError),
+        Err(RetireError::NotThere) => unreachable!(),
+    }
+}
 
 /// Takes a deployed ref away: its `active` goes. Its folders and its objects stay for a tidying.
 pub fn uninstall<H: Host>(
@@ -34,11 +48,7 @@ pub fn uninstall<H: Host>(
     ensures starved_unchanged { IsErrOf result HostEnd.NoMemory → AtEnd (λ u w. w ≡ u)
         (H.moments host.old) (H.moments host.new) }
 {
-    let plan = match RetirePlan::new(alloc, opened.state(), name) {
-        Ok(plan) => plan,
-        Err(RetireError::NoMemory) => return Err(HostEnd::NoMemory),
-        Err(RetireError::NotThere) => unreachable!(),
-    };
+    let plan = plan_for(alloc, opened.state(), name)?;
     match plan.retire(host, opened) {
         Ok(switched) => Ok(switched.settled()),
         Err(Faulted) => Err(HostEnd::Fault),

@@ -1,0 +1,27 @@
+use Rattle.std.proofs.Common.{◌∙◌, arith}
+use Rattle.std.specs.Prelude.{IsErr, IsErrOf}
+use Rattle.fp_host.specs.declared.host.HostEnd.TheVariants.{Fault}
+use Rattle.fp_host.proofs.Cause.{passed_on}
+use Rattle.fp_host.proofs.Goes.{begins}
+use Rattle.dep_switch.specs.Staging.{CanStage, CanSwitch}
+use Rattle.op_deploy.proofs.Deploying.{deploys_readies, can_now, deployed, deployed_end}
+use Rattle.op_deploy.proofs.deploying.deploy_row.Goals as goal
+
+pub returns-in_err-staged-clause-any_moment : goal.returns-in_err-staged-clause-any_moment
+returns-in_err-staged-clause-any_moment g c = begins (g.met.H.Host.is_tree c.args.host.now) c.of.ensures.any_moment (λ u w t r. deploys_readies r) (λ u w t r e. deploys_readies e)
+
+pub returns-in-Ok-clause-any_moment : goal.returns-in-Ok-clause-any_moment
+returns-in-Ok-clause-any_moment g c =
+    let t = g.met.H.Host.is_tree in
+    deployed c.in_ok-staged.ensures.leads (t c.of.new.host) c.of.ensures.any_moment c.in_ok-staged.ensures.on_success c.switch.ensures.any_moment (t c.args.host.now)
+
+pub returns-in-Ok-clause-on_success : goal.returns-in-Ok-clause-on_success
+returns-in-Ok-clause-on_success g c = deployed_end c.in_ok-staged.ensures.leads (g.met.H.Host.is_tree c.of.new.host) c.in_ok-staged.ensures.on_success c.in-Ok.ensures.on_success
+
+pub returns-in-Ok-clause-state : goal.returns-in-Ok-clause-state
+returns-in-Ok-clause-state g c = c.settled.ensures ∙ c.in-Ok.ensures.state ∙ c.in_ok-staged.ensures.leads.state
+
+pub returns-in-Err-clause-any_moment : goal.returns-in-Err-clause-any_moment
+returns-in-Err-clause-any_moment g c =
+    let t = g.met.H.Host.is_tree in
+    deployed c.in_ok-staged.ensures.leads (t c.of.new.host) c.of.ensures.any_moment c.in_ok-staged.ensures.on_success c.switch.ensures.any_moment (t c.args.host.now)
