@@ -7,7 +7,7 @@ use Rattle.fp_host.specs.declared.host.HostEnd.TheVariants.{Fault}
 use Rattle.fp_host.specs.declared.host.HostError.{HostError}
 use Rattle.fp_host.specs.declared.host.HostError.TheVariants.{Failed, Clash, NoMemory}
 
-pub host_failed : {T : Type 0} (e : HostError) → NeedsNoMemory {T} (Err e) → end_of e ≡ Fault
+pub host_failed : {T : Type 0} (e : HostError) → NeedsNoMemory {T = T} (Err e) → end_of e ≡ Fault
 host_failed Failed needs = refl
 host_failed Clash needs = refl
 host_failed NoMemory needs = absurd (needs refl)

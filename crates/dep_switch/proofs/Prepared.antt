@@ -118,41 +118,44 @@ pub record IsHoused (deploy : Elements) (u v : View) : Type 0 where
   pub dirs : CanPrepare deploy u → AreDirs (ancestors new_link) v
   pub link_free : CanPrepare deploy u → v.names new_link ≡ absent
 
-dir_stays : {G : Elements → Spot → Type 0} {A : Elements → Type 0} {paths : List Elements} (p : Elements) {u v : View} → Keeps G (DirsAt paths) A u v → HasFolder u p → HasFolder v p
-dir_stays [] keeps above = above
-dir_stays (x ∷ up) keeps above = elim (keeps.names up) [ inl same ↦ same ∙ above | inr made ↦ made.1 ]
+dir_stays : {G : Elements → Spot → Type 0} {A : Elements → Type 0} (paths : List Elements) (p : Elements) {u v : View} → Keeps G (DirsAt paths) A u v → HasFolder u p → HasFolder v p
+dir_stays paths [] keeps above = above
+dir_stays paths (x ∷ up) keeps above = elim (keeps.names up) [ inl same ↦ same ∙ above | inr made ↦ made.1 ]
 
-same_or_made : {G : Elements → Spot → Type 0} {A : Elements → Type 0} {paths : List Elements} {u v : View} (p : Elements) → Keeps G (DirsAt paths) A u v → (Contains paths p → ⊥) → v.names p ≡ u.names p
-same_or_made p keeps off = elim (keeps.names p) [ inl same ↦ same | inr made ↦ absurd (off made.0) ]
+same_or_made : {G : Elements → Spot → Type 0} {A : Elements → Type 0} (paths : List Elements) {u v : View} (p : Elements) → Keeps G (DirsAt paths) A u v → (Contains paths p → ⊥) → v.names p ≡ u.names p
+same_or_made paths p keeps off = elim (keeps.names p) [ inl same ↦ same | inr made ↦ absurd (off made.0) ]
 
-free_stays : {p : Elements} {u v : View} → v.names p ≡ u.names p → IsFreeFile p u → IsFreeFile p v
-free_stays same (inl none) = inl (same ∙ none)
-free_stays same (inr is) = inr (is.0, same ∙ is.1)
+free_stays : (p : Elements) (u v : View) → v.names p ≡ u.names p → IsFreeFile p u → IsFreeFile p v
+free_stays p u v same (inl none) = inl (same ∙ none)
+free_stays p u v same (inr is) = inr (is.0, same ∙ is.1)
 
 link_no_folder : Contains (ancestors new_link) new_link → ⊥
 link_no_folder has = elim (which new_link has) [ inl is ↦ cc is | inr is ↦ cc is ]
 
 pub housed : {deploy l : Elements} {u v : View} → l ≡ new_link → Keeps (FoldersAt (ancestors l)) (DirsAt (ancestors l)) NoPath u v → (AreFree (ancestors l) u → AreDirs (ancestors l) v) → IsHoused deploy u v
 housed {deploy = deploy} {l = l} {u = u} {v = v} is keeps made = record {
-  write = λ can. record { above = dir_stays deploy keeps can.write.above; free = free_stays (same_or_made deploy keeps (λ has. can.apart (subst (λ (p : Elements). Contains (ancestors p) deploy) is has))) can.write.free };
+  write = λ can. record { above = dir_stays (ancestors l) deploy keeps can.write.above; free = free_stays deploy u v (same_or_made (ancestors l) deploy keeps (λ has. can.apart (subst (λ (p : Elements). Contains (ancestors p) deploy) is has))) can.write.free };
   dirs = λ can. subst (λ (p : Elements). AreDirs (ancestors p) v) is (made (can_fold is can));
-  link_free = λ can. same_or_made new_link keeps (λ has. link_no_folder (subst (λ (p : Elements). Contains (ancestors p) new_link) is has)) ∙ can.link_free;
+  link_free = λ can. same_or_made (ancestors l) new_link keeps (λ has. link_no_folder (subst (λ (p : Elements). Contains (ancestors p) new_link) is has)) ∙ can.link_free;
 }
 
 tmp_in : Contains (ancestors new_link) tmp
 tmp_in = (1, omega arith, refl)
 
 -- and after the file
-pub can_link : {deploy l : Elements} {text : List ℕ} {u v w : View} → l ≡ new_link → is_link_text text ≡ true → IsHoused deploy u v → WritesFile deploy v w → CanPrepare deploy u → Can (makes_link text l) w
-can_link {deploy = deploy} {text = text} {v = v} {w = w} is good house writes can =
+pub can_link : {deploy l : Elements} (text : List ℕ) {u v w : View} → l ≡ new_link → is_link_text text ≡ true → IsHoused deploy u v → WritesFile deploy v w → CanPrepare deploy u → Can (makes_link text l) w
+can_link {deploy = deploy} text {v = v} {w = w} is good house writes can =
     let off_tmp : tmp ≢ deploy = λ same. can.apart (subst (Contains (ancestors new_link)) same tmp_in) in
     let dir_there : w.names tmp ≡ dir = kept tmp off_tmp ∙ (house.dirs can).dirs tmp tmp_in in
     subst (λ (p : Elements). Can (makes_link text p) w) (sym is) (good, dir_there, kept new_link (λ same. can.other (sym same)) ∙ house.link_free can)
   where
     kept : (q : Elements) → q ≢ deploy → w.names q ≡ v.names q
-    kept q off = elim (writes.names q) [ inl same ↦ same | inr put ↦ absurd (off put.0) ]
+    kept q off = elim (writes.names q) [ inl same ↦ same | inr h ↦ absurd (off h.0) ]
 
 -- ---- call by call
+
+pub housed_end : {deploy l : Elements} {a b : Option Moments} → l ≡ new_link → IsTold a → Frame (FoldersAt (ancestors l)) (DirsAt (ancestors l)) NoPath a b → AtEnd (λ u w. AreFree (ancestors l) u → AreDirs (ancestors l) w) a b → AtEnd (IsHoused deploy) a b
+housed_end is told frame made = ends_to (ends_both (ends_frame told frame) made) (λ u w q. housed is q.0 q.1)
 
 module _ {deploy l : Elements} {text : List ℕ} (is : l ≡ new_link) where
   pub prepared_above : {a b : Option Moments} → IsTold a → Frame (FoldersAt (ancestors l)) (DirsAt (ancestors l)) NoPath a b → Goes a b (Prepares deploy text) (Prepares deploy text)
@@ -166,6 +169,3 @@ module _ {deploy l : Elements} {text : List ℕ} (is : l ≡ new_link) where
 
   pub prepared_sync : {r : Result (Unit {0}) HostError} {a b c : Option Moments} → IsTold b → Goes a b (Prepares deploy text) (Prepares deploy text) → Makes (Step syncs r) b c → Goes a c (Prepares deploy text) (Prepares deploy text)
   prepared_sync told first call = goes_on told first (makes_goes call) (λ u v w tree r q s. prepares_on q (prepares_sync tree s)) (λ u v w tree r q s e. prepares_on q (prepares_sync tree e))
-
-  pub housed_end : {a b : Option Moments} → IsTold a → Frame (FoldersAt (ancestors l)) (DirsAt (ancestors l)) NoPath a b → AtEnd (λ u w. AreFree (ancestors l) u → AreDirs (ancestors l) w) a b → AtEnd (IsHoused deploy) a b
-  housed_end told frame made = ends_to (ends_both (ends_frame told frame) made) (λ u w q. housed is q.0 q.1)

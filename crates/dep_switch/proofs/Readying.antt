@@ -49,7 +49,7 @@ use Rattle.dep_switch.proofs.Spots.{now_left, shown_at, folder_dir, folder_free,
 
 pub readies : {s : State} {row : RefRow} {u w : View} → is_digest row.commit ≡ true → Prepares (row_deploy row) (hex row.commit) u w → Readies s row u w
 readies {row = row} digest prepares = record {
-  opens = λ opens off. frame_law (prepares_spares (hex row.commit) (deploy_spares digest opens off)) prepares.follows opens;
+  opens = λ opens off. frame_law (prepares_spares (hex row.commit) (deploy_spares row.name row.commit digest opens off)) prepares.follows opens;
   prepares = prepares;
 }
 
@@ -63,25 +63,25 @@ prepared_top (inl at) = ap top at
 prepared_top (inr at) = ap top at
 
 -- a path of the commit, but its `deploy`
-inside_stays : (row : RefRow) (rest : Elements) → rest ≢ deploy_name → {e : Slot} → PreparesName (row_deploy row) (hex row.commit) (rest ++ commit_dir row.name row.commit) e → ⊥
-inside_stays row rest off (new_deploy at is) = off (inside_deploy rest row.name row.name row.commit row.commit (sym at))
-inside_stays row rest off (new_folder has is) = top_inside rest row.name row.commit (rest ++ commit_dir row.name row.commit) refl (prepared_top (which _ has))
-inside_stays row rest off (the_link at is) = top_inside rest row.name row.commit (rest ++ commit_dir row.name row.commit) refl (ap top at)
+inside_stays : (row : RefRow) (rest : Elements) → rest ≢ deploy_name → (e : Slot) → PreparesName (row_deploy row) (hex row.commit) (rest ++ commit_dir row.name row.commit) e → ⊥
+inside_stays row rest off e (new_deploy at is) = off (inside_deploy rest row.name row.name row.commit row.commit (sym at))
+inside_stays row rest off e (new_folder has is) = top_inside rest row.name row.commit (rest ++ commit_dir row.name row.commit) refl (prepared_top (which _ has))
+inside_stays row rest off e (the_link at is) = top_inside rest row.name row.commit (rest ++ commit_dir row.name row.commit) refl (ap top at)
 
 -- an object
-object_stays : (row : RefRow) (d : List ℕ) (kind : ObjKind) {e : Slot} → PreparesName (row_deploy row) (hex row.commit) (object_path repo d kind) e → ⊥
-object_stays row d kind (new_deploy at is) = cc at
-object_stays row d kind (new_folder has is) = elim (which (object_path repo d kind) has) [ inl at ↦ cc at | inr at ↦ cc at ]
-object_stays row d kind (the_link at is) = cc at
+object_stays : (row : RefRow) (d : List ℕ) (kind : ObjKind) (e : Slot) → PreparesName (row_deploy row) (hex row.commit) (object_path repo d kind) e → ⊥
+object_stays row d kind e (new_deploy at is) = cc at
+object_stays row d kind e (new_folder has is) = elim (which (object_path repo d kind) has) [ inl at ↦ cc at | inr at ↦ cc at ]
+object_stays row d kind e (the_link at is) = cc at
 
-module _ {row : RefRow} {u w : View} (before : IsTree u) (after : IsTree w) (prepares : Prepares (row_deploy row) (hex row.commit) u w) where
-  shown_stays : (q : Elements) → ({e : Slot} → PreparesName (row_deploy row) (hex row.commit) q e → ⊥) → shows w q ≡ shows u q
-  shown_stays q off = same_shown before after prepares.files q (elim (prepares.names q) [ inl same ↦ same | inr may ↦ absurd (off may) ])
+module _ (row : RefRow) {u w : View} (before : IsTree u) (after : IsTree w) (prepares : Prepares (row_deploy row) (hex row.commit) u w) where
+  shown_stays : (q : Elements) → ((e : Slot) → PreparesName (row_deploy row) (hex row.commit) q e → ⊥) → shows w q ≡ shows u q
+  shown_stays q off = same_shown before after prepares.files q (elim (prepares.names q) [ inl same ↦ same | inr may ↦ absurd (off _ may) ])
 
   pub commit_stands : Stands (reads_as row.name.kind) repo (shows u) row.commit (commit_dir row.name row.commit) → Stands (reads_as row.name.kind) repo (shows w) row.commit (commit_dir row.name row.commit)
   commit_stands stands = stands_same repo (shows u) (shows w) row.commit (reads_as row.name.kind) (commit_dir row.name row.commit) stands
-      (λ rest off. shown_stays (rest ++ commit_dir row.name row.commit) (λ may. inside_stays row rest off may))
-      (λ place h. shown_stays (object_path repo place.digest place.kind) (λ may. object_stays row place.digest place.kind may))
+      (λ rest off. shown_stays (rest ++ commit_dir row.name row.commit) (λ e may. inside_stays row rest off e may))
+      (λ place h. shown_stays (object_path repo place.digest place.kind) (λ e may. object_stays row place.digest place.kind e may))
 
 -- ---- the record
 
@@ -98,11 +98,11 @@ file_shown {p = p} {w = w} tree made = shown_at tree p ∙ ap (spot_of w.files) 
 
 -- ---- staged
 
-module _ {s : State} {row : RefRow} {bytes : List ℕ} {u w : View} (good : is_ref row.name ≡ true) (digest : is_digest row.commit ≡ true) (says : deploy_of bytes ≡ Some (data_of row)) (short : length bytes ≤ small_most)
+module _ {s : State} (row : RefRow) (bytes : List ℕ) {u w : View} (good : is_ref row.name ≡ true) (digest : is_digest row.commit ≡ true) (says : deploy_of bytes ≡ Some (data_of row)) (short : length bytes ≤ small_most)
     (before : IsTree u) (after : IsTree w) (prepares : Prepares (row_deploy row) (hex row.commit) u w) (done : WasPrepared (row_deploy row) (hex row.commit) bytes w) where
   module _ (can : CanStage s row u) where
     still_opens : Opens s w
-    still_opens = (readies {s = s} digest prepares).opens can.opens can.moves
+    still_opens = (readies {s = s} {row = row} digest prepares).opens can.opens can.moves
 
     recorded : deploy_at row.name (hex row.commit) (shows w (row_deploy row)) ≡ there row
     recorded = ap (deploy_at row.name (hex row.commit)) (file_shown after done.written) ∙ bytes_read row.name done.written.id bytes row refl says short
@@ -112,7 +112,7 @@ module _ {s : State} {row : RefRow} {bytes : List ℕ} {u w : View} (good : is_r
         state_of_kept good (still_opens.shown (shows w) (now_left w)) (record { row = at.0; has = at.1; of_row = inl at.2 })
 
     prepared : Prepared (shows w) row.name row
-    prepared = record { good = good; stands = commit_stands before after prepares can.stands; recorded = recorded; previous = kept }
+    prepared = record { good = good; stands = commit_stands row before after prepares can.stands; recorded = recorded; previous = kept }
 
     staged : IsStaged s row w
     staged = record {
@@ -164,6 +164,13 @@ can_prepare {s = s} {row = row} {v = v} tree can = record {
 
 -- ---- call by call
 
+pub goes_text : {deploy : Elements} {x y : List ℕ} {a b : Option Moments} → x ≡ y → Goes a b (Prepares deploy x) (Prepares deploy x) → Goes a b (Prepares deploy y) (Prepares deploy y)
+goes_text {deploy = deploy} {a = a} {b = b} is goes = subst (λ (t : List ℕ). Goes a b (Prepares deploy t) (Prepares deploy t)) is goes
+
+pub end_text : {deploy : Elements} {x y i j : List ℕ} {a b : Option Moments} → x ≡ y → i ≡ j → AtEnd (λ u w. WasPrepared deploy x i w) a b → AtEnd (λ u w. WasPrepared deploy y j w) a b
+end_text {deploy = deploy} {y = y} {i = i} {a = a} {b = b} text bytes done =
+    subst (λ (k : List ℕ). AtEnd (λ u w. WasPrepared deploy y k w) a b) bytes (subst (λ (t : List ℕ). AtEnd (λ u w. WasPrepared deploy t i w) a b) text done)
+
 pub readies_start : {s : State} {row : RefRow} {u : View} → Readies s row u u
 readies_start = record { opens = λ opens off. opens; prepares = prepares_start }
 
@@ -184,6 +191,6 @@ module _ {s : State} {row : RefRow} {made : Preparation} (planned : IsPreparatio
   can_prepare_as {v = v} tree can = subst (λ (p : Elements). CanPrepare p v) (sym planned.deploy) (can_prepare tree can)
 
   pub staged_end : {a b : Option Moments} → IsTold a → IsTold b → Goes a b (Prepares made.deploy made.text) (Prepares made.deploy made.text) → AtEnd (λ u w. WasPrepared made.deploy made.text made.bytes w) a b → AtEnd (WasStaged s row) a b
-  staged_end told then goes done = ends_in_tree {Q = λ u w. IsTree u × Prepares made.deploy made.text u w × WasPrepared made.deploy made.text made.bytes w} then
+  staged_end told mid goes done = ends_in_tree {Q = λ u w. IsTree u × Prepares made.deploy made.text u w × WasPrepared made.deploy made.text made.bytes w} mid
       (record { goes = begins told (goes_known goes done) (λ u w t r. tt) (λ u w t r q. (t, q.0, q.1)) })
-      (λ u w after q. was_staged planned.name planned.digits planned.says planned.short q.0 after (prepares_as q.1) (prepared_as q.2))
+      (λ u w after q. was_staged row made.bytes planned.name planned.digits planned.says planned.short q.0 after (prepares_as q.1) (prepared_as q.2))

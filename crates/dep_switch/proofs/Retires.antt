@@ -9,6 +9,10 @@ use Rattle.fp_host.specs.declared.host.HostError.{HostError}
 use Rattle.fp_host.proofs.Follow.{follows_on, follows_call, follows_to, called}
 use Rattle.fp_host.proofs.Filed.{puts_call}
 use Rattle.fp_host.proofs.Keep.{printed_kept, names_kept}
+use Rattle.fp_host.specs.Frame.{AtEnd}
+use Rattle.fp_host.specs.Moments.{Moments, Makes}
+use Rattle.fp_host.proofs.Framed.{IsTold}
+use Rattle.fp_host.proofs.Goes.{begins, makes_goes}
 use Rattle.fp_host.proofs.Settled.{settled_disk}
 use Rattle.fp_name.specs.Refs.{Ref, is_ref, ref_text}
 use Rattle.fp_name.proofs.Refs.{ref_of-ref_text}
@@ -108,6 +112,9 @@ pub record IsUnlinked (s : State) (plan : RetirePlan) (u v : View) : Type 0 wher
 
 pub unlinked_now : {s : State} {plan : RetirePlan} {v w : View} → IsTree v → Step (unlinks plan.link) (Ok tt) v w → IsUnlinked s plan v w
 unlinked_now tree step = record { follows = λ planned. follows_to (retires_at planned) (follows_call tree (called step)); none = unlinked step }
+
+pub unlinked_end : {s : State} {plan : RetirePlan} {a b : Option Moments} → IsTold a → Makes (Step (unlinks plan.link) (Ok tt)) a b → AtEnd (IsUnlinked s plan) a b
+unlinked_end told call = record { goes = begins told (makes_goes call) (λ u w tree s. tt) (λ u w tree s e. unlinked_now tree e) }
 
 pub was_retired : {s : State} {plan : RetirePlan} {u v w : View} → IsTree v → IsTree w → IsUnlinked s plan u v → Step syncs (Ok tt) v w → WasRetired s plan u w
 was_retired {s = s} {plan = plan} {u = u} {v = v} {w = w} tree after first step = record {

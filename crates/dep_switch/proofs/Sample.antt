@@ -30,15 +30,15 @@ use Rattle.dep_switch.specs.Writing.{new_link}
 use Rattle.dep_switch.proofs.Spots.{gone_absent, file_free}
 
 now_gone : undeployed_disk (active platform) ≡ gone
-now_gone = cond-true (path_eq (active platform) (active platform)) _ _ ((path_decides (active platform) (active platform)).1 refl)
+now_gone = cond-true (path_eq (active platform) (active platform)) gone (deployed_disk (active platform)) ((path_decides (active platform) (active platform)).1 refl)
 
 same_off : (p : Elements) → p ≢ active platform → undeployed_disk p ≡ deployed_disk p
-same_off p off = cond-false (path_eq p (active platform)) _ _ (false_from_ne_true (path_eq p (active platform)) (λ t. off ((path_decides p (active platform)).0 t)))
+same_off p off = cond-false (path_eq p (active platform)) gone (deployed_disk p) (false_from_ne_true (path_eq p (active platform)) (λ t. off ((path_decides p (active platform)).0 t)))
 
 elsewhere : (p : Elements) → (undeployed_disk p ≡ deployed_disk p) ⊎ Permits deployed_disk p (undeployed_disk p)
 elsewhere p = elim (cases_Bool (path_eq p (active platform))) [
-  | inl t ↦ inr (permits_gone p (undeployed_disk p) (cond-true (path_eq p (active platform)) _ _ t))
-  | inr f ↦ inl (cond-false (path_eq p (active platform)) _ _ f)
+  | inl t ↦ inr (permits_gone p (undeployed_disk p) (cond-true (path_eq p (active platform)) gone (deployed_disk p) t))
+  | inr f ↦ inl (cond-false (path_eq p (active platform)) gone (deployed_disk p) f)
 ]
 
 changed : Changed deployed_disk undeployed_disk platform None
@@ -70,7 +70,7 @@ no_link = refl
 pub can_stage : (v : View) → IsTree v → IsSettled v → ((p : Elements) → shows v p ≡ undeployed_disk p) → CanStage undeployed_state deployed_row v
 can_stage v tree settled same = record {
   opens = shown_opens v undeployed_disk tree settled same undeployed_shows undeployed_sound;
-  stands = stands_same repo undeployed_disk (shows v) commit (reads_as platform.kind) (commit_dir platform commit) stands (λ rest off. same _) (λ place h. same _);
+  stands = stands_same repo undeployed_disk (shows v) commit (reads_as platform.kind) (commit_dir platform commit) stands (λ rest off. same (rest ++ commit_dir platform commit)) (λ place h. same (object_path repo place.digest place.kind));
   moves = λ at. cc at.1;
   previous = λ c is. absurd (cc is.1);
   link_free = gone_absent tree new_link (same new_link ∙ no_link);

@@ -97,30 +97,26 @@ inside_deploy (x ∷ (y ∷ rest)) n name c commit e =
 same_branch : (a b : Ref) (x y : List ℕ) → deploy (text_dir a x) ≡ deploy (text_dir b y) → (a ≡ b) × (x ≡ y)
 same_branch a b x y e = (active_same a b (ap (λ p. codes "active" ∷ p) (tail_same (tail_same e))), head_same (tail_same e))
 
-module _ {s : State} {v : View} {name : Ref} {commit : List ℕ} (digest : is_digest commit ≡ true) (opens : Opens s v) (off : IsAt s name commit → ⊥) where
-  abbrev path : Elements
-  path = deploy (commit_dir name commit)
+avoid : {s : State} {v : View} (name : Ref) (commit : List ℕ) → is_digest commit ≡ true → Opens s v → (IsAt s name commit → ⊥) → (disk : Disk) → Leaves v disk → (p : Elements) → Fixed disk p → p ≡ deploy (commit_dir name commit) → ⊥
+avoid name commit digest opens off disk left p (is_config e) at = cc (sym at ∙ e)
+avoid name commit digest opens off disk left p (is_old none (is_remotes e)) at = cc (sym at ∙ e)
+avoid name commit digest opens off disk left p (is_old none (is_pins e)) at = cc (sym at ∙ e)
+avoid name commit digest opens off disk left p (is_active n good e) at = cc (sym at ∙ e)
+avoid name commit digest opens off disk left p (is_layer n good e) at = cc (sym at ∙ e)
+avoid name commit digest opens off disk left p (is_object n c place k h e) at = cc (sym at ∙ e)
+avoid name commit digest opens off disk left p (is_inside n c rest k off_deploy e) at = off_deploy (inside_deploy rest n name c commit (sym at ∙ e))
+avoid {s = s} name commit digest opens off disk left p (is_deploy n text good link e) at =
+    let same = same_branch n name text (hex commit) (sym e ∙ at) in
+    off (subst (λ m. IsAt s m commit) same.0 (linked_at {s = s} n commit good digest (opens.shown disk left) (link ∙ ap points same.1)))
 
-  avoid : (disk : Disk) → Leaves v disk → (p : Elements) → Fixed disk p → p ≡ path → ⊥
-  avoid disk left p (is_config e) at = cc (sym at ∙ e)
-  avoid disk left p (is_old none (is_remotes e)) at = cc (sym at ∙ e)
-  avoid disk left p (is_old none (is_pins e)) at = cc (sym at ∙ e)
-  avoid disk left p (is_active n good e) at = cc (sym at ∙ e)
-  avoid disk left p (is_layer n good e) at = cc (sym at ∙ e)
-  avoid disk left p (is_object n c place k h e) at = cc (sym at ∙ e)
-  avoid disk left p (is_inside n c rest k no e) at = no (inside_deploy rest n name c commit (sym at ∙ e))
-  avoid disk left p (is_deploy n text good link e) at =
-      let same = same_branch n name text (hex commit) (sym e ∙ at) in
-      off (subst (λ m. IsAt s m commit) same.0 (linked_at n commit good digest (opens.shown disk left) (link ∙ ap points same.1)))
-
-  pub deploy_spares : Spares v (FileAt path)
-  deploy_spares = record {
-    avoids = λ disk left p spot f given. avoid disk left p f given.0;
-    permits = λ disk left p spot given. record {
-      allowed = subst (λ q. Allowed q spot) (sym given.0) (record { fits = fits_deploy name.kind name.id name.arch name.branch (hex commit) path spot; short = inr (omega arith) });
-      deploy = λ n c k at. given.1;
-    };
-  }
+pub deploy_spares : {s : State} {v : View} (name : Ref) (commit : List ℕ) → is_digest commit ≡ true → Opens s v → (IsAt s name commit → ⊥) → Spares v (FileAt (deploy (commit_dir name commit)))
+deploy_spares {s = s} name commit digest opens off = record {
+  avoids = λ disk left p spot f given. avoid {s = s} name commit digest opens off disk left p f given.0;
+  permits = λ disk left p spot given. record {
+    allowed = subst (λ q. Allowed q spot) (sym given.0) (record { fits = fits_deploy name.kind name.id name.arch name.branch (hex commit) (deploy (commit_dir name commit)) spot; short = inr (omega arith) });
+    deploy = λ n c k at. given.1;
+  };
+}
 
 -- ---- the link and its folders
 

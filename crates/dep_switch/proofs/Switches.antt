@@ -12,6 +12,10 @@ use Rattle.fp_host.proofs.Follow.{follows_call, follows_to, called}
 use Rattle.fp_host.proofs.Filed.{PutsOf, puts_call}
 use Rattle.fp_host.proofs.Keep.{printed_kept, names_kept}
 use Rattle.fp_host.proofs.Separate.{set_same, set_other}
+use Rattle.fp_host.specs.Frame.{AtEnd}
+use Rattle.fp_host.specs.Moments.{Moments, Makes}
+use Rattle.fp_host.proofs.Framed.{IsTold}
+use Rattle.fp_host.proofs.Goes.{begins, makes_goes}
 use Rattle.fp_host.proofs.Settled.{settled_disk}
 use Rattle.fp_name.specs.declared.kind.RefKind.{RefKind}
 use Rattle.fp_name.specs.declared.kind.RefKind.TheVariants.{App, Runtime}
@@ -49,8 +53,11 @@ either_follows {s = s} {t = t} {w = w} follows either = record {
   sound = λ disk left. let b = follows.from disk left in subst Sound (same disk left) (either.sound b.0 b.1);
 }
   where
+    each : (disk : Disk) (left : Leaves w disk) (p : Elements) → (follows.from disk left).0 p ≡ disk p
+    each disk left p = elim ((follows.from disk left).2 p) [ inl is ↦ sym is | inr none ↦ absurd none ]
+
     same : (disk : Disk) (left : Leaves w disk) → (follows.from disk left).0 ≡ disk
-    same disk left = λ k p. (elim ((follows.from disk left).2 p) [ inl is ↦ sym is | inr none ↦ absurd none ]) k
+    same disk left = λ k p. each disk left p k
 
 -- the state after is the one of before with the row
 pub is_with : {s : State} {row : RefRow} {staged : Staged} {v : View} → LeadsTo s row staged → Opens s v → IsWith s row.name (Some row) staged.state
@@ -68,15 +75,15 @@ commit_digest : {s : State} {row : RefRow} {v : View} → IsStaged s row v → i
 commit_digest {row = row} {v = v} ready = row_digest row.name (hex row.commit) _ row (good_ref ready) ((ready.stages.prepared (shows v) (now_left v)).recorded)
 
 -- the rename gives the link to `active`
-given : {staged : Staged} {row : RefRow} {v : View} → staged.from ≡ new_link → staged.to ≡ active row.name → v.names new_link ≡ link (hex row.commit)
+given : (staged : Staged) (row : RefRow) (v : View) → staged.from ≡ new_link → staged.to ≡ active row.name → v.names new_link ≡ link (hex row.commit)
     → (q : Elements) (spot : Spot) → GivesOf (renames staged.from staged.to) v q spot → SwitchesAt row.name row ([] ++ (codes "active" ∷ tmp)) q spot
-given {row = row} {v = v} from to linked q spot (inl h) = inl (h.0 ∙ to, h.1.2 ∙ ap (spot_of h.1.0) (ap v.names from ∙ linked))
-given from to linked q spot (inr h) = inr (h.0 ∙ from, h.1)
+given staged row v from to linked q spot (inl h) = inl (h.0 ∙ to, h.1.2 ∙ ap (spot_of h.1.0) (ap v.names from ∙ linked))
+given staged row v from to linked q spot (inr h) = inr (h.0 ∙ from, h.1)
 
 pub switches_rename : {staged : Staged} {r : Result (Unit {0}) HostError} {v w : View} → IsTree v → Step (renames staged.from staged.to) r v w → Switches staged v w
 switches_rename {staged = staged} {v = v} {w = w} tree step = record {
   either = λ s row leads ready. switch_law {s = s} {t = staged.state} {name = row.name} {row = row} {u = v} {w = w} (codes "active" ∷ []) (good_ref ready) (is_with leads ready.stages.opens)
-      (follows_to (given leads.from leads.to ready.linked) (follows_call tree (called step))) ready.stages;
+      (follows_to (given staged row v leads.from leads.to ready.linked) (follows_call tree (called step))) ready.stages;
   names = λ q. elim (puts_call (called step) q) [ inl same ↦ inl same | inr h ↦ inr h ];
   files = (files_renamed step).rows;
   printed = printed_kept (called step) tt;
@@ -101,6 +108,9 @@ renamed {staged = staged} {v = v} {w = w} tree step = record {
   switches = switches_rename tree step;
   moved = ap (λ (x : View). x.names staged.to) step.how.1 ∙ set_other (set_at v.names staged.to (v.names staged.from)) staged.from absent staged.to (λ e. step.how.0.3 (sym e)) ∙ set_same v.names staged.to (v.names staged.from) staged.to refl;
 }
+
+pub renamed_end : {staged : Staged} {a b : Option Moments} → IsTold a → Makes (Step (renames staged.from staged.to) (Ok tt)) a b → AtEnd (IsRenamed staged) a b
+renamed_end told call = record { goes = begins told (makes_goes call) (λ u w tree s. tt) (λ u w tree s e. renamed tree e) }
 
 module _ {staged : Staged} {u v w : View} (tree : IsTree v) (after : IsTree w) (first : IsRenamed staged u v) (step : Step syncs (Ok tt) v w) where
   module _ (can : CanSwitch staged u) where

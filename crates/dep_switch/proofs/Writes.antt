@@ -18,7 +18,7 @@ use Rattle.fp_small.specs.Clear.{GoneAt, AbsentAt}
 use Rattle.fp_small.specs.Files.{KeepsFiles}
 use Rattle.fp_small.specs.Replace.{IsFreeFile}
 use Rattle.fp_small.proofs.Keeping as keeping
-use Rattle.fp_small.proofs.Staging.{Written, written_create, written_append}
+use Rattle.fp_small.proofs.Staging.{Written, begun_create, written_append}
 use Rattle.dep_states.specs.Zones.{IsFileOrGone}
 use Rattle.dep_switch.specs.Writing.{FileAt, FileName, WritesFile, HasFile, CanWrite}
 
@@ -38,10 +38,9 @@ pub record IsBegun (p : Elements) (u v : View) : Type 0 where
   pub free : u.files written.id ≡ None
 
 pub begun : {p : Elements} {G : Elements → Spot → Type 0} {W : Elements → Slot → Type 0} {u v w : View} → Keeps G W NoPath u v → Creates p 420 (Ok tt) v w → IsBegun p u w
-unfolding written_create
-begun {u = u} first step =
-    let made = written_create step in
-    record { written = record { id = made.id; name = made.name; row = made.row; dirty = made.dirty }; free = first.rows made.id step.how.1.0.1 }
+begun {p = p} first step =
+    let made = begun_create {t = p} step in
+    record { written = record { id = made.written.id; name = made.written.name; row = made.written.row; dirty = made.written.dirty }; free = first.rows made.written.id made.free }
 
 some_none : {A : Type 0} {a : A} {o : Option A} → o ≡ Some a → o ≡ None → ⊥
 some_none some none = cc (sym some ∙ none)
@@ -72,9 +71,9 @@ file_written new step = has_file (written_append new.written step)
 
 -- ---- where it may be
 
-pub no_dir : {p : Elements} {v : View} → IsFreeFile p v → IsNoDir (v.names p)
-no_dir (inl none) = subst IsNoDir (sym none) tt
-no_dir (inr is) = subst IsNoDir (sym is.1) tt
+pub no_dir : (p : Elements) (v : View) → IsFreeFile p v → IsNoDir (v.names p)
+no_dir p v (inl none) = subst IsNoDir (sym none) tt
+no_dir p v (inr is) = subst IsNoDir (sym is.1) tt
 
 folder_stays : {G : Elements → Spot → Type 0} {A : Elements → Type 0} (p : Elements) {u v : View} → Keeps G (AbsentAt p) A u v → HasFolder u p → HasFolder v p
 folder_stays [] keeps above = above
@@ -99,9 +98,9 @@ written_so_far told frame = begins told frame.goes (λ u w t k. writes_keeps k) 
 
 -- after the create
 pub begun_end : {p : Elements} {a b c : Option Moments} → IsTold a → IsTold b → Frame (FileAt p) (FileName p) NoPath a b → Makes (Creates p 420 (Ok tt)) b c → AtEnd (IsBegun p) a c
-begun_end told then frame call = ends_on (ends_call then call) (ends_frame told frame) then (λ u v w tree k s. begun k s)
+begun_end told mid frame call = ends_on (ends_call mid call) (ends_frame told frame) mid (λ u v w tree k s. begun k s)
 
 -- and after the append
 pub appended : {p : Elements} {bytes : List ℕ} {r : Result (Unit {0}) HostError} {a c d : Option Moments} → IsTold a → IsTold c → Frame (FileAt p) (FileName p) NoPath a c → AtEnd (IsBegun p) a c → Makes (Step (appends p bytes) r) c d → Goes a d (WritesFile p) (WritesFile p)
-appended told then frame new call =
-    goes_on then (begins told (goes_known frame.goes new) (λ u w t k. writes_keeps k) (λ u w t k e. e)) (makes_goes call) (λ u v w tree r q s. writes_append tree q.0 q.1 s) (λ u v w tree r q s e. writes_append tree q.0 q.1 e)
+appended told mid frame new call =
+    goes_on mid (begins told (goes_known frame.goes new) (λ u w t k. writes_keeps k) (λ u w t k e. e)) (makes_goes call) (λ u v w tree r q s. writes_append tree q.0 q.1 s) (λ u v w tree r q s e. writes_append tree q.0 q.1 e)

@@ -1,6 +1,7 @@
 //! Rows of a state, ascending by their names.
 ghost use Rattle.std.specs.Prelude.{◌≡◌, ◌≤◌, true, length, OnOk};
-ghost use Rattle.std.specs.List.{insert};
+ghost use Rattle.std.specs.List.{insert, find};
+ghost use Rattle.std.specs.Str.{bytes_eq};
 ghost use Rattle.std.specs.Option.{option_copied};
 ghost use Rattle.fp_name.specs.Refs.{ref_text, is_ref};
 ghost use Rattle.fp_small.specs.Order.{inserted, removed, replaced};
@@ -62,13 +63,19 @@ fn insert_row<T: Named + Drop>(rows: &mut Vec<T>, row: T) -> Result<(), AllocErr
     Ok(())
 }
 
+/// The first row whose ref has this text.
+fn find_text<'a>(rows: &'a [RefRow], text: &str) -> Option<&'a RefRow>
+    ensures { option_copied result ≡ find (λ row. bytes_eq (ref_key row) text.now) rows.now }
+{
+    rows.iter().find(|row| row.name.as_str() == text)
+}
+
 /// The row of a ref.
 pub fn find_ref<'a>(rows: &'a [RefRow], name: &RefName) -> Option<&'a RefRow>
     ensures row { option_copied result ≡ at_name ref_key rows.now (ref_text name.now) }
     ensures good { is_ref name.now ≡ true }
 {
-    let text = name.as_str();
-    rows.iter().find(|row| row.name.as_str() == text)
+    find_text(rows, name.as_str())
 }
 
 /// Takes the row of a ref away, which takes no memory. Where there is none, nothing changes.

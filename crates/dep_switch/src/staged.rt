@@ -76,21 +76,11 @@ impl Staged {
         ensures starved_unchanged { IsErrOf result HostEnd.NoMemory → AtEnd (λ u w. w ≡ u)
             (H.moments host.old) (H.moments host.new) }
     {
-        let Preparation {
-            deploy,
-            bytes,
-            text,
-            staged,
-        } = plan(alloc, opened, row)?;
-        prepare(
-            alloc,
-            host,
-            &deploy,
-            bytes.as_slice(),
-            &staged.from,
-            text.as_str(),
-        )?;
-        Ok(staged)
+        let made = plan(alloc, opened, row)?;
+        let bytes = made.bytes.as_slice();
+        let text = made.text.as_str();
+        prepare(alloc, host, &made.deploy, bytes, &made.staged.from, text)?;
+        Ok(made.staged)
     }
 
     /// Renames the link onto the ref's `active`, and syncs. It takes no memory.

@@ -40,8 +40,8 @@ module _ {A : Type 0} (name : A → List ℕ) (P : A → Type 0) where
 
 -- ---- overrides
 
-pub good_set : {s : State} {row : OverrideRow} → is_override row.name ≡ true → is_good row.file ≡ true → IsGood s → IsGood (after s (plain (SetOverride row)))
-good_set {s = s} {row = row} name file good = record {
+pub good_set : (s : State) (row : OverrideRow) → is_override row.name ≡ true → is_good row.file ≡ true → IsGood s → IsGood (after s (plain (SetOverride row)))
+good_set s row name file good = record {
   settings = good.settings;
   rows = good.rows;
   refs_ascend = good.refs_ascend;
@@ -49,8 +49,8 @@ good_set {s = s} {row = row} name file good = record {
   overrides_ascend = replaced_ascends override_key s.overrides row good.overrides_ascend;
 }
 
-pub good_drop : {s : State} {name : List ℕ} → IsGood s → IsGood (after s (plain (DropOverride name)))
-good_drop {s = s} {name = name} good = record {
+pub good_drop : (s : State) (name : List ℕ) → IsGood s → IsGood (after s (plain (DropOverride name)))
+good_drop s name good = record {
   settings = good.settings;
   rows = good.rows;
   refs_ascend = good.refs_ascend;
@@ -60,8 +60,8 @@ good_drop {s = s} {name = name} good = record {
 
 -- ---- refs
 
-pub good_uninstall : {s : State} {name : Ref} → IsGood s → IsGood (after s (plain (Uninstall name)))
-good_uninstall {s = s} {name = name} good = record {
+pub good_uninstall : (s : State) (name : Ref) → IsGood s → IsGood (after s (plain (Uninstall name)))
+good_uninstall s name good = record {
   settings = good.settings;
   rows = all_removed ref_key IsGoodRow s.refs (ref_text name) good.rows;
   refs_ascend = removed_ascends ref_key s.refs (ref_text name) good.refs_ascend;
@@ -87,8 +87,8 @@ good_row row p was good = let old = good_of row.previous p was good.previous in 
   time = old.1;
 }
 
-with_good : {s : State} (new : RefRow) → IsGoodRow new → IsGood s → IsGood (with_refs s (replaced ref_key s.refs new))
-with_good {s = s} new fine good = record {
+with_good : (s : State) (new : RefRow) → IsGoodRow new → IsGood s → IsGood (with_refs s (replaced ref_key s.refs new))
+with_good s new fine good = record {
   settings = good.settings;
   rows = all_replaced ref_key IsGoodRow s.refs new good.rows fine;
   refs_ascend = replaced_ascends ref_key s.refs new good.refs_ascend;
@@ -96,9 +96,9 @@ with_good {s = s} new fine good = record {
   overrides_ascend = good.overrides_ascend;
 }
 
-pub good_rollback : {s : State} {name : Ref} {commit : List ℕ} → HasRow s name (HasPrevious commit) → IsGood s → IsGood (after s (plain (Rollback name commit)))
-good_rollback {s = s} {name = name} has good =
+pub good_rollback : (s : State) (name : Ref) (commit : List ℕ) → HasRow s name (HasPrevious commit) → IsGood s → IsGood (after s (plain (Rollback name commit)))
+good_rollback s name commit has good =
     let row = has.0 in
     let p = has.2.0 in
     subst IsGood (sym (ap (rolled_back s) has.1 ∙ ap (λ o. back s row o) has.2.1))
-    (with_good (exchanged row p) (good_row row p has.2.1 (at_found ref_key IsGoodRow s.refs (ref_text name) row good.rows has.1).0) good)
+    (with_good s (exchanged row p) (good_row row p has.2.1 (at_found ref_key IsGoodRow s.refs (ref_text name) row good.rows has.1).0) good)

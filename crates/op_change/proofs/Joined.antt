@@ -32,7 +32,7 @@ on_config (SetOverride row) on u q e put = absurd on
 on_config (DropOverride name) on u q e put = absurd on
 on_config (Rollback name commit) on u q e put = absurd on
 
-module _ {s : State} {op : Op} where
+module _ (s : State) (op : Op) where
   pub does_applies : {W : View → Elements → Slot → Type 0} → ((u : View) (q : Elements) (e : Slot) → W u q e → MayChange op u q e) → {u w : View} → Does s (after s (plain op)) W u w → Applies s (plain op) u w
   does_applies may {u = u} does = record {
     either = does.either;

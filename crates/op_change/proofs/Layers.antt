@@ -178,49 +178,46 @@ set_there s row = at_replaced override_key s.overrides row (override_key row) �
 ascending : {s : State} {v : View} → Opens s v → is_ascending (map override_key s.overrides) ≡ true
 ascending {v = v} opens = (opens.shown (shows v) (now_left v)).overrides_ascend
 
-module _ {s : State} {row : OverrideRow} (name_good : is_override row.name ≡ true) (fine : is_good row.file ≡ true) (short : length (text_of row.file) ≤ small_most) where
-  back : file_of (text_of row.file) ≡ Ok row.file
-  back = file_of-text_of row.file fine
+abbrev path_for : OverrideRow → Elements
+path_for row = override_path row.name
 
-  abbrev path : Elements
-  path = override_path row.name
+abbrev bytes_for : OverrideRow → List ℕ
+bytes_for row = text_of row.file
 
-  abbrev bytes : List ℕ
-  bytes = text_of row.file
-
-  module _ {u w : View} (replaces : Replaces path bytes u w) (opens : Opens s u) (disk : Disk) (left : Leaves w disk) where
+module _ (s : State) (row : OverrideRow) (name_good : is_override row.name ≡ true) (fine : is_good row.file ≡ true) (short : length (text_of row.file) ≤ small_most) where
+  module _ {u w : View} (replaces : Replaces (path_for row) (bytes_for row) u w) (opens : Opens s u) (disk : Disk) (left : Leaves w disk) where
     abbrev before : Disk
     before = (replaces.keeps.follows.from disk left).0
 
     abbrev was : Leaves u before
     was = (replaces.keeps.follows.from disk left).1
 
-    abbrev step : (p : Elements) → (disk p ≡ before p) ⊎ ReplacesAt path bytes u p (disk p)
+    abbrev step : (p : Elements) → (disk p ≡ before p) ⊎ ReplacesAt (path_for row) (bytes_for row) u p (disk p)
     step = (replaces.keeps.follows.from disk left).2
 
-    set_still : (p : Elements) → Fixed before p → p ≢ path → disk p ≡ before p
-    set_still p fixed off = elim (step p) [ inl same ↦ same | inr given ↦ absurd (given_unfixed row.name bytes u before p (disk p) given fixed off) ]
+    set_still : (p : Elements) → Fixed before p → p ≢ (path_for row) → disk p ≡ before p
+    set_still p fixed off = elim (step p) [ inl same ↦ same | inr given ↦ absurd (given_unfixed row.name (bytes_for row) u before p (disk p) given fixed off) ]
 
     set_elsewhere : (p : Elements) → (disk p ≡ before p) ⊎ Permits before p (disk p)
-    set_elsewhere p = elim (step p) [ inl same ↦ inl same | inr given ↦ inr (given_permitted row.name bytes u before p (disk p) given) ]
+    set_elsewhere p = elim (step p) [ inl same ↦ inl same | inr given ↦ inr (given_permitted row.name (bytes_for row) u before p (disk p) given) ]
 
     layered : IsLayered s row.name (set_state s row)
     layered = after_set s (ascending opens) row 0
 
-    set_new : IsNew bytes (disk path) → Shows disk (set_state s row)
+    set_new : IsNew (bytes_for row) (disk (path_for row)) → Shows disk (set_state s row)
     set_new new = new_layer row.name layered set_still set_elsewhere
-        (cond-true (is_override row.name) _ _ name_good ∙ ap (override_at row.name) new.1 ∙ file_reads row new.0 back short ∙ ap seen_of (sym (set_there s row))) (opens.shown before was)
+        (cond-true (is_override row.name) _ _ name_good ∙ ap (override_at row.name) new.1 ∙ file_reads row new.0 (file_of-text_of row.file fine) short ∙ ap seen_of (sym (set_there s row))) (opens.shown before was)
 
     set_each : Shows disk s ⊎ Shows disk (set_state s row)
-    set_each = elim (step path) [
+    set_each = elim (step (path_for row)) [
       | inl same ↦ inl (old_layer row.name layered set_still set_elsewhere same (opens.shown before was))
-      | inr given ↦ inr (set_new (given_here row.name bytes u (disk path) given))
+      | inr given ↦ inr (set_new (given_here row.name (bytes_for row) u (disk (path_for row)) given))
     ]
 
     set_sound : Sound disk
     set_sound = layer_sound row.name layered set_still set_elsewhere (opens.sound before was)
 
-  pub sets : {u w : View} → Replaces path bytes u w → Does s (set_state s row) (ReplacesName path) u w
+  pub sets : {u w : View} → Replaces (path_for row) (bytes_for row) u w → Does s (set_state s row) (ReplacesName (path_for row)) u w
   sets replaces = record {
     either = λ opens. record { shown = λ disk left. set_each replaces opens disk left; sound = λ disk left. set_sound replaces opens disk left };
     names = replaces.keeps.names;
@@ -228,7 +225,7 @@ module _ {s : State} {row : OverrideRow} (name_good : is_override row.name ≡ t
     printed = replaces.keeps.printed;
   }
 
-  no_object_set : (u : View) (d : List ℕ) (kind : ObjKind) (e : Slot) → ReplacesName path u (object_path repo d kind) e → ⊥
+  no_object_set : (u : View) (d : List ℕ) (kind : ObjKind) (e : Slot) → ReplacesName (path_for row) u (object_path repo d kind) e → ⊥
   no_object_set u d kind e put = elim put [
     | inl new ↦ cc new.0
     | inr other ↦ elim other [
@@ -237,18 +234,18 @@ module _ {s : State} {row : OverrideRow} (name_good : is_override row.name ≡ t
     ]
   ]
 
-  was_set : {u w : View} → IsTree u → IsTree w → Replaces path bytes u w → WasReplaced path bytes u w → WasDone s (set_state s row) u w
+  was_set : {u w : View} → IsTree u → IsTree w → Replaces (path_for row) (bytes_for row) u w → WasReplaced (path_for row) (bytes_for row) u w → WasDone s (set_state s row) u w
   was_set {u = u} start last replaces done = record {
     opens = λ opens. record { shown = λ disk left. set_new replaces opens disk left (done.new.each disk left); sound = λ disk left. set_sound replaces opens disk left };
     settled = done.settled;
-    objects = same_objects {W = ReplacesName path u} start last replaces.files replaces.keeps.names (no_object_set u);
+    objects = same_objects (ReplacesName (path_for row) u) start last replaces.files replaces.keeps.names (no_object_set u);
   }
 
-  pub set_goes : {a b : Option Moments} → IsTold a → Goes a b (Replaces path bytes) (Replaces path bytes) → Goes a b (Does s (set_state s row) (ReplacesName path)) (Does s (set_state s row) (ReplacesName path))
+  pub set_goes : {a b : Option Moments} → IsTold a → Goes a b (Replaces (path_for row) (bytes_for row)) (Replaces (path_for row) (bytes_for row)) → Goes a b (Does s (set_state s row) (ReplacesName (path_for row))) (Does s (set_state s row) (ReplacesName (path_for row)))
   set_goes told goes = begins told goes (λ u w t r. sets r) (λ u w t r e. sets r)
 
-  pub set_end : {a b : Option Moments} → IsTold a → IsTold b → Goes a b (Replaces path bytes) (Replaces path bytes) → AtEnd (WasReplaced path bytes) a b → AtEnd (WasDone s (set_state s row)) a b
-  set_end told last goes done = ends_in_tree {Q = λ u w. IsTree u × Replaces path bytes u w × WasReplaced path bytes u w} last
+  pub set_end : {a b : Option Moments} → IsTold a → IsTold b → Goes a b (Replaces (path_for row) (bytes_for row)) (Replaces (path_for row) (bytes_for row)) → AtEnd (WasReplaced (path_for row) (bytes_for row)) a b → AtEnd (WasDone s (set_state s row)) a b
+  set_end told last goes done = ends_in_tree {Q = λ u w. IsTree u × Replaces (path_for row) (bytes_for row) u w × WasReplaced (path_for row) (bytes_for row) u w} last
       (record { goes = begins told (goes_known goes done) (λ u w t r. tt) (λ u w t r q. (t, q.0, q.1)) })
       (λ u w after_ q. was_set q.0 after_ q.1 q.2)
 
@@ -259,8 +256,8 @@ unless_any false z p spot e fits = absurd (cc e)
 layer_fits : (name : List ℕ) (spot : Spot) → is_override name ≡ true → Allowed (override_path name) spot → IsFileOrGone spot
 layer_fits name spot good allowed = unless_any (is_override name) a_file (override_path name) spot good allowed.fits
 
-pub can_set : {s : State} {name : List ℕ} {v : View} → is_override name ≡ true → IsTree v → Opens s v → CanReplace (override_path name) v
-can_set {name = name} {v = v} good tree opens =
+pub can_set : {s : State} (name : List ℕ) {v : View} → is_override name ≡ true → IsTree v → Opens s v → CanReplace (override_path name) v
+can_set name {v = v} good tree opens =
     let sound = opens.sound (shows v) (now_left v) in
     record {
       entry = file_free tree (override_path name) (layer_fits name (shows v (override_path name)) good (sound.kinds (override_path name)));
@@ -291,7 +288,7 @@ gone_away name = refl
 drop_there : (s : State) (name : List ℕ) → at_name override_key (drop_state s name).overrides name ≡ None
 drop_there s name = at_removed override_key s.overrides name name ∙ rw (bytes_eq-itself name) refl
 
-module _ {s : State} {name : List ℕ} (name_good : is_override name ≡ true) where
+module _ (s : State) (name : List ℕ) (name_good : is_override name ≡ true) where
   module _ {u w : View} (follows : Follows (GoneAt (override_path name)) u w) (opens : Opens s u) (disk : Disk) (left : Leaves w disk) where
     abbrev drop_before : Disk
     drop_before = (follows.from disk left).0
@@ -345,23 +342,23 @@ module _ {s : State} {name : List ℕ} (name_good : is_override name ≡ true) w
       sound = λ disk left. drop_sound keeps.follows opens disk left;
     };
     settled = synced step;
-    objects = same_objects {W = AbsentAt (override_path name)} start last (files_kept keeps) keeps.names (λ d kind e put. cc put.0);
+    objects = same_objects (AbsentAt (override_path name)) start last (files_kept keeps) keeps.names (λ d kind e put. cc put.0);
   }
 
   pub drop_end : {a b c : Option Moments} → IsTold a → IsTold b → IsTold c → Frame (GoneAt (override_path name)) (AbsentAt (override_path name)) NoPath a b → AtEnd (λ u w. w.names (override_path name) ≡ absent) a b
       → Frame (GoneAt (override_path name)) (AbsentAt (override_path name)) NoPath a c → Makes (Step syncs (Ok tt)) b c → AtEnd (WasDone s (drop_state s name)) a c
-  drop_end told then last first none whole call =
+  drop_end told mid last first none whole call =
       let start = record { goes = begins told (goes_known first.goes none) (λ u w t k. tt) (λ u w t k q. (t, q.0, q.1)) } in
       ends_in_tree {Q = λ u w. ((v : View) × IsTree u × Drops u v × (v.names (override_path name) ≡ absent) × Step syncs (Ok tt) v w) × Drops u w} last
-      (ends_both (ends_on (ends_call then call) start then (λ u v w tree q e. (v, q.0, q.1, q.2, e))) (ends_frame told whole))
+      (ends_both (ends_on (ends_call mid call) start mid (λ u v w tree q e. (v, q.0, q.1, q.2, e))) (ends_frame told whole))
       (λ u w after_ q. was_dropped q.0.1 after_ q.0.2 q.0.3 q.1 q.0.4)
 
-no_dir_file : {p : Elements} {v : View} → IsFreeFile p v → IsNoDir (v.names p)
-no_dir_file (inl none) = subst IsNoDir (sym none) tt
-no_dir_file (inr is) = subst IsNoDir (sym is.1) tt
+no_dir_file : (p : Elements) (v : View) → IsFreeFile p v → IsNoDir (v.names p)
+no_dir_file p v (inl none) = subst IsNoDir (sym none) tt
+no_dir_file p v (inr is) = subst IsNoDir (sym is.1) tt
 
-pub can_drop : {s : State} {name : List ℕ} {v : View} → is_override name ≡ true → IsTree v → Opens s v → IsNoDir (v.names (override_path name))
-can_drop good tree opens = no_dir_file (can_set good tree opens).entry
+pub can_drop : {s : State} (name : List ℕ) {v : View} → is_override name ≡ true → IsTree v → Opens s v → IsNoDir (v.names (override_path name))
+can_drop name {v = v} good tree opens = no_dir_file (override_path name) v (can_set name good tree opens).entry
 
 pub framed_at : {p q : Elements} {a b : Option Moments} → p ≡ q → Frame (GoneAt p) (AbsentAt p) NoPath a b → Frame (GoneAt q) (AbsentAt q) NoPath a b
 framed_at {a = a} {b = b} is frame = subst (λ (r : Elements). Frame (GoneAt r) (AbsentAt r) NoPath a b) is frame

@@ -65,11 +65,11 @@ no_moves : (commit : List ℕ) (o : Option Previous) (p : Previous) → o ≡ So
 no_moves commit None p e f = absurd (cc e)
 no_moves commit (Some q) p e f = subst (λ (x : Previous). bytes_eq x.commit commit ≡ false) (some_is e) f
 
-pub has_back : {s : State} {name : Ref} {commit : List ℕ} → HasRow s name (HasPrevious commit) → HasBack s.refs name
-has_back has = record { row = has.0; previous = has.2.0; has = has.1; was = has.2.1 }
+pub has_back : (s : State) (name : Ref) (commit : List ℕ) → HasRow s name (HasPrevious commit) → HasBack s.refs name
+has_back s name commit has = record { row = has.0; previous = has.2.0; has = has.1; was = has.2.1 }
 
-pub is_back : {s : State} {name : Ref} {commit : List ℕ} {new : RefRow} → IsGood s → HasRow s name (HasPrevious commit) → IsRowBack s.refs name new → IsBack s name commit new
-is_back {s = s} {name = name} {commit = commit} state has found =
+pub is_back : {s : State} {name : Ref} (commit : List ℕ) {new : RefRow} → IsGood s → HasRow s name (HasPrevious commit) → IsRowBack s.refs name new → IsBack s name commit new
+is_back {s = s} {name = name} commit state has found =
     let row = found.row in
     let p = found.previous in
     let listed = at_found ref_key IsGoodRow s.refs (ref_text name) row state.rows found.has in
@@ -199,7 +199,7 @@ module _ {s : State} {name : Ref} {commit : List ℕ} {new : RefRow} (good : is_
   was_backed {w = w} before between after keeps cleared deploys done = record {
     opens = λ opens. subst (λ (t : State). Opens t w) (back_state b) (done.opens (can_back good between b (frame_law link_spares keeps.follows opens) cleared));
     settled = done.settled;
-    objects = let backs = backs_deploys between keeps cleared deploys in same_objects {W = DeploysName name commit} before after backs.files backs.names no_object;
+    objects = let backs = backs_deploys between keeps cleared deploys in same_objects (DeploysName name commit) before after backs.files backs.names no_object;
   }
 
   -- ---- call by call
@@ -214,16 +214,16 @@ module _ {s : State} {name : Ref} {commit : List ℕ} {new : RefRow} (good : is_
   ready_end told frame cleared = ends_both (ends_frame told frame) cleared
 
   pub backed : {a c d : Option Moments} → IsTold a → IsTold c → Frame (GoneWithin new_link) (AbsentWithin new_link) NoPath a c → AtEnd (λ u w. IsCleared new_link w) a c → Goes c d (Deploys s new) (Deploys s new) → Goes a d Backs Backs
-  backed told then frame cleared deploys =
-      goes_on then (begins told (goes_known frame.goes cleared) (λ u w t k. backs_cleared k) (λ u w t k q. q)) deploys
+  backed told mid frame cleared deploys =
+      goes_on mid (begins told (goes_known frame.goes cleared) (λ u w t k. backs_cleared k) (λ u w t k q. q)) deploys
       (λ u v w tree r q x. backs_deploys tree q.0 q.1 x) (λ u v w tree r q x e. backs_deploys tree q.0 q.1 e)
 
   pub backed_end : {a c d : Option Moments} → IsTold a → IsTold c → IsTold d → Frame (GoneWithin new_link) (AbsentWithin new_link) NoPath a c → AtEnd (λ u w. IsCleared new_link w) a c → Goes c d (Deploys s new) (Deploys s new) → AtEnd (WasDeployed s new) c d
       → AtEnd (WasDone s (after_back s name commit)) a d
-  backed_end told then last frame cleared deploys done =
+  backed_end told mid last frame cleared deploys done =
       let start = record { goes = begins told (goes_known frame.goes cleared) (λ u w t k. tt) (λ u w t k q. (t, q.0, q.1)) } in
       ends_in_tree {Q = λ u w. (v : View) × IsTree u × IsTree v × Ready u v × Deploys s new v w × WasDeployed s new v w} last
-      (ends_on (ends_both (ends_goes then deploys) done) start then (λ u v w tree q e. (v, q.0, tree, (q.1, q.2), e.0, e.1)))
+      (ends_on (ends_both (ends_goes mid deploys) done) start mid (λ u v w tree q e. (v, q.0, tree, (q.1, q.2), e.0, e.1)))
       (λ u w after q. was_backed q.1 q.2 after q.3.0 q.3.1 q.4 q.5)
 
 pub within_at : {p q : Elements} {a b : Option Moments} → p ≡ q → Frame (GoneWithin p) (AbsentWithin p) NoPath a b → Frame (GoneWithin q) (AbsentWithin q) NoPath a b

@@ -62,9 +62,9 @@ module _ {s : State} {row : RefRow} where
     }
 
     pub deployed : {a b c : Option Moments} → IsTold b → Goes a b (Readies s row) (Readies s row) → AtEnd (WasStaged s row) a b → Goes b c (Switches staged) (Switches staged) → IsTold a → Goes a c (Deploys s row) (Deploys s row)
-    deployed then first was second told =
-        goes_on then (begins told (goes_known first was) (λ u w t r. deploys_readies r) (λ u w t r q. q)) second
+    deployed mid first was second told =
+        goes_on mid (begins told (goes_known first was) (λ u w t r. deploys_readies r) (λ u w t r q. q)) second
         (λ u v w tree r q x. deploys_switches q.0 q.1 x) (λ u v w tree r q x e. deploys_switches q.0 q.1 e)
 
     pub deployed_end : {a b c : Option Moments} → IsTold b → AtEnd (WasStaged s row) a b → AtEnd (WasSwitched staged) b c → AtEnd (WasDeployed s row) a c
-    deployed_end then was done = ends_on done was then (λ u v w tree q e. was_deployed q e)
+    deployed_end mid was done = ends_on done was mid (λ u v w tree q e. was_deployed q e)

@@ -21,13 +21,13 @@ use Rattle.dep_switch.specs.declared.retiring.RetirePlan.{RetirePlan}
 use Rattle.op_deploy.specs.Applied.{Does, WasDone}
 use Rattle.op_deploy.proofs.Objects.{same_objects}
 
-module _ {s : State} {name : Ref} {plan : RetirePlan} (planned : IsPlanOf name plan) where
-  its_own : IsPlanOf plan.name plan
-  its_own = subst (λ (n : Ref). IsPlanOf n plan) (sym planned.name) planned
+its_own : {name : Ref} {plan : RetirePlan} → IsPlanOf name plan → IsPlanOf plan.name plan
+its_own {plan = plan} planned = subst (λ (n : Ref). IsPlanOf n plan) (sym planned.name) planned
 
+module _ {s : State} {name : Ref} {plan : RetirePlan} (planned : IsPlanOf name plan) where
   pub leaves : {u w : View} → Retires s plan u w → Does s (without_row s name) (λ u. AbsentAt (active name)) u w
   leaves {w = w} retires = record {
-    either = λ opens. subst (λ (n : Ref). OpensEither s (without_row s n) w) planned.name (retires.either its_own opens);
+    either = λ opens. subst (λ (n : Ref). OpensEither s (without_row s n) w) planned.name (retires.either (its_own planned) opens);
     names = λ q. elim (retires.names q) [ inl same ↦ inl same | inr gone ↦ inr (gone.0 ∙ planned.link, gone.1) ];
     files = record { rows = λ id f some. retires.files id ∙ some };
     printed = retires.printed;
@@ -38,15 +38,15 @@ module _ {s : State} {name : Ref} {plan : RetirePlan} (planned : IsPlanOf name p
 
   was_left : {u w : View} → IsTree u → IsTree w → Retires s plan u w → WasRetired s plan u w → WasDone s (without_row s name) u w
   was_left {w = w} before after retires done = record {
-    opens = λ opens. subst (λ (n : Ref). Opens (without_row s n) w) planned.name (done.opens its_own opens);
+    opens = λ opens. subst (λ (n : Ref). Opens (without_row s n) w) planned.name (done.opens (its_own planned) opens);
     settled = done.settled;
-    objects = same_objects {W = AbsentAt (active name)} before after ((leaves retires).files) ((leaves retires).names) (λ d kind e put. cc put.0);
+    objects = same_objects (AbsentAt (active name)) before after ((leaves retires).files) ((leaves retires).names) (λ d kind e put. cc put.0);
   }
 
   pub left_end : {a b : Option Moments} → IsTold a → IsTold b → Goes a b (Retires s plan) (Retires s plan) → AtEnd (WasRetired s plan) a b → AtEnd (WasDone s (without_row s name)) a b
-  left_end told then goes done = ends_in_tree {Q = λ u w. IsTree u × Retires s plan u w × WasRetired s plan u w} then
+  left_end told mid goes done = ends_in_tree {Q = λ u w. IsTree u × Retires s plan u w × WasRetired s plan u w} mid
       (record { goes = begins told (goes_known goes done) (λ u w t r. tt) (λ u w t r q. (t, q.0, q.1)) })
       (λ u w after q. was_left q.0 after q.1 q.2)
 
   pub can_leave : {v : View} → row_at s name ≢ None → Opens s v → CanRetire s plan v
-  can_leave there opens = record { opens = opens; planned = its_own; there = λ none. there (ap (row_at s) (sym planned.name) ∙ none) }
+  can_leave there opens = record { opens = opens; planned = its_own planned; there = λ none. there (ap (row_at s) (sym planned.name) ∙ none) }

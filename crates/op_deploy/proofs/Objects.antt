@@ -12,8 +12,8 @@ use Rattle.fp_small.proofs.Keeping.{files_stay}
 use Rattle.op_deploy.specs.Applied.{Does, SameObjects}
 
 -- where no name of an object changes
-pub same_objects : {W : Elements → Slot → Type 0} {u w : View} → IsTree u → IsTree w → KeepsFiles u w → ((q : Elements) → (w.names q ≡ u.names q) ⊎ W q (w.names q)) → ((d : _) (kind : ObjKind) (e : Slot) → W (object_path repo d kind) e → ⊥) → SameObjects u w
-same_objects before after files names off d kind digits =
+pub same_objects : (W : Elements → Slot → Type 0) {u w : View} → IsTree u → IsTree w → KeepsFiles u w → ((q : Elements) → (w.names q ≡ u.names q) ⊎ W q (w.names q)) → ((d : _) (kind : ObjKind) (e : Slot) → W (object_path repo d kind) e → ⊥) → SameObjects u w
+same_objects W before after files names off d kind digits =
     ap (object_at kind) (same_shown before after files (object_path repo d kind) (elim (names (object_path repo d kind)) [ inl same ↦ same | inr put ↦ absurd (off d kind _ put) ]))
 
 -- where nothing is done yet

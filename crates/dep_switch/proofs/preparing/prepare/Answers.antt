@@ -40,7 +40,7 @@ returns-in_err-symlink-clause-fault_has_cause g c =
     let house = housed_end c.requires.place (t c.args.host.now) c.make_above.ensures.frame c.in_ok-make_above.ensures.on_success in
     call_caused (CanPrepare c.args.deploy.now) (Can (makes_link c.args.text.now c.args.link.now)) _ _ _ _ _ (t c.args.host.now) (omega (arith, c.make_above.ensures.fault_has_cause.later, c.write_new.ensures.fault_has_cause.later))
     (ends_on {Q' = λ u w. (v : View) × IsHoused c.args.deploy.now u v × WritesFile c.args.deploy.now v w} (ends_goes (t c.make_above.new.host) c.write_new.ensures.any_moment) house (t c.make_above.new.host) (λ u v w tree q s. (v, q, s))) e.step e.fault_has_cause
-    c.from_residual-in_err-symlink.ensures.1 (λ v w step. clash_step step) (λ u v tree q can. can_link c.requires.place c.requires.text q.1 q.2 can)
+    c.from_residual-in_err-symlink.ensures.1 (λ v w step. clash_step step) (λ u v tree q can. can_link c.args.text.now c.requires.place c.requires.text q.1 q.2 can)
 
 pub returns-in_err-sync-clause-any_moment : goal.returns-in_err-sync-clause-any_moment
 returns-in_err-sync-clause-any_moment g c =

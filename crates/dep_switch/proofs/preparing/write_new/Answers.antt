@@ -16,7 +16,7 @@ returns-in_err-take_away-clause-fault_has_cause g c =
     let t = g.met.H.Host.is_tree in
     let p = c.args.path.now in
     fault_caused (CanWrite p) (λ v. IsNoDir (v.names p)) _ _ _ _ _ (t c.args.host.now) (omega arith) (ends_start (t c.args.host.now)) c.take_away.ensures.fault_has_cause (same_fault _ _ _ c.in_err-take_away.was c.from_residual.ensures.1)
-    (λ u v tree same can. subst (λ (x : View). IsNoDir (x.names p)) (sym same) (no_dir can.free))
+    (λ u v tree same can. subst (λ (x : View). IsNoDir (x.names p)) (sym same) (no_dir p u can.free))
 
 pub returns-in_err-create-clause-any_moment : goal.returns-in_err-create-clause-any_moment
 returns-in_err-create-clause-any_moment g c =

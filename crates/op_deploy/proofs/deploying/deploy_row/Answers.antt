@@ -1,5 +1,6 @@
-use Rattle.std.proofs.Common.{◌∙◌, arith}
-use Rattle.std.specs.Prelude.{IsErr, IsErrOf}
+use Rattle.std.proofs.Common.{◌∙◌, ap, arith}
+use Rattle.std.specs.Prelude.{IsErr}
+use Rattle.std.specs.Result.{is_err}
 use Rattle.fp_host.specs.declared.host.HostEnd.TheVariants.{Fault}
 use Rattle.fp_host.proofs.Cause.{passed_on}
 use Rattle.fp_host.proofs.Goes.{begins}
@@ -25,3 +26,9 @@ pub returns-in-Err-clause-any_moment : goal.returns-in-Err-clause-any_moment
 returns-in-Err-clause-any_moment g c =
     let t = g.met.H.Host.is_tree in
     deployed c.in_ok-staged.ensures.leads (t c.of.new.host) c.of.ensures.any_moment c.in_ok-staged.ensures.on_success c.switch.ensures.any_moment (t c.args.host.now)
+
+pub returns-in-Err-clause-fault_has_cause : goal.returns-in-Err-clause-fault_has_cause
+returns-in-Err-clause-fault_has_cause g c =
+    let t = g.met.H.Host.is_tree in
+    passed_on _ (IsErr c.switch.result) (CanStage c.args.opened c.args.row) (CanSwitch c.in_ok-staged.staged) _ _ _ (t c.args.host.now) c.of.ensures.fault_has_cause.later c.in_ok-staged.ensures.on_success c.switch.ensures.fault_has_cause (λ is. ap is_err c.in-Err.is)
+    (λ u v tree q can. can_now c.in_ok-staged.ensures.leads q can)

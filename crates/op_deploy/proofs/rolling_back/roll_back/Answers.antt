@@ -12,3 +12,14 @@ use Rattle.op_deploy.proofs.rolling_back.roll_back.Goals as goal
 
 pub returns-in_err-row-clause-any_moment : goal.returns-in_err-row-clause-any_moment
 returns-in_err-row-clause-any_moment g c = stays (g.met.H.Host.is_tree c.args.host.now) (λ u. does_start) (λ u t. does_start)
+
+pub row_back-requires : goal.row_back-requires
+row_back-requires g c = has_back c.args.opened c.args.name.now c.args.commit.now c.requires.back
+
+pub returns-in_err-link-clause-any_moment : goal.returns-in_err-link-clause-any_moment
+returns-in_err-link-clause-any_moment g c = stays (g.met.H.Host.is_tree c.args.host.now) (λ u. does_start) (λ u t. does_start)
+
+pub returns-in_err-clear-clause-any_moment : goal.returns-in_err-clear-clause-any_moment
+returns-in_err-clear-clause-any_moment g c =
+    let back = is_back c.args.commit.now c.requires.good c.requires.back c.in_ok-row.ensures in
+    backed_cleared c.in_ok-row.ensures.good back (g.met.H.Host.is_tree c.args.host.now) (within_at c.in_ok-link.ensures c.clear.ensures.frame)

@@ -1,5 +1,6 @@
 use Rattle.std.proofs.Common.{◌∙◌, ap, sym, subst, arith}
-use Rattle.std.specs.Prelude.{IsErr, IsErrOf}
+use Rattle.std.specs.Prelude.{IsErr}
+use Rattle.std.specs.Result.{is_err}
 use Rattle.fp_host.specs.declared.host.HostEnd.TheVariants.{Fault}
 use Rattle.fp_host.proofs.Cause.{passed_on}
 use Rattle.fp_host.proofs.Ending.{ends_start}
@@ -27,3 +28,9 @@ returns-in-Ok-clause-state g c = c.settled.ensures ∙ c.in-Ok.ensures.state ∙
 
 pub returns-in-Err-clause-any_moment : goal.returns-in-Err-clause-any_moment
 returns-in-Err-clause-any_moment g c = left_goes c.in_ok-plan.ensures (g.met.H.Host.is_tree c.args.host.now) c.retire.ensures.any_moment
+
+pub returns-in-Err-clause-fault_has_cause : goal.returns-in-Err-clause-fault_has_cause
+returns-in-Err-clause-fault_has_cause g c =
+    let t = g.met.H.Host.is_tree in
+    passed_on _ (IsErr c.retire.result) (Opens c.args.opened) (CanRetire c.args.opened c.in_ok-plan.plan) _ _ _ (t c.args.host.now) (omega arith) (ends_start (t c.args.host.now)) c.retire.ensures.fault_has_cause (λ is. ap is_err c.in-Err.is)
+    (λ u v tree same opens. can_leave c.in_ok-plan.ensures c.requires (subst (Opens c.args.opened) (sym same) opens))

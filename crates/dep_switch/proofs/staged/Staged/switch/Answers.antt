@@ -7,7 +7,7 @@ use Rattle.fp_host.proofs.Goes.{begins, goes_on, makes_goes}
 use Rattle.fp_host.proofs.Ending.{ends_start, ends_call, ends_on, ends_in_tree}
 use Rattle.dep_switch.specs.Staging.{CanSwitch}
 use Rattle.dep_switch.proofs.Ends.{host_failed}
-use Rattle.dep_switch.proofs.Switches.{IsRenamed, switches_rename, switches_sync, renamed, was_switched, can_rename}
+use Rattle.dep_switch.proofs.Switches.{IsRenamed, switches_rename, switches_sync, renamed_end, was_switched, can_rename}
 use Rattle.dep_switch.proofs.staged.Staged.switch.Goals as goal
 
 pub returns-in_err-rename-clause-any_moment : goal.returns-in_err-rename-clause-any_moment
@@ -43,6 +43,6 @@ returns-clause-any_moment g c =
 pub returns-clause-on_success : goal.returns-clause-on_success
 returns-clause-on_success g c =
     let t = g.met.H.Host.is_tree in
-    let first = record { goes = begins (t c.args.host.now) (makes_goes c.in_ok-rename.ensures.step) (λ u w tree s. tt) (λ u w tree s e. renamed tree e) } in
+    let first = renamed_end {staged = c.args.self} (t c.args.host.now) c.in_ok-rename.ensures.step in
     ends_in_tree (t c.sync.new.self) (ends_on {Q' = λ u w. (v : View) × IsTree v × IsRenamed c.args.self u v × Step syncs (Ok tt) v w} (ends_call (t c.rename.new.self) c.in_ok-sync.ensures.step) first (t c.rename.new.self) (λ u v w tree q s. (v, tree, q, s)))
     (λ u w tree q. was_switched q.1 tree q.2 q.3)
