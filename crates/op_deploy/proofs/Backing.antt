@@ -213,6 +213,9 @@ module _ {s : State} {name : Ref} {commit : List ℕ} {new : RefRow} (good : is_
   pub ready_end : {a c : Option Moments} → IsTold a → Frame (GoneWithin new_link) (AbsentWithin new_link) NoPath a c → AtEnd (λ u w. IsCleared new_link w) a c → AtEnd Ready a c
   ready_end told frame cleared = ends_both (ends_frame told frame) cleared
 
+  pub tree_ready : {a c : Option Moments} → IsTold a → IsTold c → Frame (GoneWithin new_link) (AbsentWithin new_link) NoPath a c → AtEnd (λ u w. IsCleared new_link w) a c → AtEnd (λ u w. IsTree w × Ready u w) a c
+  tree_ready told mid frame cleared = ends_in_tree {Q' = λ u w. IsTree w × Ready u w} mid (ready_end told frame cleared) (λ u w tree q. (tree, q))
+
   pub backed : {a c d : Option Moments} → IsTold a → IsTold c → Frame (GoneWithin new_link) (AbsentWithin new_link) NoPath a c → AtEnd (λ u w. IsCleared new_link w) a c → Goes c d (Deploys s new) (Deploys s new) → Goes a d Backs Backs
   backed told mid frame cleared deploys =
       goes_on mid (begins told (goes_known frame.goes cleared) (λ u w t k. backs_cleared k) (λ u w t k q. q)) deploys
@@ -220,10 +223,10 @@ module _ {s : State} {name : Ref} {commit : List ℕ} {new : RefRow} (good : is_
 
   pub backed_end : {a c d : Option Moments} → IsTold a → IsTold c → IsTold d → Frame (GoneWithin new_link) (AbsentWithin new_link) NoPath a c → AtEnd (λ u w. IsCleared new_link w) a c → Goes c d (Deploys s new) (Deploys s new) → AtEnd (WasDeployed s new) c d
       → AtEnd (WasDone s (after_back s name commit)) a d
-  backed_end told mid last frame cleared deploys done =
-      let start = record { goes = begins told (goes_known frame.goes cleared) (λ u w t k. tt) (λ u w t k q. (t, q.0, q.1)) } in
+  backed_end {a = a} {c = c} told mid last frame cleared deploys done =
+      let start : AtEnd (λ u w. IsTree u × Ready u w) a c = record { goes = begins told (goes_known frame.goes cleared) (λ u w t k. tt) (λ u w t k q. (t, q)) } in
       ends_in_tree {Q = λ u w. (v : View) × IsTree u × IsTree v × Ready u v × Deploys s new v w × WasDeployed s new v w} last
-      (ends_on (ends_both (ends_goes mid deploys) done) start mid (λ u v w tree q e. (v, q.0, tree, (q.1, q.2), e.0, e.1)))
+      (ends_on (ends_both (ends_goes mid deploys) done) start mid (λ u v w tree q e. (v, q.0, tree, q.1, e.0, e.1)))
       (λ u w after q. was_backed q.1 q.2 after q.3.0 q.3.1 q.4 q.5)
 
 pub within_at : {p q : Elements} {a b : Option Moments} → p ≡ q → Frame (GoneWithin p) (AbsentWithin p) NoPath a b → Frame (GoneWithin q) (AbsentWithin q) NoPath a b

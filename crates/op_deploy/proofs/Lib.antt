@@ -1,4 +1,4 @@
 pub mod Objects
-pub mod Deploying
+pub mod Deployed
 pub mod Backing
 pub mod Leaving

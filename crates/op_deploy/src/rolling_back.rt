@@ -13,7 +13,7 @@ use dep_states::Opened;
 use dep_switch::{find_ref, new_link_path};
 use fp_host::{Host, HostEnd};
 use fp_name::{Digest, RefName};
-use fp_small::{Previous, RefRow, clear};
+use fp_small::{Previous, RefRow, State, clear};
 use std::alloc::{AllocError, Global};
 
 /// The row with its commit and the previous one in each other's places.
@@ -34,11 +34,11 @@ fn exchanged(row: &RefRow, previous: &Previous) -> Result<RefRow, AllocError>
 }
 
 /// The row of the ref after it went back. It is for a ref that has a previous commit.
-fn row_back(rows: &[RefRow], name: &RefName) -> Result<RefRow, AllocError>
-    requires { HasBack rows.now name.now }
-    ensures { IfOk result (IsRowBack rows.now name.now) }
+fn row_back(state: &State, name: &RefName) -> Result<RefRow, AllocError>
+    requires { HasBack state.now.refs name.now }
+    ensures { IfOk result (IsRowBack state.now.refs name.now) }
 {
-    let Some(row) = find_ref(rows, name) else {
+    let Some(row) = find_ref(state.refs.as_slice(), name) else {
         unreachable!();
     };
     let Some(previous) = &row.previous else {
@@ -68,7 +68,7 @@ pub fn roll_back<H: Host>(
     ensures starved_opens { IsErrOf result HostEnd.NoMemory → AtEnd
         (λ u w. Opens opened u → Opens opened w) (H.moments host.old) (H.moments host.new) }
 {
-    let row = row_back(opened.state().refs.as_slice(), name)?;
+    let row = row_back(opened.state(), name)?;
     let link = new_link_path(alloc)?;
     clear(alloc, host, &link)?;
     deploy_row(alloc, host, opened, row)

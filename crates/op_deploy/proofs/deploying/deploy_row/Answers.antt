@@ -5,7 +5,7 @@ use Rattle.fp_host.specs.declared.host.HostEnd.TheVariants.{Fault}
 use Rattle.fp_host.proofs.Cause.{passed_on}
 use Rattle.fp_host.proofs.Goes.{begins}
 use Rattle.dep_switch.specs.Staging.{CanStage, CanSwitch}
-use Rattle.op_deploy.proofs.Deploying.{deploys_readies, can_now, deployed, deployed_end}
+use Rattle.op_deploy.proofs.Deployed.{deploys_readies, can_now, deployed, deployed_end}
 use Rattle.op_deploy.proofs.deploying.deploy_row.Goals as goal
 
 pub returns-in_err-staged-clause-any_moment : goal.returns-in_err-staged-clause-any_moment

@@ -33,4 +33,4 @@ pub returns-in-Err-clause-fault_has_cause : goal.returns-in-Err-clause-fault_has
 returns-in-Err-clause-fault_has_cause g c =
     let t = g.met.H.Host.is_tree in
     passed_on _ (IsErr c.retire.result) (Opens c.args.opened) (CanRetire c.args.opened c.in_ok-plan.plan) _ _ _ (t c.args.host.now) (omega arith) (ends_start (t c.args.host.now)) c.retire.ensures.fault_has_cause (λ is. ap is_err c.in-Err.is)
-    (λ u v tree same opens. can_leave c.in_ok-plan.ensures c.requires (subst (Opens c.args.opened) (sym same) opens))
+    (λ u v tree same opens. can_leave c.in_ok-plan.ensures c.requires.there (subst (Opens c.args.opened) (sym same) opens))
