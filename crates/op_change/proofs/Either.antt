@@ -14,7 +14,7 @@ use Rattle.fp_name.specs.Refs.{Ref}
 use Rattle.fp_small.specs.Places.{repo, tmp}
 use Rattle.fp_small.specs.Folders.{IsFree}
 use Rattle.fp_small.specs.Move.{IsNew, HasNew}
-use Rattle.fp_small.specs.Replace.{IsStaging, folders_of, ReplacesAt, Replaces, WasReplaced, CanReplace}
+use Rattle.fp_small.specs.Replace.{IsStaging, folders_of, ReplacesAt, ReplacesName, Replaces, WasReplaced, CanReplace}
 use Rattle.fp_small.specs.Config.{config_of, config_text, IsSettings}
 use Rattle.fp_small.specs.declared.config.Settings.{Settings}
 use Rattle.fp_small.specs.declared.state.State.{State}
@@ -241,8 +241,8 @@ module _ {s t : State} {u w : View} (next : IsNext s t) (reads : ReadsBack t) (r
 abbrev Changes : State → Op → View → View → Type 0
 Changes s op = Does s (after s (plain op)) (ReplacesName config)
 
-pub applies : {s : State} {op : Op} {t : State} {u w : View} → t ≡ after s (plain op) → IsNext s t → ReadsBack t → Replaces config (config_text (settings_of t)) u w → Changes s op u w
-applies {s = s} {w = w} is next reads replaces = record {
+pub applies : {s : State} {t : State} {u w : View} (op : Op) → t ≡ after s (plain op) → IsNext s t → ReadsBack t → Replaces config (config_text (settings_of t)) u w → Changes s op u w
+applies {s = s} {w = w} op is next reads replaces = record {
   either = λ opens. subst (λ x. OpensEither s x w) is (either next reads replaces opens);
   names = replaces.keeps.names;
   files = replaces.files;
@@ -256,17 +256,17 @@ no_object u d kind e put = elim put [
   | inr other ↦ elim other [ inl made ↦ elim (which (object_path repo d kind) made.0) [ inl is ↦ cc is | inr is ↦ cc is ] | inr work ↦ cc work.is ]
 ]
 
-pub was_applied : {s : State} {op : Op} {t : State} {u w : View} → IsTree u → IsTree w → t ≡ after s (plain op) → IsNext s t → ReadsBack t → Replaces config (config_text (settings_of t)) u w → WasReplaced config (config_text (settings_of t)) u w → SettingsDone s (after s (plain op)) u w
-was_applied {t = t} {u = u} {w = w} before after_ is next reads replaces was = record {
+pub was_applied : {s : State} {t : State} {u w : View} (op : Op) → IsTree u → IsTree w → t ≡ after s (plain op) → IsNext s t → ReadsBack t → Replaces config (config_text (settings_of t)) u w → WasReplaced config (config_text (settings_of t)) u w → SettingsDone s (after s (plain op)) u w
+was_applied {t = t} {u = u} {w = w} op start after_ is next reads replaces put = record {
   done = record {
-    opens = λ opens. subst (λ x. Opens x w) is (opens_after next reads replaces opens was);
-    settled = was.settled;
-    objects = same_objects {W = ReplacesName config u} before after_ replaces.files replaces.keeps.names (no_object u);
+    opens = λ opens. subst (λ x. Opens x w) is (opens_after next reads replaces opens put);
+    settled = put.settled;
+    objects = same_objects (ReplacesName config u) start after_ replaces.files replaces.keeps.names (no_object u);
   };
   settings = record {
-    text = subst (λ x. HasNew config (config_text (settings_of x)) w) is was.new;
-    config = λ disk left. is_there disk (config_text (settings_of t)) (was.new.each disk left);
-    work = was.work;
+    text = subst (λ x. HasNew config (config_text (settings_of x)) w) is put.new;
+    config = λ disk left. is_there disk (config_text (settings_of t)) (put.new.each disk left);
+    work = put.work;
   };
 }
 
@@ -324,14 +324,14 @@ next_after s (Rollback name commit) may on good = absurd on
 
 -- ---- what the parts of the call tell of it
 
-pub moments_applied : {a b : Option Moments} {s : State} {op : Op} {t : State} → IsTold a → t ≡ after s (plain op) → IsNext s t → ReadsBack t
+pub moments_applied : {a b : Option Moments} {s : State} {t : State} (op : Op) → IsTold a → t ≡ after s (plain op) → IsNext s t → ReadsBack t
     → Goes a b (Replaces config (config_text (settings_of t))) (Replaces config (config_text (settings_of t))) → Goes a b (Changes s op) (Changes s op)
-moments_applied tree is next reads goes = begins tree goes (λ u w here replaces. applies is next reads replaces) (λ u w here replaces end. applies is next reads replaces)
+moments_applied op tree is next reads goes = begins tree goes (λ u w here replaces. applies op is next reads replaces) (λ u w here replaces end. applies op is next reads replaces)
 
-pub ends_applied : {a b : Option Moments} {s : State} {op : Op} {t : State} → IsTold a → IsTold b → t ≡ after s (plain op) → IsNext s t → ReadsBack t
+pub ends_applied : {a b : Option Moments} {s : State} {t : State} (op : Op) → IsTold a → IsTold b → t ≡ after s (plain op) → IsNext s t → ReadsBack t
     → Goes a b (Replaces config (config_text (settings_of t))) (Replaces config (config_text (settings_of t))) → AtEnd (WasReplaced config (config_text (settings_of t))) a b → AtEnd (SettingsDone s (after s (plain op))) a b
-ends_applied {t = t} tree last is next reads goes done =
+ends_applied {t = t} op tree last is next reads goes done =
     let bytes = config_text (settings_of t) in
     ends_in_tree {Q = λ u w. IsTree u × Replaces config bytes u w × WasReplaced config bytes u w} last
     (record { goes = begins tree (goes_known goes done) (λ u w here replaces. tt) (λ u w here replaces both. (here, both.0, both.1)) })
-    (λ u w after_ all. was_applied all.0 after_ is next reads all.1 all.2)
+    (λ u w after_ all. was_applied op all.0 after_ is next reads all.1 all.2)

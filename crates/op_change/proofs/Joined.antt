@@ -1,9 +1,10 @@
 -- One operation of several, by what it is.
-use Rattle.std.proofs.Common.{◌≡◌, ◌⊎◌, inl, inr, Option, sym, subst}
+use Rattle.std.proofs.Common.{◌≡◌, ◌⊎◌, inl, inr, Option, Result, Ok, Err, IfOk, sym, subst}
 use Rattle.fp_host.specs.Paths.{Elements, Slot}
 use Rattle.fp_host.specs.View.{View}
 use Rattle.fp_host.specs.Frame.{AtEnd}
 use Rattle.fp_host.specs.Moments.{Moments, Goes}
+use Rattle.fp_host.specs.declared.host.HostEnd.{HostEnd}
 use Rattle.fp_host.proofs.Ending.{ends_to}
 use Rattle.fp_host.proofs.Framed.{IsTold}
 use Rattle.fp_host.proofs.Goes.{begins}
@@ -11,7 +12,7 @@ use Rattle.fp_small.specs.Replace.{ReplacesName}
 use Rattle.fp_small.specs.declared.op.Op.{Op}
 use Rattle.fp_small.specs.declared.op.Op.TheVariants.{Install, Update, Uninstall, AddPin, DropPin, AddRemote, ModifyRemote, DropRemote, SetOverride, DropOverride, Migrate, Rollback}
 use Rattle.fp_small.specs.declared.state.State.{State}
-use Rattle.dep_states.specs.After.{after, plain, IsOnConfig}
+use Rattle.dep_states.specs.After.{after, plain, IsOnConfig, IsGood, Allows, May}
 use Rattle.dep_states.specs.Names.{config}
 use Rattle.dep_states.specs.Sound.{Opens}
 use Rattle.op_deploy.specs.Applied.{Does, WasDone}
@@ -55,3 +56,27 @@ module _ (s : State) (op : Op) where
 
   pub starved_opens : {a b : Option Moments} → (IsOnConfig op → ⊥) → AtEnd (λ u w. Opens s u → Opens s w) a b → AtEnd (IsStarved s op) a b
   starved_opens off opens = ends_to opens (λ u w o. record { opens = o; settings = λ on. absurd (off on) })
+
+-- what an operation's case says of it
+module _ (s : State) (o x : Op) (e : o ≡ x) where
+  pub goes_as : {W : View → Elements → Slot → Type 0} {a b : Option Moments} → IsTold a → ((u : View) (q : Elements) (e : Slot) → W u q e → MayChange x u q e) → Goes a b (Does s (after s (plain x)) W) (Does s (after s (plain x)) W) → Goes a b (Applies s (plain o)) (Applies s (plain o))
+  goes_as {a = a} {b = b} told may goes = subst (λ (y : Op). Goes a b (Applies s (plain y)) (Applies s (plain y))) (sym e) (goes_applies s x told may goes)
+
+  pub done_as : {a b : Option Moments} → (IsOnConfig x → ⊥) → AtEnd (WasDone s (after s (plain x))) a b → AtEnd (WasApplied s (plain o)) a b
+  done_as {a = a} {b = b} off done = subst (λ (y : Op). AtEnd (WasApplied s (plain y)) a b) (sym e) (ends_done s x off done)
+
+  pub opens_as : {a b : Option Moments} → (IsOnConfig x → ⊥) → AtEnd (λ u w. Opens s u → Opens s w) a b → AtEnd (IsStarved s o) a b
+  opens_as {a = a} {b = b} off opens = subst (λ (y : Op). AtEnd (IsStarved s y) a b) (sym e) (starved_opens s x off opens)
+
+  pub state_as : {r : State} → r ≡ after s (plain x) → r ≡ after s (plain o)
+  state_as {r = r} is = subst (λ (y : Op). r ≡ after s (plain y)) (sym e) is
+
+  pub good_as : {r : State} → r ≡ after s (plain x) → IsGood (after s (plain x)) → IsGood r
+  good_as is good = subst IsGood (sym is) good
+
+  pub allowed : May s o → Allows s x
+  allowed may = subst (Allows s) e may.allows
+
+pub good_if : (r : Result State HostEnd) (t : State) → IsGood t → IfOk r (λ o. o ≡ t) → IfOk r IsGood
+good_if (Ok o) t good is = subst IsGood (sym is) good
+good_if (Err e) t good is = tt

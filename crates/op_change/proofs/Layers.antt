@@ -347,8 +347,8 @@ module _ (s : State) (name : List ℕ) (name_good : is_override name ≡ true) w
 
   pub drop_end : {a b c : Option Moments} → IsTold a → IsTold b → IsTold c → Frame (GoneAt (override_path name)) (AbsentAt (override_path name)) NoPath a b → AtEnd (λ u w. w.names (override_path name) ≡ absent) a b
       → Frame (GoneAt (override_path name)) (AbsentAt (override_path name)) NoPath a c → Makes (Step syncs (Ok tt)) b c → AtEnd (WasDone s (drop_state s name)) a c
-  drop_end told mid last first none whole call =
-      let start = record { goes = begins told (goes_known first.goes none) (λ u w t k. tt) (λ u w t k q. (t, q.0, q.1)) } in
+  drop_end {a = a} {b = b} told mid last first none whole call =
+      let start : AtEnd (λ u w. IsTree u × Drops u w × (w.names (override_path name) ≡ absent)) a b = record { goes = begins told (goes_known first.goes none) (λ u w t k. tt) (λ u w t k q. (t, q.0, q.1)) } in
       ends_in_tree {Q = λ u w. ((v : View) × IsTree u × Drops u v × (v.names (override_path name) ≡ absent) × Step syncs (Ok tt) v w) × Drops u w} last
       (ends_both (ends_on (ends_call mid call) start mid (λ u v w tree q e. (v, q.0, q.1, q.2, e))) (ends_frame told whole))
       (λ u w after_ q. was_dropped q.0.1 after_ q.0.2 q.0.3 q.1 q.0.4)

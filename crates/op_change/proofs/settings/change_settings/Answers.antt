@@ -21,7 +21,7 @@ pub returns-in_err-write_state-clause-any_moment : goal.returns-in_err-write_sta
 returns-in_err-write_state-clause-any_moment g c =
     let is : c.in_ok-state.state ≡ after c.args.opened (plain c.args.op.now) = c.in_ok-state.ensures ∙ ap (λ (s : State). after s (plain c.args.op.now)) c.take.ensures in
     let good = subst (IsNext c.args.opened) (sym is) (next_after c.args.opened c.args.op.now c.requires.may c.requires.here c.requires.good) in
-    moments_applied (g.met.H.Host.is_tree c.args.host.now) is good (written_back (settings_of c.in_ok-state.state) good.settings) c.write_state.ensures.any_moment
+    moments_applied c.args.op.now (g.met.H.Host.is_tree c.args.host.now) is good (written_back (settings_of c.in_ok-state.state) good.settings) c.write_state.ensures.any_moment
 
 pub returns-in_err-write_state-clause-fault_has_cause : goal.returns-in_err-write_state-clause-fault_has_cause
 returns-in_err-write_state-clause-fault_has_cause g c =
@@ -34,13 +34,13 @@ pub returns-clause-any_moment : goal.returns-clause-any_moment
 returns-clause-any_moment g c =
     let is : c.in_ok-state.state ≡ after c.args.opened (plain c.args.op.now) = c.in_ok-state.ensures ∙ ap (λ (s : State). after s (plain c.args.op.now)) c.take.ensures in
     let good = subst (IsNext c.args.opened) (sym is) (next_after c.args.opened c.args.op.now c.requires.may c.requires.here c.requires.good) in
-    moments_applied (g.met.H.Host.is_tree c.args.host.now) is good (written_back (settings_of c.in_ok-state.state) good.settings) c.write_state.ensures.any_moment
+    moments_applied c.args.op.now (g.met.H.Host.is_tree c.args.host.now) is good (written_back (settings_of c.in_ok-state.state) good.settings) c.write_state.ensures.any_moment
 
 pub returns-clause-on_success : goal.returns-clause-on_success
 returns-clause-on_success g c =
     let is : c.in_ok-state.state ≡ after c.args.opened (plain c.args.op.now) = c.in_ok-state.ensures ∙ ap (λ (s : State). after s (plain c.args.op.now)) c.take.ensures in
     let good = subst (IsNext c.args.opened) (sym is) (next_after c.args.opened c.args.op.now c.requires.may c.requires.here c.requires.good) in
-    ends_applied (g.met.H.Host.is_tree c.args.host.now) (g.met.H.Host.is_tree c.write_state.new.host) is good (written_back (settings_of c.in_ok-state.state) good.settings) c.write_state.ensures.any_moment c.in_ok-write_state.ensures.on_success
+    ends_applied c.args.op.now (g.met.H.Host.is_tree c.args.host.now) (g.met.H.Host.is_tree c.write_state.new.host) is good (written_back (settings_of c.in_ok-state.state) good.settings) c.write_state.ensures.any_moment c.in_ok-write_state.ensures.on_success
 
 pub returns-clause-good : goal.returns-clause-good
 returns-clause-good g c =
