@@ -1,5 +1,5 @@
 -- Replacing `config`: the state of before or the one after.
-use Rattle.std.proofs.Common.{◌≡◌, ◌≢◌, ◌⊎◌, ◌≤◌, inl, inr, ℕ, List, [], ◌∷◌, ◌++◌, length, Option, Some, None, Contains, refl, sym, ◌∙◌, ap, subst, arith, if◌then◌else◌, Ok, codes}
+use Rattle.std.proofs.Common.{◌≡◌, ◌⊎◌, ◌≤◌, inl, inr, ℕ, List, [], ◌∷◌, length, Option, Some, None, Contains, refl, sym, ◌∙◌, ap, subst, arith, if◌then◌else◌, codes}
 use Rattle.std.specs.Prelude.{map}
 use Rattle.std.specs.List.{AllByRecursion}
 use Rattle.std.proofs.lemmas.Bool.{le-leb}
@@ -9,7 +9,6 @@ use Rattle.fp_host.specs.View.{View, Inode, IsTree}
 use Rattle.fp_host.specs.Reads.{is_ascending}
 use Rattle.fp_host.specs.Outcome.{Spot, Disk, Leaves, gone, folder, holds, spot_of, holding, shows}
 use Rattle.fp_host.proofs.Settled.{at_tree}
-use Rattle.fp_name.specs.Kinds.{kind_word}
 use Rattle.fp_name.specs.Refs.{Ref}
 use Rattle.fp_small.specs.Places.{repo, tmp}
 use Rattle.fp_small.specs.Folders.{IsFree}
@@ -23,7 +22,7 @@ use Rattle.fp_small.specs.declared.op.Op.TheVariants.{Install, Update, Uninstall
 use Rattle.fp_small.specs.declared.state.Layout.TheVariants.{Two}
 use Rattle.ost_model.specs.Objects.{object_path}
 use Rattle.dep_states.specs.Names.{config, remotes_conf, pins_file, commit_dir, deploy}
-use Rattle.dep_states.specs.Shown.{Seen, bad, there, read_of, config_at, config_most, layout_two, settings_at, settings_seen, settings_of, setup_of, ref_key, override_key, Shows}
+use Rattle.dep_states.specs.Shown.{bad, there, read_of, config_at, config_most, layout_two, settings_at, settings_seen, settings_of, setup_of, ref_key, override_key, Shows}
 use Rattle.dep_states.specs.Small.{IsSetting}
 use Rattle.dep_states.specs.Zones.{Allowed, IsFileOrGone, IsFolderOrGone}
 use Rattle.dep_states.specs.Sound.{Sound, Fixed, Permits, Opens, IsOld, is_remotes, is_pins}
@@ -42,9 +41,9 @@ use Rattle.fp_base.specs.declared.object.ObjKind.{ObjKind}
 use Rattle.dep_states.specs.Switch.{OpensEither}
 use Rattle.fp_small.proofs.Pinning.{added, dropped}
 use Rattle.fp_small.proofs.Remoting as remotes
-use Rattle.op_deploy.specs.Applied.{Does, SameObjects}
+use Rattle.op_deploy.specs.Applied.{Does}
 use Rattle.op_deploy.proofs.Objects.{same_objects}
-use Rattle.op_change.specs.Applied.{HasSettings, SettingsDone}
+use Rattle.op_change.specs.Applied.{SettingsDone}
 use Rattle.op_change.proofs.Sizes.{config_fits}
 
 -- what stands now is an outcome

@@ -1,5 +1,5 @@
 -- What operations on refs and overrides make of a good state is good.
-use Rattle.std.proofs.Common.{◌≡◌, ◌⊎◌, inl, inr, ℕ, List, [], ◌∷◌, map, Bool, true, false, Option, Some, None, refl, sym, ◌∙◌, ap, subst}
+use Rattle.std.proofs.Common.{◌≡◌, inl, inr, ℕ, List, [], ◌∷◌, true, false, Option, Some, None, sym, ◌∙◌, ap, subst}
 use Rattle.std.specs.List.{AllByRecursion}
 use Rattle.std.specs.Str.{bytes_eq}
 use Rattle.std.proofs.lemmas.Bool.{cases_Bool}
@@ -12,7 +12,7 @@ use Rattle.fp_small.specs.declared.state.Previous.{Previous}
 use Rattle.fp_small.specs.declared.state.RefRow.{RefRow}
 use Rattle.fp_small.specs.declared.state.State.{State}
 use Rattle.fp_small.proofs.Ordered.{bytes_eq-differ}
-use Rattle.dep_states.specs.After.{row_at, with_refs, exchanged, back, rolled_back, after, plain, HasRow, HasPrevious, IsGoodPrevious, IsGoodRow, IsGoodLayer, IsGood}
+use Rattle.dep_states.specs.After.{with_refs, exchanged, back, rolled_back, after, plain, HasRow, HasPrevious, IsGoodPrevious, IsGoodRow, IsGoodLayer, IsGood}
 use Rattle.dep_states.specs.Deploy.{goes_back_to}
 use Rattle.dep_states.specs.Names.{is_override}
 use Rattle.dep_states.specs.Shown.{ref_key, override_key}

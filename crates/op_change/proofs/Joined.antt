@@ -1,5 +1,5 @@
 -- One operation of several, by what it is.
-use Rattle.std.proofs.Common.{◌≡◌, ◌⊎◌, inl, inr, Option, Result, Ok, Err, IfOk, sym, subst}
+use Rattle.std.proofs.Common.{◌≡◌, inl, inr, Option, Result, Ok, Err, IfOk, sym, subst}
 use Rattle.fp_host.specs.Paths.{Elements, Slot}
 use Rattle.fp_host.specs.View.{View}
 use Rattle.fp_host.specs.Frame.{AtEnd}

@@ -1,21 +1,19 @@
 -- One override that changes.
-use Rattle.std.proofs.Common.{◌≡◌, ◌≢◌, ◌⊎◌, ◌≤◌, ◌||◌, inl, inr, ℕ, List, [], ◌∷◌, ◌++◌, length, map, Bool, true, false, Option, Some, None, Result, Ok, Contains, codes, refl, sym, ◌∙◌, ap, subst, arith}
-use Rattle.std.specs.Prelude.{if◌then◌else◌, leb}
+use Rattle.std.proofs.Common.{◌≡◌, ◌≢◌, ◌⊎◌, ◌≤◌, inl, inr, ℕ, List, [], ◌∷◌, length, map, Bool, true, false, Option, Some, None, Ok, Contains, codes, refl, sym, ◌∙◌, ap, subst, arith}
+use Rattle.std.specs.Prelude.{if◌then◌else◌}
 use Rattle.std.specs.Str.{bytes_eq}
 use Rattle.std.proofs.lemmas.Bool.{le-leb, or_cases, cond-true}
 use Rattle.std.proofs.lemmas.List.Elements.{Contains-push_cases}
 use Rattle.std.proofs.lemmas.Slice.Eq.{bytes_eq-Decides}
 use Rattle.fp_base.specs.declared.object.ObjKind.{ObjKind}
-use Rattle.fp_host.specs.Paths.{Elements, Slot, absent, dir, is_element, IsAbove}
+use Rattle.fp_host.specs.Paths.{Elements, Slot, absent, is_element}
 use Rattle.fp_host.specs.View.{View, IsTree}
 use Rattle.fp_host.specs.Calls.{syncs, Step, IsNoDir}
-use Rattle.fp_host.specs.Outcome.{Spot, gone, folder, holds, spot_of, Disk, Leaves, Follows, IsSettled, shows}
+use Rattle.fp_host.specs.Outcome.{Spot, gone, folder, holds, spot_of, Disk, Leaves, Follows, shows}
 use Rattle.fp_host.specs.Frame.{Keeps, Frame, AtEnd, NoPath}
 use Rattle.fp_host.specs.Moments.{Moments, Goes, Makes}
-use Rattle.fp_host.specs.declared.host.HostError.{HostError}
 use Rattle.fp_host.proofs.Ending.{ends_call, ends_frame, ends_both, ends_on, ends_in_tree, goes_known}
-use Rattle.fp_host.proofs.Follow.{follows_on, follows_to, follows_call, called}
-use Rattle.fp_host.proofs.Framed.{IsTold, frame_start, frame_within, frame_sync}
+use Rattle.fp_host.proofs.Framed.{IsTold}
 use Rattle.fp_host.proofs.Goes.{begins}
 use Rattle.fp_host.proofs.Separate.{path_cases}
 use Rattle.fp_host.proofs.Settled.{settled_disk}
@@ -27,11 +25,10 @@ use Rattle.fp_name.specs.FileNames.{is_file_name}
 use Rattle.fp_name.specs.Grammar.{is_id}
 use Rattle.fp_name.proofs.Files.{file_id}
 use Rattle.fp_small.specs.Clear.{GoneAt, AbsentAt}
-use Rattle.fp_small.specs.Files.{KeepsFiles}
-use Rattle.fp_small.specs.Folders.{IsFree, AreFree}
-use Rattle.fp_small.specs.Move.{IsNew, HasNew}
+use Rattle.fp_small.specs.Folders.{IsFree}
+use Rattle.fp_small.specs.Move.{IsNew}
 use Rattle.fp_small.specs.Places.{repo, tmp}
-use Rattle.fp_small.specs.Replace.{IsStaging, IsFreeFile, folders_of, ReplacesAt, ReplacesName, Replaces, WasReplaced, CanReplace}
+use Rattle.fp_small.specs.Replace.{IsFreeFile, folders_of, ReplacesAt, ReplacesName, Replaces, WasReplaced, CanReplace}
 use Rattle.fp_small.specs.declared.op.Op.TheVariants.{SetOverride, DropOverride}
 use Rattle.fp_small.specs.declared.state.OverrideRow.{OverrideRow}
 use Rattle.fp_small.specs.declared.state.State.{State}
@@ -41,20 +38,19 @@ use Rattle.fp_small.proofs.Staging.{synced}
 use Rattle.ost_model.specs.Objects.{object_path}
 use Rattle.dep_states.specs.After.{after, plain}
 use Rattle.dep_states.specs.Names.{is_override, overrides_folder, override_path, commit_dir, deploy}
-use Rattle.dep_states.specs.Shown.{Seen, away, bad, there, seen_of, read_of, read_file, if_file, named_override, override_at, override_seen, at_name, override_key, small_most, Shows}
+use Rattle.dep_states.specs.Shown.{away, bad, there, seen_of, read_of, if_file, named_override, override_at, override_seen, at_name, override_key, small_most, Shows}
 use Rattle.dep_states.specs.Small.{IsLayered}
 use Rattle.dep_states.specs.Sound.{Sound, Fixed, Permits, Opens, is_config, is_old, is_remotes, is_pins, is_active, is_deploy, is_layer, is_inside, is_object}
-use Rattle.dep_states.specs.Switch.{OpensEither}
 use Rattle.dep_states.specs.Zones.{Zone, anything, a_file, IsFileOrGone, Fits, Allowed}
 use Rattle.dep_states.proofs.Changes.{after_set, after_drop, at_replaced, at_removed}
 use Rattle.dep_states.proofs.Deployed.{top, outward_append}
-use Rattle.dep_states.proofs.Law.{shows_same, sound_same}
+use Rattle.dep_states.proofs.Law.{shows_same}
 use Rattle.dep_states.proofs.Rows.{head_of, text_apart}
 use Rattle.dep_states.proofs.Small.{shows_layer, sound_layer}
 use Rattle.dep_states.proofs.Sparing.{fixed_in_repo, word_apart}
 use Rattle.dep_states.proofs.Switching.{none_in_tmp, word_no_repo, permits_gone}
 use Rattle.dep_switch.proofs.Spots.{now_left, folder_free, file_free}
-use Rattle.op_deploy.specs.Applied.{Does, SameObjects, WasDone}
+use Rattle.op_deploy.specs.Applied.{Does, WasDone}
 use Rattle.op_deploy.proofs.Objects.{same_objects}
 use Rattle.op_change.specs.Overriding.{AbsentAtPath}
 

@@ -1,10 +1,9 @@
-use Rattle.std.proofs.Common.{◌≡◌, ◌∙◌, arith, sym, ap, subst}
+use Rattle.std.proofs.Common.{arith, sym, subst}
 use Rattle.fp_host.specs.Calls.{IsNoDir}
 use Rattle.fp_host.specs.View.{View}
 use Rattle.fp_host.proofs.Cause.{same_fault}
 use Rattle.fp_host.proofs.Framed.{frame_sync}
 use Rattle.fp_host.proofs.Ending.{ends_start, fault_caused}
-use Rattle.dep_states.specs.Names.{override_path}
 use Rattle.dep_states.specs.Sound.{Opens}
 use Rattle.op_change.proofs.Layers.{drop_goes, drop_end, can_drop, framed_at, gone_at}
 use Rattle.op_change.proofs.overriding.drop_override.Goals as goal

@@ -1,4 +1,4 @@
-use Rattle.std.proofs.Common.{◌∙◌, arith, sym, subst}
+use Rattle.std.proofs.Common.{arith, sym, subst}
 use Rattle.fp_host.proofs.Cause.{same_fault}
 use Rattle.fp_host.proofs.Ending.{ends_start, fault_caused}
 use Rattle.fp_small.specs.Replace.{CanReplace}
