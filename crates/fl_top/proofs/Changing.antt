@@ -1,5 +1,5 @@
 -- Which names the parts of a run change.
-use Rattle.std.proofs.Common.{◌≡◌, ◌⊎◌, inl, inr, [], ◌∷◌, Contains, refl, sym, ◌∙◌, subst, arith}
+use Rattle.std.proofs.Common.{◌≡◌, ◌⊎◌, inl, inr, ℕ, List, [], ◌∷◌, length, Contains, refl, sym, ◌∙◌, ap, subst, arith}
 use Rattle.std.proofs.lemmas.List.Elements.{Contains-push_cases}
 use Rattle.fp_host.specs.Paths.{Elements, Slot, absent, IsAbove}
 use Rattle.fp_host.specs.View.{View}
@@ -9,11 +9,15 @@ use Rattle.fp_small.specs.Replace.{ReplacesName, folders_of}
 use Rattle.fp_small.proofs.Keeping.{files_stay, files_on}
 use Rattle.fp_small.specs.declared.state.State.{State}
 use Rattle.fp_small.specs.declared.op.Op.{Op}
+use Rattle.fp_small.specs.declared.op.Op.TheVariants.{Install, Update, Uninstall, AddPin, DropPin, AddRemote, ModifyRemote, DropRemote, SetOverride, DropOverride, Migrate, Rollback}
+use Rattle.dep_states.specs.After.{plain, IsOnConfig}
+use Rattle.fp_base.specs.declared.object.ObjKind.{ObjKind}
+use Rattle.ost_model.specs.Objects.{object_path}
 use Rattle.dep_states.specs.Names.{config}
-use Rattle.dep_states.specs.Sound.{IsOld, is_remotes, is_pins}
-use Rattle.dep_open.specs.Tidy.{Tidies, TakenAway, left_work, old_file}
-use Rattle.op_change.specs.Applied.{Applies}
-use Rattle.fl_top.specs.Changes.{MayHold, new_config, work_folder, some_work, old_gone, Changes, OnlyTidied, IsUntouched, HasText}
+use Rattle.dep_tidy.specs.Tidy.{MayTidy, Tidies}
+use Rattle.dep_tidy.proofs.Left.{config_left}
+use Rattle.op_change.specs.Applied.{Applies, MayChange}
+use Rattle.fl_top.specs.Changes.{MayHold, new_config, work_folder, some_work, tidied, Changes, OnlyTidied, IsUntouched, HasText}
 
 pub change_on : (u v w : View) → Changes u v → Changes v w → Changes u w
 change_on u v w first second = record {
@@ -65,66 +69,75 @@ may_replace u q e put = elim put [
   | inr other ↦ elim other [ inl made ↦ work_folder (which q made.0) made.1 | inr work ↦ some_work (subst (IsAbove tmp) (sym work.is) (inl refl)) ]
 ]
 
-pub applied_changes : (s : State) (op : Op) (u w : View) → Applies s op u w → Changes u w
-applied_changes s op u w applies = record {
-  names = λ q. elim (applies.names q) [ inl same ↦ inl same | inr put ↦ inr (may_replace u q (w.names q) put) ];
+-- an operation on the settings changes the names that a writing of `config` changes
+by_config : (op : Op) → IsOnConfig op → (u : View) (q : Elements) (e : Slot) → MayChange op u q e → ReplacesName config u q e
+by_config (AddPin pin) here u q e put = put
+by_config (DropPin pin) here u q e put = put
+by_config (AddRemote row) here u q e put = put
+by_config (ModifyRemote row) here u q e put = put
+by_config (DropRemote name) here u q e put = put
+by_config Migrate here u q e put = put
+by_config (Install name remote commit) here u q e put = absurd here
+by_config (Update name remote commit) here u q e put = absurd here
+by_config (Uninstall name) here u q e put = absurd here
+by_config (SetOverride row) here u q e put = absurd here
+by_config (DropOverride name) here u q e put = absurd here
+by_config (Rollback name commit) here u q e put = absurd here
+
+pub applied_changes : (s : State) (op : Op) (u w : View) → IsOnConfig op → Applies s (plain op) u w → Changes u w
+applied_changes s op u w here applies = record {
+  names = λ q. elim (applies.names q) [ inl same ↦ inl same | inr put ↦ inr (may_replace u q (w.names q) (by_config op here u q _ put)) ];
   files = applies.files;
 }
 
-may_take : (u : View) (q : Elements) (e : Slot) → TakenAway u q → e ≡ absent → MayHold q e
-may_take u q e (left_work above) gone = some_work above
-may_take u q e (old_file there old) gone = old_gone old gone
-
 pub tidied_changes : (s : State) (u w : View) → Tidies s u w → Changes u w
 tidied_changes s u w tidies = record {
-  names = λ q. elim (tidies.names q) [ inl same ↦ inl same | inr taken ↦ inr (may_take u q (w.names q) taken.0 taken.1) ];
+  names = λ q. elim (tidies.names q) [ inl same ↦ inl same | inr may ↦ inr (tidied s may) ];
   files = tidies.files;
 }
 
 -- ---- where no operation is done
 
--- what was taken away after a tidying might have been taken away before
-taken_before : {u v : View} {q : Elements} → OnlyTidied u v → TakenAway v q → TakenAway u q
-taken_before first (left_work above) = left_work above
-taken_before first (old_file there old) = old_file (λ none. elim (first.names config) [ inl same ↦ there (same ∙ none) | inr gone ↦ there gone.1 ]) old
-
-pub tidied_on : {u v w : View} → OnlyTidied u v → OnlyTidied v w → OnlyTidied u w
-tidied_on first second = record {
+pub tidied_on : {s : State} {u v w : View} → OnlyTidied s u v → OnlyTidied s v w → OnlyTidied s u w
+tidied_on {s = s} first second = record {
   names = λ q. elim (second.names q) [
-    | inl same ↦ elim (first.names q) [ inl was ↦ inl (same ∙ was) | inr gone ↦ inr (gone.0, same ∙ gone.1) ]
-    | inr gone ↦ inr (taken_before first gone.0, gone.1)
+    | inl same ↦ elim (first.names q) [ inl was ↦ inl (same ∙ was) | inr may ↦ inr (subst (MayTidy s q) (sym same) may) ]
+    | inr may ↦ inr may
   ];
 }
 
-pub tidied_none : {u w : View} → ((q : Elements) → w.names q ≡ u.names q) → OnlyTidied u w
+pub tidied_none : {s : State} {u w : View} → ((q : Elements) → w.names q ≡ u.names q) → OnlyTidied s u w
 tidied_none names = record { names = λ q. inl (names q) }
 
 -- nothing is done
-pub tidied_not : {v : View} → OnlyTidied v v
+pub tidied_not : {s : State} {v : View} → OnlyTidied s v v
 tidied_not = tidied_none (λ q. refl)
 
-pub tidies_only : {s : State} {u w : View} → Tidies s u w → OnlyTidied u w
+pub tidies_only : {s : State} {u w : View} → Tidies s u w → OnlyTidied s u w
 tidies_only tidies = record { names = tidies.names }
 
 -- ---- the text of `config`
 
-not_above : IsAbove tmp config → ⊥
-not_above above = elim above [ inl is ↦ cc is | inr none ↦ none ]
-
-not_old : IsOld config → ⊥
-not_old (is_remotes is) = cc is
-not_old (is_pins is) = cc is
-
--- a name that nothing tidies
-untaken : (u : View) → TakenAway u config → ⊥
-untaken u (left_work above) = not_above above
-untaken u (old_file there old) = not_old old
-
 pub text_on : {s : State} {v w : View} → w.names config ≡ v.names config → KeepsFiles v w → HasText s v → HasText s w
 text_on same kept text = record { id = text.id; name = same ∙ text.name; row = kept.rows text.id _ text.row }
 
-pub text_tidied : {s : State} {v w : View} → OnlyTidied v w → KeepsFiles v w → HasText s v → HasText s w
-text_tidied {v = v} tidied kept text = elim (tidied.names config) [
+pub text_tidied : {s t : State} {v w : View} → OnlyTidied t v w → KeepsFiles v w → HasText s v → HasText s w
+text_tidied {t = t} tidied kept text = elim (tidied.names config) [
   | inl same ↦ text_on same kept text
-  | inr taken ↦ absurd (untaken v taken.0)
+  | inr may ↦ absurd (config_left t _ may)
 ]
+
+-- ---- objects
+
+no_replace : (u : View) (d : List ℕ) (kind : ObjKind) (e : Slot) → ReplacesName config u (object_path repo d kind) e → ⊥
+no_replace u d kind e put = elim put [
+  | inl new ↦ omega (arith, ap length new.0)
+  | inr other ↦ elim other [
+    | inl made ↦ elim (which (object_path repo d kind) made.0) [ inl at ↦ omega (arith, ap length at) | inr at ↦ omega (arith, ap length at) ]
+    | inr work ↦ omega (arith, ap length work.is)
+  ]
+]
+
+-- an operation on the settings changes no object's name
+pub applied_objects : (s : State) (op : Op) (u w : View) → IsOnConfig op → Applies s (plain op) u w → (d : List ℕ) (kind : ObjKind) → w.names (object_path repo d kind) ≡ u.names (object_path repo d kind)
+applied_objects s op u w here applies d kind = elim (applies.names (object_path repo d kind)) [ inl same ↦ same | inr put ↦ absurd (no_replace u d kind _ (by_config op here u (object_path repo d kind) _ put)) ]

@@ -3,6 +3,7 @@ use Rattle.std.proofs.Common.{◌≡◌, ◌≤◌, ◌+◌, arith, Result, Err,
 use Rattle.std.proofs.lemmas.List.{append-nil}
 use Rattle.std.proofs.lemmas.List.Elements.{filter_map-append}
 use Rattle.fp_host.specs.Paths.{Elements}
+use Rattle.fp_host.specs.Remote.{Holdings}
 use Rattle.fp_host.specs.View.{View}
 use Rattle.fp_host.specs.Outcome.{Disk, Leaves, Follows, Nothing}
 use Rattle.fp_small.specs.declared.state.State.{State}
@@ -12,14 +13,15 @@ use Rattle.fp_base.specs.declared.what.What.TheVariants.{Input}
 use Rattle.dep_states.specs.Shown.{IsShown}
 use Rattle.dep_states.specs.Sound.{IsSound}
 use Rattle.dep_states.specs.After.{Done, after_all}
-use Rattle.fl_words.specs.Lines.{refusal_text}
+use Rattle.fl_lines.specs.Lines.{refusal_text}
 use Rattle.fl_words.specs.Batch.{batch_of}
 use Rattle.fl_words.specs.declared.command.Command.{Command}
 use Rattle.fl_words.specs.declared.command.Command.TheVariants.{Change as Changing, List as Listed, Show as Showing, Batch}
 use Rattle.fl_words.specs.declared.command.Change.{Change}
 use Rattle.fl_words.specs.declared.command.Shown.{Shown}
 use Rattle.fl_words.specs.declared.command.Shown.TheVariants as things
-use Rattle.fl_top.specs.Answer.{Answer, Piece, lines_of, last_of, joined, ops_in, ops_of, text_answer, refusal_answer, changing, listed, listed_text, shown_by, over, of_batch, answer_over, by_read, by_value, by_type, commit_shown, tree_shown, meta_shown, value_shown, over_input}
+use Rattle.fl_top.specs.World.{World}
+use Rattle.fl_top.specs.Answer.{Answer, Given, Piece, lines_of, last_of, joined, ops_in, ops_of, text_answer, refusal_answer, changing, listed, listed_text, shown_by, over, of_batch, answer_over, by_read, by_value, by_type, commit_shown, tree_shown, meta_shown, value_shown, over_input}
 use Rattle.fl_top.specs.Objects.{commit_lines, tree_lines, meta_lines}
 use Rattle.gv_value.specs.Shape.{Shape}
 use Rattle.gv_value.specs.Tree.{Tree}
@@ -37,8 +39,8 @@ use Rattle.fl_top.specs.Says.{Says, WasSaid, Refuses}
 use Rattle.fl_top.specs.Changes.{IsUntouched}
 use Rattle.dep_states.specs.Names.{config}
 use Rattle.fl_top.specs.Status.{status_of, status_by, IsAnswered}
-use Rattle.fl_top.proofs.Same.{unmoved, same_shown, same_sound}
-use Rattle.fl_top.proofs.Starting.{same_tidy, stood, unchanged}
+use Rattle.fl_top.proofs.Same.{unmoved, same_shown, same_sound, same_settled}
+use Rattle.fl_top.proofs.Starting.{stood, unchanged}
 use Rattle.fl_top.proofs.Changing.{tidied_on, tidied_none, untouched_both, text_on, keeps_files}
 use Rattle.fl_top.proofs.Turning.{joined-append}
 use Rattle.fl_top.proofs.Refusing.{of_changing}
@@ -115,14 +117,14 @@ refusing a r {u = u} {v = v} {w = w} is runs done says = elim (says.printed) [
     said = a.pieces;
     so_far = before_last a (none ∙ done.printed);
     prefix = λ sound disk left. prefix_all a a.pieces refl (just_on (ops_of a) says.follows (done.just sound) disk left);
-    only_tidied = λ none. tidied_on (runs.only_tidied none) (tidied_none says.untouched.names);
+    only_tidied = λ none s at. tidied_on (runs.only_tidied none s at) (tidied_none says.untouched.names);
     untouched = λ why. untouched_on (runs.untouched why) says;
   }
   | inr more ↦ record {
     said = lines_of a;
     so_far = all_lines a (with_last a r u v w is done.printed more);
     prefix = λ sound disk left. prefix_all a (lines_of a) (ops_lines a) (just_on (ops_of a) says.follows (done.just sound) disk left);
-    only_tidied = λ none. tidied_on (runs.only_tidied none) (tidied_none says.untouched.names);
+    only_tidied = λ none s at. tidied_on (runs.only_tidied none s at) (tidied_none says.untouched.names);
     untouched = λ why. untouched_on (runs.untouched why) says;
   }
 ]
@@ -144,7 +146,7 @@ answers_all a r status {u = u} {v = v} {w = w} is status_is done said = record {
   status_is = status_is ∙ ap status_by (sym is);
   printed = with_last a r u v w is done.printed said.printed;
   shown = λ sound s at. same_shown said.shown (done.shown sound s at);
-  tidied = λ sound why. same_tidy said.untouched.names (done.tidied sound why);
+  tidied = λ sound why. same_settled said.shown (done.tidied sound why);
   text = λ some s at. text_on (said.untouched.names config) (keeps_files said.untouched) (done.text some s at);
 }
 
@@ -199,16 +201,16 @@ one_of_some r q is one = let same : r ≡ q = cc is in subst (λ (x : Refusal). 
 abbrev IsPlain : Answer → Type 0
 IsPlain a = (r : Refusal) → a.refusal ≡ Some r → 1 ≡ status_of r
 
-changing_plain : (changes : List Change) (s : State) → IsPlain (changing changes s)
-changing_plain changes s = of_changing (λ r. 1 ≡ status_of r) (record { pin_there = λ pin. refl; pins_full = refl; no_pin = λ pin. refl; remote_there = λ name. refl; remotes_full = refl; no_remote = λ name. refl }) changes s
+changing_plain : (changes : List Change) (held : Holdings) (x : World) → IsPlain (changing changes held x)
+changing_plain changes held x = of_changing (λ r. 1 ≡ status_of r) (record { pin_there = λ pin. refl; pins_full = refl; no_pin = λ pin. refl; remote_there = λ name. refl; remotes_full = refl; no_remote = λ name. refl }) changes held x
 
-over_plain : (f : State → Answer) (shown : Result State Elements) → ((s : State) → IsPlain (f s)) → IsPlain (over f shown)
+over_plain : (f : World → Answer) (shown : Result World Elements) → ((x : World) → IsPlain (f x)) → IsPlain (over f shown)
 over_plain f (Err path) plain r is = one_of_some (Damaged path) r is refl
-over_plain f (Ok s) plain r is = plain s r is
+over_plain f (Ok x) plain r is = plain x r is
 
-batch_plain : (read : Result (List Change) ℕ) (shown : Result State Elements) → IsPlain (of_batch read shown)
-batch_plain (Err line) shown r is = one_of_some (BadRecord line) r is refl
-batch_plain (Ok changes) shown r is = over_plain (changing changes) shown (changing_plain changes) r is
+batch_plain : (read : Result (List Change) ℕ) (held : Holdings) (shown : Result World Elements) → IsPlain (of_batch read held shown)
+batch_plain (Err line) held shown r is = one_of_some (BadRecord line) r is refl
+batch_plain (Ok changes) held shown r is = over_plain (changing changes held) shown (changing_plain changes held) r is
 
 if_plain : (b : Bool) (x y : Answer) → IsPlain x → IsPlain y → IsPlain (if b then x else y)
 if_plain true x y first second = first
@@ -254,8 +256,8 @@ shown_plain things.DirTree bytes = dirtree_plain bytes
 shown_plain things.DirMeta bytes = dirmeta_plain bytes
 shown_plain (things.Value of) bytes = value_plain of bytes
 
-pub command_plain : (command : Command) (input : List ℕ) (shown : Result State Elements) → IsPlain (answer_over command input shown)
-command_plain (Changing change) input shown = over_plain (changing (change ∷ [])) shown (changing_plain (change ∷ []))
-command_plain (Listed listing) input shown = over_plain (listed listing) shown (λ s. told_plain (listed_text listing s))
-command_plain (Showing thing) input shown = input_plain (shown_by thing) input (shown_plain thing input)
-command_plain Batch input shown = input_plain (λ bytes. of_batch (batch_of bytes) shown) input (batch_plain (batch_of input) shown)
+pub command_plain : (command : Command) (given : Given) (shown : Result World Elements) → IsPlain (answer_over command given shown)
+command_plain (Changing change) given shown = over_plain (changing (change ∷ []) given.held) shown (changing_plain (change ∷ []) given.held)
+command_plain (Listed listing) given shown = over_plain (listed listing) shown (λ x. told_plain (listed_text listing x.state))
+command_plain (Showing thing) given shown = input_plain (shown_by thing) given.input (shown_plain thing given.input)
+command_plain Batch given shown = input_plain (λ bytes. of_batch (batch_of bytes) given.held shown) given.input (batch_plain (batch_of given.input) given.held shown)

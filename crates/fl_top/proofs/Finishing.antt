@@ -1,7 +1,8 @@
 -- The last part of a run.
-use Rattle.std.proofs.Common.{◌≡◌, inl, inr, ℕ, List, Bool, true, false, nat_le, length, ◌≤◌, ◌<◌, ◌+◌, arith, IsErrOf, Option, Some, None, Result, Ok, Err, IsErrAnd, if◌then◌else◌, refl, sym, ◌∙◌, ap, subst}
+use Rattle.std.proofs.Common.{◌≡◌, inl, inr, ℕ, List, [], ◌∷◌, Bool, true, false, nat_le, length, ◌≤◌, ◌<◌, ◌+◌, arith, IsErrOf, Option, Some, None, Result, Ok, Err, IsErrAnd, if◌then◌else◌, refl, sym, ◌∙◌, ap, subst}
 use Rattle.std.proofs.lemmas.Result.{err_from_is_err_and}
 use Rattle.fp_host.specs.Paths.{Elements}
+use Rattle.fp_host.specs.Remote.{Holdings}
 use Rattle.fp_host.specs.View.{View}
 use Rattle.fp_host.specs.Outcome.{shows}
 use Rattle.fp_host.specs.Causes.{IsCaused}
@@ -13,19 +14,20 @@ use Rattle.fp_small.specs.declared.state.State.{State}
 use Rattle.fp_small.specs.declared.refusal.Refusal.{Refusal}
 use Rattle.fp_small.specs.declared.refusal.Refusal.TheVariants.{BadWords, BadRecord, Limit}
 use Rattle.fp_base.specs.declared.what.What.TheVariants.{Input}
-use Rattle.fl_words.specs.Lines.{refusal_text}
+use Rattle.fl_lines.specs.Lines.{refusal_text}
 use Rattle.fl_words.specs.Forms.{command_of, bad_index}
 use Rattle.fl_words.specs.declared.command.Command.{Command}
-use Rattle.fl_words.specs.declared.command.Command.TheVariants.{Batch}
+use Rattle.fl_words.specs.declared.command.Command.TheVariants.{Change as Changing, Batch}
 use Rattle.fl_words.specs.declared.command.Change.{Change}
 use Rattle.fl_words.specs.declared.batch.BatchError.{BatchError}
 use Rattle.fl_words.specs.declared.batch.BatchError.TheVariants as batch
 use Rattle.fl_words.specs.Batch.{batch_of, IsBadBatch}
-use Rattle.fl_top.specs.Answer.{Answer, answer, answer_to, answer_over, over, refusal_answer, over_input, changing, of_batch, IsOver}
-use Rattle.fl_top.specs.Runs.{Runs, Ran, RunsBy, RanBy, IsGiven, Looks, IsReady, Serves, WasTaken}
-use Rattle.fl_top.specs.Performs.{RunsOver, LooksOver, EndedOver, RunsOn, EndedOn, RanOn, Ended, Closed, IsGivenBy, IsClosedBy, Takes, TakenBy}
+use Rattle.fl_top.specs.World.{World}
+use Rattle.fl_top.specs.Answer.{Answer, Given, answer, answer_to, answer_over, over, refusal_answer, over_input, changing, of_batch, IsOver, IsAtOnce}
+use Rattle.fl_top.specs.Runs.{Runs, Ran, Told, RunsBy, RanBy, IsGiven, IsGivenTo, Looks, IsReady, Serves, MayAnswer, WasTaken}
+use Rattle.fl_top.specs.Performs.{RunsOver, LooksOver, EndedOver, LookedOver, RunsOn, EndedOn, RanOn, Ended, Closed, IsGivenBy, IsClosedBy, Takes, TakenBy}
 use Rattle.fl_top.specs.Says.{Says, Refuses}
-use Rattle.fl_top.specs.Status.{only_looks, reads_input, IsAnswered}
+use Rattle.fl_top.specs.Status.{only_looks, reads_input, asks_remotes, IsAnswered}
 use Rattle.fl_top.specs.declared.end.RunEnd.{RunEnd}
 use Rattle.fl_top.specs.declared.end.RunEnd.TheVariants as run
 use Rattle.fl_top.specs.declared.command_end.CommandEnd.{CommandEnd}
@@ -36,7 +38,8 @@ use Rattle.fl_top.specs.Input.{input_most, IsWhole, IsTaken, IsDrained, InputSto
 use Rattle.fl_top.specs.Ends.{end_of_run, end_of_input, end_of_batch}
 use Rattle.fl_top.proofs.Changing.{change_on, change_not, change_untouched, not_touched}
 use Rattle.fl_top.proofs.Over.{IsConstant, over_same, counts_same, counts_constant}
-use Rattle.fl_top.proofs.Starting.{begun, stood, unchanged, refused_at_once}
+use Rattle.fl_top.proofs.Starting.{begun, stood, unchanged, refused_at_once, IsLate, over_late}
+use Rattle.fl_top.proofs.Refusing.{changing_late}
 use Rattle.fl_top.proofs.Ending.{refusing, untouched_on, ran_done, ran_fault, ran_input, ran_memory, ran_refused, command_plain, not_answered}
 
 -- ---- a command
@@ -56,56 +59,101 @@ given_by (run.Refused refusal) by = tt
 given_by run.Fault by = absurd by
 given_by run.NoMemory by = absurd by
 
--- the answer to it is this over the state
-abbrev pub IsAnswer : Command → Option (List ℕ) → (State → Answer) → Type 0
-IsAnswer command left f = (input : List ℕ) → IsGiven left (Some command) input → (shown : Result State Elements) → over f shown ≡ answer_over command input shown
+-- the answer to it is this over the world that it works on
+abbrev pub IsAnswer : Command → Told → (Holdings → World → Answer) → Type 0
+IsAnswer command t f = (given : Given) → IsGivenTo command t given → (shown : Result World Elements) → over (f given.held) shown ≡ answer_over command given shown
 
-ended_on : (command : Command) (left : Option (List ℕ)) (f : State → Answer) (r : Result (Unit {0}) RunEnd) (s : Result (Unit {0}) CommandEnd) (u w : View) → IsAnswer command left f
-    → ((a : Answer) → Ended a r u w → Closed a s u w) → (IsClosedBy s → IsGivenBy r) → EndedOver f r u w → EndedOn command left s u w
-ended_on command left f r s u w is close give q = record {
-  ended = λ input given shown counts. subst (λ (x : Answer). Closed x s u w) (is input given shown) (close (over f shown) (q.ended shown (over_same (over f) (answer_over command input) (shows u) shown (is input given) counts)));
-  given = λ input given by. counts_same (answer_over command input) (over f) (shows u) (λ r. sym (is input given r)) (q.given (give by));
+-- an answer that counts for the command counts for it
+counts_for : (command : Command) (f : World → Answer) (given : Given) (u : View) (shown : Result World Elements) → ((r : Result World Elements) → over f r ≡ answer_over command given r) → IsOver (answer_over command given) (shows u) shown → IsOver (over f) (shows u) shown
+counts_for command f given u shown is counts = over_same (over f) (answer_over command given) (shows u) shown is counts
+
+-- a command that changes something, whose refusals are none of the words or of the input, answers where the installation is ready
+ready_for : (command : Command) (f : World → Answer) (given : Given) (u : View) (shown : Result World Elements) → only_looks command ≡ false → ((x : World) → IsAtOnce (f x).refusal → ⊥) → over f shown ≡ answer_over command given shown → MayAnswer (Some command) u (answer_over command given shown) → IsReady u
+ready_for command f given u shown changes late is may = elim may [
+  | inl serves ↦ elim serves [
+    | inl looks ↦ absurd (let both : true ≡ false = sym looks ∙ changes in cc both)
+    | inr ready ↦ ready
+  ]
+  | inr at_once ↦ absurd (over_late f late shown (subst (λ (a : Answer). IsAtOnce a.refusal) (sym is) at_once))
+]
+
+-- what the remotes hold is told, where they are asked
+holds_told : (command : Command) (t : Told) (given : Given) → asks_remotes command ≡ true → IsGivenTo command t given → t.holds ≡ Some given.held
+holds_told command t given asks gave = elim gave.held [
+  | inl none ↦ absurd (let both : true ≡ false = sym asks ∙ none in cc both)
+  | inr told ↦ told
+]
+
+-- what is known of a command that changes something
+pub record IsChanging (command : Command) (t : Told) (f : Holdings → World → Answer) : Type 0 where
+  pub changes : only_looks command ≡ false
+  pub asks : asks_remotes command ≡ true
+  pub late : IsLate f
+  pub is : IsAnswer command t f
+
+runs_change : (command : Command) (t : Told) (f : Holdings → World → Answer) (u w : View) → IsChanging command t f → RunsOver t.holds f u w → RunsOn command t u w
+runs_change command t f u w known p = record {
+  runs = λ given gave shown counts may.
+      let is = known.is given gave in
+      subst (λ (x : Answer). Runs x u w) (is shown)
+      (p.runs (ready_for command (f given.held) given u shown known.changes (known.late given.held) (is shown) may) given.held (holds_told command t given known.asks gave) shown (counts_for command (f given.held) given u shown is counts));
+  changes = p.changes;
+  untouched = λ why. elim why [ inl looks ↦ absurd (let both : true ≡ false = sym looks ∙ known.changes in cc both) | inr none ↦ p.untouched none ];
 }
 
-runs_change : (command : Command) (left : Option (List ℕ)) (f : State → Answer) (u w : View) → only_looks command ≡ false → IsAnswer command left f → RunsOver f u w → RunsOn command left u w
-runs_change command left f u w changes is p = record {
-  runs = λ input given shown counts. subst (λ (x : Answer). Runs x u w) (is input given shown) (p.runs shown (over_same (over f) (answer_over command input) (shows u) shown (is input given) counts));
-  changes = p.changes;
-  untouched = λ why. elim why [ inl looks ↦ absurd (let both : true ≡ false = sym looks ∙ changes in cc both) | inr none ↦ p.untouched none ];
+ended_change : (command : Command) (t : Told) (f : Holdings → World → Answer) (r : Result (Unit {0}) RunEnd) (s : Result (Unit {0}) CommandEnd) (u w : View) → IsChanging command t f
+    → ((a : Answer) → Ended a r u w → Closed a s u w) → (IsClosedBy s → IsGivenBy r) → EndedOver t.holds f r u w → EndedOn command t s u w
+ended_change command t f r s u w known close give q = record {
+  ended = λ given gave shown counts may.
+      let is = known.is given gave in
+      subst (λ (x : Answer). Closed x s u w) (is shown) (close (over (f given.held) shown)
+      (q.ended (ready_for command (f given.held) given u shown known.changes (known.late given.held) (is shown) may) given.held (holds_told command t given known.asks gave) shown (counts_for command (f given.held) given u shown is counts)));
+  given = λ given gave by. counts_same (answer_over command given) (over (f given.held)) (shows u) (λ r. sym (known.is given gave r)) (q.given given.held (give by));
 }
 
 -- one that changes something
-pub goes_change : {a b : Option Moments} (command : Command) (left : Option (List ℕ)) (f : State → Answer) → IsTold a → only_looks command ≡ false → IsAnswer command left f
-    → Goes a b (RunsOver f) (EndedOver f (Ok tt)) → Goes a b (RunsOn command left) (EndedOn command left (Ok tt))
-goes_change command left f known changes is goes = begins known goes
-    (λ u w t p. runs_change command left f u w changes is p)
-    (λ u w t p q. ended_on command left f (Ok tt) (Ok tt) u w is (λ a e. e) (λ by. by) q)
+pub goes_change : {a b : Option Moments} (command : Command) (t : Told) (f : Holdings → World → Answer) → IsTold a → IsChanging command t f
+    → Goes a b (RunsOver t.holds f) (EndedOver t.holds f (Ok tt)) → Goes a b (RunsOn command t) (EndedOn command t (Ok tt))
+goes_change command t f known is goes = begins known goes
+    (λ u w tree p. runs_change command t f u w is p)
+    (λ u w tree p q. ended_change command t f (Ok tt) (Ok tt) u w is (λ a e. e) (λ by. by) q)
 
-pub goes_not_changed : {a b : Option Moments} (command : Command) (left : Option (List ℕ)) (f : State → Answer) (e : RunEnd) (r : Result (Unit {0}) CommandEnd) → IsTold a → only_looks command ≡ false → IsAnswer command left f
-    → Goes a b (RunsOver f) (EndedOver f (Err e)) → IsErrAnd r (λ end. end ≡ end_of_run e) → Goes a b (RunsOn command left) (EndedOn command left r)
-goes_not_changed {a = a} {b = b} command left f e r known changes is goes err =
-    subst (λ (x : Result (Unit {0}) CommandEnd). Goes a b (RunsOn command left) (EndedOn command left x)) (sym (is_end r (end_of_run e) err))
-    (begins known goes (λ u w t p. runs_change command left f u w changes is p) (λ u w t p q. ended_on command left f (Err e) (Err (end_of_run e)) u w is (λ a x. closed a e u w x) (given_by e) q))
+pub goes_not_changed : {a b : Option Moments} (command : Command) (t : Told) (f : Holdings → World → Answer) (e : RunEnd) (r : Result (Unit {0}) CommandEnd) → IsTold a → IsChanging command t f
+    → Goes a b (RunsOver t.holds f) (EndedOver t.holds f (Err e)) → IsErrAnd r (λ end. end ≡ end_of_run e) → Goes a b (RunsOn command t) (EndedOn command t r)
+goes_not_changed {a = a} {b = b} command t f e r known is goes err =
+    subst (λ (x : Result (Unit {0}) CommandEnd). Goes a b (RunsOn command t) (EndedOn command t x)) (sym (is_end r (end_of_run e) err))
+    (begins known goes (λ u w tree p. runs_change command t f u w is p) (λ u w tree p q. ended_change command t f (Err e) (Err (end_of_run e)) u w is (λ a x. closed a e u w x) (given_by e) q))
 
-runs_look : (command : Command) (left : Option (List ℕ)) (f : State → Answer) (u w : View) → IsAnswer command left f → LooksOver f u w → RunsOn command left u w
-runs_look command left f u w is p = record {
-  runs = λ input given shown counts. subst (λ (x : Answer). Runs x u w) (is input given shown) (p.runs shown (over_same (over f) (answer_over command input) (shows u) shown (is input given) counts));
+-- the answer of a command that looks is this over the world
+abbrev pub IsLook : Command → (World → Answer) → Type 0
+IsLook command f = (given : Given) (shown : Result World Elements) → over f shown ≡ answer_over command given shown
+
+runs_look : (command : Command) (t : Told) (f : World → Answer) (u w : View) → IsLook command f → LooksOver f u w → RunsOn command t u w
+runs_look command t f u w is p = record {
+  runs = λ given gave shown counts may. subst (λ (x : Answer). Runs x u w) (is given shown) (p.runs shown (counts_for command f given u shown (is given) counts));
   changes = change_untouched p.untouched;
   untouched = λ why. p.untouched;
 }
 
--- one that looks
-pub goes_look : {a b : Option Moments} (command : Command) (left : Option (List ℕ)) (f : State → Answer) → IsTold a → IsAnswer command left f
-    → Goes a b (LooksOver f) (EndedOver f (Ok tt)) → Goes a b (RunsOn command left) (EndedOn command left (Ok tt))
-goes_look command left f known is goes = begins known goes
-    (λ u w t p. runs_look command left f u w is p)
-    (λ u w t p q. ended_on command left f (Ok tt) (Ok tt) u w is (λ a e. e) (λ by. by) q)
+ended_look : (command : Command) (t : Told) (f : World → Answer) (r : Result (Unit {0}) RunEnd) (s : Result (Unit {0}) CommandEnd) (u w : View) → IsLook command f
+    → ((a : Answer) → Ended a r u w → Closed a s u w) → (IsClosedBy s → IsGivenBy r) → LookedOver f r u w → EndedOn command t s u w
+ended_look command t f r s u w is close give q = record {
+  ended = λ given gave shown counts may. subst (λ (x : Answer). Closed x s u w) (is given shown) (close (over f shown) (q.ended shown (counts_for command f given u shown (is given) counts)));
+  given = λ given gave by. counts_same (answer_over command given) (over f) (shows u) (λ r. sym (is given r)) (q.given (give by));
+}
 
-pub goes_not_looked : {a b : Option Moments} (command : Command) (left : Option (List ℕ)) (f : State → Answer) (e : RunEnd) (r : Result (Unit {0}) CommandEnd) → IsTold a → IsAnswer command left f
-    → Goes a b (LooksOver f) (EndedOver f (Err e)) → IsErrAnd r (λ end. end ≡ end_of_run e) → Goes a b (RunsOn command left) (EndedOn command left r)
-goes_not_looked {a = a} {b = b} command left f e r known is goes err =
-    subst (λ (x : Result (Unit {0}) CommandEnd). Goes a b (RunsOn command left) (EndedOn command left x)) (sym (is_end r (end_of_run e) err))
-    (begins known goes (λ u w t p. runs_look command left f u w is p) (λ u w t p q. ended_on command left f (Err e) (Err (end_of_run e)) u w is (λ a x. closed a e u w x) (given_by e) q))
+-- one that looks
+pub goes_look : {a b : Option Moments} (command : Command) (t : Told) (f : World → Answer) → IsTold a → IsLook command f
+    → Goes a b (LooksOver f) (LookedOver f (Ok tt)) → Goes a b (RunsOn command t) (EndedOn command t (Ok tt))
+goes_look command t f known is goes = begins known goes
+    (λ u w tree p. runs_look command t f u w is p)
+    (λ u w tree p q. ended_look command t f (Ok tt) (Ok tt) u w is (λ a e. e) (λ by. by) q)
+
+pub goes_not_looked : {a b : Option Moments} (command : Command) (t : Told) (f : World → Answer) (e : RunEnd) (r : Result (Unit {0}) CommandEnd) → IsTold a → IsLook command f
+    → Goes a b (LooksOver f) (LookedOver f (Err e)) → IsErrAnd r (λ end. end ≡ end_of_run e) → Goes a b (RunsOn command t) (EndedOn command t r)
+goes_not_looked {a = a} {b = b} command t f e r known is goes err =
+    subst (λ (x : Result (Unit {0}) CommandEnd). Goes a b (RunsOn command t) (EndedOn command t x)) (sym (is_end r (end_of_run e) err))
+    (begins known goes (λ u w tree p. runs_look command t f u w is p) (λ u w tree p q. ended_look command t f (Err e) (Err (end_of_run e)) u w is (λ a x. closed a e u w x) (given_by e) q))
 
 -- a fault of the command is one of the work
 pub run_fault : (r : Result (Unit {0}) RunEnd) (s : Result (Unit {0}) CommandEnd) (e : RunEnd) → r ≡ Err e → IsErrAnd s (λ end. end ≡ end_of_run e) → IsErrOf s Fault → IsErrOf r run.Fault
@@ -138,20 +186,20 @@ pub caused_change : {a : Option Moments} {F G : Type 0} (command : Command) (bef
 caused_change command before now changes cause passes = record { later = cause.later; fault = λ is m told serves. cause.fault (passes is) m told (serves_change command m.now changes serves) }
 
 -- nothing was done
-pub not_begun : (command : Command) (left : Option (List ℕ)) (u : View) → RunsOn command left u u
-not_begun command left u = record { runs = λ input given shown counts. begun (answer_over command input shown) unchanged (λ why. not_touched); changes = change_not; untouched = λ why. not_touched }
+pub not_begun : (command : Command) (t : Told) (u : View) → RunsOn command t u u
+not_begun command t u = record { runs = λ given gave shown counts may. begun (answer_over command given shown) unchanged (λ why. not_touched); changes = change_not; untouched = λ why. not_touched }
 
 -- What ends a command before the installation is looked at: so it ends whatever the image gives.
-pub record EndsEarly (command : Command) (input : List ℕ) (e : CommandEnd) : Type 0 where
-  pub closed : (shown : Result State Elements) (u : View) → Closed (answer_over command input shown) (Err e) u u
-  pub same : IsClosedBy (Err e) → IsConstant (answer_over command input)
+pub record EndsEarly (command : Command) (given : Given) (e : CommandEnd) : Type 0 where
+  pub closed : (shown : Result World Elements) (u : View) → Closed (answer_over command given shown) (Err e) u u
+  pub same : IsClosedBy (Err e) → IsConstant (answer_over command given)
 
-pub goes_none : {a : Option Moments} (command : Command) (left : Option (List ℕ)) (e : CommandEnd) (r : Result (Unit {0}) CommandEnd) → IsTold a → IsErrAnd r (λ end. end ≡ e)
-    → ((input : List ℕ) → IsGiven left (Some command) input → EndsEarly command input e) → Goes a a (RunsOn command left) (EndedOn command left r)
-goes_none {a = a} command left e r known err ends =
-    subst (λ (x : Result (Unit {0}) CommandEnd). Goes a a (RunsOn command left) (EndedOn command left x)) (sym (is_end r e err)) (stays known (not_begun command left) (λ u t. record {
-      ended = λ input given shown counts. (ends input given).closed shown u;
-      given = λ input given by. counts_constant (answer_over command input) (shows u) ((ends input given).same by);
+pub goes_none : {a : Option Moments} (command : Command) (t : Told) (e : CommandEnd) (r : Result (Unit {0}) CommandEnd) → IsTold a → IsErrAnd r (λ end. end ≡ e)
+    → ((given : Given) → IsGivenTo command t given → EndsEarly command given e) → Goes a a (RunsOn command t) (EndedOn command t r)
+goes_none {a = a} command t e r known err ends =
+    subst (λ (x : Result (Unit {0}) CommandEnd). Goes a a (RunsOn command t) (EndedOn command t x)) (sym (is_end r e err)) (stays known (not_begun command t) (λ u tree. record {
+      ended = λ given gave shown counts may. (ends given gave).closed shown u;
+      given = λ given gave by. counts_constant (answer_over command given) (shows u) ((ends given gave).same by);
     }))
 
 -- the input failed, before anything is done
@@ -164,19 +212,19 @@ input_failed {a = a} left before now e r known err stops is = of_input e stops (
     of_input input.NoMemory stops same = absurd (cc same)
 
 -- it is refused
-pub refused_early : (command : Command) (input : List ℕ) (refusal : Refusal) → ((shown : Result State Elements) → refusal_answer refusal ≡ answer_over command input shown) → EndsEarly command input (Refused refusal)
-refused_early command input refusal is = record {
+pub refused_early : (command : Command) (given : Given) (refusal : Refusal) → ((shown : Result World Elements) → refusal_answer refusal ≡ answer_over command given shown) → EndsEarly command given (Refused refusal)
+refused_early command given refusal is = record {
   closed = λ shown u. subst (λ (y : Answer). Closed y (Err (Refused refusal)) u u) (is shown) (refl, refused_at_once refusal u);
   same = λ by shown other. sym (is other) ∙ is shown;
 }
 
 -- the input fails
-failed_early : (command : Command) (input : List ℕ) → EndsEarly command input InputFault
-failed_early command input = record { closed = λ shown u. refl; same = λ by. absurd by }
+failed_early : (command : Command) (given : Given) → EndsEarly command given InputFault
+failed_early command given = record { closed = λ shown u. refl; same = λ by. absurd by }
 
--- memory is wanting
-pub halted_early : (command : Command) (input : List ℕ) → EndsEarly command input NoMemory
-halted_early command input = record { closed = λ shown u. stood (answer_over command input shown) unchanged; same = λ by. absurd by }
+-- out of memory
+pub halted_early : (command : Command) (given : Given) → EndsEarly command given NoMemory
+halted_early command given = record { closed = λ shown u. stood (answer_over command given shown) unchanged; same = λ by. absurd by }
 
 -- ---- a command that reads the input
 
@@ -187,13 +235,13 @@ not_long : (input : List ℕ) → length input ≤ input_most → nat_le (length
 not_long input few = grind arith
 
 -- its answer is this by the whole input
-pub record ByInput (command : Command) (f : Result State Elements → List ℕ → Answer) : Type 0 where
+pub record ByInput (command : Command) (f : Holdings → Result World Elements → List ℕ → Answer) : Type 0 where
   pub reads : reads_input command ≡ true
-  pub is : (input : List ℕ) (shown : Result State Elements) → answer_over command input shown ≡ over_input (f shown) input
+  pub is : (given : Given) (shown : Result World Elements) → answer_over command given shown ≡ over_input (f given.held shown) given.input
 
 -- all of the input is given
-given_all : (command : Command) (left : Option (List ℕ)) (input : List ℕ) → reads_input command ≡ true → IsGiven left (Some command) input → left ≡ Some input
-given_all command left input reads given = elim given [
+given_all : (command : Command) (t : Told) (given : Given) → reads_input command ≡ true → IsGivenTo command t given → t.left ≡ Some given.input
+given_all command t given reads gave = elim gave.input [
   | inl none ↦ absurd (let both : true ≡ false = sym reads ∙ none in cc both)
   | inr told ↦ told
 ]
@@ -202,34 +250,41 @@ by_length : (f : List ℕ → Answer) (input : List ℕ) (b : Bool) → nat_le (
 by_length f input b is = ap (λ (c : Bool). if c then f input else refusal_answer (Limit Input (input_most + 1))) is
 
 -- the answer to it, whose bytes were read
-pub read_is : (command : Command) (f : Result State Elements → List ℕ → Answer) → ByInput command f → (left : Option (List ℕ)) (bytes : List ℕ) → IsWhole left bytes → (input : List ℕ) → IsGiven left (Some command) input → (shown : Result State Elements) → f shown bytes ≡ answer_over command input shown
-read_is command f by left bytes whole input given shown =
-    let all = whole input (given_all command left input by.reads given) in
-    ap (f shown) all.0 ∙ sym (by_length (f shown) input true (not_long input all.1)) ∙ sym (by.is input shown)
+pub read_is : (command : Command) (f : Holdings → Result World Elements → List ℕ → Answer) → ByInput command f → (t : Told) (bytes : List ℕ) → IsWhole t.left bytes → (given : Given) → IsGivenTo command t given → (shown : Result World Elements) → f given.held shown bytes ≡ answer_over command given shown
+read_is command f by t bytes whole given gave shown =
+    let all = whole given.input (given_all command t given by.reads gave) in
+    ap (f given.held shown) all.0 ∙ sym (by_length (f given.held shown) given.input true (not_long given.input all.1)) ∙ sym (by.is given shown)
 
 -- the input wasn't read
-pub input_ends : (command : Command) (f : Result State Elements → List ℕ → Answer) → ByInput command f → (left : Option (List ℕ)) (before now : ℕ) (e : InputEnd) → InputStops left before now e → (input : List ℕ) → IsGiven left (Some command) input → EndsEarly command input (end_of_input e)
-input_ends command f by left before now input.TooLong stops given_input given =
-    let long = too_long given_input (stops given_input (given_all command left given_input by.reads given)) in
-    refused_early command given_input (Limit Input (input_most + 1)) (λ shown. sym (by_length (f shown) given_input false long) ∙ sym (by.is given_input shown))
-input_ends command f by left before now input.Fault stops given_input given = failed_early command given_input
-input_ends command f by left before now input.NoMemory stops given_input given = halted_early command given_input
+pub input_ends : (command : Command) (f : Holdings → Result World Elements → List ℕ → Answer) → ByInput command f → (t : Told) (before now : ℕ) (e : InputEnd) → InputStops t.left before now e → (given : Given) → IsGivenTo command t given → EndsEarly command given (end_of_input e)
+input_ends command f by t before now input.TooLong stops given gave =
+    let long = too_long given.input (stops given.input (given_all command t given by.reads gave)) in
+    refused_early command given (Limit Input (input_most + 1)) (λ shown. sym (by_length (f given.held shown) given.input false long) ∙ sym (by.is given shown))
+input_ends command f by t before now input.Fault stops given gave = failed_early command given
+input_ends command f by t before now input.NoMemory stops given gave = halted_early command given
 
 -- ---- a batch
 
-abbrev pub batch_by : Result State Elements → List ℕ → Answer
-batch_by shown bytes = of_batch (batch_of bytes) shown
+abbrev pub batch_by : Holdings → Result World Elements → List ℕ → Answer
+batch_by held shown bytes = of_batch (batch_of bytes) held shown
 
 pub batch_input : ByInput Batch batch_by
-batch_input = record { reads = refl; is = λ input shown. refl }
+batch_input = record { reads = refl; is = λ given shown. refl }
 
-pub batch_ends : (left : Option (List ℕ)) (bytes : List ℕ) (e : BatchError) → IsWhole left bytes → IsBadBatch bytes e → (input : List ℕ) → IsGiven left (Some Batch) input → EndsEarly Batch input (end_of_batch e)
-batch_ends left bytes (batch.BadRecord line) whole bad input given =
-    refused_early Batch input (BadRecord line) (λ shown. ap (λ (x : Result (List Change) ℕ). of_batch x shown) (sym bad) ∙ read_is Batch batch_by batch_input left bytes whole input given shown)
-batch_ends left bytes batch.NoMemory whole bad input given = halted_early Batch input
+pub batch_ends : (t : Told) (bytes : List ℕ) (e : BatchError) → IsWhole t.left bytes → IsBadBatch bytes e → (given : Given) → IsGivenTo Batch t given → EndsEarly Batch given (end_of_batch e)
+batch_ends t bytes (batch.BadRecord line) whole bad given gave =
+    refused_early Batch given (BadRecord line) (λ shown. ap (λ (x : Result (List Change) ℕ). of_batch x given.held shown) (sym bad) ∙ read_is Batch batch_by batch_input t bytes whole given gave shown)
+batch_ends t bytes batch.NoMemory whole bad given gave = halted_early Batch given
 
-pub batch_answers : (left : Option (List ℕ)) (bytes : List ℕ) (changes : List Change) → IsWhole left bytes → batch_of bytes ≡ Ok changes → IsAnswer Batch left (changing changes)
-batch_answers left bytes changes whole is input given shown = ap (λ (x : Result (List Change) ℕ). of_batch x shown) (sym is) ∙ read_is Batch batch_by batch_input left bytes whole input given shown
+batch_answers : (t : Told) (bytes : List ℕ) (changes : List Change) → IsWhole t.left bytes → batch_of bytes ≡ Ok changes → IsAnswer Batch t (changing changes)
+batch_answers t bytes changes whole is given gave shown = ap (λ (x : Result (List Change) ℕ). of_batch x given.held shown) (sym is) ∙ read_is Batch batch_by batch_input t bytes whole given gave shown
+
+pub batch_changes : (t : Told) (bytes : List ℕ) (changes : List Change) → IsWhole t.left bytes → batch_of bytes ≡ Ok changes → IsChanging Batch t (changing changes)
+batch_changes t bytes changes whole is = record { changes = refl; asks = refl; late = changing_late changes; is = batch_answers t bytes changes whole is }
+
+-- one change
+pub change_changes : (t : Told) (change : Change) → IsChanging (Changing change) t (changing (change ∷ []))
+change_changes t change = record { changes = refl; asks = refl; late = changing_late (change ∷ []); is = λ given gave shown. refl }
 
 -- ---- what it takes of the input
 
@@ -260,95 +315,99 @@ taken_at command r status old new takes drained = (λ reads answered. drained (t
 
 -- ---- its status
 
-pub goes_done : {a b : Option Moments} (command : Command) (left : Option (List ℕ)) → IsTold a → Goes a b (RunsOn command left) (EndedOn command left (Ok tt)) → Goes a b (RunsOn command left) (RanOn command left 0)
-goes_done command left known goes = begins known goes (λ u w t r. r) (λ u w t r q. record {
-  ran = λ input given shown counts. ran_done (answer_over command input shown) (r.runs input given shown counts) (q.ended input given shown counts);
-  given = λ input given answered. q.given input given tt;
+pub goes_done : {a b : Option Moments} (command : Command) (t : Told) → IsTold a → Goes a b (RunsOn command t) (EndedOn command t (Ok tt)) → Goes a b (RunsOn command t) (RanOn command t 0)
+goes_done command t known goes = begins known goes (λ u w tree r. r) (λ u w tree r q. record {
+  ran = λ given gave shown counts may. ran_done (answer_over command given shown) (r.runs given gave shown counts may) (q.ended given gave shown counts may);
+  given = λ given gave answered. q.given given gave tt;
 })
 
-pub goes_fault : {a b : Option Moments} (command : Command) (left : Option (List ℕ)) → IsTold a → Goes a b (RunsOn command left) (EndedOn command left (Err Fault)) → Goes a b (RunsOn command left) (RanOn command left 3)
-goes_fault command left known goes = begins known goes (λ u w t r. r) (λ u w t r q. record {
-  ran = λ input given shown counts. ran_fault (answer_over command input shown) (r.runs input given shown counts);
-  given = λ input given answered. absurd (not_answered 3 (omega arith) answered);
+pub goes_fault : {a b : Option Moments} (command : Command) (t : Told) → IsTold a → Goes a b (RunsOn command t) (EndedOn command t (Err Fault)) → Goes a b (RunsOn command t) (RanOn command t 3)
+goes_fault command t known goes = begins known goes (λ u w tree r. r) (λ u w tree r q. record {
+  ran = λ given gave shown counts may. ran_fault (answer_over command given shown) (r.runs given gave shown counts may);
+  given = λ given gave answered. absurd (not_answered 3 (omega arith) answered);
 })
 
-pub goes_input : {a b : Option Moments} (command : Command) (left : Option (List ℕ)) → IsTold a → Goes a b (RunsOn command left) (EndedOn command left (Err InputFault)) → Goes a b (RunsOn command left) (RanOn command left 5)
-goes_input command left known goes = begins known goes (λ u w t r. r) (λ u w t r q. record {
-  ran = λ input given shown counts. ran_input (answer_over command input shown) (r.runs input given shown counts) (q.ended input given shown counts);
-  given = λ input given answered. absurd (not_answered 5 (omega arith) answered);
+pub goes_input : {a b : Option Moments} (command : Command) (t : Told) → IsTold a → Goes a b (RunsOn command t) (EndedOn command t (Err InputFault)) → Goes a b (RunsOn command t) (RanOn command t 5)
+goes_input command t known goes = begins known goes (λ u w tree r. r) (λ u w tree r q. record {
+  ran = λ given gave shown counts may. ran_input (answer_over command given shown) (r.runs given gave shown counts may) (q.ended given gave shown counts may);
+  given = λ given gave answered. absurd (not_answered 5 (omega arith) answered);
 })
 
-pub goes_memory : {a b : Option Moments} (command : Command) (left : Option (List ℕ)) → IsTold a → Goes a b (RunsOn command left) (EndedOn command left (Err NoMemory)) → Goes a b (RunsOn command left) (RanOn command left 6)
-goes_memory command left known goes = begins known goes (λ u w t r. r) (λ u w t r q. record {
-  ran = λ input given shown counts. ran_memory (answer_over command input shown) (r.runs input given shown counts) (q.ended input given shown counts);
-  given = λ input given answered. absurd (not_answered 6 (omega arith) answered);
+pub goes_memory : {a b : Option Moments} (command : Command) (t : Told) → IsTold a → Goes a b (RunsOn command t) (EndedOn command t (Err NoMemory)) → Goes a b (RunsOn command t) (RanOn command t 6)
+goes_memory command t known goes = begins known goes (λ u w tree r. r) (λ u w tree r q. record {
+  ran = λ given gave shown counts may. ran_memory (answer_over command given shown) (r.runs given gave shown counts may) (q.ended given gave shown counts may);
+  given = λ given gave answered. absurd (not_answered 6 (omega arith) answered);
 })
 
-pub goes_refused : {a b c : Option Moments} (command : Command) (left : Option (List ℕ)) (r : Refusal) (result : ℕ) → IsTold b → Goes a b (RunsOn command left) (EndedOn command left (Err (Refused r)))
-    → Goes b c (Says (refusal_text r)) (Refuses (refusal_text r) 1 result) → Goes a c (RunsOn command left) (RanOn command left result)
-goes_refused command left r result known_b first second =
+pub goes_refused : {a b c : Option Moments} (command : Command) (t : Told) (r : Refusal) (result : ℕ) → IsTold b → Goes a b (RunsOn command t) (EndedOn command t (Err (Refused r)))
+    → Goes b c (Says (refusal_text r)) (Refuses (refusal_text r) 1 result) → Goes a c (RunsOn command t) (RanOn command t result)
+goes_refused command t r result known_b first second =
     goes_on known_b first second
-    (λ u v w t p q s. record {
-      runs = λ input given shown counts. let e = q.ended input given shown counts in refusing (answer_over command input shown) r e.0 (p.runs input given shown counts) e.1 s;
+    (λ u v w tree p q s. record {
+      runs = λ given gave shown counts may. let e = q.ended given gave shown counts may in refusing (answer_over command given shown) r e.0 (p.runs given gave shown counts may) e.1 s;
       changes = change_on u v w p.changes (change_untouched s.untouched);
       untouched = λ why. untouched_on (p.untouched why) s;
     })
-    (λ u v w t p q s last. record {
-      ran = λ input given shown counts.
-          let e = q.ended input given shown counts in
-          let a = answer_over command input shown in
-          ran_refused a r 1 result e.0 (command_plain command input shown r e.0) e.1 (refusing a r e.0 (p.runs input given shown counts) e.1 s) last;
-      given = λ input given answered. q.given input given tt;
+    (λ u v w tree p q s last. record {
+      ran = λ given gave shown counts may.
+          let e = q.ended given gave shown counts may in
+          let a = answer_over command given shown in
+          ran_refused a r 1 result e.0 (command_plain command given shown r e.0) e.1 (refusing a r e.0 (p.runs given gave shown counts may) e.1 s) last;
+      given = λ given gave answered. q.given given gave tt;
     })
 
 -- ---- the words
 
-answer_is : (words : List (List ℕ)) (command : Command) (input : List ℕ) → command_of words ≡ Some command → (shown : Result State Elements) → answer_over command input shown ≡ answer words input shown
-answer_is words command input is shown = ap (λ (o : Option Command). answer_to words o input shown) (sym is)
+answer_is : (words : List (List ℕ)) (command : Command) (given : Given) → command_of words ≡ Some command → (shown : Result World Elements) → answer_over command given shown ≡ answer words given shown
+answer_is words command given is shown = ap (λ (o : Option Command). answer_to words o given shown) (sym is)
 
-no_answer : (words : List (List ℕ)) (index : ℕ) (input : List ℕ) → command_of words ≡ None → index ≡ bad_index words → (shown : Result State Elements) → refusal_answer (BadWords index) ≡ answer words input shown
-no_answer words index input none is shown = ap (λ (i : ℕ). refusal_answer (BadWords i)) is ∙ ap (λ (o : Option Command). answer_to words o input shown) (sym none)
+no_answer : (words : List (List ℕ)) (index : ℕ) (given : Given) → command_of words ≡ None → index ≡ bad_index words → (shown : Result World Elements) → refusal_answer (BadWords index) ≡ answer words given shown
+no_answer words index given none is shown = ap (λ (i : ℕ). refusal_answer (BadWords i)) is ∙ ap (λ (o : Option Command). answer_to words o given shown) (sym none)
 
-given_to : (words : List (List ℕ)) (command : Command) (left : Option (List ℕ)) (input : List ℕ) → command_of words ≡ Some command → IsGiven left (command_of words) input → IsGiven left (Some command) input
-given_to words command left input is given = subst (λ (o : Option Command). IsGiven left o input) is given
+given_to : (words : List (List ℕ)) (command : Command) (t : Told) (given : Given) → command_of words ≡ Some command → IsGiven t (command_of words) given → IsGivenTo command t given
+given_to words command t given is gave = subst (λ (o : Option Command). IsGiven t o given) is gave
 
-pub goes_command : {a b : Option Moments} (words : List (List ℕ)) (left : Option (List ℕ)) (command : Command) (status : ℕ) → IsTold a → command_of words ≡ Some command → Goes a b (RunsOn command left) (RanOn command left status) → Goes a b (RunsBy words left) (RanBy words left status)
-goes_command words left command status known is goes = begins known goes
-    (λ u w t r. record {
-      runs = λ input given shown counts. subst (λ (a : Answer). Runs a u w) (answer_is words command input is shown) (r.runs input (given_to words command left input is given) shown (counts_for u input shown counts));
+may_answer : (words : List (List ℕ)) (command : Command) (u : View) (given : Given) (shown : Result World Elements) → command_of words ≡ Some command → MayAnswer (command_of words) u (answer words given shown) → MayAnswer (Some command) u (answer_over command given shown)
+may_answer words command u given shown is may =
+    subst (λ (a : Answer). MayAnswer (Some command) u a) (sym (answer_is words command given is shown)) (subst (λ (o : Option Command). MayAnswer o u (answer words given shown)) is may)
+
+pub goes_command : {a b : Option Moments} (words : List (List ℕ)) (t : Told) (command : Command) (status : ℕ) → IsTold a → command_of words ≡ Some command → Goes a b (RunsOn command t) (RanOn command t status) → Goes a b (RunsBy words t) (RanBy words t status)
+goes_command words t command status known is goes = begins known goes
+    (λ u w tree r. record {
+      runs = λ given gave shown counts may. subst (λ (a : Answer). Runs a u w) (answer_is words command given is shown) (r.runs given (given_to words command t given is gave) shown (counted u given shown counts) (may_answer words command u given shown is may));
       changes = r.changes;
       untouched = λ why. r.untouched (elim why [ inl looks ↦ inl (subst Looks is looks) | inr none ↦ inr none ]);
     })
-    (λ u w t r q. record {
-      ran = λ input given shown counts. subst (λ (a : Answer). Ran a status u w) (answer_is words command input is shown) (q.ran input (given_to words command left input is given) shown (counts_for u input shown counts));
-      given = λ input given answered. counts_same (answer words input) (answer_over command input) (shows u) (λ r. sym (answer_is words command input is r)) (q.given input (given_to words command left input is given) answered);
+    (λ u w tree r q. record {
+      ran = λ given gave shown counts may. subst (λ (a : Answer). Ran a status u w) (answer_is words command given is shown) (q.ran given (given_to words command t given is gave) shown (counted u given shown counts) (may_answer words command u given shown is may));
+      given = λ given gave answered. counts_same (answer words given) (answer_over command given) (shows u) (λ r. sym (answer_is words command given is r)) (q.given given (given_to words command t given is gave) answered);
     })
   where
-    counts_for : (u : View) (input : List ℕ) (shown : Result State Elements) → IsOver (answer words input) (shows u) shown → IsOver (answer_over command input) (shows u) shown
-    counts_for u input shown counts = over_same (answer_over command input) (answer words input) (shows u) shown (answer_is words command input is) counts
+    counted : (u : View) (given : Given) (shown : Result World Elements) → IsOver (answer words given) (shows u) shown → IsOver (answer_over command given) (shows u) shown
+    counted u given shown counts = over_same (answer_over command given) (answer words given) (shows u) shown (answer_is words command given is) counts
 
-pub goes_no_command : {a b : Option Moments} (words : List (List ℕ)) (left : Option (List ℕ)) (index result : ℕ) → IsTold a → command_of words ≡ None → index ≡ bad_index words → Goes a b (Says (refusal_text (BadWords index))) (Refuses (refusal_text (BadWords index)) 2 result) → Goes a b (RunsBy words left) (RanBy words left result)
-goes_no_command words left index result known none is goes = begins known goes
-    (λ u w t s. record {
-      runs = λ input given shown counts. subst (λ (a : Answer). Runs a u w) (no_answer words index input none is shown) (runs u w s);
+pub goes_no_command : {a b : Option Moments} (words : List (List ℕ)) (t : Told) (index result : ℕ) → IsTold a → command_of words ≡ None → index ≡ bad_index words → Goes a b (Says (refusal_text (BadWords index))) (Refuses (refusal_text (BadWords index)) 2 result) → Goes a b (RunsBy words t) (RanBy words t result)
+goes_no_command words t index result known none is goes = begins known goes
+    (λ u w tree s. record {
+      runs = λ given gave shown counts may. subst (λ (a : Answer). Runs a u w) (no_answer words index given none is shown) (runs u w s);
       changes = change_untouched s.untouched;
       untouched = λ why. s.untouched;
     })
-    (λ u w t s e. record {
-      ran = λ input given shown counts. subst (λ (a : Answer). Ran a result u w) (no_answer words index input none is shown) (ran_refused (refusal_answer (BadWords index)) (BadWords index) 2 result refl refl (refused_at_once (BadWords index) u) (runs u w s) e);
-      given = λ input given answered. counts_constant (answer words input) (shows u) (λ shown other. sym (no_answer words index input none is other) ∙ no_answer words index input none is shown);
+    (λ u w tree s e. record {
+      ran = λ given gave shown counts may. subst (λ (a : Answer). Ran a result u w) (no_answer words index given none is shown) (ran_refused (refusal_answer (BadWords index)) (BadWords index) 2 result refl refl (refused_at_once (BadWords index) u) (runs u w s) e);
+      given = λ given gave answered. counts_constant (answer words given) (shows u) (λ shown other. sym (no_answer words index given none is other) ∙ no_answer words index given none is shown);
     })
   where
     runs : (u w : View) → Says (refusal_text (BadWords index)) u w → Runs (refusal_answer (BadWords index)) u w
     runs u w s = refusing (refusal_answer (BadWords index)) (BadWords index) refl (begun (refusal_answer (BadWords index)) unchanged (λ why. not_touched)) (refused_at_once (BadWords index) u) s
 
--- want of memory for the words
-pub goes_unread : {a : Option Moments} (words : List (List ℕ)) (left : Option (List ℕ)) → IsTold a → Goes a a (RunsBy words left) (RanBy words left 6)
-goes_unread words left known = stays known
-    (λ u. record { runs = λ input given shown counts. begun (answer words input shown) unchanged (λ why. not_touched); changes = change_not; untouched = λ why. not_touched })
-    (λ u t. record {
-      ran = λ input given shown counts. ran_memory (answer words input shown) (begun (answer words input shown) unchanged (λ why. not_touched)) (stood (answer words input shown) unchanged);
-      given = λ input given answered. absurd (not_answered 6 (omega arith) answered);
+-- out of memory for the words
+pub goes_unread : {a : Option Moments} (words : List (List ℕ)) (t : Told) → IsTold a → Goes a a (RunsBy words t) (RanBy words t 6)
+goes_unread words t known = stays known
+    (λ u. record { runs = λ given gave shown counts may. begun (answer words given shown) unchanged (λ why. not_touched); changes = change_not; untouched = λ why. not_touched })
+    (λ u tree. record {
+      ran = λ given gave shown counts may. ran_memory (answer words given shown) (begun (answer words given shown) unchanged (λ why. not_touched)) (stood (answer words given shown) unchanged);
+      given = λ given gave answered. absurd (not_answered 6 (omega arith) answered);
     })
 
 -- and nothing was taken of the input

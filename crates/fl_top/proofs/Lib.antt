@@ -1,5 +1,6 @@
 pub mod Same
 pub mod Over
+pub mod Worlds
 pub mod Both
 pub mod Changing
 pub mod Saying
@@ -12,7 +13,7 @@ pub mod Listing
 pub mod Finishing
 pub mod Joining
 pub mod Ending
-mod Refusing
+pub mod Refusing
 pub mod Reading
 pub mod ShowInput
 pub mod Shown

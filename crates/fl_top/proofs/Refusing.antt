@@ -9,10 +9,12 @@ use Rattle.fp_small.specs.declared.refusal.Refusal.TheVariants.{NoSuchRemote, Re
 use Rattle.fp_base.specs.declared.what.What.TheVariants.{Pins, Remotes}
 use Rattle.fp_small.specs.Config.{name_of}
 use Rattle.fp_small.specs.Order.{has_name}
-use Rattle.dep_states.specs.After.{after_all}
+use Rattle.fp_host.specs.Remote.{Holdings}
 use Rattle.fl_words.specs.declared.command.Change.{Change}
 use Rattle.fl_words.specs.declared.command.Change.TheVariants.{Pin, Unpin, RemoteAdd, RemoteModify, RemoteDelete}
-use Rattle.fl_top.specs.Answer.{Answer, Piece, ops_of, op_answer, behind, refusal_of, unless, op_of, change_over, in_turn, migrating, changing, is_pinned, IsAtOnce}
+use Rattle.fl_top.specs.World.{World, worlds_after}
+use Rattle.fl_top.specs.Answer.{Answer, Piece, ops_of, op_answer, continued, refusal_of, unless, op_of, change_over, in_turn, by_layout, migrating, changing, is_pinned, IsAtOnce}
+use Rattle.fl_top.proofs.Starting.{IsLate}
 
 -- each refusal of the answer is one of these
 abbrev pub Refuses : (Refusal → Type 0) → Answer → Type 0
@@ -51,35 +53,37 @@ module _ (P : Refusal → Type 0) where
   of_unless op None each r is = absurd (cc is)
   of_unless op (Some q) each r is = each r is
 
-  of_over : OfChanges P → (change : Change) (s : State) → Refuses P (change_over change s)
-  of_over holds change s r is = of_unless (op_of change) (refusal_of s change) (of_change holds change s) r is
+  of_over : OfChanges P → (change : Change) (held : Holdings) (x : World) → Refuses P (change_over change held x)
+  of_over holds change held x r is = of_unless (op_of change) (refusal_of x.state change) (of_change holds change x.state) r is
 
-  of_behind : (pieces : List Piece) (o : Option Refusal) (b : Answer) → ((r : Refusal) → o ≡ Some r → P r) → Refuses P b → Refuses P (behind pieces o b)
-  of_behind pieces None b first second r is = second r is
-  of_behind pieces (Some q) b first second r is = first r is
+  of_continued : (pieces : List Piece) (o : Option Refusal) (b : Answer) → ((r : Refusal) → o ≡ Some r → P r) → Refuses P b → Refuses P (continued pieces o b)
+  of_continued pieces None b first second r is = second r is
+  of_continued pieces (Some q) b first second r is = first r is
 
-  of_turn : OfChanges P → (changes : List Change) (s : State) → Refuses P (in_turn changes s)
-  of_turn holds [] s r is = absurd (cc is)
-  of_turn holds (change ∷ changes) s r is =
-      let a = change_over change s in
-      of_behind a.pieces a.refusal (in_turn changes (after_all s (ops_of a))) (of_over holds change s) (of_turn holds changes (after_all s (ops_of a))) r is
+  of_turn : OfChanges P → (changes : List Change) (held : Holdings) (x : World) → Refuses P (in_turn changes held x)
+  of_turn holds [] held x r is = absurd (cc is)
+  of_turn holds (change ∷ changes) held x r is =
+      let a = change_over change held x in
+      let y = worlds_after held x (ops_of a) in
+      of_continued a.pieces a.refusal (in_turn changes held y) (of_over holds change held x) (of_turn holds changes held y) r is
 
-  of_migrating : (layout : Layout) → Refuses P (migrating layout)
-  of_migrating One r is = absurd (cc is)
-  of_migrating Two r is = absurd (cc is)
+  of_layout : (layout : Layout) → Refuses P (by_layout layout)
+  of_layout One r is = absurd (cc is)
+  of_layout Two r is = absurd (cc is)
 
-  pub of_changing : OfChanges P → (changes : List Change) (s : State) → Refuses P (changing changes s)
-  of_changing holds changes s =
-      let a = migrating s.layout in
-      of_behind a.pieces a.refusal (in_turn changes (after_all s (ops_of a))) (of_migrating s.layout) (of_turn holds changes (after_all s (ops_of a)))
+  pub of_changing : OfChanges P → (changes : List Change) (held : Holdings) (x : World) → Refuses P (changing changes held x)
+  of_changing holds changes held x =
+      let a = migrating held x in
+      let y = worlds_after held x (ops_of a) in
+      of_continued a.pieces a.refusal (in_turn changes held y) (of_layout x.state.layout) (of_turn holds changes held y)
 
 -- none of them is one of the words or of the input
 at_once_by : (o : Option Refusal) → ((r : Refusal) → o ≡ Some r → IsAtOnce (Some r) → ⊥) → IsAtOnce o → ⊥
 at_once_by None each at_once = at_once
 at_once_by (Some r) each at_once = each r refl at_once
 
-pub changing_late : (changes : List Change) (s : State) → IsAtOnce (changing changes s).refusal → ⊥
-changing_late changes s at_once =
-    at_once_by (changing changes s).refusal
-    (of_changing (λ r. IsAtOnce (Some r) → ⊥) (record { pin_there = λ pin none. none; pins_full = λ none. none; no_pin = λ pin none. none; remote_there = λ name none. none; remotes_full = λ none. none; no_remote = λ name none. none }) changes s)
+pub changing_late : (changes : List Change) → IsLate (changing changes)
+changing_late changes held x at_once =
+    at_once_by (changing changes held x).refusal
+    (of_changing (λ r. IsAtOnce (Some r) → ⊥) (record { pin_there = λ pin none. none; pins_full = λ none. none; no_pin = λ pin none. none; remote_there = λ name none. none; remotes_full = λ none. none; no_remote = λ name none. none }) changes held x)
     at_once

@@ -6,6 +6,7 @@ use Rattle.fp_host.specs.Outcome.{Disk, Leaves, Follows, Nothing, shows}
 use Rattle.fp_small.specs.declared.state.State.{State}
 use Rattle.dep_states.specs.Shown.{Shows}
 use Rattle.dep_states.specs.Sound.{Sound, Opens}
+use Rattle.dep_states.specs.Settled.{Settled}
 
 pub unmoved : {disk before : Disk} → ((p : Elements) → (disk p ≡ before p) ⊎ Nothing p (disk p)) → (p : Elements) → disk p ≡ before p
 unmoved each p = elim (each p) [ inl same ↦ same | inr given ↦ absurd given ]
@@ -18,6 +19,9 @@ same_shown {disk = disk} {before = before} {s = s} same shown = subst (λ d. Sho
 
 pub same_sound : {disk before : Disk} → ((p : Elements) → disk p ≡ before p) → Sound before → Sound disk
 same_sound {disk = disk} {before = before} same sound = subst Sound (sym (same_disk disk before same)) sound
+
+pub same_settled : {disk before : Disk} → ((p : Elements) → disk p ≡ before p) → Settled before → Settled disk
+same_settled {disk = disk} {before = before} same settled = subst Settled (sym (same_disk disk before same)) settled
 
 pub same_opens : {v w : View} {s : State} → Follows Nothing v w → Opens s v → Opens s w
 same_opens follows opens = record {

@@ -1,6 +1,7 @@
 -- A command that shows its input.
 use Rattle.std.proofs.Common.{◌≡◌, ℕ, List, IsErrOf, Option, Some, Result, Ok, Err, IsErrAnd, refl, sym, ◌∙◌, ap, subst}
 use Rattle.fp_host.specs.Paths.{Elements}
+use Rattle.fp_host.specs.Remote.{Holdings}
 use Rattle.fp_host.specs.View.{View}
 use Rattle.fp_host.specs.Outcome.{shows}
 use Rattle.fp_host.specs.Causes.{IsCaused}
@@ -11,8 +12,9 @@ use Rattle.fp_host.proofs.Framed.{IsTold}
 use Rattle.fp_host.proofs.Goes.{begins}
 use Rattle.fp_small.specs.declared.state.State.{State}
 use Rattle.fl_words.specs.declared.command.Command.{Command}
-use Rattle.fl_top.specs.Answer.{Answer, shown_by, text_answer, answer_over}
-use Rattle.fl_top.specs.Runs.{Runs, Stands, IsGiven, Serves}
+use Rattle.fl_top.specs.World.{World}
+use Rattle.fl_top.specs.Answer.{Answer, Given, shown_by, text_answer, answer_over}
+use Rattle.fl_top.specs.Runs.{Runs, Stands, Told, IsGivenTo, Serves}
 use Rattle.fl_top.specs.Performs.{RunsOn, EndedOn, Closed}
 use Rattle.fl_top.specs.Says.{Says, SaidBy}
 use Rattle.fl_words.specs.declared.command.Command.TheVariants.{Show as Showing}
@@ -31,23 +33,23 @@ use Rattle.fl_top.proofs.Finishing.{is_end, EndsEarly, refused_early, halted_ear
 
 -- ---- its answer
 
-abbrev pub show_by : Shown → Result State Elements → List ℕ → Answer
-show_by thing shown bytes = shown_by thing bytes
+abbrev pub show_by : Shown → Holdings → Result World Elements → List ℕ → Answer
+show_by thing held shown bytes = shown_by thing bytes
 
 pub show_input : (thing : Shown) → ByInput (Showing thing) (show_by thing)
-show_input thing = record { reads = refl; is = λ input shown. refl }
+show_input thing = record { reads = refl; is = λ given shown. refl }
 
 -- the answer to it, whose bytes were read
-shown_is : (thing : Shown) (left : Option (List ℕ)) (bytes : List ℕ) → IsWhole left bytes → (input : List ℕ) → IsGiven left (Some (Showing thing)) input → (shown : Result State Elements) → shown_by thing bytes ≡ answer_over (Showing thing) input shown
-shown_is thing left bytes whole input given shown = read_is (Showing thing) (show_by thing) (show_input thing) left bytes whole input given shown
+shown_is : (thing : Shown) (t : Told) (bytes : List ℕ) → IsWhole t.left bytes → (given : Given) → IsGivenTo (Showing thing) t given → (shown : Result World Elements) → shown_by thing bytes ≡ answer_over (Showing thing) given shown
+shown_is thing t bytes whole given gave shown = read_is (Showing thing) (show_by thing) (show_input thing) t bytes whole given gave shown
 
 -- ---- where nothing is printed
 
 -- it isn't what was asked for
-pub show_ends : (thing : Shown) (left : Option (List ℕ)) (bytes : List ℕ) (e : RunEnd) → IsWhole left bytes → Prints (shown_by thing bytes) (Err e) → (input : List ℕ) → IsGiven left (Some (Showing thing)) input → EndsEarly (Showing thing) input (end_of_run e)
-show_ends thing left bytes (run.Refused refusal) whole prints input given = refused_early (Showing thing) input refusal (λ shown. sym prints ∙ shown_is thing left bytes whole input given shown)
-show_ends thing left bytes run.Fault whole prints input given = absurd prints
-show_ends thing left bytes run.NoMemory whole prints input given = halted_early (Showing thing) input
+pub show_ends : (thing : Shown) (t : Told) (bytes : List ℕ) (e : RunEnd) → IsWhole t.left bytes → Prints (shown_by thing bytes) (Err e) → (given : Given) → IsGivenTo (Showing thing) t given → EndsEarly (Showing thing) given (end_of_run e)
+show_ends thing t bytes (run.Refused refusal) whole prints given gave = refused_early (Showing thing) given refusal (λ shown. sym prints ∙ shown_is thing t bytes whole given gave shown)
+show_ends thing t bytes run.Fault whole prints given gave = absurd prints
+show_ends thing t bytes run.NoMemory whole prints given gave = halted_early (Showing thing) given
 
 -- and no call of the host failed
 pub no_fault : (thing : Shown) (bytes : List ℕ) (e : RunEnd) (r : Result (Unit {0}) CommandEnd) → Prints (shown_by thing bytes) (Err e) → IsErrAnd r (λ end. end ≡ end_of_run e) → IsErrOf r Fault → ⊥
@@ -60,9 +62,9 @@ no_fault thing bytes e r shown err fault = of_run e shown (let both : Err (end_o
 
 -- ---- what is printed
 
-runs_shown : (thing : Shown) (left : Option (List ℕ)) (bytes text : List ℕ) → IsWhole left bytes → shown_by thing bytes ≡ text_answer text → (u w : View) → Says text u w → RunsOn (Showing thing) left u w
-runs_shown thing left bytes text whole shown u w said = record {
-  runs = λ input given image counts. subst (λ (a : Answer). Runs a u w) (sym shown ∙ shown_is thing left bytes whole input given image) (telling text said);
+runs_shown : (thing : Shown) (t : Told) (bytes text : List ℕ) → IsWhole t.left bytes → shown_by thing bytes ≡ text_answer text → (u w : View) → Says text u w → RunsOn (Showing thing) t u w
+runs_shown thing t bytes text whole shown u w said = record {
+  runs = λ given gave image counts may. subst (λ (a : Answer). Runs a u w) (sym shown ∙ shown_is thing t bytes whole given gave image) (telling text said);
   changes = change_untouched said.untouched;
   untouched = λ why. said.untouched;
 }
@@ -71,24 +73,24 @@ closed_said : (text : List ℕ) (a : Answer) (r : Result (Unit {0}) HostEnd) (e 
 closed_said text a r host.Fault u w is said = tt
 closed_said text a r host.NoMemory u w is said = let same : w ≡ u = subst (λ (x : Result (Unit {0}) HostEnd). SaidBy text x u w) is said in subst (λ (x : View). Stands a u x) (sym same) (stood a unchanged)
 
-pub goes_shown : {a b : Option Moments} (thing : Shown) (left : Option (List ℕ)) (bytes text : List ℕ) → IsTold a → IsWhole left bytes → shown_by thing bytes ≡ text_answer text
-    → Goes a b (Says text) (SaidBy text (Ok tt)) → Goes a b (RunsOn (Showing thing) left) (EndedOn (Showing thing) left (Ok tt))
-goes_shown thing left bytes text known whole shown goes = begins known goes
-    (λ u w t says. runs_shown thing left bytes text whole shown u w says)
-    (λ u w t says said. record {
-      ended = λ input given image counts. subst (λ (a : Answer). Closed a (Ok tt) u w) (sym shown ∙ shown_is thing left bytes whole input given image) (refl, tells text said);
-      given = λ input given by. counts_constant (answer_over (Showing thing) input) (shows u) (λ image other. refl);
+pub goes_shown : {a b : Option Moments} (thing : Shown) (t : Told) (bytes text : List ℕ) → IsTold a → IsWhole t.left bytes → shown_by thing bytes ≡ text_answer text
+    → Goes a b (Says text) (SaidBy text (Ok tt)) → Goes a b (RunsOn (Showing thing) t) (EndedOn (Showing thing) t (Ok tt))
+goes_shown thing t bytes text known whole shown goes = begins known goes
+    (λ u w tree says. runs_shown thing t bytes text whole shown u w says)
+    (λ u w tree says said. record {
+      ended = λ given gave image counts may. subst (λ (a : Answer). Closed a (Ok tt) u w) (sym shown ∙ shown_is thing t bytes whole given gave image) (refl, tells text said);
+      given = λ given gave by. counts_constant (answer_over (Showing thing) given) (shows u) (λ image other. refl);
     })
 
-pub goes_not_shown : {a b : Option Moments} (thing : Shown) (left : Option (List ℕ)) (bytes text : List ℕ) (s : Result (Unit {0}) HostEnd) (e : HostEnd) (r : Result (Unit {0}) CommandEnd) → IsTold a → IsWhole left bytes → shown_by thing bytes ≡ text_answer text
-    → s ≡ Err e → Goes a b (Says text) (SaidBy text s) → IsErrAnd r (λ end. end ≡ end_of_run (end_of_host e)) → Goes a b (RunsOn (Showing thing) left) (EndedOn (Showing thing) left r)
-goes_not_shown {a = a} {b = b} thing left bytes text s e r known whole shown was goes err =
-    subst (λ (x : Result (Unit {0}) CommandEnd). Goes a b (RunsOn (Showing thing) left) (EndedOn (Showing thing) left x)) (sym (is_end r (end_of_run (end_of_host e)) err))
+pub goes_not_shown : {a b : Option Moments} (thing : Shown) (t : Told) (bytes text : List ℕ) (s : Result (Unit {0}) HostEnd) (e : HostEnd) (r : Result (Unit {0}) CommandEnd) → IsTold a → IsWhole t.left bytes → shown_by thing bytes ≡ text_answer text
+    → s ≡ Err e → Goes a b (Says text) (SaidBy text s) → IsErrAnd r (λ end. end ≡ end_of_run (end_of_host e)) → Goes a b (RunsOn (Showing thing) t) (EndedOn (Showing thing) t r)
+goes_not_shown {a = a} {b = b} thing t bytes text s e r known whole shown was goes err =
+    subst (λ (x : Result (Unit {0}) CommandEnd). Goes a b (RunsOn (Showing thing) t) (EndedOn (Showing thing) t x)) (sym (is_end r (end_of_run (end_of_host e)) err))
     (begins known goes
-    (λ u w t says. runs_shown thing left bytes text whole shown u w says)
-    (λ u w t says said. record {
-      ended = λ input given image counts. closed_said text (answer_over (Showing thing) input image) s e u w was said;
-      given = λ input given by. counts_constant (answer_over (Showing thing) input) (shows u) (λ image other. refl);
+    (λ u w tree says. runs_shown thing t bytes text whole shown u w says)
+    (λ u w tree says said. record {
+      ended = λ given gave image counts may. closed_said text (answer_over (Showing thing) given image) s e u w was said;
+      given = λ given gave by. counts_constant (answer_over (Showing thing) given) (shows u) (λ image other. refl);
     }))
 
 -- a fault of the command is one of the host

@@ -16,7 +16,7 @@ use Rattle.gv_decode.specs.declared.error.DecodeError.TheVariants.{TooLong}
 use Rattle.fp_base.specs.declared.object.ObjKind.{ObjKind}
 use Rattle.fp_base.specs.declared.object.ObjKind.TheVariants as kinds
 use Rattle.fp_base.specs.declared.rule.Rule.{Rule}
-use Rattle.fl_words.specs.PrintedWords.{kind_word}
+use Rattle.fl_lines.specs.PrintedWords.{kind_word}
 use Rattle.ost_model.specs.Contents.{meta_digest}
 use Rattle.ost_model.specs.Fields.{CommitView, TreeView, MetaView}
 use Rattle.ost_model.specs.Readers.{commit_read, tree_read, meta_read}

@@ -1,35 +1,38 @@
 -- What a run is before anything is done, and what it is once the installation was opened.
-use Rattle.std.proofs.Common.{◌≡◌, inl, inr, ℕ, List, [], ◌∷◌, ◌++◌, Result, Ok, Err, refl, sym, ◌∙◌, ap, subst}
+use Rattle.std.proofs.Common.{◌≡◌, inl, inr, ℕ, List, [], ◌∷◌, ◌++◌, Option, Result, Ok, Err, refl, sym, ◌∙◌, ap, subst}
 use Rattle.std.proofs.lemmas.List.{append-nil}
 use Rattle.fp_host.specs.Paths.{Elements}
-use Rattle.fp_host.specs.View.{View}
+use Rattle.fp_host.specs.Remote.{Holdings}
+use Rattle.fp_host.specs.View.{View, IsTree}
 use Rattle.fp_host.specs.Outcome.{Disk, Leaves, Follows, Nothing, shows}
 use Rattle.fp_host.specs.Frame.{Keeps, NoPath}
 use Rattle.fp_host.proofs.Follow.{follows_refl}
 use Rattle.fp_small.specs.Files.{KeepsFiles}
+use Rattle.fp_small.specs.Places.{repo}
+use Rattle.ost_model.specs.Objects.{object_path}
 use Rattle.fp_small.proofs.Keeping.{files_stay, files_kept}
 use Rattle.fp_small.specs.declared.state.State.{State}
 use Rattle.fp_small.specs.declared.refusal.Refusal.{Refusal}
 use Rattle.fp_small.specs.declared.refusal.Refusal.TheVariants.{Damaged}
-use Rattle.dep_states.specs.Names.{config, remotes_conf, pins_file}
 use Rattle.dep_states.specs.Shown.{Shows}
-use Rattle.dep_states.specs.Sound.{IsSound}
+use Rattle.dep_states.specs.Sound.{IsSound, Opens}
 use Rattle.dep_states.specs.After.{Done, after_all}
 use Rattle.dep_states.proofs.Single.{one_state}
 use Rattle.dep_open.specs.Open.{NotShown, NoName, IsOpened, Opened, StaysUnread}
-use Rattle.dep_open.specs.Tidy.{IsTidy}
 use Rattle.dep_open.specs.declared.open_end.OpenEnd.{OpenEnd}
 use Rattle.dep_open.specs.declared.open_end.OpenEnd.TheVariants as open_end
+use Rattle.fl_top.specs.World.{World, world, world_at}
 use Rattle.fl_top.specs.Answer.{Answer, Piece, lines_of, joined, ops_in, ops_of, over, refusal_answer, IsAtOnce}
 use Rattle.fl_top.specs.Ends.{end_of_open}
-use Rattle.fl_top.specs.Runs.{ShowsAfter, IsPrefix, IsJust, Printed, Runs, Stands}
-use Rattle.fl_top.specs.Performs.{Performs, IsDone, IsHalted, Performed, RunsOver, Completes, Ended, EndedOver}
+use Rattle.fl_top.specs.Runs.{ShowsAfter, IsPrefix, IsJust, Printed, Runs, Stands, IsReady}
+use Rattle.fl_top.specs.Performs.{Performs, IsDone, IsHalted, Performed, PerformsOver, PerformedOver, RunsOver, Completes, Ended, EndedOver, LookedOver}
 use Rattle.fl_top.specs.declared.end.RunEnd.{RunEnd}
 use Rattle.fl_top.specs.declared.end.RunEnd.TheVariants.{Refused, Fault, NoMemory}
-use Rattle.fl_top.specs.Changes.{IsUntouched, HasText}
+use Rattle.fl_top.specs.Changes.{IsUntouched, HasText, OnlyTidied}
 use Rattle.fl_top.proofs.Changing.{change_on, change_none, tidied_on, tidied_none, same_untouched}
-use Rattle.fl_top.proofs.Same.{unmoved, same_shown, same_sound, now_left}
+use Rattle.fl_top.proofs.Same.{unmoved, same_shown, same_sound, same_settled, now_left}
 use Rattle.fl_top.proofs.Over.{over_is, over_damaged, not_shown, counts_shown, counts_damaged}
+use Rattle.fl_top.proofs.Worlds.{store_same, shows_same, worlds_state}
 
 -- ---- nothing is printed and nothing shown changes
 
@@ -61,35 +64,30 @@ prefix_none a just = record { done = []; undone = ops_of a; prefix = refl; more 
 
 pub begun : (a : Answer) {u w : View} → Keeping u w → (IsAtOnce a.refusal → IsUntouched u w) → Runs a u w
 begun a keeping untouched = record {
-  only_tidied = λ none. tidied_none keeping.names;
+  only_tidied = λ none s at. tidied_none keeping.names;
   said = [];
   so_far = none_yet a keeping.printed;
   prefix = λ sound disk left. prefix_none a (shows_before keeping.follows sound disk left);
   untouched = untouched;
 }
 
--- a refusal of the state isn't one of the words or of the input
-over_late : (f : State → Answer) → ((s : State) → IsAtOnce (f s).refusal → ⊥) → (shown : Result State Elements) → IsAtOnce (over f shown).refusal → ⊥
-over_late f late (Err path) at_once = at_once
-over_late f late (Ok s) at_once = late s at_once
+-- a refusal of the world isn't one of the words or of the input
+abbrev pub IsLate : (Holdings → World → Answer) → Type 0
+IsLate f = (held : Holdings) (x : World) → IsAtOnce (f held x).refusal → ⊥
 
-pub begun_over : (f : State → Answer) → ((s : State) → IsAtOnce (f s).refusal → ⊥) → {u w : View} → Keeping u w → StaysUnread u w → RunsOver f u w
-begun_over f late {u = u} keeping unread = record {
-  runs = λ shown counts. begun (over f shown) keeping (λ at_once. absurd (over_late f late shown at_once));
+pub over_late : (f : World → Answer) → ((x : World) → IsAtOnce (f x).refusal → ⊥) → (shown : Result World Elements) → IsAtOnce (over f shown).refusal → ⊥
+over_late f late (Err path) at_once = at_once
+over_late f late (Ok x) at_once = late x at_once
+
+pub begun_over : (holds : Option Holdings) (f : Holdings → World → Answer) → IsLate f → {u w : View} → Keeping u w → StaysUnread u w → RunsOver holds f u w
+begun_over holds f late {u = u} keeping unread = record {
+  runs = λ ready held is shown counts. begun (over (f held) shown) keeping (λ at_once. absurd (over_late (f held) (late held) shown at_once));
   changes = change_none keeping.names keeping.files;
   untouched = λ none. same_untouched (unread none);
 }
 
 pub stood : (a : Answer) {u w : View} → Keeping u w → Stands a u w
 stood a keeping = record { said = []; so_far = none_yet a keeping.printed; just = shows_before keeping.follows }
-
--- ---- what is tidy stays tidy where no name changes
-
-pub same_tidy : {u w : View} → ((q : Elements) → w.names q ≡ u.names q) → IsTidy u → IsTidy w
-same_tidy same tidy = record {
-  work = λ q below. same q ∙ tidy.work q below;
-  old = λ there. let gone = tidy.old (λ none. there (same config ∙ none)) in (same remotes_conf ∙ gone.0, same pins_file ∙ gone.1);
-}
 
 -- ---- once it was opened
 
@@ -100,13 +98,31 @@ shown_after u s (op ∷ ops) disk at shown = (s, at, shown)
 moved : {a : Answer} {said : List Piece} {u v w : View} → v.printed ≡ u.printed → Printed a said v w → Printed a said u w
 moved {said = said} same printed = record { left = printed.left; pieces = printed.pieces; printed = printed.printed ∙ ap (λ (p : List ℕ). p ++ joined said) same }
 
+-- an installation that was opened, with the trees before and after
+pub record Begun (s : State) (u v : View) : Type 0 where
+  pub before : IsTree u
+  pub keeping : Keeping u v
+  pub opened : IsOpened s u v
+
+-- where a state is shown, what is ready is sound
+ready_sound : {s : State} {u : View} → Shows (shows u) s → IsReady u → IsSound u
+ready_sound {s = s} shown ready = elim ready [ inl sound ↦ sound | inr none ↦ absurd (none s shown) ]
+
+-- what stands was seen before
+begun_seen : {s : State} {u v : View} → Begun s u v → IsTree v → (q : Elements) → shows v q ≡ shows u q
+begun_seen {u = u} {v = v} begun tree q = shows_same u v begun.before tree begun.keeping.files q (begun.keeping.names q)
+
+-- the world that is worked on is the one that the image shows
+begun_world : (s : State) {u v : View} → Begun s u v → IsTree v → world_at s v ≡ world_at s u
+begun_world s {u = u} {v = v} begun tree = ap (world s) (store_same u v begun.before tree begun.keeping.files (λ d kind. begun.keeping.names (object_path repo d kind)))
+
 runs_opened : (a : Answer) (s : State) {u v w : View} → (IsAtOnce a.refusal → ⊥) → IsOpened s u v → Keeping u v → Performs a s v w → Runs a u w
-runs_opened a s {u = u} late opened keeping performs = record {
-  only_tidied = λ none. tidied_on (tidied_none keeping.names) (performs.only_tidied none);
+runs_opened a s {u = u} {w = w} late opened keeping performs = record {
+  only_tidied = λ none t at. subst (λ (z : State). OnlyTidied z u w) (one_state (shows u) s t opened.shown at) (tidied_on (tidied_none keeping.names) (performs.only_tidied none));
   said = performs.said;
   so_far = moved keeping.printed performs.so_far;
   prefix = λ sound disk left.
-      let some = performs.some (opened.opens sound) disk left in
+      let some = performs.some disk left in
       record {
         done = some.done;
         undone = some.undone;
@@ -119,52 +135,61 @@ runs_opened a s {u = u} late opened keeping performs = record {
   untouched = λ at_once. absurd (late at_once);
 }
 
-pub runs_over : (f : State → Answer) (s : State) {u v w : View} → (IsAtOnce (f s).refusal → ⊥) → IsOpened s u v → Keeping u v → Performs (f s) s v w → RunsOver f u w
-runs_over f s {u = u} {v = v} {w = w} late opened keeping performs = record {
-  runs = λ shown counts. subst (λ (a : Answer). Runs a u w) (sym (over_is f (shows u) shown s opened.shown counts)) (runs_opened (f s) s late opened keeping performs);
-  changes = change_on u v w (change_none keeping.names keeping.files) performs.changes;
-  untouched = λ none. absurd (none s opened.shown);
+pub runs_over : (holds : Option Holdings) (f : Holdings → World → Answer) (s : State) {u v w : View} → IsLate f → Begun s u v → IsTree v → PerformsOver holds f s v w → RunsOver holds f u w
+runs_over holds f s {u = u} {v = v} {w = w} late begun tree performs = record {
+  runs = λ ready held is shown counts.
+      let opens = begun.opened.opens (ready_sound begun.opened.shown ready) in
+      subst (λ (a : Answer). Runs a u w) (ap (f held) (begun_world s begun tree) ∙ sym (over_is (f held) (shows u) shown s begun.opened.shown counts))
+      (runs_opened (f held (world_at s v)) s (late held (world_at s v)) begun.opened begun.keeping (performs.performs held is opens));
+  changes = change_on u v w (change_none begun.keeping.names begun.keeping.files) performs.changes;
+  untouched = λ none. absurd (none s begun.opened.shown);
 }
 
-completes : (a : Answer) (s : State) {u v w : View} → IsOpened s u v → Keeping u v → IsDone a s v w → Completes a u w
-completes a s {u = u} {w = w} opened keeping is = record {
+completes : (held : Holdings) (a : Answer) (s : State) (x : World) {u v w : View} → x.state ≡ s → ((q : Elements) → shows v q ≡ shows u q) → IsOpened s u v → Keeping u v → IsDone held a x v w → Completes a u w
+completes held a s x {u = u} {w = w} same seen opened keeping is = record {
   printed = is.printed ∙ ap (λ (p : List ℕ). p ++ joined a.pieces) keeping.printed;
-  just = λ sound disk left.
-      let opens = is.opens (opened.opens sound) in
-      record { shown = shown_after u s (ops_of a) disk opened.shown (opens.shown disk left); sound = opens.sound disk left };
+  just = λ sound disk left. record { shown = shown_after u s (ops_of a) disk opened.shown (opens.shown disk left); sound = opens.sound disk left };
   shown = λ sound t at.
-      let same : s ≡ t = one_state (shows u) s t opened.shown at in
-      subst (λ (x : State). Shows (shows w) (after_all x (ops_of a))) same ((is.opens (opened.opens sound)).shown (shows w) (now_left w));
-  tidied = λ sound why. is.tidied (opened.opens sound) (elim why [ inl tidy ↦ inl (same_tidy keeping.names tidy) | inr some ↦ inr some ]);
+      let one : s ≡ t = one_state (shows u) s t opened.shown at in
+      subst (λ (z : State). Shows (shows w) (after_all z (ops_of a))) one (opens.shown (shows w) (now_left w));
+  tidied = λ sound why. is.tidied (elim why [ inl settled ↦ inl (same_settled seen settled) | inr some ↦ inr some ]);
   text = λ some t at.
-      let same : s ≡ t = one_state (shows u) s t opened.shown at in
-      subst (λ (x : State). HasText (after_all x (ops_of a)) w) same (is.text some);
+      let one : s ≡ t = one_state (shows u) s t opened.shown at in
+      subst (λ (z : State). HasText (after_all z (ops_of a)) w) (same ∙ one) (is.text some);
 }
+  where
+    opens : Opens (after_all s (ops_of a)) w
+    opens = subst (λ (z : State). Opens z w) (worlds_state held x (ops_of a) ∙ ap (λ (z : State). after_all z (ops_of a)) same) is.holds.opens
 
 stands : (a : Answer) (s : State) {u v w : View} → IsOpened s u v → Keeping u v → IsHalted a s v w → Stands a u w
 stands a s {u = u} opened keeping is = record {
   said = is.said;
   so_far = moved keeping.printed is.so_far;
-  just = λ sound disk left.
-      let opens = is.opens (opened.opens sound) in
-      record { shown = shown_after u s (ops_in is.said) disk opened.shown (opens.shown disk left); sound = opens.sound disk left };
+  just = λ sound disk left. record { shown = shown_after u s (ops_in is.said) disk opened.shown (is.opens.shown disk left); sound = is.opens.sound disk left };
 }
 
-ended : (a : Answer) (s : State) (e : RunEnd) {u v : View} (w : View) → IsOpened s u v → Keeping u v → Performed a s (Err e) v w → Ended a (Err e) u w
-ended a s (Refused refusal) w opened keeping is = (is.0, completes a s opened keeping is.1)
-ended a s Fault w opened keeping is = tt
-ended a s NoMemory w opened keeping is = stands a s opened keeping is
+ended : (held : Holdings) (a : Answer) (s : State) (e : RunEnd) {u v : View} (w : View) → Begun s u v → IsTree v → Performed held a (world_at s v) (Err e) v w → Ended a (Err e) u w
+ended held a s (Refused refusal) {v = v} w begun tree is = (is.0, completes held a s (world_at s v) refl (begun_seen begun tree) begun.opened begun.keeping is.1)
+ended held a s Fault w begun tree is = tt
+ended held a s NoMemory w begun tree is = stands a s begun.opened begun.keeping is
 
-pub failed_over : (f : State → Answer) (s : State) (e : RunEnd) {u v : View} (w : View) → IsOpened s u v → Keeping u v → Performed (f s) s (Err e) v w → EndedOver f (Err e) u w
-failed_over f s e {u = u} w opened keeping is = record {
-  ended = λ shown counts. subst (λ (a : Answer). Ended a (Err e) u w) (sym (over_is f (shows u) shown s opened.shown counts)) (ended (f s) s e w opened keeping is);
-  given = λ by. counts_shown (over f) (shows u) s opened.shown;
+pub failed_over : (holds : Option Holdings) (f : Holdings → World → Answer) (s : State) (e : RunEnd) {u v : View} (w : View) → Begun s u v → IsTree v → PerformedOver holds f s (Err e) v w → EndedOver holds f (Err e) u w
+failed_over holds f s e {u = u} {v = v} w begun tree is = record {
+  ended = λ ready held told shown counts.
+      let opens = begun.opened.opens (ready_sound begun.opened.shown ready) in
+      subst (λ (a : Answer). Ended a (Err e) u w) (ap (f held) (begun_world s begun tree) ∙ sym (over_is (f held) (shows u) shown s begun.opened.shown counts))
+      (ended held (f held (world_at s v)) s e w begun tree (is.performed held told opens));
+  given = λ held by. counts_shown (over (f held)) (shows u) s begun.opened.shown;
 }
 
-pub done_over : (f : State → Answer) (s t : State) {u v : View} (w : View) → IsOpened s u v → Keeping u v → Performed (f s) s (Ok t) v w → EndedOver f (Ok tt) u w
-done_over f s t {u = u} w opened keeping is = record {
-  ended = λ shown counts. subst (λ (a : Answer). Ended a (Ok tt) u w) (sym (over_is f (shows u) shown s opened.shown counts)) (is.0, completes (f s) s opened keeping is.2);
-  given = λ by. counts_shown (over f) (shows u) s opened.shown;
+pub done_over : (holds : Option Holdings) (f : Holdings → World → Answer) (s t : State) {u v : View} (w : View) → Begun s u v → IsTree v → PerformedOver holds f s (Ok t) v w → EndedOver holds f (Ok tt) u w
+done_over holds f s t {u = u} {v = v} w begun tree is = record {
+  ended = λ ready held told shown counts.
+      let opens = begun.opened.opens (ready_sound begun.opened.shown ready) in
+      let done = is.performed held told opens in
+      subst (λ (a : Answer). Ended a (Ok tt) u w) (ap (f held) (begun_world s begun tree) ∙ sym (over_is (f held) (shows u) shown s begun.opened.shown counts))
+      (done.0, completes held (f held (world_at s v)) s (world_at s v) refl (begun_seen begun tree) begun.opened begun.keeping done.2);
+  given = λ held by. counts_shown (over (f held)) (shows u) s begun.opened.shown;
 }
 
 -- ---- where it wasn't opened
@@ -174,21 +199,28 @@ damaged path {u = u} keeping none = record {
   printed = keeping.printed ∙ sym (append-nil u.printed);
   just = shows_before keeping.follows;
   shown = λ sound s at. absurd (none s at);
-  tidied = λ sound why. elim why [ inl tidy ↦ same_tidy keeping.names tidy | inr some ↦ absurd (some refl) ];
+  tidied = λ sound why. let is = sound.shown (shows u) (now_left u) in absurd (none is.state is.shows);
   text = λ some s at. absurd (some refl);
 }
 
 -- want of memory before anything is done
-pub halted_over : (f : State → Answer) {u w : View} → Keeping u w → EndedOver f (Err NoMemory) u w
-halted_over f keeping = record { ended = λ shown counts. stood (over f shown) keeping; given = λ by. absurd by }
+pub halted_look : (f : World → Answer) {u w : View} → Keeping u w → LookedOver f (Err NoMemory) u w
+halted_look f keeping = record { ended = λ shown counts. stood (over f shown) keeping; given = λ by. absurd by }
 
-pub ended_open : (f : State → Answer) (e : OpenEnd) {u w : View} → Keeping u w → Opened (Err e) u w → EndedOver f (Err (end_of_open e)) u w
-ended_open f (open_end.Damaged path) {u = u} {w = w} keeping is = record {
+pub look_not_open : (f : World → Answer) (e : OpenEnd) {u w : View} → Keeping u w → Opened (Err e) u w → LookedOver f (Err (end_of_open e)) u w
+look_not_open f (open_end.Damaged path) {u = u} {w = w} keeping is = record {
   ended = λ shown counts. subst (λ (a : Answer). Ended a (Err (Refused (Damaged path))) u w) (sym (over_damaged f (shows u) shown path is counts)) (refl, damaged path keeping (not_shown is));
   given = λ by. counts_damaged (over f) (shows u) path is;
 }
-ended_open f open_end.Fault keeping is = record { ended = λ shown counts. tt; given = λ by. absurd by }
-ended_open f open_end.NoMemory keeping is = halted_over f keeping
+look_not_open f open_end.Fault keeping is = record { ended = λ shown counts. tt; given = λ by. absurd by }
+look_not_open f open_end.NoMemory keeping is = halted_look f keeping
+
+-- so it ends for a command that changes something
+pub looked_ends : (holds : Option Holdings) (f : Holdings → World → Answer) (r : Result (Unit {0}) RunEnd) {u w : View} → ((held : Holdings) → LookedOver (f held) r u w) → EndedOver holds f r u w
+looked_ends holds f r looked = record { ended = λ ready held is. (looked held).ended; given = λ held. (looked held).given }
+
+pub ended_open : (holds : Option Holdings) (f : Holdings → World → Answer) (e : OpenEnd) {u w : View} → Keeping u w → Opened (Err e) u w → EndedOver holds f (Err (end_of_open e)) u w
+ended_open holds f e keeping is = looked_ends holds f (Err (end_of_open e)) (λ held. look_not_open (f held) e keeping is)
 
 -- nothing changes
 pub unchanged : {u : View} → Keeping u u

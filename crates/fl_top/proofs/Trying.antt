@@ -12,6 +12,7 @@ use Rattle.fp_small.specs.declared.refusal.Refusal.TheVariants.{PinExists, NoSuc
 use Rattle.fp_base.specs.declared.what.What.TheVariants.{Pins, Remotes}
 use Rattle.fp_small.specs.declared.state.Layout.TheVariants.{Two}
 use Rattle.dep_states.specs.After.{plain, after, May, Allows, IsOnConfig, layout_for}
+use Rattle.op_change.specs.Applied.{IsShort, Brings}
 use Rattle.fl_words.specs.declared.command.Change.{Change}
 use Rattle.fl_words.specs.declared.command.Change.TheVariants.{Pin, Unpin, RemoteAdd, RemoteModify, RemoteDelete}
 use Rattle.fl_top.specs.Answer.{refusal_of, op_of, is_pinned, add_pin_refusal, drop_pin_refusal, add_remote_refusal}
@@ -101,3 +102,33 @@ after_two s (Uninstall name) here may = absurd here
 after_two s (SetOverride row) here may = absurd here
 after_two s (DropOverride name) here may = absurd here
 after_two s (Rollback name commit) here may = absurd here
+
+-- an operation on the settings writes no override
+pub short_config : (op : Op) → IsOnConfig op → IsShort op
+short_config (AddPin pin) here = tt
+short_config (DropPin pin) here = tt
+short_config (AddRemote row) here = tt
+short_config (ModifyRemote row) here = tt
+short_config (DropRemote name) here = tt
+short_config Migrate here = tt
+short_config (Install name remote commit) here = absurd here
+short_config (Update name remote commit) here = absurd here
+short_config (Uninstall name) here = absurd here
+short_config (SetOverride row) here = absurd here
+short_config (DropOverride name) here = absurd here
+short_config (Rollback name commit) here = absurd here
+
+-- and brings no commit
+pub config_brings_none : (op : Op) → IsOnConfig op → Brings op → ⊥
+config_brings_none (AddPin pin) here brings = brings
+config_brings_none (DropPin pin) here brings = brings
+config_brings_none (AddRemote row) here brings = brings
+config_brings_none (ModifyRemote row) here brings = brings
+config_brings_none (DropRemote name) here brings = brings
+config_brings_none Migrate here brings = brings
+config_brings_none (Install name remote commit) here brings = here
+config_brings_none (Update name remote commit) here brings = here
+config_brings_none (Uninstall name) here brings = here
+config_brings_none (SetOverride row) here brings = here
+config_brings_none (DropOverride name) here brings = here
+config_brings_none (Rollback name commit) here brings = here

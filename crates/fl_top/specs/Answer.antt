@@ -4,6 +4,9 @@ use Rattle.std.specs.List.{list_any}
 use Rattle.std.specs.Str.{bytes_eq}
 use Rattle.fp_host.specs.Paths.{Elements}
 use Rattle.fp_host.specs.Outcome.{Disk}
+use Rattle.fp_host.specs.Remote.{Holdings}
+use Rattle.fp_small.specs.Places.{repo}
+use Rattle.ost_model.specs.Objects.{store}
 use Rattle.fp_small.specs.declared.state.State.{State}
 use Rattle.fp_small.specs.declared.state.Layout.{Layout}
 use Rattle.fp_small.specs.declared.state.Layout.TheVariants.{One, Two}
@@ -19,7 +22,7 @@ use Rattle.fp_base.specs.declared.what.What.TheVariants.{Pins, Remotes, Input}
 use Rattle.fp_small.specs.Config.{name_of}
 use Rattle.fp_small.specs.Order.{has_name}
 use Rattle.dep_states.specs.Damaged.{Gives}
-use Rattle.dep_states.specs.After.{Done, plain, after_all}
+use Rattle.dep_states.specs.After.{Done, plain}
 use Rattle.fl_words.specs.declared.command.Command.{Command}
 use Rattle.fl_words.specs.declared.command.Command.TheVariants.{Change as Changing, List as Listed, Show as Showing, Batch}
 use Rattle.fl_words.specs.declared.command.Change.{Change}
@@ -31,15 +34,21 @@ use Rattle.fl_words.specs.declared.command.Shown.TheVariants as things
 use Rattle.fl_words.specs.Forms.{command_of, bad_index}
 use Rattle.fl_words.specs.Batch.{batch_of}
 use Rattle.fl_top.specs.Input.{input_most}
-use Rattle.fl_words.specs.Lines.{op_text, pins_text, remotes_text, refusal_text}
+use Rattle.fl_top.specs.World.{World, used_of, worlds_after}
+use Rattle.fl_lines.specs.Lines.{op_text, pins_text, remotes_text, refusal_text}
 use Rattle.gv_value.specs.Shape.{Shape}
 use Rattle.gv_value.specs.Tree.{Tree}
 use Rattle.gv_value.specs.TypeText.{type_of}
 use Rattle.gv_value.specs.Reading.{value_of}
 use Rattle.ost_model.specs.Contents.{meta_digest}
 use Rattle.ost_model.specs.Readers.{commit_read, tree_read, meta_read}
-use Rattle.fl_words.specs.PrintedWords.{kind_word}
+use Rattle.fl_lines.specs.PrintedWords.{kind_word}
 use Rattle.fl_top.specs.Objects.{head, commit_lines, tree_lines, meta_lines, normal_line}
+
+-- what a run is given beside the installation: its input, and what the remotes hold
+pub record Given : Type 0 where
+  pub input : List ℕ
+  pub held : Holdings
 
 -- what is printed at once, with the operation that it acknowledges, if it does
 pub record Piece : Type 0 where
@@ -87,13 +96,17 @@ op_answer op = record { pieces = record { text = op_text op; op = Some (plain op
 abbrev pub text_answer : List ℕ → Answer
 text_answer text = record { pieces = record { text = text; op = None } ∷ []; refusal = None }
 
-abbrev pub behind : List Piece → Option Refusal → Answer → Answer
-behind pieces None next = record { pieces = pieces ++ next.pieces; refusal = next.refusal }
-behind pieces (Some refusal) next = record { pieces = pieces; refusal = Some refusal }
+abbrev pub continued : List Piece → Option Refusal → Answer → Answer
+continued pieces None next = record { pieces = pieces ++ next.pieces; refusal = next.refusal }
+continued pieces (Some refusal) next = record { pieces = pieces; refusal = Some refusal }
 
 -- the one answer, and the next after it, unless the one is a refusal
 abbrev pub followed : Answer → Answer → Answer
-followed a next = behind a.pieces a.refusal next
+followed a next = continued a.pieces a.refusal next
+
+-- the one answer, and the next over the world that its operations leave
+abbrev pub then_over : Holdings → World → Answer → (World → Answer) → Answer
+then_over held x a next = followed a (next (worlds_after held x (ops_of a)))
 
 -- ---- what speaks against a change
 
@@ -125,7 +138,7 @@ abbrev pub unless : Option Refusal → Answer → Answer
 unless None a = a
 unless (Some refusal) a = refusal_answer refusal
 
--- ---- what commands answer over a state
+-- ---- what commands answer over a world
 
 -- the operation of a change
 abbrev pub op_of : Change → Op
@@ -135,21 +148,24 @@ op_of (RemoteAdd row) = AddRemote row
 op_of (RemoteModify row) = ModifyRemote row
 op_of (RemoteDelete name) = DropRemote name
 
-abbrev pub change_over : Change → State → Answer
-change_over change s = unless (refusal_of s change) (op_answer (op_of change))
+abbrev pub change_over : Change → Holdings → World → Answer
+change_over change held x = unless (refusal_of x.state change) (op_answer (op_of change))
 
 -- changes one after another, up to the first refusal
-abbrev pub in_turn : List Change → State → Answer
-in_turn [] s = nothing
-in_turn (change ∷ changes) s = followed (change_over change s) (in_turn changes (after_all s (ops_of (change_over change s))))
+abbrev pub in_turn : List Change → Holdings → World → Answer
+in_turn [] held x = nothing
+in_turn (change ∷ changes) held x = then_over held x (change_over change held x) (in_turn changes held)
 
 -- an installation of layout 1 is migrated before anything else is done with it
-abbrev pub migrating : Layout → Answer
-migrating One = op_answer Migrate
-migrating Two = nothing
+abbrev pub by_layout : Layout → Answer
+by_layout One = op_answer Migrate
+by_layout Two = nothing
 
-abbrev pub changing : List Change → State → Answer
-changing changes s = followed (migrating s.layout) (in_turn changes (after_all s (ops_of (migrating s.layout))))
+abbrev pub migrating : Holdings → World → Answer
+migrating held x = by_layout x.state.layout
+
+abbrev pub changing : List Change → Holdings → World → Answer
+changing changes held x = then_over held x (migrating held x) (in_turn changes held)
 
 -- ---- what is listed of a state
 
@@ -157,8 +173,8 @@ abbrev pub listed_text : Listing → State → List ℕ
 listed_text listings.Pins s = pins_text s.pins
 listed_text listings.Remotes s = remotes_text s.remotes
 
-abbrev pub listed : Listing → State → Answer
-listed listing s = text_answer (listed_text listing s)
+abbrev pub listed : Listing → World → Answer
+listed listing x = text_answer (listed_text listing x.state)
 
 -- ---- what is shown of an input
 
@@ -207,36 +223,41 @@ IsAtOnce (Some (Limit Input number)) = Unit {0}
 IsAtOnce (Some (BadRecord line)) = Unit {0}
 IsAtOnce (Some _) = ⊥
 
--- by what the image gives: the state that it shows, or the first path that doesn't read
-abbrev pub over : (State → Answer) → Result State Elements → Answer
+-- by what the image gives: its world, or the first path that doesn't read
+abbrev pub over : (World → Answer) → Result World Elements → Answer
 over f (Err path) = refusal_answer (Damaged path)
-over f (Ok s) = f s
+over f (Ok x) = f x
 
-abbrev pub of_batch : Result (List Change) ℕ → Result State Elements → Answer
-of_batch (Err line) shown = refusal_answer (BadRecord line)
-of_batch (Ok changes) shown = over (changing changes) shown
+abbrev pub of_batch : Result (List Change) ℕ → Holdings → Result World Elements → Answer
+of_batch (Err line) held shown = refusal_answer (BadRecord line)
+of_batch (Ok changes) held shown = over (changing changes held) shown
 
 -- the whole input is read before anything is done
 abbrev pub over_input : (List ℕ → Answer) → List ℕ → Answer
 over_input f input = if nat_le (length input) input_most then f input else refusal_answer (Limit Input (input_most + 1))
 
-abbrev pub answer_over : Command → List ℕ → Result State Elements → Answer
-answer_over (Changing change) input shown = over (changing (change ∷ [])) shown
-answer_over (Listed listing) input shown = over (listed listing) shown
-answer_over (Showing thing) input shown = over_input (shown_by thing) input
-answer_over Batch input shown = over_input (λ bytes. of_batch (batch_of bytes) shown) input
+abbrev pub answer_over : Command → Given → Result World Elements → Answer
+answer_over (Changing change) given shown = over (changing (change ∷ []) given.held) shown
+answer_over (Listed listing) given shown = over (listed listing) shown
+answer_over (Showing thing) given shown = over_input (shown_by thing) given.input
+answer_over Batch given shown = over_input (λ bytes. of_batch (batch_of bytes) given.held shown) given.input
 
-abbrev pub answer_to : List (List ℕ) → Option Command → List ℕ → Result State Elements → Answer
-answer_to words None input shown = refusal_answer (BadWords (bad_index words))
-answer_to words (Some command) input shown = answer_over command input shown
+abbrev pub answer_to : List (List ℕ) → Option Command → Given → Result World Elements → Answer
+answer_to words None given shown = refusal_answer (BadWords (bad_index words))
+answer_to words (Some command) given shown = answer_over command given shown
 
 -- The first refusal of these: the words; an input that is too long, and its first bad line; an image that shows no state;
 -- and those of the commands.
-abbrev pub answer : List (List ℕ) → List ℕ → Result State Elements → Answer
-answer words input shown = answer_to words (command_of words) input shown
+abbrev pub answer : List (List ℕ) → Given → Result World Elements → Answer
+answer words given shown = answer_to words (command_of words) given shown
+
+-- what an image gives: the state that it shows with the objects that its commits use, or the first path that doesn't read
+abbrev pub GivesWorld : Disk → Result World Elements → Type 0
+GivesWorld disk (Ok x) = Gives disk (Ok x.state) × (x.have ≡ used_of x.state (store repo disk))
+GivesWorld disk (Err path) = Gives disk (Err path)
 
 -- The answer over this result counts: the image gives the result, or the answer is the same over every result. (So words that
 -- are no command, an input that is refused, and a command that reads no installation are answered over each image, also one
 -- that gives no result.)
-abbrev pub IsOver : (Result State Elements → Answer) → Disk → Result State Elements → Type 0
-IsOver by disk shown = Gives disk shown ⊎ ((other : Result State Elements) → by other ≡ by shown)
+abbrev pub IsOver : (Result World Elements → Answer) → Disk → Result World Elements → Type 0
+IsOver by disk shown = GivesWorld disk shown ⊎ ((other : Result World Elements) → by other ≡ by shown)

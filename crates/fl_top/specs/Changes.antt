@@ -1,6 +1,6 @@
 -- Which names a run may change, and to what, and which files.
 use Rattle.std.specs.Prelude.{◌≡◌, ◌⊎◌, ℕ, Some}
-use Rattle.fp_host.specs.Paths.{Elements, Slot, absent, dir, file, IsAbove}
+use Rattle.fp_host.specs.Paths.{Elements, Slot, dir, file, IsAbove}
 use Rattle.fp_host.specs.View.{View}
 use Rattle.fp_host.specs.Calls.{IsFile}
 use Rattle.fp_small.specs.Places.{repo, tmp}
@@ -9,16 +9,15 @@ use Rattle.fp_small.specs.Config.{config_text}
 use Rattle.fp_small.specs.declared.state.State.{State}
 use Rattle.dep_states.specs.Names.{config}
 use Rattle.dep_states.specs.Shown.{settings_of}
-use Rattle.dep_states.specs.Sound.{IsOld}
-use Rattle.dep_open.specs.Tidy.{TakenAway}
+use Rattle.dep_tidy.specs.Tidy.{MayTidy}
 
--- `config` may be written anew, `repo` and `repo/tmp` may be made, anything may stand in `repo/tmp`, and the files of layout 1
--- may be taken away.
+-- `config` may be written anew, `repo` and `repo/tmp` may be made, anything may stand in `repo/tmp`, and names may come to hold
+-- what tidying makes of them for some state.
 pub data MayHold (q : Elements) (e : Slot) : Type 0 where
   new_config : q ≡ config → IsFile e → MayHold q e
   work_folder : (q ≡ repo) ⊎ (q ≡ tmp) → e ≡ dir → MayHold q e
   some_work : IsAbove tmp q → MayHold q e
-  old_gone : IsOld q → e ≡ absent → MayHold q e
+  tidied : (s : State) → MayTidy s q e → MayHold q e
 
 -- Each name holds what it held, or what it may. Each file that was there keeps its mode and its bytes: what is new is in new
 -- files.
@@ -26,9 +25,9 @@ pub record Changes (u w : View) : Type 0 where
   pub names : (q : Elements) → (w.names q ≡ u.names q) ⊎ MayHold q (w.names q)
   pub files : KeepsFiles u w
 
--- Only what is tidied goes: work that was left, and beside a `config` the old files.
-pub record OnlyTidied (u w : View) : Type 0 where
-  pub names : (q : Elements) → (w.names q ≡ u.names q) ⊎ (TakenAway u q × (w.names q ≡ absent))
+-- Names change only by tidying an installation of this state.
+pub record OnlyTidied (s : State) (u w : View) : Type 0 where
+  pub names : (q : Elements) → (w.names q ≡ u.names q) ⊎ MayTidy s q (w.names q)
 
 -- Nothing changes but what is printed: no name, nothing that a stop may bring back at one, and no file; none is new.
 pub record IsUntouched (u w : View) : Type 0 where

@@ -6,7 +6,8 @@ use Rattle.fp_host.specs.Outcome.{Disk, Leaves, IsSettled, shows}
 use Rattle.fp_small.specs.declared.state.State.{State}
 use Rattle.dep_states.specs.Shown.{Shows}
 use Rattle.dep_states.specs.After.{Done, after_all}
-use Rattle.fl_top.specs.Answer.{answer, IsOver, ops_in, ops_of}
+use Rattle.fl_top.specs.World.{World}
+use Rattle.fl_top.specs.Answer.{answer, Given, IsOver, ops_in, ops_of}
 use Rattle.fl_top.specs.Runs.{Runs}
 
 -- the operations of a run, and those that it acknowledged
@@ -26,9 +27,9 @@ pub record Reopens (w v : View) : Type 0 where
 -- stop left. The latest run comes first.
 pub data History (u : View) : List Stretch → View → Type 0 where
   begins : History u [] u
-  runs : (stretches : List Stretch) (v w : View) (words : List (List ℕ)) (input : List ℕ) (shown : Result State Elements)
-      → History u stretches v → IsOver (answer words input) (shows v) shown → (run : Runs (answer words input shown) v w)
-      → History u (record { ops = ops_of (answer words input shown); acknowledged = ops_in run.said } ∷ stretches) w
+  runs : (stretches : List Stretch) (v w : View) (words : List (List ℕ)) (given : Given) (shown : Result World Elements)
+      → History u stretches v → IsOver (answer words given) (shows v) shown → (run : Runs (answer words given shown) v w)
+      → History u (record { ops = ops_of (answer words given shown); acknowledged = ops_in run.said } ∷ stretches) w
   stops : (stretches : List Stretch) (v w : View) → History u stretches w → Reopens w v → History u stretches v
 
 -- a prefix of a run's operations that holds the acknowledged ones leads from the one state to the other

@@ -1,3 +1,4 @@
+pub mod World
 pub mod Answer
 pub mod Status
 pub mod Changes

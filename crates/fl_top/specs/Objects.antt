@@ -2,7 +2,7 @@
 use Rattle.std.specs.Prelude.{ℕ, List, [], ◌∷◌, ◌++◌, codes, decimal, flat_map}
 use Rattle.fp_name.specs.Hex.{hex}
 use Rattle.ost_model.specs.Fields.{CommitView, FileRow, DirRow, TreeView, MetaView}
-use Rattle.fl_words.specs.Lines.{line, escaped, octal}
+use Rattle.fl_lines.specs.Lines.{line, escaped, octal}
 
 -- the digest and the kind
 abbrev pub head : List ℕ → List ℕ → List ℕ

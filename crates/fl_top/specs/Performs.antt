@@ -1,19 +1,23 @@
 -- What a command does over an installation that was opened.
 use Rattle.std.specs.Prelude.{◌≡◌, ◌≢◌, ℕ, true, false, ◌⊎◌, [], Option, ◌++◌, List, Some, None, Result, Ok, Err}
 use Rattle.fp_host.specs.Paths.{Elements}
+use Rattle.fp_host.specs.Remote.{Holdings}
 use Rattle.fp_host.specs.View.{View}
 use Rattle.fp_host.specs.Outcome.{Disk, Leaves, shows}
 use Rattle.fp_small.specs.declared.state.State.{State}
+use Rattle.fp_small.specs.Places.{repo}
+use Rattle.ost_model.specs.Objects.{store}
 use Rattle.fp_small.specs.declared.op.Op.{Op}
 use Rattle.dep_states.specs.Shown.{Shows}
 use Rattle.dep_states.specs.Sound.{Sound, Opens, IsSound}
 use Rattle.dep_states.specs.After.{Done, plain, after, after_all}
-use Rattle.fl_words.specs.Lines.{op_text}
+use Rattle.fl_lines.specs.Lines.{op_text}
 use Rattle.dep_open.specs.Open.{NotShown}
-use Rattle.dep_open.specs.Tidy.{IsTidy}
+use Rattle.dep_states.specs.Settled.{Settled}
 use Rattle.fl_words.specs.declared.command.Command.{Command}
-use Rattle.fl_top.specs.Answer.{Answer, Piece, joined, ops_in, ops_of, over, answer_over, op_answer, IsOver}
-use Rattle.fl_top.specs.Runs.{Printed, Runs, Ran, Stands, IsJust, IsGiven}
+use Rattle.fl_top.specs.World.{World, world_at, used_of, world_after, worlds_after}
+use Rattle.fl_top.specs.Answer.{Answer, Given, Piece, joined, ops_in, ops_of, over, answer_over, op_answer, IsOver}
+use Rattle.fl_top.specs.Runs.{Printed, Runs, Ran, Stands, IsJust, Told, IsGivenTo, IsReady, MayAnswer}
 use Rattle.fl_top.specs.Changes.{Changes, OnlyTidied, IsUntouched, HasText}
 use Rattle.fl_top.specs.Input.{IsDrained}
 use Rattle.fl_top.specs.Status.{IsAnswered, only_looks, reads_input}
@@ -32,55 +36,84 @@ pub record IsSome (a : Answer) (acknowledged : List Done) (s : State) (disk : Di
   pub shown : Shows disk (after_all s done)
   pub sound : Sound disk
 
--- at every moment since every stop would have left the state s
+-- At every moment: the first pieces are said, and every stop leaves the state after a prefix of the operations. Where there are
+-- none, names only changed by tidying.
 pub record Performs (a : Answer) (s : State) (v w : View) : Type 0 where
   pub said : List Piece
   pub so_far : Printed a said v w
-  pub changes : Changes v w
-  pub only_tidied : ops_of a ≡ [] → OnlyTidied v w
-  pub some : Opens s v → (disk : Disk) → Leaves w disk → IsSome a (ops_in said) s disk
+  pub only_tidied : ops_of a ≡ [] → OnlyTidied s v w
+  pub some : (disk : Disk) → Leaves w disk → IsSome a (ops_in said) s disk
 
--- all that isn't the line of a refusal was printed, every stop leaves the state after all operations, and all is tidy, where
--- it was or an operation was done
-pub record IsDone (a : Answer) (s : State) (v w : View) : Type 0 where
+-- every outcome shows the world's state and is Sound, and what the state's commits use are the world's objects
+pub record Holds (x : World) (v : View) : Type 0 where
+  pub opens : Opens x.state v
+  pub have : x.have ≡ used_of x.state (store repo (shows v))
+
+-- all that isn't the line of a refusal was printed, every stop leaves the state after all operations, and all is settled,
+-- where it was or an operation was done
+pub record IsDone (held : Holdings) (a : Answer) (x : World) (v w : View) : Type 0 where
   pub printed : w.printed ≡ v.printed ++ joined a.pieces
-  pub changes : Changes v w
-  pub only_tidied : ops_of a ≡ [] → OnlyTidied v w
-  pub opens : Opens s v → Opens (after_all s (ops_of a)) w
-  pub tidied : Opens s v → IsTidy v ⊎ (ops_of a ≢ []) → IsTidy w
-  pub text : ops_of a ≢ [] → HasText (after_all s (ops_of a)) w
+  pub only_tidied : ops_of a ≡ [] → OnlyTidied x.state v w
+  pub holds : Holds (worlds_after held x (ops_of a)) w
+  pub tidied : Settled (shows v) ⊎ (ops_of a ≢ []) → Settled (shows w)
+  pub text : ops_of a ≢ [] → HasText (after_all x.state (ops_of a)) w
 
 -- every stop leaves the state after the acknowledged operations
 pub record IsHalted (a : Answer) (s : State) (v w : View) : Type 0 where
   pub said : List Piece
   pub so_far : Printed a said v w
-  pub opens : Opens s v → Opens (after_all s (ops_in said)) w
+  pub opens : Opens (after_all s (ops_in said)) w
 
-abbrev pub Performed : Answer → State → Result State RunEnd → View → View → Type 0
-Performed a s (Ok t) v w = (a.refusal ≡ None) × (t ≡ after_all s (ops_of a)) × IsDone a s v w
-Performed a s (Err (Refused refusal)) v w = (a.refusal ≡ Some refusal) × IsDone a s v w
-Performed a s (Err Fault) v w = Unit {0}
-Performed a s (Err NoMemory) v w = IsHalted a s v w
+abbrev pub Performed : Holdings → Answer → World → Result State RunEnd → View → View → Type 0
+Performed held a x (Ok t) v w = (a.refusal ≡ None) × (t ≡ after_all x.state (ops_of a)) × IsDone held a x v w
+Performed held a x (Err (Refused refusal)) v w = (a.refusal ≡ Some refusal) × IsDone held a x v w
+Performed held a x (Err Fault) v w = Unit {0}
+Performed held a x (Err NoMemory) v w = IsHalted a x.state v w
+
+-- So it is over an installation that every stop leaves in the state s and Sound, by what the remotes hold, where they tell it.
+-- So much changes also elsewhere.
+pub record PerformsOver (holds : Option Holdings) (f : Holdings → World → Answer) (s : State) (v w : View) : Type 0 where
+  pub changes : Changes v w
+  pub performs : (held : Holdings) → holds ≡ Some held → Opens s v → Performs (f held (world_at s v)) s v w
+
+-- where it was done, every stop leaves the state that was answered
+abbrev pub OpensBy : State → Result State RunEnd → View → View → Type 0
+OpensBy s (Ok t) v w = Opens s v → Opens t w
+OpensBy s (Err e) v w = Unit {0}
+
+pub record PerformedOver (holds : Option Holdings) (f : Holdings → World → Answer) (s : State) (r : Result State RunEnd) (v w : View) : Type 0 where
+  pub opens : OpensBy s r v w
+  pub performed : (held : Holdings) → holds ≡ Some held → Opens s v → Performed held (f held (world_at s v)) (world_at s v) r v w
+
+-- the answer that is one operation
+abbrev pub doing : Op → Holdings → World → Answer
+doing op held x = op_answer op
 
 -- An operation is done and its line printed; it isn't tidied after it.
-abbrev pub WasDone : Op → State → Result State RunEnd → View → View → Type 0
-WasDone op s (Ok t) v w = (w.printed ≡ v.printed ++ op_text op) × (Opens s v → Opens (after s (plain op)) w) × Changes v w × HasText (after s (plain op)) w
-WasDone op s (Err e) v w = Performed (op_answer op) s (Err e) v w
+pub record WasDone (op : Op) (s : State) (v w : View) : Type 0 where
+  pub printed : w.printed ≡ v.printed ++ op_text op
+  pub opens : Opens (after s (plain op)) w
+  pub holds : (held : Holdings) → Holds (world_after held (world_at s v) (plain op)) w
+  pub text : HasText (after s (plain op)) w
+
+abbrev pub WasDoneBy : Op → State → Result State RunEnd → View → View → Type 0
+WasDoneBy op s (Ok t) v w = Opens s v → WasDone op s v w
+WasDoneBy op s (Err e) v w = (held : Holdings) → Opens s v → Performed held (op_answer op) (world_at s v) (Err e) v w
 
 -- ---- the same for a run that opens the installation
 
 -- so it is for each answer that counts, over what the image at the start gives
-abbrev pub OverView : (State → Answer) → View → (Answer → Type 0) → Type 0
-OverView f u Holds = (shown : Result State Elements) → IsOver (over f) (shows u) shown → Holds (over f shown)
+abbrev pub OverView : (World → Answer) → View → (Answer → Type 0) → Type 0
+OverView f u Is = (shown : Result World Elements) → IsOver (over f) (shows u) shown → Is (over f shown)
 
 -- and so much changes
-pub record RunsOver (f : State → Answer) (u w : View) : Type 0 where
-  pub runs : OverView f u (λ a. Runs a u w)
+pub record RunsOver (holds : Option Holdings) (f : Holdings → World → Answer) (u w : View) : Type 0 where
+  pub runs : IsReady u → (held : Holdings) → holds ≡ Some held → OverView (f held) u (λ a. Runs a u w)
   pub changes : Changes u w
   pub untouched : NotShown (shows u) → IsUntouched u w
 
 -- and nothing changes
-pub record LooksOver (f : State → Answer) (u w : View) : Type 0 where
+pub record LooksOver (f : World → Answer) (u w : View) : Type 0 where
   pub runs : OverView f u (λ a. Runs a u w)
   pub untouched : IsUntouched u w
 
@@ -89,7 +122,7 @@ pub record Completes (a : Answer) (u w : View) : Type 0 where
   pub printed : w.printed ≡ u.printed ++ joined a.pieces
   pub just : IsSound u → (disk : Disk) → Leaves w disk → IsJust (ops_of a) u disk
   pub shown : IsSound u → (s : State) → Shows (shows u) s → Shows (shows w) (after_all s (ops_of a))
-  pub tidied : IsSound u → IsTidy u ⊎ (ops_of a ≢ []) → IsTidy w
+  pub tidied : IsSound u → Settled (shows u) ⊎ (ops_of a ≢ []) → Settled (shows w)
   pub text : ops_of a ≢ [] → (s : State) → Shows (shows u) s → HasText (after_all s (ops_of a)) w
 
 abbrev pub Ended : Answer → Result (Unit {0}) RunEnd → View → View → Type 0
@@ -105,27 +138,36 @@ IsGivenBy (Err (Refused refusal)) = Unit {0}
 IsGivenBy (Err Fault) = ⊥
 IsGivenBy (Err NoMemory) = ⊥
 
--- So it ended for each answer that counts. Where the whole answer was given, there is one that counts.
-pub record EndedOver (f : State → Answer) (result : Result (Unit {0}) RunEnd) (u w : View) : Type 0 where
+-- there is an answer that counts, where the whole answer was given
+abbrev pub HasOver : (World → Answer) → Result (Unit {0}) RunEnd → View → Type 0
+HasOver f result u = IsGivenBy result → (shown : Result World Elements) × IsOver (over f) (shows u) shown
+
+-- So it ended for each answer that counts.
+pub record EndedOver (holds : Option Holdings) (f : Holdings → World → Answer) (result : Result (Unit {0}) RunEnd) (u w : View) : Type 0 where
+  pub ended : IsReady u → (held : Holdings) → holds ≡ Some held → OverView (f held) u (λ a. Ended a result u w)
+  pub given : (held : Holdings) → HasOver (f held) result u
+
+-- and a command that looks, whatever the installation
+pub record LookedOver (f : World → Answer) (result : Result (Unit {0}) RunEnd) (u w : View) : Type 0 where
   pub ended : OverView f u (λ a. Ended a result u w)
-  pub given : IsGivenBy result → (shown : Result State Elements) × IsOver (over f) (shows u) shown
+  pub given : HasOver f result u
 
--- ---- the same for a command and what is left of the input
+-- ---- the same for a command and what it is given
 
--- so it is for each input that the command is given, and each answer that counts
-abbrev pub OverAll : Command → Option (List ℕ) → View → (Answer → Type 0) → Type 0
-OverAll asked left u Holds = (input : List ℕ) → IsGiven left (Some asked) input → (shown : Result State Elements)
-    → IsOver (answer_over asked input) (shows u) shown → Holds (answer_over asked input shown)
+-- so it is for all that the command is given, and each answer that counts
+abbrev pub OverAll : Command → Told → View → (Answer → Type 0) → Type 0
+OverAll asked t u Is = (given : Given) → IsGivenTo asked t given → (shown : Result World Elements)
+    → IsOver (answer_over asked given) (shows u) shown → MayAnswer (Some asked) u (answer_over asked given shown) → Is (answer_over asked given shown)
 
--- where this is so, there is an answer that counts for each such input
-abbrev pub HasAnswer : Command → Option (List ℕ) → View → Type 0 → Type 0
-HasAnswer asked left u Where = (input : List ℕ) → IsGiven left (Some asked) input → Where
-    → (shown : Result State Elements) × IsOver (answer_over asked input) (shows u) shown
+-- where this is so, there is an answer that counts for all such
+abbrev pub HasAnswer : Command → Told → View → Type 0 → Type 0
+HasAnswer asked t u Where = (given : Given) → IsGivenTo asked t given → Where
+    → (shown : Result World Elements) × IsOver (answer_over asked given) (shows u) shown
 
--- Whatever the input these are the changes; and a command that only looks, or sees no state, changes nothing.
-pub record RunsOn (asked : Command) (left : Option (List ℕ)) (u w : View) : Type 0 where
+-- Whatever it is given these are the changes; and a command that only looks, or sees no state, changes nothing.
+pub record RunsOn (asked : Command) (t : Told) (u w : View) : Type 0 where
   pub changes : Changes u w
-  pub runs : OverAll asked left u (λ a. Runs a u w)
+  pub runs : OverAll asked t u (λ a. Runs a u w)
   pub untouched : (only_looks asked ≡ true) ⊎ NotShown (shows u) → IsUntouched u w
 
 -- so a command ends; where the input failed, nothing was done
@@ -156,10 +198,10 @@ IsClosedBy (Err command.Fault) = ⊥
 IsClosedBy (Err command.InputFault) = ⊥
 IsClosedBy (Err command.NoMemory) = ⊥
 
-pub record EndedOn (asked : Command) (left : Option (List ℕ)) (result : Result (Unit {0}) CommandEnd) (u w : View) : Type 0 where
-  pub ended : OverAll asked left u (λ a. Closed a result u w)
-  pub given : HasAnswer asked left u (IsClosedBy result)
+pub record EndedOn (asked : Command) (t : Told) (result : Result (Unit {0}) CommandEnd) (u w : View) : Type 0 where
+  pub ended : OverAll asked t u (λ a. Closed a result u w)
+  pub given : HasAnswer asked t u (IsClosedBy result)
 
-pub record RanOn (asked : Command) (left : Option (List ℕ)) (status : ℕ) (u w : View) : Type 0 where
-  pub ran : OverAll asked left u (λ a. Ran a status u w)
-  pub given : HasAnswer asked left u (IsAnswered status)
+pub record RanOn (asked : Command) (t : Told) (status : ℕ) (u w : View) : Type 0 where
+  pub ran : OverAll asked t u (λ a. Ran a status u w)
+  pub given : HasAnswer asked t u (IsAnswered status)

@@ -1,6 +1,7 @@
 -- What a run leaves at every moment and at its return.
 use Rattle.std.specs.Prelude.{◌≡◌, ◌≢◌, ◌⊎◌, ℕ, true, false, List, [], ◌∷◌, ◌++◌, Option, Some, None, Result}
 use Rattle.fp_host.specs.Paths.{Elements}
+use Rattle.fp_host.specs.Remote.{Holdings}
 use Rattle.fp_host.specs.View.{View}
 use Rattle.fp_host.specs.Outcome.{Disk, Leaves, shows}
 use Rattle.fp_small.specs.declared.state.State.{State}
@@ -8,13 +9,14 @@ use Rattle.dep_states.specs.Shown.{Shows}
 use Rattle.dep_states.specs.Sound.{Sound, IsSound}
 use Rattle.dep_states.specs.After.{Done, after_all}
 use Rattle.dep_open.specs.Open.{NotShown}
-use Rattle.dep_open.specs.Tidy.{IsTidy}
+use Rattle.dep_states.specs.Settled.{Settled}
 use Rattle.fl_words.specs.declared.command.Command.{Command}
 use Rattle.fl_words.specs.Forms.{command_of}
-use Rattle.fl_top.specs.Answer.{Answer, Piece, lines_of, joined, ops_in, ops_of, answer, IsOver, IsAtOnce}
+use Rattle.fl_top.specs.World.{World}
+use Rattle.fl_top.specs.Answer.{Answer, Given, Piece, lines_of, joined, ops_in, ops_of, answer, IsOver, IsAtOnce}
 use Rattle.fl_top.specs.Input.{IsDrained}
 use Rattle.fl_top.specs.Changes.{Changes, OnlyTidied, IsUntouched, HasText}
-use Rattle.fl_top.specs.Status.{status_at, IsAnswered, only_looks, reads_input}
+use Rattle.fl_top.specs.Status.{status_at, IsAnswered, only_looks, reads_input, asks_remotes}
 
 -- The image shows what these operations make of the state that stood at the start; where there are none, a state that a stop
 -- at the start would have left.
@@ -45,12 +47,12 @@ pub record Printed (a : Answer) (said : List Piece) (u w : View) : Type 0 where
 
 -- At every moment: the bytes printed since the start are the first pieces of the answer; every stop leaves the installation
 -- after a prefix of its operations that holds those that these pieces acknowledge. Where the answer has no operation, names
--- only went that are tidied. Where the words or the input are refused, no name changed, and no file.
+-- only changed by tidying. Where the words or the input are refused, no name changed, and no file.
 pub record Runs (a : Answer) (u w : View) : Type 0 where
   pub said : List Piece
   pub so_far : Printed a said u w
   pub prefix : IsSound u → (disk : Disk) → Leaves w disk → IsPrefix a (ops_in said) u disk
-  pub only_tidied : ops_of a ≡ [] → OnlyTidied u w
+  pub only_tidied : ops_of a ≡ [] → (s : State) → Shows (shows u) s → OnlyTidied s u w
   pub untouched : IsAtOnce a.refusal → IsUntouched u w
 
 -- every stop leaves the installation after the acknowledged operations
@@ -59,13 +61,13 @@ pub record Stands (a : Answer) (u w : View) : Type 0 where
   pub so_far : Printed a said u w
   pub just : IsSound u → (disk : Disk) → Leaves w disk → IsJust (ops_in said) u disk
 
--- The whole answer was printed; what stands now is the state after its operations. Where one was done, or all was tidy before,
--- all is tidy. Where one was done `config` has exactly its text, and the permission bits 0644.
+-- The whole answer was printed; what stands now is the state after its operations. Where one was done, or all was settled before,
+-- all is settled. Where one was done `config` has exactly its text, and the permission bits 0644.
 pub record Answers (a : Answer) (status : ℕ) (u w : View) : Type 0 where
   pub status_is : status ≡ status_at a
   pub printed : w.printed ≡ u.printed ++ joined (lines_of a)
   pub shown : IsSound u → (s : State) → Shows (shows u) s → Shows (shows w) (after_all s (ops_of a))
-  pub tidied : IsSound u → IsTidy u ⊎ (ops_of a ≢ []) → IsTidy w
+  pub tidied : IsSound u → Settled (shows u) ⊎ (ops_of a ≢ []) → Settled (shows w)
   pub text : ops_of a ≢ [] → (s : State) → Shows (shows u) s → HasText (after_all s (ops_of a)) w
 
 -- At the return. 3 says that the host failed, 5 that the input did, and 6 that there was no memory.
@@ -81,38 +83,56 @@ abbrev pub Looks : Option Command → Type 0
 Looks None = Unit {0}
 Looks (Some command) = only_looks command ≡ true
 
--- the command is given this input: all that is left; a command that doesn't read it may be given any
-abbrev pub IsGiven : Option (List ℕ) → Option Command → List ℕ → Type 0
-IsGiven left None input = Unit {0}
-IsGiven left (Some command) input = (reads_input command ≡ false) ⊎ (left ≡ Some input)
+-- what source and remotes tell: what is left of the input, and what the remotes hold
+pub record Told : Type 0 where
+  pub left : Option (List ℕ)
+  pub holds : Option Holdings
 
--- At every moment the run is that of each answer that counts. Also where the source doesn't tell what it has left, no name changed but `config`, those of work, and the
--- files of layout 1, which went; each file that was there keeps its mode and its bytes; and words that are no command, a
--- command that only looks, and one that sees no state change nothing.
-pub record RunsBy (words : List (List ℕ)) (left : Option (List ℕ)) (u w : View) : Type 0 where
+abbrev pub told : Option (List ℕ) → Option Holdings → Told
+told left holds = record { left = left; holds = holds }
+
+-- The command is given this: as its input all that is left, where it reads the input; and what the remotes hold, where it asks
+-- them. Else it may be given any.
+pub record IsGivenTo (command : Command) (t : Told) (given : Given) : Type 0 where
+  pub input : (reads_input command ≡ false) ⊎ (t.left ≡ Some given.input)
+  pub held : (asks_remotes command ≡ false) ⊎ (t.holds ≡ Some given.held)
+
+abbrev pub IsGiven : Told → Option Command → Given → Type 0
+IsGiven t None given = Unit {0}
+IsGiven t (Some command) given = IsGivenTo command t given
+
+-- a fault has a cause over what is sound, and over what shows no state
+abbrev pub IsReady : View → Type 0
+IsReady v = IsSound v ⊎ NotShown (shows v)
+
+-- A fault of a command that changes something has a cause over an installation that is sound, or shows no state. A command that
+-- only looks needs neither.
+abbrev pub Serves : Option Command → View → Type 0
+Serves command v = Looks command ⊎ IsReady v
+
+-- Over such an installation a command gives its answer; and over each one, where words or input are refused.
+abbrev pub MayAnswer : Option Command → View → Answer → Type 0
+MayAnswer command v a = Serves command v ⊎ IsAtOnce a.refusal
+
+-- At every moment the run is that of each answer that counts. Also where source and remotes tell nothing, no name changed but
+-- `config`, those of work, and the files of layout 1, which went; each file that was there keeps its mode and its bytes; and
+-- words that are no command, a command that only looks, and one that sees no state change nothing.
+pub record RunsBy (words : List (List ℕ)) (t : Told) (u w : View) : Type 0 where
   pub changes : Changes u w
-  pub runs : (input : List ℕ) → IsGiven left (command_of words) input → (shown : Result State Elements)
-      → IsOver (answer words input) (shows u) shown → Runs (answer words input shown) u w
+  pub runs : (given : Given) → IsGiven t (command_of words) given → (shown : Result World Elements)
+      → IsOver (answer words given) (shows u) shown → MayAnswer (command_of words) u (answer words given shown) → Runs (answer words given shown) u w
   pub untouched : Looks (command_of words) ⊎ NotShown (shows u) → IsUntouched u w
 
 -- At the return the run was that of each answer that counts. Where the whole answer was given, there is one that counts (so
 -- that this isn't said of nothing).
-pub record RanBy (words : List (List ℕ)) (left : Option (List ℕ)) (status : ℕ) (u w : View) : Type 0 where
-  pub ran : (input : List ℕ) → IsGiven left (command_of words) input → (shown : Result State Elements)
-      → IsOver (answer words input) (shows u) shown → Ran (answer words input shown) status u w
-  pub given : (input : List ℕ) → IsGiven left (command_of words) input → IsAnswered status
-      → (shown : Result State Elements) × IsOver (answer words input) (shows u) shown
+pub record RanBy (words : List (List ℕ)) (t : Told) (status : ℕ) (u w : View) : Type 0 where
+  pub ran : (given : Given) → IsGiven t (command_of words) given → (shown : Result World Elements)
+      → IsOver (answer words given) (shows u) shown → MayAnswer (command_of words) u (answer words given shown) → Ran (answer words given shown) status u w
+  pub given : (given : Given) → IsGiven t (command_of words) given → IsAnswered status
+      → (shown : Result World Elements) × IsOver (answer words given) (shows u) shown
 
 -- A command that reads the input was given all of it, where the whole answer was given and the input wasn't too long; another
 -- takes nothing of it.
 abbrev pub WasTaken : Option Command → ℕ → Option (List ℕ) → Option (List ℕ) → Type 0
 WasTaken None status old new = new ≡ old
 WasTaken (Some command) status old new = (reads_input command ≡ true → IsAnswered status → IsDrained old new) × (reads_input command ≡ false → new ≡ old)
-
--- a fault has a cause over what is sound, and over what shows no state
-abbrev pub IsReady : View → Type 0
-IsReady v = IsSound v ⊎ NotShown (shows v)
-
--- where a fault has a cause: a command that changes something may end with 3 over an installation that isn't sound
-abbrev pub Serves : Option Command → View → Type 0
-Serves command v = Looks command ⊎ IsReady v

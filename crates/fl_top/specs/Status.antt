@@ -32,6 +32,13 @@ reads_input (Listed listing) = false
 reads_input (Showing thing) = true
 reads_input Batch = true
 
+-- what it does depends on what the remotes hold
+abbrev pub asks_remotes : Command → Bool
+asks_remotes (Changing change) = true
+asks_remotes (Listed listing) = false
+asks_remotes (Showing thing) = false
+asks_remotes Batch = true
+
 -- 2 for words that are no command, 1 for every other refusal
 abbrev pub status_of : Refusal → ℕ
 status_of (BadWords index) = 2

@@ -1,21 +1,24 @@
 //! What changes the installation.
-ghost use Rattle.std.specs.Prelude.{◌≡◌, None, OnOk, IfOk, IfErr, IsErrOf};
+ghost use Rattle.std.specs.Prelude.{◌≡◌, None, OnOk, Option, IfOk, IfErr, IsErrOf};
 ghost use Rattle.fp_host.specs.Causes.{IsCaused};
 ghost use Rattle.fp_host.specs.Moments.{Goes};
+ghost use Rattle.fp_host.specs.Remote.{Holdings};
 ghost use Rattle.fp_small.specs.declared.state.Layout.TheVariants.{Two};
 ghost use Rattle.dep_states.specs.After.{after, plain, May, IsOnConfig, IsGood};
 ghost use Rattle.dep_states.specs.Sound.{Opens};
-ghost use Rattle.fl_words.specs.Lines.{op_text};
-ghost use Rattle.fl_top.specs.Answer.{op_of as op_asked, op_answer, migrating, change_over, in_turn, changing, refusal_of, add_pin_refusal, drop_pin_refusal, add_remote_refusal, remote_refusal};
+ghost use Rattle.fl_lines.specs.Lines.{op_text};
+ghost use Rattle.fl_top.specs.Answer.{op_of as op_asked, migrating, change_over, in_turn, changing, refusal_of, add_pin_refusal, drop_pin_refusal, add_remote_refusal, remote_refusal};
 ghost use Rattle.fl_top.specs.Ends.{IsTried};
-ghost use Rattle.fl_top.specs.Performs.{Performs, Performed, WasDone, RunsOver, EndedOver};
+ghost use Rattle.fl_top.specs.Performs.{PerformsOver, PerformedOver, doing, WasDoneBy, RunsOver, EndedOver};
 ghost use Rattle.fl_top.specs.Runs.{IsReady};
 ghost use Rattle.fl_top.specs.Status.{IsChange};
 
 use crate::end::RunEnd;
-use dep_open::{open, tidy};
+use dep_open::open;
 use dep_states::Opened;
-use fl_words::{Change, op_line};
+use dep_tidy::tidy;
+use fl_lines::op_line;
+use fl_words::Change;
 use fp_base::What;
 use fp_host::Host;
 use fp_name::{PinPattern, RemoteName};
@@ -31,8 +34,8 @@ pub(crate) fn change_all<H: Host>(
     host: &mut H,
     changes: &[Change],
 ) -> Result<(), RunEnd>
-    ensures any_moment { Goes (H.moments host.old) (H.moments host.new)
-        (RunsOver (changing changes.now)) (EndedOver (changing changes.now) result) }
+    ensures any_moment { (holds : Option Holdings) → Goes (H.moments host.old) (H.moments host.new)
+        (RunsOver holds (changing changes.now)) (EndedOver holds (changing changes.now) result) }
     ensures fault_has_cause { IsCaused (IsErrOf result RunEnd.Fault) (H.moments host.old) IsReady
         (H.faults host.old) (H.faults host.new) }
 {
@@ -49,9 +52,9 @@ fn do_all<H: Host>(
     changes: &[Change],
 ) -> Result<Opened, RunEnd>
     requires good { IsGood opened }
-    ensures any_moment { Goes (H.moments host.old) (H.moments host.new)
-        (Performs (changing changes.now opened) opened) (Performed (changing changes.now opened)
-        opened result) }
+    ensures any_moment { (holds : Option Holdings) → Goes (H.moments host.old) (H.moments host.new)
+        (PerformsOver holds (changing changes.now) opened)
+        (PerformedOver holds (changing changes.now) opened result) }
     ensures fault_has_cause { IsCaused (IsErrOf result RunEnd.Fault) (H.moments host.old)
         (Opens opened) (H.faults host.old) (H.faults host.new) }
 {
@@ -65,9 +68,8 @@ fn migrate<H: Host>(alloc: Global, host: &mut H, opened: Opened) -> Result<Opene
     requires good { IsGood opened }
     ensures good { IfOk result IsGood }
     ensures layout { IfOk result (λ o. o.layout ≡ Two) }
-    ensures any_moment { Goes (H.moments host.old) (H.moments host.new)
-        (Performs (migrating opened.layout) opened) (Performed (migrating opened.layout) opened
-        result) }
+    ensures any_moment { (holds : Option Holdings) → Goes (H.moments host.old) (H.moments host.new)
+        (PerformsOver holds migrating opened) (PerformedOver holds migrating opened result) }
     ensures fault_has_cause { IsCaused (IsErrOf result RunEnd.Fault) (H.moments host.old)
         (Opens opened) (H.faults host.old) (H.faults host.new) }
 {
@@ -86,9 +88,9 @@ fn do_each<H: Host>(
 ) -> Result<Opened, RunEnd>
     requires good { IsGood opened }
     requires layout { opened.layout ≡ Two }
-    ensures any_moment { Goes (H.moments host.old) (H.moments host.new)
-        (Performs (in_turn changes.now opened) opened) (Performed (in_turn changes.now opened)
-        opened result) }
+    ensures any_moment { (holds : Option Holdings) → Goes (H.moments host.old) (H.moments host.new)
+        (PerformsOver holds (in_turn changes.now) opened)
+        (PerformedOver holds (in_turn changes.now) opened result) }
     ensures fault_has_cause { IsCaused (IsErrOf result RunEnd.Fault) (H.moments host.old)
         (Opens opened) (H.faults host.old) (H.faults host.new) }
 {
@@ -110,9 +112,9 @@ fn do_change<H: Host>(
     requires layout { opened.layout ≡ Two }
     ensures good { IfOk result IsGood }
     ensures layout { IfOk result (λ o. o.layout ≡ Two) }
-    ensures any_moment { Goes (H.moments host.old) (H.moments host.new)
-        (Performs (change_over change.now opened) opened) (Performed
-        (change_over change.now opened) opened result) }
+    ensures any_moment { (holds : Option Holdings) → Goes (H.moments host.old) (H.moments host.new)
+        (PerformsOver holds (change_over change.now) opened)
+        (PerformedOver holds (change_over change.now) opened result) }
     ensures fault_has_cause { IsCaused (IsErrOf result RunEnd.Fault) (H.moments host.old)
         (Opens opened) (H.faults host.old) (H.faults host.new) }
 {
@@ -132,9 +134,9 @@ fn do_unrefused<H: Host>(
     requires unrefused { refusal_of opened change.now ≡ None }
     ensures good { IfOk result IsGood }
     ensures layout { IfOk result (λ o. o.layout ≡ Two) }
-    ensures any_moment { Goes (H.moments host.old) (H.moments host.new)
-        (Performs (change_over change.now opened) opened) (Performed
-        (change_over change.now opened) opened result) }
+    ensures any_moment { (holds : Option Holdings) → Goes (H.moments host.old) (H.moments host.new)
+        (PerformsOver holds (change_over change.now) opened)
+        (PerformedOver holds (change_over change.now) opened result) }
     ensures fault_has_cause { IsCaused (IsErrOf result RunEnd.Fault) (H.moments host.old)
         (Opens opened) (H.faults host.old) (H.faults host.new) }
 {
@@ -149,8 +151,8 @@ fn do_made<H: Host>(alloc: Global, host: &mut H, opened: Opened, op: Op) -> Resu
     requires good { IsGood opened }
     ensures good { IfOk result IsGood }
     ensures layout { IfOk result (λ o. o.layout ≡ Two) }
-    ensures any_moment { Goes (H.moments host.old) (H.moments host.new)
-        (Performs (op_answer op) opened) (Performed (op_answer op) opened result) }
+    ensures any_moment { (holds : Option Holdings) → Goes (H.moments host.old) (H.moments host.new)
+        (PerformsOver holds (doing op) opened) (PerformedOver holds (doing op) opened result) }
     ensures fault_has_cause { IsCaused (IsErrOf result RunEnd.Fault) (H.moments host.old)
         (Opens opened) (H.faults host.old) (H.faults host.new) }
 {
@@ -179,8 +181,9 @@ fn do_op<H: Host>(alloc: Global, host: &mut H, opened: Opened, op: &Op) -> Resul
     requires good { IsGood opened }
     ensures good { IfOk result IsGood }
     ensures layout { IfOk result (λ o. o.layout ≡ Two) }
-    ensures any_moment { Goes (H.moments host.old) (H.moments host.new)
-        (Performs (op_answer op.now) opened) (Performed (op_answer op.now) opened result) }
+    ensures any_moment { (holds : Option Holdings) → Goes (H.moments host.old) (H.moments host.new)
+        (PerformsOver holds (doing op.now) opened)
+        (PerformedOver holds (doing op.now) opened result) }
     ensures fault_has_cause { IsCaused (IsErrOf result RunEnd.Fault) (H.moments host.old)
         (Opens opened) (H.faults host.old) (H.faults host.new) }
 {
@@ -203,8 +206,8 @@ fn do_and_say<H: Host>(
     requires line { line.now ≡ op_text op.now }
     ensures state { IfOk result (λ o. o ≡ after opened (plain op.now)) }
     ensures good { IfOk result IsGood }
-    ensures any_moment { Goes (H.moments host.old) (H.moments host.new)
-        (Performs (op_answer op.now) opened) (WasDone op.now opened result) }
+    ensures any_moment { (holds : Option Holdings) → Goes (H.moments host.old) (H.moments host.new)
+        (PerformsOver holds (doing op.now) opened) (WasDoneBy op.now opened result) }
     ensures fault_has_cause { IsCaused (IsErrOf result RunEnd.Fault) (H.moments host.old)
         (Opens opened) (H.faults host.old) (H.faults host.new) }
 {

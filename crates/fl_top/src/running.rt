@@ -1,15 +1,16 @@
 //! The run of a command.
-ghost use Rattle.std.specs.Prelude.{◌≡◌, ◌≢◌, ◌≤◌, ◌⊎◌, true, Some, map, string_bytes, IfOk, IsErrOf};
+ghost use Rattle.std.specs.Prelude.{◌≡◌, ◌≢◌, ◌≤◌, ◌⊎◌, true, Option, Some, map, string_bytes, IfOk, IsErrOf};
 ghost use Rattle.fp_host.specs.Causes.{IsCaused, IsCounted};
 ghost use Rattle.fp_host.specs.Frame.{AtEnd, Unchanged};
 ghost use Rattle.fp_host.specs.Moments.{Goes, Rose, Always};
+ghost use Rattle.fp_host.specs.Remote.{Holdings};
 ghost use Rattle.fp_small.specs.declared.refusal.Refusal.TheVariants.{BadWords};
-ghost use Rattle.fl_words.specs.Lines.{refusal_text};
+ghost use Rattle.fl_lines.specs.Lines.{refusal_text};
 ghost use Rattle.fl_words.specs.Forms.{command_of};
 ghost use Rattle.fl_words.specs.declared.command.Command.TheVariants.{Show as Showing, Batch};
 ghost use Rattle.fl_top.specs.Answer.{listed, listed_text as text_listed};
-ghost use Rattle.fl_top.specs.Performs.{LooksOver, EndedOver, RunsOn, EndedOn, RanOn, Takes, TakenBy};
-ghost use Rattle.fl_top.specs.Runs.{RunsBy, RanBy, WasTaken, IsReady, Serves};
+ghost use Rattle.fl_top.specs.Performs.{LooksOver, LookedOver, RunsOn, EndedOn, RanOn, Takes, TakenBy};
+ghost use Rattle.fl_top.specs.Runs.{RunsBy, RanBy, told, WasTaken, IsReady, Serves};
 ghost use Rattle.fl_top.specs.Says.{Says, SaidBy, Refuses};
 ghost use Rattle.fl_top.specs.Status.{IsStatus, IsOfWords, IsOfCommand, reads_input};
 
@@ -19,10 +20,8 @@ use crate::end::RunEnd;
 use crate::input::read_input;
 use crate::showing::shown_text;
 use dep_open::read_state;
-use fl_words::{
-    Command, Listing, Shown, WordsError, pins_text, read_batch, read_words, refusal_line,
-    remotes_text,
-};
+use fl_lines::{pins_text, refusal_line, remotes_text};
+use fl_words::{Command, Listing, Shown, WordsError, read_batch, read_words};
 use fp_base::Text;
 use fp_host::{Host, HostEnd, Remotes, Source};
 use fp_small::{Refusal, State};
@@ -44,10 +43,11 @@ pub fn run<H: Host, R: Remotes, I: Source>(
     ensures words { IsOfWords (command_of (map string_bytes words.now)) result }
     // Wherever the host stops: what was printed are the first pieces of the answer, and the installation is the one after a
     // prefix of its operations that holds each acknowledged one.
-    ensures any_moment { Always (RunsBy (map string_bytes words.now) (I.left input.old))
-        (H.moments host.old) (H.moments host.new) }
+    ensures any_moment { Always (RunsBy (map string_bytes words.now)
+        (told (I.left input.old) (R.holds remotes.old))) (H.moments host.old) (H.moments host.new) }
     // What was printed, the status and the state are the answer's; every stop leaves the acknowledged operations.
-    ensures at_return { AtEnd (RanBy (map string_bytes words.now) (I.left input.old) result)
+    ensures at_return { AtEnd (RanBy (map string_bytes words.now)
+        (told (I.left input.old) (R.holds remotes.old)) result)
         (H.moments host.old) (H.moments host.new) }
     ensures fault_has_cause { IsCaused (result ≡ 3) (H.moments host.old)
         (Serves (command_of (map string_bytes words.now))) (H.faults host.old) (H.faults host.new) }
@@ -75,8 +75,9 @@ fn run_command<H: Host, I: Source>(
     command: Command,
 ) -> u8
     ensures status { IsOfCommand command result }
-    ensures any_moment { Goes (H.moments host.old) (H.moments host.new)
-        (RunsOn command (I.left input.old)) (RanOn command (I.left input.old) result) }
+    ensures any_moment { (holds : Option Holdings) → Goes (H.moments host.old) (H.moments host.new)
+        (RunsOn command (told (I.left input.old) holds))
+        (RanOn command (told (I.left input.old) holds) result) }
     ensures fault_has_cause { IsCaused (result ≡ 3) (H.moments host.old) (Serves (Some command))
         (H.faults host.old) (H.faults host.new) }
     ensures input { result ≡ 5 → Rose (I.faults input.old) (I.faults input.new) × Unchanged
@@ -100,8 +101,9 @@ fn perform<H: Host, I: Source>(
     host: &mut H,
     command: Command,
 ) -> Result<(), CommandEnd>
-    ensures any_moment { Goes (H.moments host.old) (H.moments host.new)
-        (RunsOn command (I.left input.old)) (EndedOn command (I.left input.old) result) }
+    ensures any_moment { (holds : Option Holdings) → Goes (H.moments host.old) (H.moments host.new)
+        (RunsOn command (told (I.left input.old) holds))
+        (EndedOn command (told (I.left input.old) holds) result) }
     ensures fault_has_cause { IsCaused (IsErrOf result CommandEnd.Fault) (H.moments host.old)
         (Serves (Some command)) (H.faults host.old) (H.faults host.new) }
     ensures input { IsErrOf result CommandEnd.InputFault → (reads_input command ≡ true) × Rose
@@ -125,9 +127,9 @@ fn show<H: Host, I: Source>(
     host: &mut H,
     thing: &Shown,
 ) -> Result<(), CommandEnd>
-    ensures any_moment { Goes (H.moments host.old) (H.moments host.new)
-        (RunsOn (Showing thing.now) (I.left input.old)) (EndedOn (Showing thing.now)
-        (I.left input.old) result) }
+    ensures any_moment { (holds : Option Holdings) → Goes (H.moments host.old) (H.moments host.new)
+        (RunsOn (Showing thing.now) (told (I.left input.old) holds))
+        (EndedOn (Showing thing.now) (told (I.left input.old) holds) result) }
     ensures fault_has_cause { IsCounted (IsErrOf result CommandEnd.Fault)
         (H.moments host.old) (H.faults host.old) (H.faults host.new) }
     ensures input { IsErrOf result CommandEnd.InputFault → Rose
@@ -143,8 +145,9 @@ fn show<H: Host, I: Source>(
 
 /// Reads the changes that the input asks for, and makes them one after another.
 fn batch<H: Host, I: Source>(alloc: Global, input: &mut I, host: &mut H) -> Result<(), CommandEnd>
-    ensures any_moment { Goes (H.moments host.old) (H.moments host.new)
-        (RunsOn Batch (I.left input.old)) (EndedOn Batch (I.left input.old) result) }
+    ensures any_moment { (holds : Option Holdings) → Goes (H.moments host.old) (H.moments host.new)
+        (RunsOn Batch (told (I.left input.old) holds))
+        (EndedOn Batch (told (I.left input.old) holds) result) }
     ensures fault_has_cause { IsCaused (IsErrOf result CommandEnd.Fault) (H.moments host.old)
         IsReady (H.faults host.old) (H.faults host.new) }
     ensures input { IsErrOf result CommandEnd.InputFault → Rose
@@ -161,7 +164,7 @@ fn batch<H: Host, I: Source>(alloc: Global, input: &mut I, host: &mut H) -> Resu
 /// Prints what is listed.
 fn list<H: Host>(alloc: Global, host: &mut H, listing: Listing) -> Result<(), RunEnd>
     ensures any_moment { Goes (H.moments host.old) (H.moments host.new)
-        (LooksOver (listed listing)) (EndedOver (listed listing) result) }
+        (LooksOver (listed listing)) (LookedOver (listed listing) result) }
     ensures fault_has_cause { IsCounted (IsErrOf result RunEnd.Fault)
         (H.moments host.old) (H.faults host.old) (H.faults host.new) }
 {

@@ -5,13 +5,14 @@ ghost use Rattle.std.specs.Option.{is_some};
 ghost use Rattle.gv_value.specs.Reading.{value_of};
 ghost use Rattle.gv_value.specs.Views.{shape_of};
 ghost use Rattle.ost_object.specs.Views.{commit_view, file_row, dir_row, tree_view, meta_view, parent_bytes};
-ghost use Rattle.fl_words.specs.Lines.{line, octal};
+ghost use Rattle.fl_lines.specs.Lines.{line, octal};
 ghost use Rattle.fl_top.specs.Answer.{commit_shown, tree_shown, meta_shown, value_shown, shown_by};
 ghost use Rattle.fl_top.specs.Ends.{Prints, end_of_object};
 ghost use Rattle.fl_top.specs.Objects.{head, root_lines, commit_lines, tree_lines, meta_lines, file_line, dir_line, files_text, dirs_text, parent_text};
 
 use crate::end::RunEnd;
-use fl_words::{Shown, ValueType, digits_of, escape, octal_of};
+use fl_lines::{digits_of, escape, octal_of};
+use fl_words::{Shown, ValueType};
 use fp_base::{ObjKind, Text};
 use fp_name::Digest;
 use fp_small::Refusal;

@@ -1,10 +1,8 @@
 pub mod Batches
 pub mod Beginnings
-pub mod Escapes
 pub mod FirstWords
 pub mod LineWords
 pub mod Reaching
 pub mod ReadBack
 pub mod Rows
 pub mod TypeTexts
-pub mod Unescaped

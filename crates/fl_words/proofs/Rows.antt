@@ -1,6 +1,6 @@
 -- Worked rows, closed by computing.
 use Rattle.std.proofs.Common.{◌≡◌, ℕ, true, List, [], ◌∷◌, Some, None, Ok, Err, refl}
-use Rattle.std.specs.Prelude.{codes, replicate}
+use Rattle.std.specs.Prelude.{codes}
 use Rattle.std.specs.Fmt.{digits}
 use Rattle.std.specs.List.{list_all}
 use Rattle.std.specs.Str.Lossy.{utf8_lossy}
@@ -8,13 +8,7 @@ use Rattle.std.proofs.lemmas.Str.{utf8_lossy-IsUtf8}
 use Rattle.fp_name.specs.Bytes.{is_dotted}
 use Rattle.fp_name.proofs.Bytes.{Utf8-from_dotted}
 use Rattle.fp_name.specs.Grammar.{is_id, is_branch}
-use Rattle.fp_name.specs.Hex.{hex}
 use Rattle.fp_name.specs.Pins.{is_pin}
-use Rattle.fp_name.specs.Refs.{Ref}
-use Rattle.fp_name.specs.declared.kind.RefKind.TheVariants.{App}
-use Rattle.fp_small.specs.declared.refusal.Refusal.TheVariants.{BadWords, PinExists, NoSuchPin, Limit, BadRecord, Damaged}
-use Rattle.fp_base.specs.declared.what.What.TheVariants.{Pins, Input}
-use Rattle.fp_small.specs.declared.op.Op.TheVariants.{Install, Update, Uninstall, AddPin, DropPin, DropOverride, Migrate, Rollback}
 use Rattle.fl_words.specs.declared.command.Command.TheVariants.{Change as Changing, List as Listed, Show as Showing, Batch}
 use Rattle.fl_words.specs.declared.command.Change.TheVariants.{Pin, Unpin}
 use Rattle.fl_words.specs.declared.command.Listing.TheVariants as listings
@@ -22,7 +16,6 @@ use Rattle.fl_words.specs.declared.command.Shown.TheVariants.{Commit, DirTree, D
 use Rattle.fl_words.specs.Types.{is_type_text}
 use Rattle.fl_words.specs.Forms.{command_of, bad_index}
 use Rattle.fl_words.specs.Batch.{batch_change, batch_of}
-use Rattle.fl_words.specs.Lines.{refusal_text, op_text}
 use Rattle.fl_words.specs.Reasons.{reason_text, batch_reason_text}
 
 pub pin_all : command_of (codes "pin" ∷ codes "app/*/*/*" ∷ []) ≡ Some (Changing (Pin (codes "app/*/*/*")))
@@ -64,65 +57,6 @@ list_pin = refl
 
 pub list_and_more : bad_index (codes "list" ∷ codes "--pins" ∷ [] ∷ []) ≡ 2
 list_and_more = refl
-
-pub words_line : refusal_text (BadWords 2) ≡ codes "error: words 2\n"
-unfolding digits
-words_line = refl
-
-pub exists_line : refusal_text (PinExists (codes "app/*/*/*")) ≡ codes "error: pin exists app/*/*/*\n"
-exists_line = refl
-
-pub unknown_line : refusal_text (NoSuchPin (codes "app/*/*/*")) ≡ codes "error: no pin app/*/*/*\n"
-unknown_line = refl
-
-pub limit_line : refusal_text (Limit Pins 1025) ≡ codes "error: limit pins 1025\n"
-unfolding digits
-limit_line = refl
-
-pub damaged_line : refusal_text (Damaged (codes "config" ∷ [])) ≡ codes "error: damaged config\n"
-damaged_line = refl
-
--- a path with an inner newline and a backslash
-pub escaped_line : refusal_text (Damaged ((98 ∷ 92 ∷ []) ∷ (97 ∷ 10 ∷ []) ∷ [])) ≡ codes "error: damaged a\\0a/b\\5c\n"
-escaped_line = refl
-
-abbrev name : Ref
-name = record { kind = App; id = codes "org.x.App"; arch = codes "x86_64"; branch = codes "stable" }
-
-pub pinned_line : op_text (AddPin (codes "app/*/*/*")) ≡ codes "pinned app/*/*/*\n"
-pinned_line = refl
-
-pub unpinned_line : op_text (DropPin (codes "app/*/*/*")) ≡ codes "unpinned app/*/*/*\n"
-unpinned_line = refl
-
-pub migrated_line : op_text Migrate ≡ codes "migrated layout 2\n"
-migrated_line = refl
-
-pub uninstalled_line : op_text (Uninstall name) ≡ codes "uninstalled app/org.x.App/x86_64/stable\n"
-uninstalled_line = refl
-
-pub rolled_back_line : op_text (Rollback name (replicate 32 17)) ≡ codes "rolled back app/org.x.App/x86_64/stable 1111111111111111111111111111111111111111111111111111111111111111\n"
-unfolding hex
-rolled_back_line = refl
-
-pub installed_line : op_text (Install name (codes "hub") (replicate 32 17)) ≡ codes "installed app/org.x.App/x86_64/stable 1111111111111111111111111111111111111111111111111111111111111111\n"
-unfolding hex
-installed_line = refl
-
-pub updated_line : op_text (Update name (codes "hub") (replicate 32 17)) ≡ codes "updated app/org.x.App/x86_64/stable 1111111111111111111111111111111111111111111111111111111111111111\n"
-unfolding hex
-updated_line = refl
-
-pub reset_line : op_text (DropOverride (codes "global")) ≡ codes "override reset global\n"
-reset_line = refl
-
-pub record_line : refusal_text (BadRecord 2) ≡ codes "error: record 2\n"
-unfolding digits
-record_line = refl
-
-pub input_line : refusal_text (Limit Input 67108865) ≡ codes "error: limit input 67108865\n"
-unfolding digits
-input_line = refl
 
 pub batch_alone : command_of (codes "batch" ∷ []) ≡ Some Batch
 batch_alone = refl

@@ -9,7 +9,7 @@ use Rattle.fl_words.specs.declared.forms.Form.{Form}
 use Rattle.fl_words.specs.declared.forms.Form.TheVariants.{Pin, Unpin, RemoteAdd, RemoteModify, RemoteDelete}
 use Rattle.fl_words.specs.Forms.{Place, literal, pattern, remote, url, type_string, forms, slots_of, reach, most}
 use Rattle.fl_words.specs.Batch.{words_in, batch_of}
-use Rattle.fl_words.specs.Lines.{line, escaped}
+use Rattle.fl_lines.specs.Lines.{line, escaped}
 
 -- ---- usage
 

@@ -1,10 +1,9 @@
 //! What holds of all words, by their definitions. Nothing is done here: each contract is a law.
-ghost use Rattle.std.specs.Prelude.{◌≡◌, ◌<◌, ◌≤◌, ◌+◌, ◌++◌, ℕ, List, Some, Ok, true, not, length, take};
+ghost use Rattle.std.specs.Prelude.{◌≡◌, ◌<◌, ◌≤◌, ◌+◌, ◌++◌, ℕ, List, Some, Ok, true, length, take};
 ghost use Rattle.std.specs.List.{list_all};
 ghost use Rattle.fl_words.specs.Batch.{batch_of};
 ghost use Rattle.fl_words.specs.declared.forms.Form.{Form};
 ghost use Rattle.fl_words.specs.Forms.{command_of, bad_index, reads};
-ghost use Rattle.fl_words.specs.Lines.{is_control, escaped};
 ghost use Rattle.fl_words.specs.Reasons.{begins};
 ghost use Rattle.fl_words.specs.Words.{Begins, words_of, is_change, is_command};
 
@@ -33,12 +32,6 @@ pub fn usage_is_of_forms_begun()
         (more : List (List ℕ)) × (reads (take n words ++ more) form ≡ true) }
     ensures only { (words more : List (List ℕ)) (n : ℕ) (form : Form) → n ≤ length words → reads
         (take n words ++ more) form ≡ true → begins words n form ≡ true }
-{}
-
-/// What is printed of a text has no control byte, and tells the text: no two are printed alike.
-pub fn escapes_tell_texts()
-    ensures printable { (text : List ℕ) → list_all (λ b. not (is_control b)) (escaped text) ≡ true }
-    ensures apart { (a b : List ℕ) → escaped a ≡ escaped b → a ≡ b }
 {}
 
 /// The patterns, names and URLs of each change of a batch are such.

@@ -1,12 +1,12 @@
 //! Why words are of none of some forms, for a reader.
 ghost use Rattle.std.specs.Prelude.{◌≡◌, ◌++◌, ◌∷◌, nat_le, IfOk, OnOk, Some, None, map, option_map, flat_map, string_bytes, slice_get, codes};
 ghost use Rattle.fl_words.specs.Forms.{place_of, slots_of, most};
-ghost use Rattle.fl_words.specs.Lines.{line, escaped};
+ghost use Rattle.fl_lines.specs.Lines.{line, escaped};
 ghost use Rattle.fl_words.specs.Reasons.{place_name, named_place, usage as usage_text, begins as does_begin, usage_begun, usages, place_begun, place_wanted, fault_at, fault_text, why, reason_text};
 
-use crate::escaping::escape;
 use crate::forms::{Form, Slot};
 use crate::reading::{furthest, reach};
+use fl_lines::escape;
 use fp_base::Text;
 use std::alloc::{AllocError, Global};
 

@@ -1,5 +1,5 @@
 -- Where an object was found.
-use Rattle.std.specs.Prelude.{◌≡◌, ℕ, List, Option, Some, None}
+use Rattle.std.specs.Prelude.{◌≡◌, ⊤, ℕ, List, Option, Some, None}
 use Rattle.fp_host.specs.Paths.{Elements}
 use Rattle.fp_host.specs.Moments.{Moments}
 use Rattle.fp_host.specs.Outcome.{shows}
@@ -8,6 +8,7 @@ use Rattle.fp_base.specs.declared.object.ObjKind.{ObjKind}
 use Rattle.ost_model.specs.declared.object.Object.{Object}
 use Rattle.ost_model.specs.Objects.{store}
 use Rattle.ost_model.specs.Remotes.{remote_at}
+use Rattle.ost_store.specs.Stage.{IsKeepable}
 use Rattle.ost_head.specs.declared.found.Found.{Found}
 use Rattle.ost_head.specs.declared.found.Found.TheVariants as found
 
@@ -31,3 +32,8 @@ pub record IsNew (root : Elements) (url : List ℕ) (told : Option Moments) (hol
 abbrev pub IsFound : Elements → List ℕ → Option Moments → Option Holdings → List ℕ → ObjKind → Found → Type 0
 IsFound root url told holds d kind (found.Stored object) = HostHas root told d kind (Some object)
 IsFound root url told holds d kind (found.New object) = IsNew root url told holds d kind object
+
+-- an object that the store lacks is one that a store may keep
+abbrev pub IsKeepableIfNew : Found → Type 0
+IsKeepableIfNew (found.Stored object) = ⊤
+IsKeepableIfNew (found.New object) = IsKeepable object

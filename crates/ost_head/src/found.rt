@@ -4,7 +4,7 @@ ghost use Rattle.ost_model.specs.Objects.{Have, object_fault};
 ghost use Rattle.ost_model.specs.Remotes.{Supplies};
 ghost use Rattle.ost_walk.specs.Ends.{Observes, outside};
 ghost use Rattle.ost_head.specs.Objects.{IsFit, Judges};
-ghost use Rattle.ost_head.specs.Found.{found_object, IsFound};
+ghost use Rattle.ost_head.specs.Found.{found_object, IsFound, IsKeepableIfNew};
 
 use crate::fetching::fetch;
 use crate::storing::stored;
@@ -39,6 +39,7 @@ pub fn find<H: Host, R: Remotes>(
         (outside (H.moments host.new) (H.faults host.new) (R.holds remotes.new) (R.faults remotes.new)) }
     ensures good { IfOk result (λ found. object_fault digest.now kind (Some (found_object found))
         ≡ None) }
+    ensures keepable { IfOk result IsKeepableIfNew }
     ensures from { IfOk result (IsFound root.now url.now (H.moments host.old) (R.holds remotes.old)
         digest.now kind) }
     ensures tells { (have : Have) → Supplies root.now (Some url.now) (H.moments host.old)

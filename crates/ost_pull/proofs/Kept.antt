@@ -1,21 +1,31 @@
 -- Objects that are kept in the work folder, one by one.
-use Rattle.std.proofs.Common.{◌≡◌, ◌⊎◌, ◌<◌, inl, inr, ℕ, suc, List, [], ◌∷◌, ◌++◌, length, true, Option, Some, None, Result, Ok, refl, sym, ◌∙◌, ap, subst, arith, codes, take, drop}
+use Rattle.std.proofs.Common.{◌≡◌, ◌⊎◌, ◌<◌, inl, inr, ℕ, suc, List, [], ◌∷◌, ◌++◌, length, true, Option, Some, None, Result, Ok, refl, sym, ◌∙◌, ap, subst, arith, codes, take, drop, Err, Contains}
+use Rattle.std.specs.Prelude.{IsErrOf}
+use Rattle.std.specs.Result.{IsErrAnd}
 use Rattle.fp_host.specs.Paths.{Elements, Slot, absent, dir, file, link, IsAbove}
 use Rattle.fp_host.specs.View.{View, IsTree}
-use Rattle.fp_host.specs.Moments.{Moments, Always, Makes}
+use Rattle.fp_host.specs.Moments.{Moments, Always, Makes, HasCause}
+use Rattle.fp_host.specs.Calls.{syncs, Step}
+use Rattle.fp_host.specs.Causes.{IsCaused}
+use Rattle.fp_host.specs.declared.host.HostEnd.{HostEnd}
+use Rattle.fp_host.specs.declared.host.HostEnd.TheVariants as host_ends
 use Rattle.fp_host.specs.Reads.{StatOf, IsStat}
 use Rattle.fp_host.specs.Remote.{Holdings}
 use Rattle.fp_host.specs.declared.host.HostError.{HostError}
+use Rattle.fp_host.specs.declared.host.HostError.TheVariants as errors
 use Rattle.fp_host.specs.declared.host.Stat.{Stat}
 use Rattle.fp_host.specs.declared.host.Stat.TheVariants as stats
-use Rattle.fp_host.proofs.Framed.{IsTold, keeps_refl, keeps_on, keeps_to}
-use Rattle.fp_host.specs.Frame.{AtEnd}
-use Rattle.fp_host.proofs.Goes.{stays, goes_on, makes_goes}
-use Rattle.fp_host.proofs.Ending.{ends_goes, ends_call, ends_to, ends_on, ends_both}
-use Rattle.fp_small.specs.Clear.{IsWithin}
+use Rattle.fp_host.proofs.Cause.{clash_reads}
+use Rattle.fp_host.proofs.Follow.{called}
+use Rattle.fp_host.proofs.Framed.{IsTold, keeps_refl, keeps_on, keeps_to, keeps_call}
+use Rattle.fp_host.specs.Frame.{Keeps, Frame, AtEnd, Unchanged, NoPath}
+use Rattle.fp_host.proofs.Goes.{stays, begins, goes_on, makes_goes}
+use Rattle.fp_host.proofs.Ending.{ends_start, ends_goes, ends_call, ends_to, ends_on, ends_both, call_caused, fault_caused}
+use Rattle.fp_small.specs.Clear.{IsWithin, GoneWithin, AbsentWithin}
 use Rattle.fp_small.specs.Files.{KeepsFiles}
-use Rattle.fp_small.specs.Folders.{ancestors}
-use Rattle.fp_small.proofs.Keeping.{files_on}
+use Rattle.fp_small.specs.Folders.{ancestors, AreFree}
+use Rattle.fp_small.proofs.Keeping.{files_on, files_kept, files_synced}
+use Rattle.fp_small.proofs.Making.{stat_absent}
 use Rattle.fp_small.proofs.Emptying.{above_longer}
 use Rattle.fp_small.proofs.Replacement.{ancestors_above}
 use Rattle.fp_name.specs.Hex.{is_digest, hex}
@@ -25,10 +35,10 @@ use Rattle.ost_model.specs.declared.object.Object.TheVariants as objects
 use Rattle.ost_model.specs.Objects.{object_path, kind_text, name_fault}
 use Rattle.ost_model.specs.Order.{In}
 use Rattle.ost_model.proofs.Stores.{one_name}
-use Rattle.ost_store.specs.Stage.{Stages, WasStaged, IsHeld, IsStaged}
+use Rattle.ost_store.specs.Stage.{Stages, WasStaged, IsHeld, IsStaged, CanStage}
 use Rattle.ost_store.proofs.Staying.{staged_stays, held_stays}
 use Rattle.ost_head.specs.Found.{RemoteHas}
-use Rattle.ost_pull.specs.Work.{WorksAt, WorksName, Works, IsKept, IsOnce, AreKept, KeepsOne}
+use Rattle.ost_pull.specs.Work.{IsObjectName, IsAboveObject, WorksAt, WorksName, Works, IsKept, IsOnce, AreKept, KeepsOne, CanKeep}
 
 -- ---- work in the folder
 
@@ -41,31 +51,54 @@ works_same {t = t} {v = v} same = subst (Works t v) (sym same) works_refl
 pub works_on : {t : Elements} {u v w : View} → Works t u v → Works t v w → Works t u w
 works_on first second = record { keeps = keeps_on first.keeps second.keeps; files = files_on first.files second.files }
 
-below_work : (t : Elements) (d : List ℕ) (kind : ObjKind) (q : Elements) → q ≡ object_path t d kind → IsWithin t q
+pub below_work : (t : Elements) (d : List ℕ) (kind : ObjKind) (q : Elements) → q ≡ object_path t d kind → IsWithin t q
 below_work t d kind q is = inr (subst (IsAbove t) (sym is) (inr (inr (inl refl))))
 
-above_work : (t : Elements) (d : List ℕ) (kind : ObjKind) (q : Elements) → IsAbove q (object_path t d kind) → IsWithin t q ⊎ IsAbove q t
+pub above_work : (t : Elements) (d : List ℕ) (kind : ObjKind) (q : Elements) → IsAbove q (object_path t d kind) → IsWithin t q ⊎ IsAbove q t
 above_work t d kind q (inl is) = inl (inr (subst (IsAbove t) (sym is) (inr (inl refl))))
 above_work t d kind q (inr (inl is)) = inl (inr (subst (IsAbove t) (sym is) (inl refl)))
 above_work t d kind q (inr (inr (inl is))) = inl (inl is)
 above_work t d kind q (inr (inr (inr higher))) = inr higher
 
-pub staged_works : (t : Elements) (d : List ℕ) (kind : ObjKind) (object : Object) {u w : View} → Stages (object_path t d kind) object u w → Works t u w
-staged_works t d kind object s = record {
+pub above_object : (t : Elements) (d : List ℕ) (kind : ObjKind) (q : Elements) → is_digest d ≡ true → Contains (ancestors (object_path t d kind)) q → IsAboveObject t q
+above_object t d kind q good has = record { digest = d; kind = kind; digits = good; above = ancestors_above (object_path t d kind) q has }
+
+pub staged_works : (t : Elements) (d : List ℕ) (kind : ObjKind) (object : Object) {u w : View} → is_digest d ≡ true → Stages (object_path t d kind) object u w → Works t u w
+staged_works t d kind object good s = record {
   keeps = keeps_to
       (λ q spot h. elim h [
-        | inl here ↦ inl (below_work t d kind q here.0)
-        | inr made ↦ elim (above_work t d kind q (ancestors_above (object_path t d kind) q made.0)) [ inl within ↦ inl within | inr above ↦ inr (above, made.1) ]
+        | inl here ↦ inl (record { digest = d; kind = kind; digits = good; at = here.0 })
+        | inr made ↦ inr (inl (above_object t d kind q good made.0, made.1))
       ])
       (λ q e h. elim h [
-        | inl here ↦ inl (below_work t d kind q here.0)
-        | inr made ↦ elim (above_work t d kind q (ancestors_above (object_path t d kind) q made.0)) [ inl within ↦ inl within | inr above ↦ inr (above, made.1) ]
+        | inl here ↦ inl (record { digest = d; kind = kind; digits = good; at = here.0 })
+        | inr made ↦ inr (inl (above_object t d kind q good made.0, made.1))
       ])
       (λ q is. below_work t d kind q is)
       (λ q id within h. elim h [ inl here ↦ here.0 | inr made ↦ absurd (cc made.1) ])
       s.keeps;
   files = s.files;
 }
+
+-- what is taken away there
+pub cleared_works : {t : Elements} {u w : View} → Keeps (GoneWithin t) (AbsentWithin t) NoPath u w → Works t u w
+cleared_works keeps = record {
+  keeps = keeps_to (λ q spot h. inr (inr h)) (λ q e h. inr (inr h)) (λ q none. absurd none) (λ q id within h. absurd (cc h.1)) keeps;
+  files = files_kept keeps;
+}
+
+-- a sync
+pub synced_works : {t : Elements} {r : Result (Unit {0}) HostError} {u w : View} → IsTree u → Step syncs r u w → Works t u w
+synced_works tree step = record {
+  keeps = keeps_call tree (λ q spot h. absurd h) (λ q e h. absurd h) (λ x i h. absurd h) tt tt (called step);
+  files = record { rows = λ id f some. (files_synced step).rows id ∙ some };
+}
+
+-- a look at a path doesn't clash
+pub stat_clash : (p : Elements) (e : HostError) (v w : View) → StatOf p (Err e) v w → e ≡ errors.Clash → ⊥
+stat_clash p errors.Clash v w stat is = stat.tells tt
+stat_clash p errors.Failed v w stat is = absurd (cc is)
+stat_clash p errors.NoMemory v w stat is = absurd (cc is)
 
 -- ---- over the moments
 
@@ -75,9 +108,9 @@ works_start told = stays told (λ u. works_refl) (λ u tree. works_refl)
 pub works_stat : {t p : Elements} {a b c : Option Moments} {r : Result Stat HostError} → IsTold b → Makes (StatOf p r) b c → Always (Works t) a b → Always (Works t) a c
 works_stat told call so_far = goes_on told so_far (makes_goes call) (λ u v w tree r q s. works_on r (works_same s.same)) (λ u v w tree r q s e. works_on r (works_same e.same))
 
-pub works_stage : {a b c : Option Moments} (t p : Elements) (d : List ℕ) (kind : ObjKind) (object : Object) → p ≡ object_path t d kind → IsTold b → Always (Stages p object) b c → Always (Works t) a b → Always (Works t) a c
-works_stage t p d kind object at told inner so_far =
-    goes_on told so_far inner (λ u v w tree r q s. works_on r (staged_works t d kind object (here s))) (λ u v w tree r q s e. works_on r (staged_works t d kind object (here e)))
+pub works_stage : {a b c : Option Moments} (t p : Elements) (d : List ℕ) (kind : ObjKind) (object : Object) → is_digest d ≡ true → p ≡ object_path t d kind → IsTold b → Always (Stages p object) b c → Always (Works t) a b → Always (Works t) a c
+works_stage t p d kind object good at told inner so_far =
+    goes_on told so_far inner (λ u v w tree r q s. works_on r (staged_works t d kind object good (here s))) (λ u v w tree r q s e. works_on r (staged_works t d kind object good (here e)))
   where
     here : {v w : View} → Stages p object v w → Stages (object_path t d kind) object v w
     here {v = v} {w = w} s = subst (λ (q : Elements). Stages q object v w) at s
@@ -85,9 +118,18 @@ works_stage t p d kind object at told inner so_far =
 pub works_within : {t : Elements} {a b c : Option Moments} → IsTold b → Always (Works t) b c → Always (Works t) a b → Always (Works t) a c
 works_within told inner so_far = goes_on told so_far inner (λ u v w tree r q s. works_on r s) (λ u v w tree r q s e. works_on r e)
 
+pub works_looks : {t : Elements} {a b : Option Moments} → IsTold a → Unchanged a b → Always (Works t) a b
+works_looks told still = begins told still.goes (λ u w tree same. works_same same) (λ u w tree same q. works_same same)
+
+pub works_clear : {t : Elements} {a b : Option Moments} → IsTold a → Frame (GoneWithin t) (AbsentWithin t) NoPath a b → Always (Works t) a b
+works_clear told frame = begins told frame.goes (λ u w tree keeps. cleared_works keeps) (λ u w tree keeps q. cleared_works keeps)
+
+pub works_sync : {t : Elements} {a b : Option Moments} {r : Result (Unit {0}) HostError} → IsTold a → Makes (Step syncs r) a b → Always (Works t) a b
+works_sync told call = begins told (makes_goes call) (λ u w tree step. synced_works tree step) (λ u w tree step again. synced_works tree step)
+
 -- ---- lists of objects
 
-abbrev Named : Type 0
+abbrev pub Named : Type 0
 Named = List ℕ × ObjKind
 
 pub in_push : (os : List Named) (o p : Named) → In os p → In (os ++ o ∷ []) p
@@ -198,3 +240,12 @@ keeps_new {t = t} o object kept after told_a told_b good named at call stages wa
     let set : WasStaged (object_path t o.0 o.1) object v w = subst (λ (q : Elements). WasStaged q object v w) at both.1 in
     subst (λ (l : List Named). KeepsOne t url holds o kept l u w) (sym more) (subst (λ (x : View). KeepsOne t url holds o kept (kept ++ o ∷ []) x w) stat.same
     (kept_more o object kept good named there here set (staged_held (object_path t o.0 o.1) object w set.there))))
+
+-- ---- where it may be kept
+
+pub can_stage : {t p : Elements} (d : List ℕ) (kind : ObjKind) (object : Object) {u v : View} → p ≡ object_path t d kind → StatOf p (Ok stats.Absent) u v → CanKeep t d kind object u → CanStage p object v
+can_stage {p = p} d kind object {u = u} at stat can = record {
+  keepable = can.keepable;
+  free = ap (λ (x : View). x.names p) stat.same ∙ stat_absent stat;
+  folders = subst (AreFree (ancestors p)) (sym stat.same) (subst (λ (q : Elements). AreFree (ancestors q) u) (sym at) can.folders);
+}

@@ -1,2 +1,10 @@
 mod Kept
+mod Ready
+mod Given
+mod Apart
 mod Pulled
+mod Taken
+mod Placed
+mod Stored
+mod Whole
+mod Samples

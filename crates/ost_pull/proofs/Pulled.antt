@@ -1,13 +1,13 @@
 -- What a pull leaves.
-use Rattle.std.proofs.Common.{◌≡◌, ◌≢◌, ◌⊎◌, ◌<◌, inl, inr, ℕ, List, [], ◌∷◌, ◌++◌, length, true, None, Option, Some, refl, sym, ◌∙◌, ap, subst, arith, codes, take, drop, length-append}
+use Rattle.std.proofs.Common.{◌≡◌, ◌≢◌, ◌⊎◌, ◌<◌, ◌≤◌, ◌+◌, inl, inr, ℕ, List, [], ◌∷◌, ◌++◌, length, true, None, Option, Some, refl, sym, ◌∙◌, ap, subst, arith, codes, take, drop, length-append}
 use Rattle.fp_host.specs.Paths.{Elements, Slot, absent, dir, file, IsAbove}
 use Rattle.fp_host.specs.View.{View, Inode, IsTree}
 use Rattle.fp_host.specs.Outcome.{Spot, gone, folder, Disk, Leaves, Follows}
 use Rattle.fp_host.specs.Frame.{Keeps, ComesFrom}
-use Rattle.fp_host.proofs.Framed.{keeps_to}
-use Rattle.fp_small.specs.Clear.{IsWithin}
+use Rattle.fp_host.proofs.Framed.{keeps_refl, keeps_to}
+use Rattle.fp_small.specs.Clear.{IsWithin, CanClear}
 use Rattle.fp_small.specs.Files.{KeepsFiles}
-use Rattle.fp_small.proofs.Keeping.{files_on}
+use Rattle.fp_small.proofs.Keeping.{files_on, files_stay}
 use Rattle.fp_small.proofs.Emptying.{above_longer}
 use Rattle.fp_name.specs.Hex.{is_digest, hex}
 use Rattle.fp_base.specs.declared.object.ObjKind.{ObjKind}
@@ -16,13 +16,12 @@ use Rattle.ost_model.specs.Stores.{objects_folder, is_prefix, MayBePrefix, MayBe
 use Rattle.ost_model.proofs.Stores.{store_goes_on}
 use Rattle.ost_store.specs.Place.{LeavesStore}
 use Rattle.ost_store.proofs.Elements.{prefix_is_one}
-use Rattle.ost_pull.specs.Work.{WorksAt, WorksName, Works}
-use Rattle.ost_pull.specs.Pulls.{IsApart, IsNewObject, IsNewName, IsAboveObject, PullsAt, PullsName, Pulls}
+use Rattle.ost_pull.specs.Work.{Works, AreOpen}
+use Rattle.ost_pull.proofs.Apart.{object_within, off_object, off_above, works_off, spot_off, not_both, free_at}
+use Rattle.ost_pull.proofs.Kept.{below_work, above_work}
+use Rattle.ost_pull.specs.Pulls.{IsApart, IsNewObject, IsNewName, PullsAt, PullsName, Pulls}
 
 -- ---- lengths
-
-object_within : (root : Elements) (d : List ℕ) (kind : ObjKind) → IsWithin (objects_folder root) (object_path root d kind)
-object_within root d kind = inr (inr (inl refl))
 
 -- the one name of two elements below a folder that is above the object's own
 one_above : (x y xx : List ℕ) (up : Elements) → IsAbove (xx ∷ up) (x ∷ y ∷ up) → xx ≡ y
@@ -33,12 +32,8 @@ one_above x y xx up (inr (inr higher)) = absurd (omega (arith, above_longer (xx 
 -- ---- a store whose names are true
 
 module _ (root t : Elements) (apart : IsApart root t) (u : View) where
-  work_off : (q : Elements) (spot : Spot) → IsWithin (objects_folder root) q → WorksAt t q spot → ⊥
-  work_off q spot within (inl below) = apart.below q within below
-  work_off q spot within (inr above) = apart.above q within above.0
-
   prefix_may : (xx : List ℕ) (spot : Spot) → PullsAt root t u (xx ∷ objects_folder root) spot → MayBePrefix xx spot
-  prefix_may xx spot (inl work) = absurd (work_off (xx ∷ objects_folder root) spot (inr (inl refl)) work)
+  prefix_may xx spot (inl work) = absurd (spot_off root t apart (xx ∷ objects_folder root) spot (inr (inl refl)) work)
   prefix_may xx spot (inr (inl new)) = absurd (omega (arith, ap length new.at))
   prefix_may xx spot (inr (inr made)) =
       let d = made.0.digest in
@@ -46,7 +41,7 @@ module _ (root t : Elements) (apart : IsApart root t) (u : View) where
       inr (made.1, ap is_prefix one ∙ prefix_is_one d made.0.digits)
 
   object_may : (rest : Elements) (name xx : List ℕ) (spot : Spot) → PullsAt root t u (rest ++ (name ∷ (xx ∷ objects_folder root))) spot → MayBeObject root (rest ++ (name ∷ (xx ∷ objects_folder root))) spot
-  object_may rest name xx spot (inl work) = absurd (work_off (rest ++ (name ∷ (xx ∷ objects_folder root))) spot (deep rest) work)
+  object_may rest name xx spot (inl work) = absurd (spot_off root t apart (rest ++ (name ∷ (xx ∷ objects_folder root))) spot (deep rest) work)
     where
       deep : (r : Elements) → IsWithin (objects_folder root) (r ++ (name ∷ (xx ∷ objects_folder root)))
       deep [] = inr (inr (inl refl))
@@ -76,14 +71,13 @@ pub pulls_names : (root t : Elements) (d : List ℕ) (kind : ObjKind) (u w : Vie
 pulls_names root t d kind u w apart pulls there = elim (pulls.keeps.names (object_path root d kind)) [
   | inl same ↦ same
   | inr put ↦ elim put [
-    | inl work ↦ absurd (work_name _ work)
+    | inl work ↦ absurd (works_off root t apart (object_path root d kind) _ (object_within root d kind) work)
     | inr other ↦ elim other [ inl new ↦ absurd (there new.free) | inr made ↦ absurd (omega (arith, above_longer (object_path root d kind) (object_path root made.0.digest made.0.kind) made.0.above)) ]
   ]
 ]
-  where
-    work_name : (e : Slot) → WorksName t (object_path root d kind) e → ⊥
-    work_name e (inl below) = apart.below (object_path root d kind) (object_within root d kind) below
-    work_name e (inr above) = apart.above (object_path root d kind) (object_within root d kind) above.0
+
+pub pulls_refl : {root t : Elements} {v : View} → Pulls root t v v
+pulls_refl = record { keeps = keeps_refl; files = files_stay }
 
 -- ---- one pull goes on
 
@@ -93,17 +87,13 @@ module _ (root t : Elements) (apart : IsApart root t) {u v : View} (first : Pull
   free_before q d kind at none = elim (first.keeps.names q) [
     | inl same ↦ sym same ∙ none
     | inr put ↦ elim put [
-      | inl work ↦ absurd (by_work work)
+      | inl work ↦ absurd (works_off root t apart q _ within work)
       | inr other ↦ elim other [ inl new ↦ new.free | inr made ↦ absurd (cc (sym none ∙ made.1)) ]
     ]
   ]
     where
       within : IsWithin (objects_folder root) q
       within = subst (IsWithin (objects_folder root)) (sym at) (object_within root d kind)
-
-      by_work : WorksName t q (v.names q) → ⊥
-      by_work (inl below) = apart.below q within below
-      by_work (inr above) = apart.above q within above.0
 
   spot_before : (q : Elements) (spot : Spot) → PullsAt root t v q spot → PullsAt root t u q spot
   spot_before q spot (inl work) = inl work
@@ -140,6 +130,51 @@ module _ (root t : Elements) (apart : IsApart root t) {u v : View} (first : Pull
       printed = second.keeps.printed ∙ first.keeps.printed;
     };
     files = files_on first.files second.files;
+  }
+
+-- ---- what a pull leaves open
+
+module _ (root t : Elements) (apart : IsApart root t) {u w : View} (pulls : Pulls root t u w) where
+  -- folders above the objects' names stay free
+  pub pulls_open : AreOpen root u → AreOpen root w
+  pulls_open before = record {
+    free = λ q above. elim (pulls.keeps.names q) [
+      | inl same ↦ free_at u w q same (before.free q above)
+      | inr put ↦ elim put [
+        | inl work ↦ elim work [
+          | inl name ↦ absurd (off_above root t apart q above (below_work t name.digest name.kind q name.at))
+          | inr other ↦ elim other [ inl made ↦ inr made.1 | inr away ↦ inl away.1 ]
+        ]
+        | inr other ↦ elim other [
+          | inl new ↦ absurd (not_both root q (record { digest = new.digest; kind = new.kind; digits = new.digits; at = new.at }) above)
+          | inr made ↦ inr made.1
+        ]
+      ]
+    ];
+  }
+
+  -- and the work folder may be cleared still
+  pub pulls_clears : length t + 3 ≤ 128 → CanClear t u → CanClear t w
+  pulls_clears low before = record {
+    no_root = before.no_root;
+    below = record {
+      short = λ q below. elim (pulls.keeps.names q) [
+        | inl same ↦ elim (before.below.short q below) [ inl none ↦ inl (same ∙ none) | inr short ↦ inr short ]
+        | inr put ↦ elim put [
+          | inl work ↦ elim work [
+            | inl name ↦ inr (omega (arith, low, ap length name.at))
+            | inr other ↦ elim other [
+              | inl made ↦ inr (omega (arith, low, above_longer q (object_path t made.0.digest made.0.kind) made.0.above))
+              | inr away ↦ inl away.1
+            ]
+          ]
+          | inr other ↦ elim other [
+            | inl new ↦ absurd (off_object root t apart new.digest new.kind (inr (subst (IsAbove t) new.at below)))
+            | inr made ↦ absurd (off_above root t apart q made.0 (inr below))
+          ]
+        ]
+      ];
+    };
   }
 
 -- work alone is a part of a pull

@@ -1,2 +1,4 @@
 pub mod Work
+pub mod Takes
 pub mod Pulls
+pub mod Placing

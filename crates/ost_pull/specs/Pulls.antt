@@ -1,17 +1,23 @@
 -- What a pull does to a host, and what it promises.
-use Rattle.std.specs.Prelude.{◌≡◌, ◌⊎◌, ℕ, List, true, None}
+use Rattle.std.specs.Prelude.{◌≡◌, ◌≢◌, ◌⊎◌, ⊤, ℕ, List, ◌≤◌, ◌+◌, length, map, true, Option, Some, None, Result, Ok, Err, option_map}
 use Rattle.fp_host.specs.Paths.{Elements, Slot, absent, dir, IsAbove}
 use Rattle.fp_host.specs.View.{View}
-use Rattle.fp_host.specs.Outcome.{Spot, folder, Disk, Leaves}
+use Rattle.fp_host.specs.Outcome.{Spot, folder, Disk, Leaves, IsSettled, shows}
 use Rattle.fp_host.specs.Frame.{Keeps}
 use Rattle.fp_name.specs.Hex.{is_digest}
 use Rattle.fp_base.specs.declared.object.ObjKind.{ObjKind}
-use Rattle.fp_small.specs.Clear.{IsWithin}
+use Rattle.fp_small.specs.Clear.{IsWithin, CanClear}
 use Rattle.fp_small.specs.Files.{KeepsFiles}
+use Rattle.fp_small.specs.declared.refusal.Refusal.{Refusal}
 use Rattle.ost_model.specs.Objects.{Have, Named, object_path, store}
-use Rattle.ost_model.specs.Order.{Agree, order, first_fault}
+use Rattle.ost_model.specs.Order.{Agree, In, order, first_fault}
 use Rattle.ost_model.specs.Stores.{objects_folder}
-use Rattle.ost_pull.specs.Work.{WorksAt, WorksName}
+use Rattle.ost_store.specs.Place.{LeavesStore}
+use Rattle.ost_walk.specs.Steps.{place_name}
+use Rattle.ost_head.specs.Ends.{RefusesBy}
+use Rattle.ost_head.specs.Refusals.{refusal_of}
+use Rattle.ost_head.specs.declared.ends.PullEnd.{PullEnd}
+use Rattle.ost_pull.specs.Work.{IsAboveObject, WorksAt, WorksName, AreOpen}
 
 -- the work folder has nothing to do with the objects of the store
 pub record IsApart (root t : Elements) : Type 0 where
@@ -35,14 +41,7 @@ pub record IsNewName (root : Elements) (u : View) (q : Elements) : Type 0 where
   pub at : q ≡ object_path root digest kind
   pub free : u.names q ≡ absent
 
--- a folder above an object's name
-pub record IsAboveObject (root q : Elements) : Type 0 where
-  pub digest : List ℕ
-  pub kind : ObjKind
-  pub digits : is_digest digest ≡ true
-  pub above : IsAbove q (object_path root digest kind)
-
--- What may stand where: anything at and below the work folder, folders above it, new objects of the store, and folders above them.
+-- What may stand where: work in the folder t, new objects of the store, and folders above them.
 abbrev pub PullsAt : Elements → Elements → View → Elements → Spot → Type 0
 PullsAt root t u q spot = WorksAt t q spot ⊎ (IsNewObject root u q spot ⊎ (IsAboveObject root q × (spot ≡ folder)))
 
@@ -54,12 +53,47 @@ pub record Pulls (root t : Elements) (u w : View) : Type 0 where
   pub keeps : Keeps (PullsAt root t u) (PullsName root t u) (IsWithin t) u w
   pub files : KeepsFiles u w
 
--- On Ok: the commit has no fault, and every stop leaves all objects of its order in the store, as they were supplied.
+-- the same, where every stop at the entry leaves a store whose names are true
+abbrev pub PullsSoundly : Elements → Elements → View → View → Type 0
+PullsSoundly root t u w = LeavesStore root u → Pulls root t u w
+
+-- the commit has no fault, and every stop leaves all objects of its order in the store, as they were supplied
 pub record HasPulled (root : Elements) (have : Have) (commit : List ℕ) (w : View) : Type 0 where
   pub clean : first_fault have commit ≡ None
   pub stored : (disk : Disk) → Leaves w disk → Agree have (store root disk) (order have commit)
 
--- Where it is refused: nothing is left of the work, and names are as before, but for folders.
-pub record WasRefused (root t : Elements) (u w : View) : Type 0 where
+-- the object is none of the commit's
+abbrev pub IsNoneOf : Have → List ℕ → List ℕ × ObjKind → Type 0
+IsNoneOf have commit o = In (map place_name (order have commit)) o → ⊥
+
+-- On Ok: it has pulled, each object that stood in the store stands as before, so does what stands at the names of objects that aren't
+-- the commit's, nothing is left of the work, and every stop leaves what stands.
+pub record WasPulled (root t : Elements) (have : Have) (commit : List ℕ) (u w : View) : Type 0 where
+  pub pulled : HasPulled root have commit w
+  pub stood : (d : List ℕ) (kind : ObjKind) → is_digest d ≡ true → store root (shows u) d kind ≢ None → store root (shows w) d kind ≡ store root (shows u) d kind
+  pub others : (d : List ℕ) (kind : ObjKind) → is_digest d ≡ true → IsNoneOf have commit (d, kind) → w.names (object_path root d kind) ≡ u.names (object_path root d kind)
   pub gone : (q : Elements) → IsWithin t q → w.names q ≡ absent
-  pub names : (q : Elements) → (w.names q ≡ u.names q) ⊎ (IsWithin t q ⊎ ((IsAbove q t ⊎ IsAboveObject root q) × (w.names q ≡ dir)))
+  pub settled : IsSettled w
+
+-- Where it is refused: nothing is left of the work, and names are as before, but for folders above it.
+pub record WasRefused (t : Elements) (u w : View) : Type 0 where
+  pub gone : (q : Elements) → IsWithin t q → w.names q ≡ absent
+  pub names : (q : Elements) → (w.names q ≡ u.names q) ⊎ (IsWithin t q ⊎ (IsAbove q t × (w.names q ≡ dir)))
+
+-- the refusal of the commit's first fault
+abbrev pub first_refusal : Have → List ℕ → Option Refusal
+first_refusal have commit = option_map (λ f. refusal_of f.0.digest f.0.kind f.1) (first_fault have commit)
+
+-- exactly this is refused
+abbrev pub Refuses : {A : Type 0} → Option Refusal → Result A PullEnd → Type 0
+Refuses first (Ok a) = first ≡ None
+Refuses first (Err end) = RefusesBy (λ r. first ≡ Some r) end
+
+-- Where a pull may be done: every stop leaves a store whose names are true, the work folder isn't the root and not too deep, nor is
+-- what stands below it, and what is above it and above the objects' names is absent or a folder.
+pub record CanPull (root t : Elements) (v : View) : Type 0 where
+  pub true_names : LeavesStore root v
+  pub low : length t + 3 ≤ 128
+  pub clears : CanClear t v
+  pub work_open : (q : Elements) → IsAbove q t → (v.names q ≡ absent) ⊎ (v.names q ≡ dir)
+  pub store_open : AreOpen root v

@@ -1,5 +1,5 @@
 -- Objects that are kept in a work folder, laid out as those of a store, until all of them are judged.
-use Rattle.std.specs.Prelude.{◌≡◌, ◌⊎◌, ◌*◌, ℕ, List, [], ◌∷◌, true, Option, Some, None}
+use Rattle.std.specs.Prelude.{◌≡◌, ◌⊎◌, ◌*◌, ℕ, List, [], ◌∷◌, ◌++◌, true, Option, Some, None}
 use Rattle.fp_host.specs.Paths.{Elements, Slot, absent, dir, IsAbove}
 use Rattle.fp_host.specs.View.{View}
 use Rattle.fp_host.specs.Outcome.{Spot, folder}
@@ -7,25 +7,44 @@ use Rattle.fp_host.specs.Frame.{Keeps}
 use Rattle.fp_host.specs.Remote.{Holdings}
 use Rattle.fp_name.specs.Hex.{is_digest}
 use Rattle.fp_base.specs.declared.object.ObjKind.{ObjKind}
-use Rattle.fp_small.specs.Clear.{IsWithin}
+use Rattle.fp_small.specs.Clear.{IsWithin, GoneWithin, AbsentWithin}
 use Rattle.fp_small.specs.Files.{KeepsFiles}
+use Rattle.fp_small.specs.Folders.{IsFree, ancestors, AreFree}
 use Rattle.ost_model.specs.declared.object.Object.{Object}
 use Rattle.ost_model.specs.Objects.{object_path, name_fault}
 use Rattle.ost_model.specs.Order.{In}
-use Rattle.ost_store.specs.Stage.{IsHeld}
+use Rattle.ost_store.specs.Stage.{IsHeld, IsKeepable}
 use Rattle.ost_head.specs.Found.{RemoteHas}
 
--- anything at the folder's path and below, and folders above it
+-- the path is an object's name in the store at root
+pub record IsObjectName (root q : Elements) : Type 0 where
+  pub digest : List ℕ
+  pub kind : ObjKind
+  pub digits : is_digest digest ≡ true
+  pub at : q ≡ object_path root digest kind
+
+-- a folder above an object's name
+pub record IsAboveObject (root q : Elements) : Type 0 where
+  pub digest : List ℕ
+  pub kind : ObjKind
+  pub digits : is_digest digest ≡ true
+  pub above : IsAbove q (object_path root digest kind)
+
+-- What may stand where: anything at the objects' names below the folder t, folders above these, and nothing at t and below.
 abbrev pub WorksAt : Elements → Elements → Spot → Type 0
-WorksAt t q spot = IsWithin t q ⊎ (IsAbove q t × (spot ≡ folder))
+WorksAt t q spot = IsObjectName t q ⊎ ((IsAboveObject t q × (spot ≡ folder)) ⊎ GoneWithin t q spot)
 
 abbrev pub WorksName : Elements → Elements → Slot → Type 0
-WorksName t q e = IsWithin t q ⊎ (IsAbove q t × (e ≡ dir))
+WorksName t q e = IsObjectName t q ⊎ ((IsAboveObject t q × (e ≡ dir)) ⊎ AbsentWithin t q e)
 
 -- Work in the folder. Only new files get bytes.
 pub record Works (t : Elements) (u w : View) : Type 0 where
   pub keeps : Keeps (WorksAt t) (WorksName t) (IsWithin t) u w
   pub files : KeepsFiles u w
+
+-- each folder above an object's name is there, or it may be made
+pub record AreOpen (root : Elements) (v : View) : Type 0 where
+  pub free : (q : Elements) → IsAboveObject root q → IsFree v q
 
 -- the folder keeps the object, which is the one that its digest names and that the remote has
 pub record IsKept (t : Elements) (url : List ℕ) (holds : Option Holdings) (o : List ℕ × ObjKind) (v : View) : Type 0 where
@@ -50,6 +69,11 @@ pub record AreKept (t : Elements) (url : List ℕ) (holds : Option Holdings) (ke
 pub record KeepsOne (t : Elements) (url : List ℕ) (holds : Option Holdings) (o : List ℕ × ObjKind) (before after : List (List ℕ × ObjKind)) (u w : View) : Type 0 where
   pub on : AreKept t url holds before u → AreKept t url holds after w × In after o
 
--- what was noted goes on being noted
-pub record Extends (before after : List (List ℕ × ObjKind)) : Type 0 where
-  pub more : (o : List ℕ × ObjKind) → In before o → In after o
+-- the object was noted, or nothing was
+abbrev pub Adds : List ℕ × ObjKind → List (List ℕ × ObjKind) → List (List ℕ × ObjKind) → Type 0
+Adds o before after = (after ≡ before) ⊎ (after ≡ before ++ o ∷ [])
+
+-- where the object may be kept: it may stand in a store, and the folders above its name are there or may be made
+pub record CanKeep (t : Elements) (d : List ℕ) (kind : ObjKind) (object : Object) (v : View) : Type 0 where
+  pub keepable : IsKeepable object
+  pub folders : AreFree (ancestors (object_path t d kind)) v

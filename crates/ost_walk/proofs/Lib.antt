@@ -6,3 +6,4 @@ mod Walked
 mod Quiet
 mod Followed
 mod Kept
+mod Surveyed

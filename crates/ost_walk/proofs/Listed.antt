@@ -6,8 +6,9 @@ use Rattle.std.proofs.lemmas.Bool.{leb-false}
 use Rattle.fp_base.specs.declared.object.ObjKind.{ObjKind}
 use Rattle.fp_base.specs.declared.object.ObjKind.TheVariants as kinds
 use Rattle.ost_model.specs.Fields.{FileRow}
-use Rattle.ost_model.specs.Objects.{Have, Fault, or_else, too_many, too_deep}
-use Rattle.ost_model.specs.Order.{Place, file_place, file_places, first_of, found_at, walk_fault, limited}
+use Rattle.std.specs.Prelude.{Result, Err, option_map}
+use Rattle.ost_model.specs.Objects.{Have, Fault, or_else, object_fault, too_many, too_deep}
+use Rattle.ost_model.specs.Order.{Place, file_place, file_places, first_of, found_at, place_fault, walk_fault, limited}
 use Rattle.ost_model.proofs.Pending.{first_append}
 use Rattle.ost_object.specs.declared.dirtree.FileEntry.{FileEntry}
 use Rattle.ost_object.specs.Views.{file_row}
@@ -18,6 +19,8 @@ use Rattle.ost_walk.specs.declared.ends.WalkEnd.{WalkEnd}
 use Rattle.ost_walk.specs.declared.ends.WalkEnd.TheVariants as ends
 use Rattle.ost_walk.specs.Ends.{IsLimit, IsFirst, RefusesBy, fault_of}
 use Rattle.ost_walk.specs.Steps.{AreListed, limit_of, place_name}
+use Rattle.ost_walk.specs.Surveys.{named_fault, first_bad, StopsAmong}
+use Rattle.ost_walk.proofs.Surveyed.{named_append}
 
 -- ---- limits
 
@@ -95,6 +98,23 @@ module _ {have : Have} {depth : ℕ} {rows : List FileRow} {done done' : List (L
         ∙ ap (λ (k : ObjKind). Some (record { digest = w.digest; kind = k; depth = depth }, fault_of w.fault)) (sym is.kind_is);
   }
 
+  -- so the walk of the files stops there
+  pub one_stopped : (f : FileRow) (more : List FileRow) {w : WalkFault} → IsLimit f.digest kinds.File (limit_of (length done') depth) w → StopsAmong have (length done) (file_places depth (rows ++ f ∷ more)) done done' w
+  one_stopped f more {w = w} is = record {
+    is_first = one_refused f more is;
+    new = map place_name (file_places depth rows);
+    rest = map place_name (file_places depth (f ∷ more));
+    names = so_far.names;
+    front = ap (map place_name) (places_append depth rows (f ∷ more)) ∙ map-append place_name (file_places depth rows) (file_places depth (f ∷ more));
+    named = ap (λ l. option_map named_fault (first_of (place_fault have) (length done) l)) (places_append depth rows (f ∷ more))
+        ∙ named_append have (length done) (length done') (file_places depth rows) (file_places depth (f ∷ more)) long so_far.good
+        ∙ ap (λ found. or_else (first_bad have (map place_name (file_places depth rows))) (option_map named_fault found))
+        (first_found (place_fault have) (length done') (file_place depth f) (file_places depth more) (fault_of w.fault)
+        (past_limits (length done') (file_place depth f) (object_fault f.digest kinds.File (have f.digest kinds.File)) w.fault is.limit_is))
+        ∙ ap (λ (d : List ℕ). or_else (first_bad have (map place_name (file_places depth rows))) (Some ((d, kinds.File), fault_of w.fault))) (sym is.digest)
+        ∙ ap (λ (k : ObjKind). or_else (first_bad have (map place_name (file_places depth rows))) (Some ((w.digest, k), fault_of w.fault))) (sym is.kind_is);
+  }
+
 -- ---- over a list of entries
 
 rows_split : (files : List FileEntry) (i : ℕ) (f : FileEntry) → i < length files → f ≡ get_or files i f → map file_row files ≡ map file_row (take i files) ++ file_row f ∷ map file_row (drop (suc i) files)
@@ -112,18 +132,23 @@ next_listed {have = have} {depth = depth} files i f {done = done} {done'' = done
     ap (λ (k : ℕ). map file_row (take k files)) more ∙ ap (map file_row) (take-suc files i f low ∙ ap (λ (g : FileEntry). take i files ++ g ∷ []) (sym is)) ∙ map-append file_row (take i files) (f ∷ []) in
     subst (λ (l : List FileRow). AreListed have depth l done done'') (sym took) (one_listed so_far (file_row f) done'' none added)
 
-pub next_refused : {have : Have} {depth : ℕ} (files : List FileEntry) (i : ℕ) (f : FileEntry) {done done' : List (List ℕ × ObjKind)} {w : WalkFault} → i < length files → f ≡ get_or files i f
-    → AreListed have depth (map file_row (take i files)) done done' → IsLimit f.digest kinds.File (limit_of (length done') depth) w → IsFirst (first_of (walk_fault have) (length done) (file_places depth (map file_row files))) w
-next_refused {have = have} {depth = depth} files i f {done = done} {w = w} low is so_far stops =
-    subst (λ (l : List FileRow). IsFirst (first_of (walk_fault have) (length done) (file_places depth l)) w) (sym (rows_split files i f low is)) (one_refused so_far (file_row f) (map file_row (drop (suc i) files)) stops)
+pub next_refused : {have : Have} {depth : ℕ} (files : List FileEntry) (i : ℕ) (f : FileEntry) {done done' done'' : List (List ℕ × ObjKind)} {w : WalkFault} → i < length files → f ≡ get_or files i f
+    → AreListed have depth (map file_row (take i files)) done done' → IsLimit f.digest kinds.File (limit_of (length done') depth) w → done'' ≡ done'
+    → StopsAmong have (length done) (file_places depth (map file_row files)) done done'' w
+next_refused {have = have} {depth = depth} files i f {done = done} {done'' = done''} {w = w} low is so_far stops same =
+    subst (λ (l : List FileRow). StopsAmong have (length done) (file_places depth l) done done'' w) (sym (rows_split files i f low is))
+    (subst (λ (l : List (List ℕ × ObjKind)). StopsAmong have (length done) (file_places depth (map file_row (take i files) ++ file_row f ∷ map file_row (drop (suc i) files))) done l w) (sym same)
+    (one_stopped so_far (file_row f) (map file_row (drop (suc i) files)) stops))
 
 pub all_listed : {have : Have} {depth : ℕ} (files : List FileEntry) {done done' : List (List ℕ × ObjKind)} (i : ℕ) → length files ≡ i → AreListed have depth (map file_row (take i files)) done done' → AreListed have depth (map file_row files) done done'
 all_listed {have = have} {depth = depth} files {done = done} {done' = done'} i is so_far = subst (λ (l : List FileEntry). AreListed have depth (map file_row l) done done') (ap (λ (k : ℕ). take k files) (sym is) ∙ take-length files) so_far
 
 -- where one of them is refused
-pub stopped : {have : Have} {depth : ℕ} (files : List FileEntry) (i : ℕ) (f : FileEntry) {done done' : List (List ℕ × ObjKind)} (end : WalkEnd) → i < length files → f ≡ get_or files i f
-    → AreListed have depth (map file_row (take i files)) done done' → RefusesBy (IsLimit f.digest kinds.File (limit_of (length done') depth)) end → RefusesBy (IsFirst (first_of (walk_fault have) (length done) (file_places depth (map file_row files)))) end
-stopped files i f (ends.Refused w) low is so_far r = next_refused files i f low is so_far r
-stopped files i f ends.HostFault low is so_far r = tt
-stopped files i f ends.RemoteFault low is so_far r = tt
-stopped files i f ends.NoMemory low is so_far r = tt
+pub stopped : {have : Have} {depth : ℕ} (files : List FileEntry) (i : ℕ) (f : FileEntry) {done done' done'' : List (List ℕ × ObjKind)} (end : WalkEnd) → i < length files → f ≡ get_or files i f
+    → AreListed have depth (map file_row (take i files)) done done' → RefusesBy (IsLimit f.digest kinds.File (limit_of (length done') depth)) end
+    → ((w : WalkFault) → ◌≡◌ {A = Result (Unit {0}) WalkEnd} (Err end) (Err (ends.Refused w)) → done'' ≡ done')
+    → RefusesBy (StopsAmong have (length done) (file_places depth (map file_row files)) done done'') end
+stopped files i f (ends.Refused w) low is so_far r same = next_refused files i f low is so_far r (same w refl)
+stopped files i f ends.HostFault low is so_far r same = tt
+stopped files i f ends.RemoteFault low is so_far r same = tt
+stopped files i f ends.NoMemory low is so_far r same = tt

@@ -1,21 +1,24 @@
 -- A directory that is walked.
-use Rattle.std.proofs.Common.{◌≡◌, ◌≤◌, ◌+◌, ℕ, suc, List, [], ◌∷◌, ◌++◌, length, map, None, refl, sym, ◌∙◌, ap, subst, append_assoc, append-nil, length-append}
-use Rattle.std.specs.Prelude.{reverse}
+use Rattle.std.proofs.Common.{◌≡◌, ◌≤◌, ◌+◌, ℕ, suc, List, [], ◌∷◌, ◌++◌, length, map, Option, Some, None, refl, sym, ◌∙◌, ap, subst, append_assoc, append-nil, length-append, arith}
+use Rattle.std.specs.Prelude.{reverse, option_map}
 use Rattle.std.proofs.lemmas.List.{map-append, length-map, reverse-append, reverse-reverse}
 use Rattle.fp_base.specs.declared.object.ObjKind.{ObjKind}
 use Rattle.fp_base.specs.declared.object.ObjKind.TheVariants as kinds
 use Rattle.ost_model.specs.Fields.{DirRow, TreeView}
 use Rattle.ost_model.specs.Objects.{Have, or_else}
-use Rattle.ost_model.specs.Order.{Place, found_at, commit_place, below_commit, commit_at, file_places, first_of, first_walk_fault, walk_fault}
+use Rattle.ost_model.specs.Order.{Place, found_at, commit_place, below_commit, commit_at, file_places, order, first_of, first_walk_fault, place_fault, walk_fault}
 use Rattle.ost_model.specs.Walk.{Open, open_at, open_places, pending, opened, heads, own_places, Walked}
-use Rattle.ost_model.proofs.Pending.{first_append, with_heads, as_read, walked_dir, walked_end, walked_fault}
+use Rattle.ost_model.proofs.Pending.{first_append, with_heads, as_read, walked_dir, walked_fault}
 use Rattle.ost_walk.specs.declared.dirs.Dir.{Dir}
 use Rattle.ost_walk.specs.declared.ends.WalkEnd.{WalkEnd}
 use Rattle.ost_walk.specs.declared.ends.WalkEnd.TheVariants as ends
 use Rattle.ost_walk.proofs.Checked.{fault_first}
+use Rattle.ost_walk.proofs.Surveyed.{heads_stop, stops_before, stops_after}
 use Rattle.ost_walk.specs.Dirs.{child}
 use Rattle.ost_walk.specs.Ends.{RefusesBy, IsFirst, IsFaultOf}
-use Rattle.ost_walk.specs.Steps.{AreListed, IsRoot, IsOrder, own_fault, IsOpened, IsWalked, IsOnTheWay, heads_fault, heads_of, dir_fault, open_of, opens, place_name}
+use Rattle.ost_walk.specs.Surveys.{named_fault, first_bad, told_fault, StopsAmong, StopsIn}
+use Rattle.ost_walk.specs.declared.ends.WalkFault.{WalkFault}
+use Rattle.ost_walk.specs.Steps.{AreListed, IsRoot, own_fault, IsOpened, IsWalked, IsOnTheWay, heads_fault, heads_of, open_of, opens, place_name}
 
 -- ---- the places of a directory
 
@@ -25,16 +28,16 @@ module _ (have : Have) (n : ℕ) (dir : Dir) where
   heads_then ps = first_append (walk_fault have) n (heads (open_of dir)) ps
 
   -- a fault of the two is the first of the directory
-  pub heads_first : (end : WalkEnd) → RefusesBy (IsFirst (heads_fault have n dir)) end → RefusesBy (IsFirst (dir_fault have n dir)) end
-  heads_first (ends.Refused w) is =
+  pub heads_first : (done : List (List ℕ × ObjKind)) (end : WalkEnd) → RefusesBy (IsFirst (heads_fault have n dir)) end → RefusesBy (StopsAmong have n (open_places have (open_of dir)) done done) end
+  heads_first done (ends.Refused w) is =
       let split = with_heads have (open_of dir) in
-      record {
+      heads_stop have n dir done w (record {
         depth = is.depth;
         is = ap (first_of (walk_fault have) n) split.1 ∙ heads_then split.0 ∙ ap (λ f. or_else f (first_of (walk_fault have) (n + 2) split.0)) is.is;
-      }
-  heads_first ends.HostFault is = tt
-  heads_first ends.RemoteFault is = tt
-  heads_first ends.NoMemory is = tt
+      }) is
+  heads_first done ends.HostFault is = tt
+  heads_first done ends.RemoteFault is = tt
+  heads_first done ends.NoMemory is = tt
 
   module _ (view : TreeView) (low : dir.depth ≤ 64) (is_opened : IsOpened have n dir view) where
     abbrev below : List Place
@@ -43,21 +46,19 @@ module _ (have : Have) (n : ℕ) (dir : Dir) where
     all_places : open_places have (open_of dir) ≡ heads (open_of dir) ++ (file_places dir.depth view.files ++ below)
     all_places = sym (append-nil (open_places have (open_of dir))) ∙ as_read have (open_of dir) view [] low is_opened.read
 
-    files_then : (m : ℕ) → m ≡ n + 2 → dir_fault have n dir ≡ or_else (first_of (walk_fault have) m (file_places dir.depth view.files)) (first_of (walk_fault have) (m + length (file_places dir.depth view.files)) below)
-    files_then m at = ap (first_of (walk_fault have) n) all_places ∙ heads_then (file_places dir.depth view.files ++ below)
-        ∙ ap (λ f. or_else f (first_of (walk_fault have) (n + 2) (file_places dir.depth view.files ++ below))) is_opened.good
-        ∙ ap (λ (k : ℕ). first_of (walk_fault have) k (file_places dir.depth view.files ++ below)) (sym at)
-        ∙ first_append (walk_fault have) m (file_places dir.depth view.files) below
-
     -- and so is a fault of its files
-    pub files_first : (m : ℕ) (end : WalkEnd) → m ≡ n + 2 → RefusesBy (IsFirst (first_of (walk_fault have) m (file_places dir.depth view.files))) end → RefusesBy (IsFirst (dir_fault have n dir)) end
-    files_first m (ends.Refused w) at is = record {
-      depth = is.depth;
-      is = files_then m at ∙ ap (λ f. or_else f (first_of (walk_fault have) (m + length (file_places dir.depth view.files)) below)) is.is;
-    }
-    files_first m ends.HostFault at is = tt
-    files_first m ends.RemoteFault at is = tt
-    files_first m ends.NoMemory at is = tt
+    pub files_first : (m : ℕ) (done done' done'' : List (List ℕ × ObjKind)) (end : WalkEnd) → m ≡ n + 2 → done' ≡ done ++ heads_of dir → RefusesBy (StopsAmong have m (file_places dir.depth view.files) done' done'') end
+        → RefusesBy (StopsAmong have n (open_places have (open_of dir)) done done'') end
+    files_first m done done' done'' (ends.Refused w) at first s =
+        let in_files = stops_before below (record { depth = s.is_first.depth; is = first_append (walk_fault have) m (file_places dir.depth view.files) below ∙ ap (λ f. or_else f (first_of (walk_fault have) (m + length (file_places dir.depth view.files)) below)) s.is_first.is }) s in
+        subst (λ l. StopsAmong have n l done done'' w) (sym all_places) (stops_after (heads (open_of dir)) at is_opened.good first (record {
+          depth = in_files.is_first.depth;
+          is = heads_then (file_places dir.depth view.files ++ below) ∙ ap (λ f. or_else f (first_of (walk_fault have) (n + 2) (file_places dir.depth view.files ++ below))) is_opened.good
+              ∙ ap (λ (k : ℕ). first_of (walk_fault have) k (file_places dir.depth view.files ++ below)) (sym at) ∙ in_files.is_first.is;
+        }) in_files)
+    files_first m done done' done'' ends.HostFault at first s = tt
+    files_first m done done' done'' ends.RemoteFault at first s = tt
+    files_first m done done' done'' ends.NoMemory at first s = tt
 
 -- ---- the work list
 
@@ -106,15 +107,26 @@ module _ {have : Have} {commit : List ℕ} {done : List (List ℕ × ObjKind)} (
       }
 
   -- a fault of this directory is the first of the order
-  pub fault_found : (end : WalkEnd) → RefusesBy (IsFirst (dir_fault have (length done) dir)) end → RefusesBy (IsFirst (first_walk_fault have commit)) end
-  fault_found (ends.Refused w) is = record {
-    depth = is.depth;
-    is = walked_fault (open_places have (open_of dir)) (pending have (opens left)) way.walked (ap (pending have) next_is)
-        (ap (λ (n : ℕ). first_of (walk_fault have) n (open_places have (open_of dir))) placed ∙ is.is);
-  }
-  fault_found ends.HostFault is = tt
-  fault_found ends.RemoteFault is = tt
-  fault_found ends.NoMemory is = tt
+  pub fault_found : (done' : List (List ℕ × ObjKind)) (end : WalkEnd) → RefusesBy (StopsAmong have (length done) (open_places have (open_of dir)) done done') end → RefusesBy (StopsIn have commit done') end
+  fault_found done' (ends.Refused w) s =
+      let places = open_places have (open_of dir) in
+      let more = pending have (opens left) in
+      let same : order have commit ≡ way.places ++ (places ++ more) = way.walked.same ∙ ap (λ l. way.places ++ pending have l) next_is in
+      let first : IsFirst (first_walk_fault have commit) w = record {
+        depth = s.is_first.depth;
+        is = walked_fault places more way.walked (ap (pending have) next_is) (ap (λ (n : ℕ). first_of (walk_fault have) n places) placed ∙ s.is_first.is);
+      } in
+      let here = stops_before more (record { depth = s.is_first.depth; is = first_append (walk_fault have) (length done) places more ∙ ap (λ f. or_else f (first_of (walk_fault have) (length done + length places) more)) s.is_first.is }) s in
+      let all = stops_after way.places {done = []} (omega (arith, placed)) way.walked.clean way.names (record { depth = first.depth; is = ap (first_of (walk_fault have) 0) (sym same) ∙ first.is }) here in
+      record {
+        is_first = first;
+        rest = all.rest;
+        front = ap (map place_name) same ∙ all.front ∙ ap (λ (l : List (List ℕ × ObjKind)). l ++ all.rest) (sym all.names);
+        named = ap (λ l. option_map named_fault (first_of (place_fault have) 0 l)) same ∙ all.named ∙ ap (λ (l : List (List ℕ × ObjKind)). or_else (first_bad have l) (Some (told_fault w))) (sym all.names);
+      }
+  fault_found done' ends.HostFault is = tt
+  fault_found done' ends.RemoteFault is = tt
+  fault_found done' ends.NoMemory is = tt
 
 -- the start
 at_start : {have : Have} {commit : List ℕ} (dir : Dir) → IsRoot have commit dir → IsOnTheWay have commit ((commit, kinds.Commit) ∷ []) (dir ∷ [])
@@ -131,10 +143,6 @@ at_start {have = have} {commit = commit} dir root = record {
 -- a fault of the commit is the first of the order
 pub commit_first : (have : Have) (commit : List ℕ) (end : WalkEnd) → RefusesBy (IsFaultOf commit kinds.Commit (own_fault have commit kinds.Commit)) end → RefusesBy (IsFirst (first_walk_fault have commit)) end
 commit_first have commit end is = fault_first (walk_fault have) 0 (commit_place commit) (below_commit have (commit_at have commit)) end is
-
--- the end
-pub at_end : {have : Have} {commit : List ℕ} {done : List (List ℕ × ObjKind)} → IsOnTheWay have commit done [] → IsOrder have commit done
-at_end way = let all = walked_end way.walked in record { names = way.names ∙ ap (map place_name) all.0; good = all.1 }
 
 pub started : {have : Have} {commit : List ℕ} (dir : Dir) {done : List (List ℕ × ObjKind)} {left : List Dir} → done ≡ (commit, kinds.Commit) ∷ [] → left ≡ dir ∷ [] → IsRoot have commit dir → IsOnTheWay have commit done left
 started {have = have} {commit = commit} dir {left = left} first alone root =

@@ -3,3 +3,4 @@ pub mod Steps
 pub mod Dirs
 pub mod Looked
 pub mod UsedList
+pub mod Surveys

@@ -13,7 +13,7 @@ ghost use Rattle.ost_walk.specs.UsedList.{Puts, PutsAll, PutsOrder, AreUsed, IsU
 
 use crate::ends::{ObjectFault, WalkEnd, WalkFault};
 use crate::places::Places;
-use crate::walking::order;
+use crate::surveying::order;
 use fp_base::{Items, ObjKind};
 use fp_host::{Host, NoRemotes, Path};
 use fp_name::Digest;

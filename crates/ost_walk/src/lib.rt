@@ -14,6 +14,8 @@ mod looking;
 mod places;
 mod reading;
 mod remote;
+mod surveying;
+mod surveys;
 mod walking;
 
 pub use ends::{ObjectFault, WalkEnd, WalkFault};
@@ -21,4 +23,5 @@ pub use found::Found;
 pub use gathering::used;
 pub use looking::look;
 pub use places::Places;
-pub use walking::order;
+pub use surveying::{order, survey};
+pub use surveys::Survey;

@@ -1,11 +1,14 @@
 //! The objects of one directory, put in order.
-ghost use Rattle.std.specs.Prelude.{◌≡◌, ◌≤◌, ◌+◌, ◌++◌, ◌∷◌, [], map, length, None, OnOk};
+ghost use Rattle.std.specs.Prelude.{◌≡◌, ◌≤◌, ◌+◌, ◌++◌, ◌∷◌, [], map, length, None, OnOk, IsErrOf};
 ghost use Rattle.fp_base.specs.declared.object.ObjKind.TheVariants as kinds;
 ghost use Rattle.ost_model.specs.Objects.{Have};
-ghost use Rattle.ost_model.specs.Order.{first_of, walk_fault, file_places};
+ghost use Rattle.ost_model.specs.Order.{file_places};
+ghost use Rattle.ost_model.specs.Walk.{open_places};
 ghost use Rattle.ost_object.specs.Views.{file_row, tree_view};
-ghost use Rattle.ost_walk.specs.Ends.{EndsBy, IsFirst, IsLimit, NoFault};
-ghost use Rattle.ost_walk.specs.Steps.{AreListed, IsOpened, IsWalked, heads_of, dir_fault, limit_of};
+ghost use Rattle.ost_walk.specs.Ends.{EndsBy, IsLimit, NoFault};
+ghost use Rattle.ost_walk.specs.Steps.{AreListed, IsOpened, IsWalked, heads_of, limit_of, open_of};
+ghost use Rattle.ost_walk.specs.Surveys.{StopsAmong};
+ghost use Rattle.ost_walk.specs.declared.ends.WalkFault.{WalkFault};
 
 use crate::dirs::{Dir, add_dirs};
 use crate::ends::{WalkEnd, refused};
@@ -20,6 +23,8 @@ use std::alloc::AllocError;
 fn add_file(digest: &Digest, depth: u32, done: &mut Vec<(Digest, ObjKind)>) -> Result<(), WalkEnd>
     ensures tells { EndsBy (λ _. limit_of (length done.old.items) depth ≡ None)
         (λ w. IsLimit digest.now kinds.File (limit_of (length done.old.items) depth) w) result }
+    ensures refused_unchanged { (w : WalkFault) → IsErrOf result (WalkEnd.Refused w)
+        → done.new.items ≡ done.old.items }
     ensures on_success { OnOk result (done.new.items ≡ done.old.items ++ (digest.now, kinds.File) ∷
         []) }
     ensures most { OnOk result (length done.new.items ≤ 200000) }
@@ -40,7 +45,7 @@ fn add_files(
 ) -> Result<(), WalkEnd>
     ensures tells { (have : Have) → EndsBy (λ _. AreListed have depth (map file_row files.now)
         done.old.items done.new.items)
-        (IsFirst (first_of (walk_fault have) (length done.old.items) (file_places depth (map file_row files.now)))) result }
+        (StopsAmong have (length done.old.items) (file_places depth (map file_row files.now)) done.old.items done.new.items) result }
     ensures more { OnOk result (length done.old.items ≤ length done.new.items) }
     ensures most { length done.old.items ≤ 200000 → OnOk result (length done.new.items ≤ 200000) }
     ensures faults { NoFault result }
@@ -74,7 +79,7 @@ pub(crate) fn list_dir(
     requires { limit_of (length done.old.items + 1) dir.now.depth ≡ None }
     ensures tells { (have : Have) → IsOpened have (length done.old.items) dir.now
         (tree_view tree.now)
-        → EndsBy (λ _. IsWalked have dir.now done.old.items done.new.items left.old.items left.new.items) (IsFirst (dir_fault have (length done.old.items) dir.now)) result }
+        → EndsBy (λ _. IsWalked have dir.now done.old.items done.new.items left.old.items left.new.items) (StopsAmong have (length done.old.items) (open_places have (open_of dir.now)) done.old.items done.new.items) result }
     ensures more { OnOk result (length done.old.items + 2 ≤ length done.new.items) }
     ensures most { OnOk result (length done.new.items ≤ 200000) }
     ensures faults { NoFault result }

@@ -1,14 +1,10 @@
-use Rattle.std.proofs.Common.{Ok, sym, subst, ap, ◌∙◌}
-use Rattle.fp_host.specs.Moments.{Goes}
-use Rattle.fp_small.specs.declared.state.Layout.{Layout}
+use Rattle.std.proofs.Common.{sym, ap, ◌∙◌}
 use Rattle.fp_small.specs.declared.state.State.{State}
-use Rattle.fl_top.specs.Answer.{migrating}
-use Rattle.fl_top.specs.Performs.{Performs, Performed}
-use Rattle.fl_top.proofs.Composing.{goes_idle}
+use Rattle.fl_top.proofs.Composing.{goes_idle, goes_migrated}
 use Rattle.fl_top.proofs.change.migrate.Goals as goal
 
 pub returns-in-Two-clause-any_moment : goal.returns-in-Two-clause-any_moment
-returns-in-Two-clause-any_moment g c =
-    let host = g.H.Host.moments c.args.host.now in
-    let s = c.args.opened in
-    subst (λ (l : Layout). Goes host host (Performs (migrating l) s) (Performed (migrating l) s (Ok s))) (sym c.in-Two.is ∙ ap (λ (x : State). x.layout) c.state.ensures) (goes_idle s (g.met.H.Host.is_tree c.args.host.now))
+returns-in-Two-clause-any_moment g c = λ holds. goes_idle holds c.args.opened (ap (λ (x : State). x.layout) (sym c.state.ensures) ∙ c.in-Two.is) (g.met.H.Host.is_tree c.args.host.now)
+
+pub returns-in-One-clause-any_moment : goal.returns-in-One-clause-any_moment
+returns-in-One-clause-any_moment g c = λ holds. goes_migrated holds c.args.opened c.do_op.result (ap (λ (x : State). x.layout) (sym c.state.ensures) ∙ c.in-One.is) (g.met.H.Host.is_tree c.args.host.now) (c.do_op.ensures.any_moment holds)

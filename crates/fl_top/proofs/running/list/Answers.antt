@@ -13,10 +13,10 @@ pub returns-in_err-say-clause-any_moment : goal.returns-in_err-say-clause-any_mo
 returns-in_err-say-clause-any_moment g c =
     let t = g.met.H.Host.is_tree in
     let said : c.as_bytes.result.now ≡ listed_text c.args.listing c.in_ok-state.state = search rules in
-    goes_not_told (listed c.args.listing) c.in_ok-state.state _ c.in_err-say.field-0.0 c.from_residual-in_err-say.result (t c.args.host.now) (t c.read_state.new.host) c.read_state.ensures.unchanged c.in_ok-state.ensures.tells (ap text_answer (sym said)) c.in_err-say.ensures.step c.from_residual-in_err-say.ensures.1
+    goes_not_told (listed c.args.listing) c.in_ok-state.state _ c.in_err-say.field-0.0 c.from_residual-in_err-say.result (t c.args.host.now) (t c.read_state.new.host) c.read_state.ensures.unchanged c.in_ok-state.ensures.tells (λ have. ap text_answer (sym said)) c.in_err-say.ensures.step c.from_residual-in_err-say.ensures.1
 
 pub returns-clause-any_moment : goal.returns-clause-any_moment
 returns-clause-any_moment g c =
     let t = g.met.H.Host.is_tree in
     let said : c.as_bytes.result.now ≡ listed_text c.args.listing c.in_ok-state.state = search rules in
-    goes_told (listed c.args.listing) c.in_ok-state.state _ (t c.args.host.now) (t c.read_state.new.host) c.read_state.ensures.unchanged c.in_ok-state.ensures.tells (ap text_answer (sym said)) c.in_ok-say.ensures.step
+    goes_told (listed c.args.listing) c.in_ok-state.state _ (t c.args.host.now) (t c.read_state.new.host) c.read_state.ensures.unchanged c.in_ok-state.ensures.tells (λ have. ap text_answer (sym said)) c.in_ok-say.ensures.step

@@ -3,24 +3,24 @@ use Rattle.fl_words.specs.Forms.{command_of}
 use Rattle.fp_host.proofs.Ending.{ends_goes, goes_last}
 use Rattle.fl_words.specs.Reading.{IsNoCommand}
 use Rattle.fl_words.specs.declared.command.Command.{Command}
-use Rattle.fl_top.specs.Runs.{WasTaken}
+use Rattle.fl_top.specs.Runs.{WasTaken, told}
 use Rattle.fl_top.proofs.Finishing.{goes_command, goes_no_command, goes_unread, took_nothing}
 use Rattle.fl_top.proofs.running.run.Goals as goal
 
 pub returns-in-Ok-clause-any_moment : goal.returns-in-Ok-clause-any_moment
-returns-in-Ok-clause-any_moment g c = goes_last (goes_command (map string_bytes c.args.words.now) (g.I.Source.left c.args.input.now) c.in-Ok.command c.run_command.result (g.met.H.Host.is_tree c.args.host.now) c.in-Ok.ensures.ok c.run_command.ensures.any_moment)
+returns-in-Ok-clause-any_moment g c = goes_last (goes_command (map string_bytes c.args.words.now) (told (g.I.Source.left c.args.input.now) (g.R.Remotes.holds c.args.remotes.now)) c.in-Ok.command c.run_command.result (g.met.H.Host.is_tree c.args.host.now) c.in-Ok.ensures.ok (c.run_command.ensures.any_moment (g.R.Remotes.holds c.args.remotes.now)))
 
 pub returns-in-Ok-clause-at_return : goal.returns-in-Ok-clause-at_return
 returns-in-Ok-clause-at_return g c =
     let t = g.met.H.Host.is_tree c.args.host.now in
-    ends_goes t (goes_command (map string_bytes c.args.words.now) (g.I.Source.left c.args.input.now) c.in-Ok.command c.run_command.result t c.in-Ok.ensures.ok c.run_command.ensures.any_moment)
+    ends_goes t (goes_command (map string_bytes c.args.words.now) (told (g.I.Source.left c.args.input.now) (g.R.Remotes.holds c.args.remotes.now)) c.in-Ok.command c.run_command.result t c.in-Ok.ensures.ok (c.run_command.ensures.any_moment (g.R.Remotes.holds c.args.remotes.now)))
 
 pub returns-in-Err-BadWords-clause-any_moment : goal.returns-in-Err-BadWords-clause-any_moment
 returns-in-Err-BadWords-clause-any_moment g c =
     let words = map string_bytes c.args.words.now in
     let bad : IsNoCommand words c.in-Err-BadWords.field-0 = c.in-Err-BadWords.ensures.bad in
     let is = subst (IsNoCommand words) c.in-Err-BadWords.field-0-is bad in
-    goes_last (goes_no_command words (g.I.Source.left c.args.input.now) c.in-Err-BadWords.index c.refuse_words.result (g.met.H.Host.is_tree c.args.host.now) is.0 is.1 c.refuse_words.ensures.any_moment)
+    goes_last (goes_no_command words (told (g.I.Source.left c.args.input.now) (g.R.Remotes.holds c.args.remotes.now)) c.in-Err-BadWords.index c.refuse_words.result (g.met.H.Host.is_tree c.args.host.now) is.0 is.1 c.refuse_words.ensures.any_moment)
 
 pub returns-in-Err-BadWords-clause-at_return : goal.returns-in-Err-BadWords-clause-at_return
 returns-in-Err-BadWords-clause-at_return g c =
@@ -28,13 +28,13 @@ returns-in-Err-BadWords-clause-at_return g c =
     let bad : IsNoCommand words c.in-Err-BadWords.field-0 = c.in-Err-BadWords.ensures.bad in
     let is = subst (IsNoCommand words) c.in-Err-BadWords.field-0-is bad in
     let t = g.met.H.Host.is_tree c.args.host.now in
-    ends_goes t (goes_no_command words (g.I.Source.left c.args.input.now) c.in-Err-BadWords.index c.refuse_words.result t is.0 is.1 c.refuse_words.ensures.any_moment)
+    ends_goes t (goes_no_command words (told (g.I.Source.left c.args.input.now) (g.R.Remotes.holds c.args.remotes.now)) c.in-Err-BadWords.index c.refuse_words.result t is.0 is.1 c.refuse_words.ensures.any_moment)
 
 pub returns-in-Err-NoMemory-clause-any_moment : goal.returns-in-Err-NoMemory-clause-any_moment
-returns-in-Err-NoMemory-clause-any_moment g c = goes_last (goes_unread (map string_bytes c.args.words.now) (g.I.Source.left c.args.input.now) (g.met.H.Host.is_tree c.args.host.now))
+returns-in-Err-NoMemory-clause-any_moment g c = goes_last (goes_unread (map string_bytes c.args.words.now) (told (g.I.Source.left c.args.input.now) (g.R.Remotes.holds c.args.remotes.now)) (g.met.H.Host.is_tree c.args.host.now))
 
 pub returns-in-Err-NoMemory-clause-at_return : goal.returns-in-Err-NoMemory-clause-at_return
-returns-in-Err-NoMemory-clause-at_return g c = let t = g.met.H.Host.is_tree c.args.host.now in ends_goes t (goes_unread (map string_bytes c.args.words.now) (g.I.Source.left c.args.input.now) t)
+returns-in-Err-NoMemory-clause-at_return g c = let t = g.met.H.Host.is_tree c.args.host.now in ends_goes t (goes_unread (map string_bytes c.args.words.now) (told (g.I.Source.left c.args.input.now) (g.R.Remotes.holds c.args.remotes.now)) t)
 
 pub returns-in-Ok-clause-taken : goal.returns-in-Ok-clause-taken
 returns-in-Ok-clause-taken g c = subst (λ (o : Option Command). WasTaken o c.run_command.result (g.I.Source.left c.args.input.now) (g.I.Source.left c.run_command.new.input)) (sym c.in-Ok.ensures.ok) c.run_command.ensures.taken

@@ -1,5 +1,5 @@
 use Rattle.std.proofs.Common.{rules}
-use Rattle.fl_words.specs.Lines.{refusal_text}
+use Rattle.fl_lines.specs.Lines.{refusal_text}
 use Rattle.fl_top.proofs.Saying.{goes_err, goes_ok}
 use Rattle.fl_top.proofs.running.say_refusal.Goals as goal
 

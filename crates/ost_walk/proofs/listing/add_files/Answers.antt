@@ -6,6 +6,7 @@ use Rattle.ost_walk.proofs.listing.add_files.Goals as goal
 
 pub returns-in-Err-clause-tells : goal.returns-in-Err-clause-tells
 returns-in-Err-clause-tells c have = stopped c.args.files.now c.loop-file.file-index c.file-item.result c.in-Err.end c.loop-file-test.true c.file-item.is (c.loop-file.invariant.listed have) c.in-Err.ensures.tells
+    c.in-Err.ensures.refused_unchanged
 
 pub loop-file-preserved : goal.loop-file-preserved
 loop-file-preserved c = record {

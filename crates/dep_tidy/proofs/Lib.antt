@@ -1,0 +1,14 @@
+mod Views
+mod Alter
+mod Apart
+mod Clearing
+mod Texts
+mod UnkeptFolders
+pub mod RowsKept
+mod OldFiles
+mod RefFiles
+pub mod Pruned
+mod Joined
+mod Ended
+mod Small
+pub mod Left

@@ -1,0 +1,22 @@
+-- The commits that a state keeps.
+use Rattle.std.specs.Prelude.{ℕ, List, [], ◌∷◌, Option, Some, None}
+use Rattle.fp_small.specs.declared.state.RefRow.{RefRow}
+use Rattle.fp_small.specs.declared.state.Previous.{Previous}
+use Rattle.ost_model.specs.Order.{each_in}
+use Rattle.dep_states.specs.Sound.{IsKeptBy}
+
+abbrev pub before : Option Previous → List (List ℕ)
+before None = []
+before (Some p) = p.commit ∷ []
+
+abbrev pub kept_by : RefRow → List (List ℕ)
+kept_by row = row.commit ∷ before row.previous
+
+-- row by row the commit, and the previous one
+abbrev pub kept_of : List RefRow → List (List ℕ)
+kept_of rows = each_in kept_by rows
+
+-- the commit is kept by the row, where there is one
+abbrev pub IsKeptAt : Option RefRow → List ℕ → Type 0
+IsKeptAt None commit = ⊥
+IsKeptAt (Some row) commit = IsKeptBy row commit

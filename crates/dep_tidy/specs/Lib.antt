@@ -1,0 +1,4 @@
+pub mod Kept
+pub mod Tidy
+pub mod Steps
+pub mod Pruned

@@ -1,0 +1,199 @@
+-- The steps of tidying.
+use Rattle.std.specs.Prelude.{◌≡◌, ◌≢◌, ◌⊎◌, ◌↔◌, ◌∷◌, ℕ, List, [], codes, true, Option, Some, None, Contains}
+use Rattle.fp_host.specs.Paths.{Elements, Slot, absent, dir, path_text, IsAbove}
+use Rattle.fp_host.specs.View.{View}
+use Rattle.fp_host.specs.Calls.{IsFile, IsNoDir}
+use Rattle.fp_host.specs.Outcome.{Spot, gone, folder, Disk, Leaves, Follows, shows}
+use Rattle.fp_host.specs.Frame.{Keeps, NoPath}
+use Rattle.fp_base.specs.declared.object.ObjKind.{ObjKind}
+use Rattle.fp_name.specs.Grammar.{is_remote_name}
+use Rattle.fp_name.specs.Hex.{hex, is_digest}
+use Rattle.fp_name.specs.Refs.{Ref, is_ref, ref_of}
+use Rattle.fp_small.specs.Places.{repo, tmp, new_name}
+use Rattle.fp_small.specs.Clear.{IsWithin, IsEmptied}
+use Rattle.fp_small.specs.Files.{KeepsFiles}
+use Rattle.fp_small.specs.Move.{IsNew}
+use Rattle.fp_small.specs.Replace.{folders_of}
+use Rattle.fp_small.specs.Walks.{IsLevel}
+use Rattle.fp_small.specs.declared.state.State.{State}
+use Rattle.fp_small.specs.declared.state.RefRow.{RefRow}
+use Rattle.ost_model.specs.Objects.{object_path}
+use Rattle.ost_refs.specs.Files.{ref_bytes, ref_in}
+use Rattle.ost_refs.specs.declared.place.RefFile.TheVariants.{Digest}
+use Rattle.ost_refs.specs.declared.place.RefPlace.{RefPlace}
+use Rattle.ost_refs.specs.declared.place.RefPlace.TheVariants.{Head, Remote}
+use Rattle.dep_states.specs.Names.{config, remotes_conf, pins_file, branch_dir, commit_dir, ref_file}
+use Rattle.dep_states.specs.Frames.{KeptIn}
+use Rattle.dep_states.specs.Sound.{Opens, IsOld, OldGone, HasConfig}
+use Rattle.dep_tidy.specs.Tidy.{IsFrom, Tidies}
+
+-- What a step gives and where, what its names come to hold; each file that was there is as it was, and nothing is printed.
+pub record Alters (G : Elements → Spot → Type 0) (W : Elements → Slot → Type 0) (u w : View) : Type 0 where
+  pub follows : Follows G u w
+  pub names : (q : Elements) → (w.names q ≡ u.names q) ⊎ W q (w.names q)
+  pub files : KeepsFiles u w
+  pub printed : w.printed ≡ u.printed
+
+-- ---- folders of commits
+
+-- three names below `app` or `runtime`
+pub record AreBranches (v : View) (paths : List Elements) : Type 0 where
+  pub each : (q : Elements) → Contains paths q ↔ (IsLevel 3 (codes "app" ∷ []) v q ⊎ IsLevel 3 (codes "runtime" ∷ []) v q)
+
+-- the ref whose branch directory this is
+abbrev pub IsRefAt : Elements → Option Ref → Type 0
+IsRefAt p None = ref_of (path_text p) ≡ None
+IsRefAt p (Some name) = (p ≡ branch_dir name) × (is_ref name ≡ true)
+
+-- a commit that the state doesn't keep
+pub record IsUnkept (s : State) (name : Ref) (commit : List ℕ) : Type 0 where
+  pub good : is_ref name ≡ true
+  pub digits : is_digest commit ≡ true
+  pub unkept : KeptIn s name commit → ⊥
+
+-- in the folder of such a commit
+pub record InUnkept (s : State) (q : Elements) : Type 0 where
+  pub name : Ref
+  pub commit : List ℕ
+  pub is : IsUnkept s name commit
+  pub within : IsWithin (commit_dir name commit) q
+
+abbrev pub UnkeptGone : State → Elements → Spot → Type 0
+UnkeptGone s q spot = InUnkept s q × (spot ≡ gone)
+
+abbrev pub UnkeptAbsent : State → Elements → Slot → Type 0
+UnkeptAbsent s q e = InUnkept s q × (e ≡ absent)
+
+-- no folder of such a commit is there
+pub record HasNoUnkept (s : State) (v : View) : Type 0 where
+  pub none : (name : Ref) (commit : List ℕ) → IsUnkept s name commit → v.names (commit_dir name commit) ≡ absent
+
+-- none in these branch directories
+pub record HasNoneIn (s : State) (paths : List Elements) (v : View) : Type 0 where
+  pub none : (name : Ref) (commit : List ℕ) → IsUnkept s name commit → Contains paths (branch_dir name) → v.names (commit_dir name commit) ≡ absent
+
+-- none of these names in the ref's branch directory
+pub record HasNoneOf (s : State) (name : Ref) (names : List (List ℕ)) (v : View) : Type 0 where
+  pub none : (commit : List ℕ) → IsUnkept s name commit → Contains names (hex commit) → v.names (commit_dir name commit) ≡ absent
+
+-- ---- the files of layout 1
+
+-- a file of layout 1 goes
+abbrev pub OldAbsent : Elements → Slot → Type 0
+OldAbsent q e = IsOld q × (e ≡ absent)
+
+-- the files of layout 1 may go, but not where `config` is absent
+pub record TakesOld (u w : View) : Type 0 where
+  pub keeps : Keeps OldGone OldAbsent NoPath u w
+  pub alone : u.names config ≡ absent → w ≡ u
+
+-- no folder is at their names
+pub record CanTakeOld (v : View) : Type 0 where
+  pub remotes : IsNoDir (v.names remotes_conf)
+  pub pins : IsNoDir (v.names pins_file)
+
+-- where `config` is there, no file of layout 1 is
+pub record HasNoOld (v : View) : Type 0 where
+  pub old : v.names config ≢ absent → (v.names remotes_conf ≡ absent) × (v.names pins_file ≡ absent)
+
+-- ---- ref files
+
+-- a place for which the state has a ref; a store's own refs are none of its affair
+abbrev pub IsWanted : State → RefPlace → Type 0
+IsWanted s (Head name) = Unit {0}
+IsWanted s (Remote origin name) = IsFrom s origin name
+
+-- a remote's ref has good names
+abbrev pub HasGoodNames : RefPlace → Type 0
+HasGoodNames (Head name) = Unit {0}
+HasGoodNames (Remote origin name) = (is_remote_name origin ≡ true) × (is_ref name ≡ true)
+
+-- a place of a remote's ref that the state doesn't have from that remote
+pub record IsOther (s : State) (origin : List ℕ) (name : Ref) : Type 0 where
+  pub remote : is_remote_name origin ≡ true
+  pub good : is_ref name ≡ true
+  pub other : IsFrom s origin name → ⊥
+
+-- the file of such a place
+pub record IsOtherFile (s : State) (q : Elements) : Type 0 where
+  pub origin : List ℕ
+  pub name : Ref
+  pub is : IsOther s origin name
+  pub at : q ≡ ref_file origin name
+
+abbrev pub OtherGone : State → Elements → Spot → Type 0
+OtherGone s q spot = IsOtherFile s q × (spot ≡ gone)
+
+abbrev pub OtherAbsent : State → Elements → Slot → Type 0
+OtherAbsent s q e = IsOtherFile s q × (e ≡ absent)
+
+-- no such file is there
+pub record HasNoOther (s : State) (v : View) : Type 0 where
+  pub none : (origin : List ℕ) (name : Ref) → IsOther s origin name → IsFile (v.names (ref_file origin name)) → ⊥
+
+-- nor at these places
+pub record HasNoneAt (s : State) (places : List RefPlace) (v : View) : Type 0 where
+  pub none : (origin : List ℕ) (name : Ref) → IsOther s origin name → Contains places (Remote origin name) → v.names (ref_file origin name) ≡ absent
+
+-- what may come to stand where rows get their ref files
+pub data RefAt (rows : List RefRow) (q : Elements) (spot : Spot) : Type 0 where
+  file_at : (row : RefRow) → Contains rows row → q ≡ ref_file row.origin row.name → IsNew (ref_bytes row.commit) spot → RefAt rows q spot
+  folder_at : (row : RefRow) → Contains rows row → Contains (folders_of (ref_file row.origin row.name)) q → spot ≡ folder → RefAt rows q spot
+  work_at : (k : ℕ) → q ≡ new_name k ∷ tmp → RefAt rows q spot
+
+pub data RefName (rows : List RefRow) (q : Elements) (e : Slot) : Type 0 where
+  file_name : (row : RefRow) → Contains rows row → q ≡ ref_file row.origin row.name → IsFile e → RefName rows q e
+  folder_name : (row : RefRow) → Contains rows row → Contains (folders_of (ref_file row.origin row.name)) q → e ≡ dir → RefName rows q e
+  work_name : (k : ℕ) → q ≡ new_name k ∷ tmp → RefName rows q e
+
+-- each of these rows has its ref file, with its commit
+pub record HasRefFiles (rows : List RefRow) (v : View) : Type 0 where
+  pub each : (row : RefRow) → Contains rows row → ref_in (shows v (ref_file row.origin row.name)) ≡ Digest row.commit
+
+-- The rows get their ref files; where each has its own, nothing changes.
+pub record Writes (rows : List RefRow) (u w : View) : Type 0 where
+  pub alters : Alters (RefAt rows) (RefName rows) u w
+  pub idle : HasRefFiles rows u → w ≡ u
+
+-- The row has its ref file. The names of work are as they were.
+pub record WroteFile (row : RefRow) (u w : View) : Type 0 where
+  pub file : is_digest row.commit ≡ true → HasRefFiles (row ∷ []) w
+  pub work : (q : Elements) → IsAbove tmp q → w.names q ≡ u.names q
+
+-- These rows of the state have their files.
+pub record WroteSome (s : State) (rows : List RefRow) (u w : View) : Type 0 where
+  pub files : Opens s u → HasRefFiles rows w
+  pub work : (q : Elements) → IsAbove tmp q → w.names q ≡ u.names q
+
+-- each ref of the state has its file
+abbrev pub WroteFiles : State → View → View → Type 0
+WroteFiles s u w = WroteSome s s.refs u w
+
+-- ---- joined
+
+-- Where `config` is there every stop leaves it; and every stop leaves at the names of objects what stands.
+pub record IsSteady (v : View) : Type 0 where
+  pub config : v.names config ≢ absent → HasConfig v
+  pub objects : (disk : Disk) → Leaves v disk → (d : List ℕ) (kind : ObjKind) → disk (object_path repo d kind) ≡ shows v (object_path repo d kind)
+
+-- tidied, and as steady as before
+pub record Steadily (s : State) (u w : View) : Type 0 where
+  pub tidies : Tidies s u w
+  pub steady : IsSteady w
+
+-- work, folders and old files are taken away
+pub record IsCleared (s : State) (v : View) : Type 0 where
+  pub work : IsEmptied tmp v
+  pub dirs : HasNoUnkept s v
+  pub old : HasNoOld v
+
+-- and each ref of the state has its file, no other ref has one
+pub record HasRefs (s : State) (v : View) : Type 0 where
+  pub cleared : IsCleared s v
+  pub others : HasNoOther s v
+  pub files : HasRefFiles s.refs v
+
+-- it opens as the state, and is steady
+pub record IsReady (s : State) (v : View) : Type 0 where
+  pub steady : IsSteady v
+  pub opens : Opens s v

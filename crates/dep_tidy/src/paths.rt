@@ -1,0 +1,56 @@
+// The paths that tidying looks at.
+ghost use Rattle.std.specs.Prelude.{◌≡◌, ◌∷◌, [], codes, IfOk};
+ghost use Rattle.fp_small.specs.Places.{repo, tmp};
+ghost use Rattle.dep_states.specs.Names.{config, remotes_conf, pins_file};
+
+use fp_host::Path;
+use std::alloc::{AllocError, Global};
+
+/// The path of `config`.
+pub(crate) fn config_path(alloc: Global) -> Result<Path, AllocError>
+    ensures { IfOk result (λ p. p ≡ config) }
+{
+    Path::root(alloc).child("config")
+}
+
+/// The path of the remotes in layout 1.
+pub(crate) fn remotes_path(alloc: Global) -> Result<Path, AllocError>
+    ensures { IfOk result (λ p. p ≡ remotes_conf) }
+{
+    Path::root(alloc).child("remotes.conf")
+}
+
+/// The path of the pins in layout 1.
+pub(crate) fn pins_path(alloc: Global) -> Result<Path, AllocError>
+    ensures { IfOk result (λ p. p ≡ pins_file) }
+{
+    Path::root(alloc).child("pins")
+}
+
+/// The folder of the applications.
+pub(crate) fn apps_path(alloc: Global) -> Result<Path, AllocError>
+    ensures { IfOk result (λ p. p ≡ codes "app" ∷ []) }
+{
+    Path::root(alloc).child("app")
+}
+
+/// The folder of the runtimes.
+pub(crate) fn runtimes_path(alloc: Global) -> Result<Path, AllocError>
+    ensures { IfOk result (λ p. p ≡ codes "runtime" ∷ []) }
+{
+    Path::root(alloc).child("runtime")
+}
+
+/// The installation's store.
+pub(crate) fn repo_path(alloc: Global) -> Result<Path, AllocError>
+    ensures { IfOk result (λ p. p ≡ repo) }
+{
+    Path::root(alloc).child("repo")
+}
+
+/// The folder of work.
+pub(crate) fn tmp_path(alloc: Global) -> Result<Path, AllocError>
+    ensures { IfOk result (λ p. p ≡ tmp) }
+{
+    repo_path(alloc)?.child("tmp")
+}

@@ -1,0 +1,134 @@
+// The files of refs.
+ghost use Rattle.std.specs.Prelude.{◌≡◌, ◌↔◌, ◌∷◌, [], true, IsTrue, OnOk, IfOk, IsErrOf};
+ghost use Rattle.fp_host.specs.Causes.{IsCaused};
+ghost use Rattle.fp_host.specs.Frame.{Frame, AtEnd, NoPath};
+ghost use Rattle.fp_host.specs.Moments.{Always};
+ghost use Rattle.fp_small.specs.Places.{repo};
+ghost use Rattle.ost_refs.specs.Changes.{CanWrite};
+ghost use Rattle.ost_refs.specs.declared.place.RefFile.TheVariants.{Digest as DigestOf};
+ghost use Rattle.ost_refs.specs.declared.place.RefPlace.TheVariants.{Remote};
+ghost use Rattle.dep_states.specs.Sound.{Opens};
+ghost use Rattle.dep_tidy.specs.Steps.{IsWanted, HasGoodNames, OtherGone, OtherAbsent, HasNoOther, HasNoneAt, Writes, WroteFile, WroteFiles};
+
+use crate::rows::is_from;
+use fp_host::{Host, HostEnd, Path};
+use fp_name::Digest;
+use fp_small::{RefRow, State};
+use ost_refs::{RefFile, RefPlace, drop_ref, list_refs, read_ref, write_ref};
+use std::alloc::{AllocError, Global};
+
+/// Whether the place is one for a ref of the state, or one of the store's own.
+fn is_wanted(state: &State, place: &RefPlace) -> bool
+    ensures wanted { IsTrue result ↔ IsWanted state.now place.now }
+    ensures good { HasGoodNames place.now }
+{
+    match place {
+        RefPlace::Head(_) => true,
+        RefPlace::Remote(origin, name) => is_from(state, origin, name),
+    }
+}
+
+/// Drops the ref file at the place, where it isn't one of the state's.
+fn drop_other<H: Host>(
+    alloc: Global,
+    host: &mut H,
+    root: &Path,
+    state: &State,
+    place: &RefPlace,
+) -> Result<(), HostEnd>
+    requires root { root.now ≡ repo }
+    ensures frame { Frame (OtherGone state.now) (OtherAbsent state.now) NoPath
+        (H.moments host.old) (H.moments host.new) }
+    ensures on_success { OnOk result (AtEnd (λ u w. HasNoneAt state.now (place.now ∷ []) w)
+        (H.moments host.old) (H.moments host.new)) }
+    ensures fault_has_cause { IsCaused (IsErrOf result HostEnd.Fault) (H.moments host.old)
+        (Opens state.now) (H.faults host.old) (H.faults host.new) }
+{
+    if is_wanted(state, place) {
+        return Ok(());
+    }
+    drop_ref(alloc, host, root, place)
+}
+
+/// Drops each file of a remote's ref that the state doesn't have from that remote.
+pub(crate) fn drop_others<H: Host>(
+    alloc: Global,
+    host: &mut H,
+    root: &Path,
+    state: &State,
+) -> Result<(), HostEnd>
+    requires root { root.now ≡ repo }
+    ensures frame { Frame (OtherGone state.now) (OtherAbsent state.now) NoPath
+        (H.moments host.old) (H.moments host.new) }
+    ensures on_success { OnOk result (AtEnd (λ u w. HasNoOther state.now w)
+        (H.moments host.old) (H.moments host.new)) }
+    ensures fault_has_cause { IsCaused (IsErrOf result HostEnd.Fault) (H.moments host.old)
+        (Opens state.now) (H.faults host.old) (H.faults host.new) }
+{
+    let places = list_refs(alloc, host, root)?;
+    for place in places.as_slice() {
+        drop_other(alloc, host, root, state, place)?;
+    }
+    Ok(())
+}
+
+/// Where the row's ref has its file.
+fn place_of(row: &RefRow) -> Result<RefPlace, AllocError>
+    ensures { IfOk result (λ place. place ≡ Remote row.now.origin row.now.name) }
+{
+    Ok(RefPlace::Remote(row.origin.copy()?, row.name.copy()?))
+}
+
+/// Whether the file says this commit.
+fn says(file: RefFile, commit: &Digest) -> bool
+    ensures { IsTrue result ↔ (file ≡ DigestOf commit.now) }
+{
+    match file {
+        RefFile::Digest(found) => found == *commit,
+        RefFile::Absent | RefFile::Bad => false,
+    }
+}
+
+/// Writes the row's ref file, where it says something else.
+fn write_file<H: Host>(
+    alloc: Global,
+    host: &mut H,
+    root: &Path,
+    row: &RefRow,
+) -> Result<(), HostEnd>
+    requires root { root.now ≡ repo }
+    ensures any_moment { Always (Writes (row.now ∷ []))
+        (H.moments host.old) (H.moments host.new) }
+    ensures on_success { OnOk result (AtEnd (WroteFile row.now)
+        (H.moments host.old) (H.moments host.new)) }
+    ensures fault_has_cause { IsCaused (IsErrOf result HostEnd.Fault) (H.moments host.old)
+        (CanWrite repo (Remote row.now.origin row.now.name)) (H.faults host.old) (H.faults host.new) }
+{
+    let place = place_of(row)?;
+    let file = read_ref(alloc, host, root, &place)?;
+    if says(file, &row.commit) {
+        return Ok(());
+    }
+    write_ref(alloc, host, root, &place, &row.commit)
+}
+
+/// Writes the ref files of the state that say something else, or aren't there.
+pub(crate) fn write_files<H: Host>(
+    alloc: Global,
+    host: &mut H,
+    root: &Path,
+    state: &State,
+) -> Result<(), HostEnd>
+    requires root { root.now ≡ repo }
+    ensures any_moment { Always (Writes state.now.refs)
+        (H.moments host.old) (H.moments host.new) }
+    ensures on_success { OnOk result (AtEnd (WroteFiles state.now)
+        (H.moments host.old) (H.moments host.new)) }
+    ensures fault_has_cause { IsCaused (IsErrOf result HostEnd.Fault) (H.moments host.old)
+        (Opens state.now) (H.faults host.old) (H.faults host.new) }
+{
+    for row in state.refs.as_slice() {
+        write_file(alloc, host, root, row)?;
+    }
+    Ok(())
+}

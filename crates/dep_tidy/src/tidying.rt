@@ -1,0 +1,105 @@
+//! An opened installation that is settled.
+ghost use Rattle.std.specs.Prelude.{◌≡◌, IfOk, OnOk, IsErrOf};
+ghost use Rattle.fp_host.specs.Causes.{IsCaused};
+ghost use Rattle.fp_host.specs.Frame.{Frame, AtEnd, NoPath};
+ghost use Rattle.fp_host.specs.Moments.{Always};
+ghost use Rattle.fp_host.specs.Outcome.{shows};
+ghost use Rattle.fp_small.specs.Places.{repo, tmp};
+ghost use Rattle.fp_small.specs.Clear.{GoneBelow, AbsentBelow};
+ghost use Rattle.dep_states.specs.Sound.{Opens};
+ghost use Rattle.dep_states.specs.Settled.{Settled};
+ghost use Rattle.dep_tidy.specs.Tidy.{Tidies, WasTidied, SettledButWork};
+ghost use Rattle.dep_tidy.specs.Steps.{IsSteady, Steadily, IsReady, IsCleared, HasRefs};
+
+use crate::folders::clear_folders;
+use crate::old_files::take_old_files;
+use crate::paths::repo_path;
+use crate::pruning::prune_unused;
+use crate::refs::{drop_others, write_files};
+use crate::work::empty_work;
+use dep_states::Opened;
+use fp_host::{Host, HostEnd, Path};
+use fp_small::State;
+use std::alloc::Global;
+
+/// Settles the installation, which keeps the state that was opened: syncs, takes away the work that was left in `repo/tmp`, the
+/// folders of commits that the state doesn't keep, where `config` is there the files of layout 1, and the ref files of
+/// refs that it doesn't have; writes those that say something else; takes away the objects that no kept commit uses; and
+/// syncs. Every stop leaves the state.
+pub fn tidy<H: Host>(alloc: Global, host: &mut H, opened: Opened) -> Result<Opened, HostEnd>
+    ensures state { IfOk result (λ o. o ≡ opened) }
+    ensures any_moment { Always (Tidies opened) (H.moments host.old) (H.moments host.new) }
+    ensures on_success { OnOk result (AtEnd (WasTidied opened)
+        (H.moments host.old) (H.moments host.new)) }
+    ensures fault_has_cause { IsCaused (IsErrOf result HostEnd.Fault) (H.moments host.old)
+        (Opens opened) (H.faults host.old) (H.faults host.new) }
+{
+    host.sync()?;
+    settle(alloc, host, opened.state())?;
+    Ok(opened)
+}
+
+/// Takes away the work that was left in `repo/tmp`, and nothing else, for an installation that is settled but for it: after an
+/// operation that changes no commit. Nothing is synced.
+pub fn tidy_work<H: Host>(alloc: Global, host: &mut H, opened: Opened) -> Result<Opened, HostEnd>
+    ensures state { IfOk result (λ o. o ≡ opened) }
+    ensures frame { Frame (GoneBelow tmp) (AbsentBelow tmp) NoPath
+        (H.moments host.old) (H.moments host.new) }
+    ensures any_moment { Always (Tidies opened) (H.moments host.old) (H.moments host.new) }
+    ensures on_success { OnOk result (AtEnd (λ u w. SettledButWork (shows u) → Settled (shows w))
+        (H.moments host.old) (H.moments host.new)) }
+    ensures fault_has_cause { IsCaused (IsErrOf result HostEnd.Fault) (H.moments host.old)
+        (Opens opened) (H.faults host.old) (H.faults host.new) }
+{
+    empty_work(alloc, host)?;
+    Ok(opened)
+}
+
+/// All that is done after the first sync, and the last one.
+fn settle<H: Host>(alloc: Global, host: &mut H, state: &State) -> Result<(), HostEnd>
+    ensures any_moment { Always (λ u w. IsSteady u → Tidies state.now u w)
+        (H.moments host.old) (H.moments host.new) }
+    ensures on_success { OnOk result (AtEnd (λ u w. IsSteady u → WasTidied state.now u w)
+        (H.moments host.old) (H.moments host.new)) }
+    ensures fault_has_cause { IsCaused (IsErrOf result HostEnd.Fault) (H.moments host.old)
+        (IsReady state.now) (H.faults host.old) (H.faults host.new) }
+{
+    let repo = repo_path(alloc)?;
+    clear_left(alloc, host, state)?;
+    settle_refs(alloc, host, &repo, state)?;
+    prune_unused(alloc, host, &repo, state)?;
+    Ok(host.sync()?)
+}
+
+/// Takes away what was left: work, folders of commits, and files of layout 1.
+fn clear_left<H: Host>(alloc: Global, host: &mut H, state: &State) -> Result<(), HostEnd>
+    ensures any_moment { Always (λ u w. IsSteady u → Steadily state.now u w)
+        (H.moments host.old) (H.moments host.new) }
+    ensures on_success { OnOk result (AtEnd (λ u w. IsCleared state.now w)
+        (H.moments host.old) (H.moments host.new)) }
+    ensures fault_has_cause { IsCaused (IsErrOf result HostEnd.Fault) (H.moments host.old)
+        (IsReady state.now) (H.faults host.old) (H.faults host.new) }
+{
+    empty_work(alloc, host)?;
+    clear_folders(alloc, host, state)?;
+    take_old_files(alloc, host)
+}
+
+/// Drops the ref files that aren't the state's, and writes those that say something else.
+fn settle_refs<H: Host>(
+    alloc: Global,
+    host: &mut H,
+    root: &Path,
+    state: &State,
+) -> Result<(), HostEnd>
+    requires root { root.now ≡ repo }
+    ensures any_moment { Always (λ u w. IsSteady u → Steadily state.now u w)
+        (H.moments host.old) (H.moments host.new) }
+    ensures on_success { OnOk result (AtEnd (λ u w. IsCleared state.now u → Opens state.now u
+        → HasRefs state.now w) (H.moments host.old) (H.moments host.new)) }
+    ensures fault_has_cause { IsCaused (IsErrOf result HostEnd.Fault) (H.moments host.old)
+        (IsReady state.now) (H.faults host.old) (H.faults host.new) }
+{
+    drop_others(alloc, host, root, state)?;
+    write_files(alloc, host, root, state)
+}

@@ -1,0 +1,24 @@
+// Work that was left.
+ghost use Rattle.std.specs.Prelude.{OnOk, IsErrOf};
+ghost use Rattle.fp_host.specs.Causes.{IsCaused};
+ghost use Rattle.fp_host.specs.Frame.{Frame, AtEnd, NoPath};
+ghost use Rattle.fp_small.specs.Places.{tmp};
+ghost use Rattle.fp_small.specs.Clear.{GoneBelow, AbsentBelow, IsEmptied, CanEmpty};
+
+use crate::paths::tmp_path;
+use fp_host::{Host, HostEnd};
+use fp_small::clear_below;
+use std::alloc::Global;
+
+/// Takes away what is in `repo/tmp`.
+pub(crate) fn empty_work<H: Host>(alloc: Global, host: &mut H) -> Result<(), HostEnd>
+    ensures frame { Frame (GoneBelow tmp) (AbsentBelow tmp) NoPath
+        (H.moments host.old) (H.moments host.new) }
+    ensures on_success { OnOk result (AtEnd (λ u w. IsEmptied tmp w)
+        (H.moments host.old) (H.moments host.new)) }
+    ensures fault_has_cause { IsCaused (IsErrOf result HostEnd.Fault) (H.moments host.old)
+        (CanEmpty tmp) (H.faults host.old) (H.faults host.new) }
+{
+    let work = tmp_path(alloc)?;
+    clear_below(alloc, host, &work)
+}

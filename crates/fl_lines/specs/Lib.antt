@@ -1,0 +1,2 @@
+pub mod PrintedWords
+pub mod Lines

@@ -1,0 +1,158 @@
+-- The lines that are printed. Each ends with a newline, which is the byte 10; numbers are decimal.
+use Rattle.std.specs.Prelude.{ℕ, ◌/◌, ◌%◌, ◌==◌, ◌||◌, List, [], ◌∷◌, ◌++◌, Bool, false, Option, Some, None, nat_lt, codes, decimal, flat_map, if◌then◌else◌}
+use Rattle.std.specs.Fmt.{digit_glyph}
+use Rattle.std.specs.List.{join_with_byte}
+use Rattle.fp_base.specs.declared.object.ObjKind.{ObjKind}
+use Rattle.fp_base.specs.declared.object.ObjKind.TheVariants.{Commit, DirTree, DirMeta, File}
+use Rattle.fp_host.specs.Paths.{path_text}
+use Rattle.fp_name.specs.Hex.{hex}
+use Rattle.fp_name.specs.Refs.{Ref, ref_text}
+use Rattle.fp_small.specs.declared.refusal.Refusal.{Refusal}
+use Rattle.fp_small.specs.declared.refusal.Refusal.TheVariants as refusals
+use Rattle.fp_small.specs.declared.op.Op.{Op}
+use Rattle.fp_small.specs.declared.state.Previous.{Previous}
+use Rattle.fp_small.specs.declared.state.RefRow.{RefRow}
+use Rattle.fp_small.specs.declared.state.RemoteRow.{RemoteRow}
+use Rattle.fp_small.specs.declared.op.Op.TheVariants.{Install, Update, Uninstall, AddPin, DropPin, AddRemote, ModifyRemote, DropRemote, SetOverride, DropOverride, Migrate, Rollback}
+use Rattle.fl_lines.specs.PrintedWords.{kind_word, rule_word, what_word, side_word, metadata_rule_word, frame_rule_word}
+
+-- ---- a text that we didn't make
+
+-- a control byte: below 0x20, or 0x7f
+abbrev pub is_control : ℕ → Bool
+is_control b = nat_lt b 32 || b == 127
+
+-- a control byte or a backslash
+abbrev pub is_escaped : ℕ → Bool
+is_escaped b = is_control b || b == 92
+
+-- such a byte as a backslash and its two lower-case hexadecimal digits, any other as it is
+abbrev pub escape_of : ℕ → List ℕ
+escape_of b = if is_escaped b then 92 ∷ digit_glyph false (b / 16) ∷ digit_glyph false (b % 16) ∷ [] else b ∷ []
+
+abbrev pub escaped : List ℕ → List ℕ
+escaped text = flat_map escape_of text
+
+-- ---- lines
+
+abbrev pub line : List ℕ → List ℕ
+line text = text ++ 10 ∷ []
+
+-- words that single spaces part
+abbrev pub line_of : List (List ℕ) → List ℕ
+line_of words = line (join_with_byte 32 words)
+
+-- an object by its name: DIGEST.KIND
+abbrev pub object_text : List ℕ → ObjKind → List ℕ
+object_text digest kind = hex digest ++ (codes "." ++ kind_word kind)
+
+-- the four lowest octal digits of a mode, which are its permission bits
+abbrev pub bits_text : ℕ → List ℕ
+bits_text mode = decimal (mode / 512 % 8) ++ (decimal (mode / 64 % 8) ++ (decimal (mode / 8 % 8) ++ decimal (mode % 8)))
+
+-- the six lowest octal digits, the highest of them first
+unfoldable pub octal : ℕ → List ℕ
+octal mode = decimal (mode / 32768 % 8) ++ (decimal (mode / 4096 % 8) ++ bits_text mode)
+
+-- the mode of an object: of a file its permission bits alone
+abbrev pub mode_text : ObjKind → ℕ → List ℕ
+mode_text Commit mode = octal mode
+mode_text DirTree mode = octal mode
+mode_text DirMeta mode = octal mode
+mode_text File mode = bits_text mode
+
+-- the line of a refusal
+abbrev pub refusal_text : Refusal → List ℕ
+refusal_text (refusals.BadWords index) = line_of (codes "error: words" ∷ decimal index ∷ [])
+refusal_text (refusals.NoSuchRemote remote) = line_of (codes "error: no remote" ∷ remote ∷ [])
+refusal_text (refusals.RemoteExists remote) = line_of (codes "error: remote exists" ∷ remote ∷ [])
+refusal_text (refusals.RemoteInUse remote name) = line_of (codes "error: remote in use" ∷ remote ∷ ref_text name ∷ [])
+refusal_text (refusals.WrongMode remote mode) = line_of (codes "error: remote mode" ∷ remote ∷ escaped mode ∷ [])
+refusal_text (refusals.NoSuchRef remote name) = line_of (codes "error: no ref" ∷ remote ∷ ref_text name ∷ [])
+refusal_text (refusals.AlreadyInstalled name) = line_of (codes "error: installed" ∷ ref_text name ∷ [])
+refusal_text (refusals.NotInstalled name) = line_of (codes "error: not installed" ∷ ref_text name ∷ [])
+refusal_text (refusals.RuntimeMissing name) = line_of (codes "error: runtime missing" ∷ ref_text name ∷ [])
+refusal_text (refusals.RuntimeInUse runtime app) = line_of (codes "error: runtime in use" ∷ ref_text runtime ∷ ref_text app ∷ [])
+refusal_text (refusals.MissingObject digest kind) = line_of (codes "error: missing object" ∷ object_text digest kind ∷ [])
+refusal_text (refusals.CorruptObject digest kind got) = line_of (codes "error: corrupt object" ∷ object_text digest kind ∷ hex got ∷ [])
+refusal_text (refusals.MalformedObject digest kind rule) = line_of (codes "error: malformed object" ∷ object_text digest kind ∷ rule_word rule ∷ [])
+refusal_text (refusals.MalformedValue digest) = line_of (codes "error: malformed object" ∷ (hex digest ++ codes ".value") ∷ codes "value" ∷ [])
+refusal_text (refusals.ModeRefused digest kind mode) = line_of (codes "error: mode refused" ∷ object_text digest kind ∷ mode_text kind mode ∷ [])
+refusal_text (refusals.ReservedName commit) = line_of (codes "error: reserved name" ∷ hex commit ∷ [])
+refusal_text (refusals.BadMetadata name number rule) = line_of (codes "error: metadata" ∷ ref_text name ∷ decimal number ∷ metadata_rule_word rule ∷ [])
+refusal_text (refusals.RefBinding name) = line_of (codes "error: ref binding" ∷ ref_text name ∷ [])
+refusal_text (refusals.Older name have offered) = line_of (codes "error: older" ∷ ref_text name ∷ decimal have ∷ decimal offered ∷ [])
+refusal_text (refusals.PinExists pin) = line_of (codes "error: pin exists" ∷ pin ∷ [])
+refusal_text (refusals.NoSuchPin pin) = line_of (codes "error: no pin" ∷ pin ∷ [])
+refusal_text (refusals.Limit what number) = line_of (codes "error: limit" ∷ what_word what ∷ decimal number ∷ [])
+refusal_text (refusals.BadRecord number) = line_of (codes "error: record" ∷ decimal number ∷ [])
+refusal_text (refusals.BadMessage side index rule) = line_of (codes "error: message" ∷ side_word side ∷ decimal index ∷ frame_rule_word rule ∷ [])
+refusal_text (refusals.Damaged path) = line_of (codes "error: damaged" ∷ escaped (path_text path) ∷ [])
+refusal_text (refusals.NoPrevious name) = line_of (codes "error: no previous" ∷ ref_text name ∷ [])
+
+-- some words, a ref and the commit that it is at now
+abbrev pub commit_text : List ℕ → Ref → List ℕ → List ℕ
+commit_text words name commit = line_of (words ∷ ref_text name ∷ hex commit ∷ [])
+
+-- the line that acknowledges an operation
+abbrev pub op_text : Op → List ℕ
+op_text (Install name remote commit) = commit_text (codes "installed") name commit
+op_text (Update name remote commit) = commit_text (codes "updated") name commit
+op_text (Uninstall name) = line_of (codes "uninstalled" ∷ ref_text name ∷ [])
+op_text (AddPin pin) = line_of (codes "pinned" ∷ pin ∷ [])
+op_text (DropPin pin) = line_of (codes "unpinned" ∷ pin ∷ [])
+op_text (AddRemote row) = line_of (codes "remote added" ∷ row.name ∷ [])
+op_text (ModifyRemote row) = line_of (codes "remote modified" ∷ row.name ∷ [])
+op_text (DropRemote name) = line_of (codes "remote deleted" ∷ name ∷ [])
+op_text (SetOverride row) = line_of (codes "override set" ∷ row.name ∷ [])
+op_text (DropOverride name) = line_of (codes "override reset" ∷ name ∷ [])
+op_text Migrate = line_of (codes "migrated layout 2" ∷ [])
+op_text (Rollback name commit) = commit_text (codes "rolled back") name commit
+
+-- a line for each pattern
+abbrev pub pins_text : List (List ℕ) → List ℕ
+pins_text pins = flat_map line pins
+
+-- the name, a space and the URL
+abbrev pub remote_line : RemoteRow → List ℕ
+remote_line row = line (row.name ++ 32 ∷ row.url)
+
+-- a line for each remote
+abbrev pub remotes_text : List RemoteRow → List ℕ
+remotes_text remotes = flat_map remote_line remotes
+
+-- the ref, the commit that it is at and the remote that it comes from
+abbrev pub deployed_line : RefRow → List ℕ
+deployed_line row = line_of (ref_text row.name ∷ hex row.commit ∷ row.origin ∷ [])
+
+-- a line for each ref
+abbrev pub refs_text : List RefRow → List ℕ
+refs_text rows = flat_map deployed_line rows
+
+-- a ref that an update passes over
+abbrev pub skipped_text : Ref → List ℕ
+skipped_text name = line_of (codes "skipped" ∷ ref_text name ∷ [])
+
+-- ---- what is known of a ref
+
+abbrev pub previous_text : Option Previous → List ℕ
+previous_text None = []
+previous_text (Some previous) = line_of (codes "previous" ∷ hex previous.commit ∷ [])
+
+abbrev pub row_text : RefRow → List ℕ
+row_text row =
+    line_of (codes "ref" ∷ ref_text row.name ∷ [])
+    ++ (line_of (codes "commit" ∷ hex row.commit ∷ [])
+    ++ (line_of (codes "origin" ∷ row.origin ∷ [])
+    ++ (line_of (codes "timestamp" ∷ decimal row.timestamp ∷ []) ++ previous_text row.previous)))
+
+abbrev pub runtime_text : Option Ref → List ℕ
+runtime_text None = []
+runtime_text (Some name) = line_of (codes "runtime" ∷ ref_text name ∷ [])
+
+abbrev pub extension_line : List ℕ → List ℕ
+extension_line name = line_of (codes "extension" ∷ escaped name ∷ [])
+
+-- its row, the runtime that its metadata names, where it does, and a line for each extension
+abbrev pub info_text : RefRow → Option Ref → List (List ℕ) → List ℕ
+info_text row runtime extensions = row_text row ++ (runtime_text runtime ++ flat_map extension_line extensions)

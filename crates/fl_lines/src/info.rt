@@ -1,0 +1,102 @@
+//! What is printed of one ref.
+ghost use Rattle.std.specs.Prelude.{◌≡◌, ◌∷◌, ◌++◌, [], IfOk, OnOk, codes, flat_map, string_bytes};
+ghost use Rattle.std.specs.Option.{option_copied};
+ghost use Rattle.fl_lines.specs.Lines.{line_of, previous_text, row_text, runtime_text, extension_line, info_text};
+
+use crate::escaping::escape;
+use crate::lines::{decimal_of, digits_of};
+use fp_base::Text;
+use fp_name::RefName;
+use fp_small::{Previous, RefRow};
+use std::alloc::{AllocError, Global};
+
+/// What is known of a deployed ref, in lines: its row, the runtime that its metadata names, and its extensions by their
+/// names, in the order given.
+pub fn info_text(
+    alloc: Global,
+    row: &RefRow,
+    runtime: Option<&RefName>,
+    extensions: &[Text],
+) -> Result<Text, AllocError>
+    ensures { IfOk result (λ t. t ≡ info_text row.now (option_copied runtime.entry)
+        extensions.now) }
+{
+    let mut text = String::new(alloc);
+    push_row(alloc, &mut text, row)?;
+    push_runtime(&mut text, runtime)?;
+    push_extensions(alloc, &mut text, extensions)?;
+    Ok(Text::from_string(text))
+}
+
+/// Puts after a text the lines of a row.
+fn push_row(alloc: Global, text: &mut String, row: &RefRow) -> Result<(), AllocError>
+    ensures { OnOk result (string_bytes text.new ≡ string_bytes text.old ++ row_text row.now) }
+{
+    let commit = digits_of(alloc, &row.commit)?;
+    let timestamp = decimal_of(alloc, row.timestamp)?;
+    push_line(text, "ref", row.name.as_str())?;
+    push_line(text, "commit", commit.as_str())?;
+    push_line(text, "origin", row.origin.as_str())?;
+    push_line(text, "timestamp", timestamp.as_str())?;
+    push_previous(alloc, text, row.previous)
+}
+
+/// Puts after a text the line of the commit that a ref was at before, where there is one.
+fn push_previous(
+    alloc: Global,
+    text: &mut String,
+    previous: Option<Previous>,
+) -> Result<(), AllocError>
+    ensures { OnOk result (string_bytes text.new ≡ string_bytes text.old
+        ++ previous_text previous) }
+{
+    match previous {
+        Some(previous) => {
+            let commit = digits_of(alloc, &previous.commit)?;
+            push_line(text, "previous", commit.as_str())
+        }
+        None => Ok(()),
+    }
+}
+
+/// Puts after a text the line of a runtime, where there is one.
+fn push_runtime(text: &mut String, runtime: Option<&RefName>) -> Result<(), AllocError>
+    ensures { OnOk result (string_bytes text.new ≡ string_bytes text.old
+        ++ runtime_text (option_copied runtime.entry)) }
+{
+    match runtime {
+        Some(name) => push_line(text, "runtime", name.as_str()),
+        None => Ok(()),
+    }
+}
+
+/// Puts after a text a line for each extension.
+fn push_extensions(alloc: Global, text: &mut String, names: &[Text]) -> Result<(), AllocError>
+    ensures { OnOk result (string_bytes text.new ≡ string_bytes text.old
+        ++ flat_map extension_line names.now) }
+{
+    for name in names {
+        push_extension(alloc, text, name.as_str())?;
+    }
+    Ok(())
+}
+
+/// Puts after a text the line of an extension.
+fn push_extension(alloc: Global, text: &mut String, name: &str) -> Result<(), AllocError>
+    ensures { OnOk result (string_bytes text.new ≡ string_bytes text.old
+        ++ extension_line name.now) }
+{
+    let name = escape(alloc, name)?;
+    push_line(text, "extension", name.as_str())
+}
+
+/// Puts after a text the line of two words.
+fn push_line(text: &mut String, first: &str, second: &str) -> Result<(), AllocError>
+    ensures { OnOk result (string_bytes text.new ≡ string_bytes text.old
+        ++ line_of (first.now ∷ second.now ∷ [])) }
+{
+    text.push_str(first)?;
+    text.push(' ')?;
+    text.push_str(second)?;
+    text.push('\n')
+}

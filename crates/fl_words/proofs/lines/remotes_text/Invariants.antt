@@ -1,6 +1,0 @@
-use Rattle.std.proofs.Common.{◌≡◌, take, string_bytes}
-use Rattle.fl_words.specs.Lines.{remotes_text}
-use Rattle.fl_words.proofs.lines.remotes_text.Given as goal
-
-abbrev pub invariant-loop-row : goal.invariant-loop-row
-invariant-loop-row l = string_bytes l.text ≡ remotes_text (take l.row-index l.remotes)

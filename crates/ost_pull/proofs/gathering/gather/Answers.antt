@@ -1,0 +1,66 @@
+use Rattle.std.proofs.Common.{◌≡◌, Result, Err, Some, [], List, ℕ, refl, sym, subst, arith}
+use Rattle.std.specs.Prelude.{IsErrOf}
+use Rattle.std.proofs.lemmas.Result.{on_ok_weaker}
+use Rattle.fp_host.proofs.Ending.{ends_start, ends_on, ends_both, ends_frame}
+use Rattle.fp_small.specs.Clear.{CanClear}
+use Rattle.fp_base.specs.declared.object.ObjKind.{ObjKind}
+use Rattle.ost_walk.specs.declared.ends.WalkEnd.{WalkEnd}
+use Rattle.ost_walk.specs.declared.ends.WalkEnd.TheVariants as ends
+use Rattle.ost_walk.specs.declared.ends.WalkFault.{WalkFault}
+use Rattle.ost_walk.specs.Ends.{RefusesBy}
+use Rattle.ost_walk.specs.Surveys.{first_named, told_fault}
+use Rattle.ost_pull.specs.Pulls.{CanPull}
+use Rattle.ost_pull.specs.Takes.{AreTaken}
+use Rattle.ost_pull.specs.Work.{AreOpen}
+use Rattle.ost_pull.proofs.Apart.{works_supplies}
+use Rattle.ost_pull.proofs.Kept.{works_clear, works_within}
+use Rattle.ost_pull.proofs.Taken.{passed, host_refuses, host_fault, host_remote, no_remotes, nothing_taken, cleared_open}
+use Rattle.ost_pull.proofs.gathering.gather.Goals as goal
+
+pub returns-in-Ok-clause-any_moment : goal.returns-in-Ok-clause-any_moment
+returns-in-Ok-clause-any_moment g c =
+    let t = g.met.H.Host.is_tree in
+    works_within (t c.clear.new.host) c.take_order.ensures.any_moment (works_clear (t c.args.host.now) c.clear.ensures.frame)
+
+pub returns-in-Ok-clause-on_success : goal.returns-in-Ok-clause-on_success
+returns-in-Ok-clause-on_success g c =
+    let t = g.met.H.Host.is_tree in
+    let root = c.args.root.now in
+    let work = c.args.work.now in
+    let holds = g.R.Remotes.holds c.args.remotes.now in
+    on_ok_weaker c.take_order.result
+    (λ stays. ends_on stays c.in-Ok.ensures.on_success (t c.clear.new.host) (λ u v w tree q s. s.on (subst (λ (l : List (List ℕ × ObjKind)). AreTaken root work c.args.url.now holds l v) (sym c.requires.empty) (nothing_taken q))))
+    c.take_order.ensures.on_success
+
+pub returns-in-Ok-clause-covers : goal.returns-in-Ok-clause-covers
+returns-in-Ok-clause-covers g c have s =
+    let t = g.met.H.Host.is_tree in
+    let from = works_supplies c.args.root.now c.args.work.now c.requires.apart (t c.args.host.now) (t c.clear.new.host) (works_clear (t c.args.host.now) c.clear.ensures.frame) refl s in
+    on_ok_weaker c.take_order.result (λ covers. ends_on covers c.in-Ok.ensures.on_success (t c.clear.new.host) (λ u v w tree q s. s (nothing_taken q))) (c.take_order.ensures.covers have from c.requires.empty)
+
+pub returns-in-Ok-clause-refuses : goal.returns-in-Ok-clause-refuses
+returns-in-Ok-clause-refuses g c have s =
+    let t = g.met.H.Host.is_tree in
+    c.take_order.ensures.refuses have (works_supplies c.args.root.now c.args.work.now c.requires.apart (t c.args.host.now) (t c.clear.new.host) (works_clear (t c.args.host.now) c.clear.ensures.frame) refl s)
+
+pub returns-in-Ok-clause-fault_has_cause : goal.returns-in-Ok-clause-fault_has_cause
+returns-in-Ok-clause-fault_has_cause g c =
+    let t = g.met.H.Host.is_tree in
+    passed (CanPull c.args.root.now c.args.work.now) (AreOpen c.args.work.now) (t c.args.host.now) c.clear.ensures.fault_has_cause.later (ends_both (ends_frame (t c.args.host.now) c.clear.ensures.frame) c.in-Ok.ensures.on_success)
+    c.take_order.ensures.fault_has_cause (λ is. is) (λ u v tree q can. cleared_open q.0 q.1 can)
+
+pub returns-in-Err-clause-any_moment : goal.returns-in-Err-clause-any_moment
+returns-in-Err-clause-any_moment g c = works_clear (g.met.H.Host.is_tree c.args.host.now) c.clear.ensures.frame
+
+pub returns-in-Err-clause-refuses : goal.returns-in-Err-clause-refuses
+returns-in-Err-clause-refuses g c have s = let refused = λ (w : WalkFault). first_named have c.args.commit.now ≡ Some (told_fault w) in subst (λ (e : WalkEnd). RefusesBy refused e) (sym c.walk_end.ensures) (host_refuses refused c.in-Err.end)
+
+pub returns-in-Err-clause-fault_has_cause : goal.returns-in-Err-clause-fault_has_cause
+returns-in-Err-clause-fault_has_cause g c =
+    let t = g.met.H.Host.is_tree in
+    passed (CanPull c.args.root.now c.args.work.now) (CanClear c.args.work.now) (t c.args.host.now) (omega arith) (ends_start (t c.args.host.now)) c.in-Err.ensures.fault_has_cause
+    (λ is. host_fault c.in-Err.end (subst (λ (e : WalkEnd). IsErrOf {T = Unit {0}} (Err e) ends.HostFault) c.walk_end.ensures is)) (λ u v tree q can. subst (CanClear c.args.work.now) (sym q) can.clears)
+
+pub returns-in-Err-clause-remote_fault_has_cause :
+    goal.returns-in-Err-clause-remote_fault_has_cause
+returns-in-Err-clause-remote_fault_has_cause g c = no_remotes (λ is. host_remote c.in-Err.end (subst (λ (e : WalkEnd). IsErrOf {T = Unit {0}} (Err e) ends.RemoteFault) c.walk_end.ensures is)) (omega arith)

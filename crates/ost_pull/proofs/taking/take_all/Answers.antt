@@ -1,0 +1,91 @@
+use Rattle.std.proofs.Common.{◌≡◌, List, ℕ, Option, Some, refl, sym, ◌∙◌, ap, subst, arith, inl}
+use Rattle.fp_host.specs.Frame.{AtEnd}
+use Rattle.fp_host.specs.Remote.{Holdings}
+use Rattle.fp_host.specs.View.{View}
+use Rattle.fp_host.proofs.Cause.{Rose-later}
+use Rattle.fp_host.proofs.Ending.{ends_start, ends_to, ends_on, ends_both, ends_goes}
+use Rattle.fp_base.specs.declared.object.ObjKind.{ObjKind}
+use Rattle.ost_walk.specs.Ends.{EndsBy}
+use Rattle.ost_walk.specs.Surveys.{first_bad, told_fault}
+use Rattle.ost_pull.specs.Takes.{TakesOne, TakesAll, AddsAmong}
+use Rattle.ost_pull.specs.Work.{Works, AreOpen}
+use Rattle.ost_pull.proofs.Apart.{works_supplies, works_open}
+use Rattle.ost_pull.proofs.Kept.{works_start, works_within}
+use Rattle.ost_pull.proofs.Taken.{none_taken, next_taken, next_added, next_good, next_bad, all_is, passed, ends_to_tree}
+use Rattle.ost_pull.proofs.taking.take_all.Goals as goal
+
+pub loop-object-init : goal.loop-object-init
+loop-object-init g c =
+    let t = g.met.H.Host.is_tree in
+    record {
+      works = works_start (t c.args.host.now);
+      same = refl;
+      only = λ o has. inl has;
+      taken = ends_to (ends_start (t c.args.host.now)) (λ u w same. none_taken c.args.kept.now.items same);
+      good = λ have s. refl;
+      later = omega arith;
+      remote_later = omega arith;
+    }
+
+pub loop-object-preserved : goal.loop-object-preserved
+loop-object-preserved g c =
+    let t = g.met.H.Host.is_tree in
+    let before = c.loop-object.invariant in
+    let objects = c.args.objects.now in
+    let i = c.loop-object.object-index in
+    let o = c.object-item.result in
+    let low = c.loop-object-test.true in
+    let is = c.object-item.is in
+    record {
+      works = works_within (t c.loop-object.host) c.take.ensures.any_moment before.works;
+      same = c.take.ensures.same ∙ before.same;
+      only = next_added objects i o low is c.args.kept.now.items c.loop-object.kept.items c.take.new.kept.items c.in-Ok.ensures.adds before.only;
+      taken = ends_on
+          (ends_to_tree (t c.take.new.host) (ends_both (ends_goes (t c.loop-object.host) c.take.ensures.any_moment)
+          (subst (λ (holds : Option Holdings). AtEnd (TakesOne c.args.root.now c.args.work.now c.args.url.now holds (o.0, o.1) c.loop-object.kept.items c.take.new.kept.items) (g.H.Host.moments c.loop-object.host) (g.H.Host.moments c.take.new.host)) before.same c.in-Ok.ensures.on_success)))
+          before.taken (t c.loop-object.host)
+          (λ u v w tree q s. next_taken objects i o low is c.args.kept.now.items c.loop-object.kept.items c.take.new.kept.items c.in-Ok.ensures.adds c.requires tree s.0 q s.1.0 s.1.1);
+      good = λ have s. next_good have objects i o low is (before.good have s) (c.in-Ok.ensures.tells have (works_supplies c.args.root.now c.args.work.now c.requires (t c.args.host.now) (t c.loop-object.host) before.works before.same s));
+      later = omega (arith, before.later, c.take.ensures.fault_has_cause.later);
+      remote_later = omega (arith, before.remote_later, c.take.ensures.remote_fault_has_cause.later);
+    }
+
+pub returns-in-Err-clause-any_moment : goal.returns-in-Err-clause-any_moment
+returns-in-Err-clause-any_moment g c = works_within (g.met.H.Host.is_tree c.loop-object.host) c.take.ensures.any_moment c.loop-object.invariant.works
+
+pub returns-in-Err-clause-same : goal.returns-in-Err-clause-same
+returns-in-Err-clause-same g c = c.take.ensures.same ∙ c.loop-object.invariant.same
+
+pub returns-in-Err-clause-tells : goal.returns-in-Err-clause-tells
+returns-in-Err-clause-tells g c have s =
+    let t = g.met.H.Host.is_tree in
+    let before = c.loop-object.invariant in
+    next_bad have c.args.objects.now c.loop-object.object-index c.object-item.result c.loop-object-test.true c.object-item.is (before.good have s) c.in-Err.end
+    (c.in-Err.ensures.tells have (works_supplies c.args.root.now c.args.work.now c.requires (t c.args.host.now) (t c.loop-object.host) before.works before.same s))
+
+pub returns-in-Err-clause-fault_has_cause : goal.returns-in-Err-clause-fault_has_cause
+returns-in-Err-clause-fault_has_cause g c =
+    let t = g.met.H.Host.is_tree in
+    let before = c.loop-object.invariant in
+    passed (AreOpen c.args.work.now) (AreOpen c.args.work.now) (t c.args.host.now) before.later (ends_goes (t c.args.host.now) before.works) c.in-Err.ensures.fault_has_cause (λ is. cc is) (λ u v tree works can. works_open works can)
+
+pub returns-in-Err-clause-remote_fault_has_cause : goal.returns-in-Err-clause-remote_fault_has_cause
+returns-in-Err-clause-remote_fault_has_cause g c =
+    let cause = c.in-Err.ensures.remote_fault_has_cause in
+    let before = c.loop-object.invariant.remote_later in
+    record { later = omega (arith, before, cause.later); rose = λ is. Rose-later _ _ _ before (cause.rose (cc is)) }
+
+pub returns-clause-only : goal.returns-clause-only
+returns-clause-only g c =
+    let all = all_is c.args.objects.now c.loop-object.object-index (omega (arith, c.loop-object-test.false, c.loop-object.auto.object-index-end)) in
+    subst (λ (l : List (List ℕ × ObjKind)). AddsAmong l c.args.kept.now.items c.loop-object.kept.items) all c.loop-object.invariant.only
+
+pub returns-clause-on_success : goal.returns-clause-on_success
+returns-clause-on_success g c =
+    let all = all_is c.args.objects.now c.loop-object.object-index (omega (arith, c.loop-object-test.false, c.loop-object.auto.object-index-end)) in
+    subst (λ (l : List (List ℕ × ObjKind)). AtEnd (TakesAll c.args.root.now c.args.work.now c.args.url.now (g.R.Remotes.holds c.args.remotes.now) l c.args.kept.now.items c.loop-object.kept.items) (g.H.Host.moments c.args.host.now) (g.H.Host.moments c.loop-object.host)) all c.loop-object.invariant.taken
+
+pub returns-clause-tells : goal.returns-clause-tells
+returns-clause-tells g c have s =
+    let all = all_is c.args.objects.now c.loop-object.object-index (omega (arith, c.loop-object-test.false, c.loop-object.auto.object-index-end)) in
+    ap (first_bad have) (sym all) ∙ c.loop-object.invariant.good have s

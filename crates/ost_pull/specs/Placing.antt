@@ -1,0 +1,74 @@
+-- Objects that come from the work folder to their names.
+use Rattle.std.specs.Prelude.{◌≡◌, ◌⊎◌, ◌≤◌, ◌+◌, ℕ, List, length, true, Option}
+use Rattle.fp_host.specs.Paths.{Elements, absent}
+use Rattle.fp_host.specs.View.{View}
+use Rattle.fp_host.specs.Outcome.{shows, IsSettled}
+use Rattle.fp_host.specs.Remote.{Holdings}
+use Rattle.fp_name.specs.Hex.{is_digest}
+use Rattle.fp_base.specs.declared.object.ObjKind.{ObjKind}
+use Rattle.fp_small.specs.Clear.{IsCleared, CanClear}
+use Rattle.ost_model.specs.Objects.{object_path}
+use Rattle.ost_model.specs.Order.{In}
+use Rattle.ost_store.specs.Place.{IsReadyAs, LeavesStore}
+use Rattle.ost_store.specs.Stays.{Stays}
+use Rattle.ost_pull.specs.Work.{IsOnce, AreOpen}
+use Rattle.ost_pull.specs.Takes.{AreTaken}
+use Rattle.ost_pull.specs.Pulls.{Pulls}
+
+-- what stands at the object's path in the folder t is ready to be placed
+pub record IsReadyIn (t : Elements) (o : List ℕ × ObjKind) (v : View) : Type 0 where
+  pub digits : is_digest o.0 ≡ true
+  pub ready : IsReadyAs o.0 o.1 (object_path t o.0 o.1) v
+
+-- so are all of these, each of which is named once
+pub record AreReady (t : Elements) (objects : List (List ℕ × ObjKind)) (v : View) : Type 0 where
+  pub each : (o : List ℕ × ObjKind) → In objects o → IsReadyIn t o v
+  pub once : IsOnce objects
+
+-- nothing stands at their names in the store at root
+pub record AreLacking (root : Elements) (objects : List (List ℕ × ObjKind)) (v : View) : Type 0 where
+  pub free : (o : List ℕ × ObjKind) → In objects o → v.names (object_path root o.0 o.1) ≡ absent
+
+-- where they may be placed
+pub record CanPlaceAll (root t : Elements) (objects : List (List ℕ × ObjKind)) (v : View) : Type 0 where
+  pub ready : AreReady t objects v
+  pub lacking : AreLacking root objects v
+  pub open_above : AreOpen root v
+
+-- What stood at the object's path in the folder t stands at its name.
+abbrev pub CameTo : Elements → Elements → View → View → List ℕ × ObjKind → Type 0
+CameTo root t u w o = shows w (object_path root o.0 o.1) ≡ shows u (object_path t o.0 o.1)
+
+-- all of these came to their names, and the others are as before
+pub record PlacesAll (root t : Elements) (objects : List (List ℕ × ObjKind)) (u w : View) : Type 0 where
+  pub came : (o : List ℕ × ObjKind) → In objects o → CameTo root t u w o
+  pub others : (d : List ℕ) (kind : ObjKind) → is_digest d ≡ true → (In objects (d, kind) → ⊥) → Stays (object_path root d kind) u w
+
+-- the same where these are still to come
+pub record PlacesSome (root t : Elements) (objects left : List (List ℕ × ObjKind)) (u w : View) : Type 0 where
+  pub among : (o : List ℕ × ObjKind) → In left o → In objects o
+  pub came : (o : List ℕ × ObjKind) → In objects o → In left o ⊎ ((In left o → ⊥) × CameTo root t u w o)
+  pub still : (o : List ℕ × ObjKind) → In left o → Stays (object_path t o.0 o.1) u w × Stays (object_path root o.0 o.1) u w
+  pub others : (d : List ℕ) (kind : ObjKind) → is_digest d ≡ true → (In objects (d, kind) → ⊥) → Stays (object_path root d kind) u w
+
+-- they came to their names, the folder t is gone, and every stop leaves what stands
+pub record WasStored (root t : Elements) (objects : List (List ℕ × ObjKind)) (u w : View) : Type 0 where
+  pub places : PlacesAll root t objects u w
+  pub cleared : IsCleared t w
+  pub settled : IsSettled w
+
+-- placing them is a part of a pull, where they are ready and nothing stands at their names
+abbrev pub PullsReady : Elements → Elements → List (List ℕ × ObjKind) → View → View → Type 0
+PullsReady root t objects u w = AreReady t objects u → AreLacking root objects u → Pulls root t u w
+
+-- so is storing them, where they are kept and every stop leaves a store whose names are true
+abbrev pub PullsKept : Elements → Elements → List ℕ → Option Holdings → List (List ℕ × ObjKind) → View → View → Type 0
+PullsKept root t url holds objects u w = AreTaken root t url holds objects u → LeavesStore root u → Pulls root t u w
+
+-- where they may be stored
+pub record CanStore (root t : Elements) (url : List ℕ) (holds : Option Holdings) (objects : List (List ℕ × ObjKind)) (v : View) : Type 0 where
+  pub taken : AreTaken root t url holds objects v
+  pub true_names : LeavesStore root v
+  pub low : length t + 3 ≤ 128
+  pub clears : CanClear t v
+  pub store_open : AreOpen root v

@@ -1,0 +1,150 @@
+//! All that a store lacks of a commit, gathered in the work folder.
+ghost use Rattle.std.specs.Prelude.{◌≡◌, None, Some, [], IfOk, OnOk, IsErrOf, option_map};
+ghost use Rattle.fp_host.specs.Causes.{IsCaused};
+ghost use Rattle.fp_host.specs.Frame.{AtEnd};
+ghost use Rattle.fp_host.specs.Moments.{Always};
+ghost use Rattle.ost_model.specs.Objects.{Have, or_else};
+ghost use Rattle.ost_model.specs.Order.{first_fault};
+ghost use Rattle.ost_model.specs.Remotes.{Supplies};
+ghost use Rattle.ost_walk.specs.Ends.{EndsBy, IsRemotes};
+ghost use Rattle.ost_walk.specs.Surveys.{first_bad, first_named, told_fault};
+ghost use Rattle.ost_pull.specs.Pulls.{IsApart, CanPull};
+ghost use Rattle.ost_pull.specs.Takes.{AddsAmong, AreTaken, CoversOrder, StaysTaken, TakesAll};
+ghost use Rattle.ost_pull.specs.Work.{Works, AreOpen};
+
+use crate::taking::{take_all, walk_end};
+use fp_base::{ObjKind, Text};
+use fp_host::{Host, HostEnd, Path, Remotes};
+use fp_name::Digest;
+use fp_small::clear;
+use ost_walk::{ObjectFault, Places, Survey, WalkEnd, WalkFault, survey};
+use std::alloc::{AllocError, Global};
+
+/// The store in this folder, and the remote at the url.
+pub(crate) fn places_of(alloc: Global, root: &Path, url: &str) -> Result<Places, AllocError>
+    ensures { IfOk result (λ places. (places.root ≡ root.now) × (places.url ≡ Some url.now)) }
+{
+    Ok(Places {
+        root: root.copy()?,
+        url: Some(Text::from_str(alloc, url)?),
+    })
+}
+
+/// Takes the objects that a survey of the commit told. It is refused with the first that has a fault, or else with the fault that
+/// the survey told.
+fn take_surveyed<H: Host, R: Remotes>(
+    alloc: Global,
+    host: &mut H,
+    remotes: &mut R,
+    root: &Path,
+    url: &str,
+    work: &Path,
+    survey: &Survey,
+    kept: &mut Vec<(Digest, ObjKind)>,
+) -> Result<(), WalkEnd>
+    requires { IsApart root.now work.now }
+    ensures any_moment { Always (Works work.now) (H.moments host.old) (H.moments host.new) }
+    ensures same { R.holds remotes.new ≡ R.holds remotes.old }
+    ensures only { OnOk result (AddsAmong survey.now.objects kept.old.items kept.new.items
+        × (survey.now.fault ≡ None)) }
+    ensures on_success { OnOk result (AtEnd
+        (TakesAll root.now work.now url.now (R.holds remotes.old) survey.now.objects kept.old.items kept.new.items)
+        (H.moments host.old) (H.moments host.new)) }
+    ensures tells { (have : Have) → Supplies root.now (Some url.now) (H.moments host.old)
+        (R.holds remotes.old) have
+        → EndsBy (λ _. (first_bad have survey.now.objects ≡ None) × (survey.now.fault ≡ None)) (λ w. or_else (first_bad have survey.now.objects) (option_map told_fault survey.now.fault) ≡ Some (told_fault w)) result }
+    ensures fault_has_cause { IsCaused (IsErrOf result WalkEnd.HostFault) (H.moments host.old)
+        (AreOpen work.now) (H.faults host.old) (H.faults host.new) }
+    ensures remote_fault_has_cause { IsRemotes (IsErrOf result WalkEnd.RemoteFault)
+        (R.faults remotes.old) (R.faults remotes.new) }
+{
+    match take_all(
+        alloc,
+        host,
+        remotes,
+        root,
+        url,
+        work,
+        survey.objects.as_slice(),
+        kept,
+    ) {
+        Ok(()) => match &survey.fault {
+            None => Ok(()),
+            Some(fault) => Err(WalkEnd::Refused(*fault)),
+        },
+        Err(end) => Err(end),
+    }
+}
+
+/// Takes the objects of the commit's order. It is refused with the first that has a fault.
+fn take_order<H: Host, R: Remotes>(
+    alloc: Global,
+    host: &mut H,
+    remotes: &mut R,
+    root: &Path,
+    url: &str,
+    work: &Path,
+    commit: &Digest,
+    kept: &mut Vec<(Digest, ObjKind)>,
+) -> Result<(), WalkEnd>
+    requires { IsApart root.now work.now }
+    ensures any_moment { Always (Works work.now) (H.moments host.old) (H.moments host.new) }
+    ensures same { R.holds remotes.new ≡ R.holds remotes.old }
+    ensures on_success { OnOk result (AtEnd
+        (StaysTaken root.now work.now url.now (R.holds remotes.old) kept.old.items kept.new.items)
+        (H.moments host.old) (H.moments host.new)) }
+    ensures covers { (have : Have) → Supplies root.now (Some url.now) (H.moments host.old)
+        (R.holds remotes.old) have → kept.old.items ≡ [] → OnOk result (AtEnd
+        (λ u w. AreTaken root.now work.now url.now (R.holds remotes.old) [] u → CoversOrder root.now have commit.now kept.new.items w)
+        (H.moments host.old) (H.moments host.new)) }
+    ensures refuses { (have : Have) → Supplies root.now (Some url.now) (H.moments host.old)
+        (R.holds remotes.old) have
+        → EndsBy (λ _. first_fault have commit.now ≡ None) (λ w. first_named have commit.now ≡ Some (told_fault w)) result }
+    ensures fault_has_cause { IsCaused (IsErrOf result WalkEnd.HostFault) (H.moments host.old)
+        (AreOpen work.now) (H.faults host.old) (H.faults host.new) }
+    ensures remote_fault_has_cause { IsRemotes (IsErrOf result WalkEnd.RemoteFault)
+        (R.faults remotes.old) (R.faults remotes.new) }
+{
+    let places = places_of(alloc, root, url)?;
+    match survey(alloc, host, remotes, &places, commit) {
+        Ok(survey) => take_surveyed(alloc, host, remotes, root, url, work, &survey, kept),
+        Err(end) => Err(end),
+    }
+}
+
+/// Takes the objects of the commit's order into the work folder, in which nothing is left of what stood there before, and into
+/// the list, which is empty.
+pub(crate) fn gather<H: Host, R: Remotes>(
+    alloc: Global,
+    host: &mut H,
+    remotes: &mut R,
+    root: &Path,
+    url: &str,
+    work: &Path,
+    commit: &Digest,
+    kept: &mut Vec<(Digest, ObjKind)>,
+) -> Result<(), WalkEnd>
+    requires apart { IsApart root.now work.now }
+    requires empty { kept.old.items ≡ [] }
+    ensures any_moment { Always (Works work.now) (H.moments host.old) (H.moments host.new) }
+    ensures same { R.holds remotes.new ≡ R.holds remotes.old }
+    ensures on_success { OnOk result (AtEnd
+        (λ u w. AreTaken root.now work.now url.now (R.holds remotes.old) kept.new.items w)
+        (H.moments host.old) (H.moments host.new)) }
+    ensures covers { (have : Have) → Supplies root.now (Some url.now) (H.moments host.old)
+        (R.holds remotes.old) have → OnOk result (AtEnd
+        (λ u w. CoversOrder root.now have commit.now kept.new.items w)
+        (H.moments host.old) (H.moments host.new)) }
+    ensures refuses { (have : Have) → Supplies root.now (Some url.now) (H.moments host.old)
+        (R.holds remotes.old) have
+        → EndsBy (λ _. first_fault have commit.now ≡ None) (λ w. first_named have commit.now ≡ Some (told_fault w)) result }
+    ensures fault_has_cause { IsCaused (IsErrOf result WalkEnd.HostFault) (H.moments host.old)
+        (CanPull root.now work.now) (H.faults host.old) (H.faults host.new) }
+    ensures remote_fault_has_cause { IsRemotes (IsErrOf result WalkEnd.RemoteFault)
+        (R.faults remotes.old) (R.faults remotes.new) }
+{
+    match clear(alloc, host, work) {
+        Ok(()) => take_order(alloc, host, remotes, root, url, work, commit, kept),
+        Err(end) => Err(walk_end(end)),
+    }
+}

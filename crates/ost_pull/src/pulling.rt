@@ -1,0 +1,66 @@
+//! A commit that is pulled.
+ghost use Rattle.std.specs.Prelude.{◌≡◌, Some, [], OnOk, IsErrOf};
+ghost use Rattle.fp_host.specs.Causes.{IsCaused};
+ghost use Rattle.fp_host.specs.Frame.{AtEnd};
+ghost use Rattle.fp_host.specs.Moments.{Always};
+ghost use Rattle.fp_small.specs.declared.refusal.Refusal.{Refusal};
+ghost use Rattle.ost_model.specs.Objects.{Have};
+ghost use Rattle.ost_model.specs.Remotes.{Supplies};
+ghost use Rattle.ost_walk.specs.Ends.{IsRemotes};
+ghost use Rattle.ost_pull.specs.Pulls.{IsApart, PullsSoundly, WasPulled, WasRefused, Refuses, CanPull, first_refusal};
+
+use crate::gathering::gather;
+use crate::placing::store_kept;
+use fp_base::ObjKind;
+use fp_host::{Host, HostEnd, Path, Remotes};
+use fp_name::Digest;
+use fp_small::clear;
+use ost_head::PullEnd;
+use ost_walk::WalkEnd;
+use std::alloc::Global;
+
+/// Pulls the commit: takes each object of its order that the store in the folder `root` lacks from the remote at the url. All are
+/// checked before the first is stored, those that the store has too, and it is refused with the first that has a fault. They
+/// are kept below the path `work` until then, as in a store; what stands there at the entry goes. There are two syncs,
+/// however many objects. It is for a work folder that has nothing to do with the objects of the store.
+pub fn pull<H: Host, R: Remotes>(
+    alloc: Global,
+    host: &mut H,
+    remotes: &mut R,
+    root: &Path,
+    url: &str,
+    commit: &Digest,
+    work: &Path,
+) -> Result<(), PullEnd>
+    requires { IsApart root.now work.now }
+    ensures same { R.holds remotes.new ≡ R.holds remotes.old }
+    // Where the names of the store are true at every stop before, a stop at any moment leaves a store whose names are true, with
+    // each object that was there.
+    ensures any_moment { Always (PullsSoundly root.now work.now)
+        (H.moments host.old) (H.moments host.new) }
+    ensures on_success { (have : Have) → Supplies root.now (Some url.now) (H.moments host.old)
+        (R.holds remotes.old) have
+        → OnOk result (AtEnd (WasPulled root.now work.now have commit.now) (H.moments host.old) (H.moments host.new)) }
+    ensures refuses { (have : Have) → Supplies root.now (Some url.now) (H.moments host.old)
+        (R.holds remotes.old) have → Refuses (first_refusal have commit.now) result }
+    ensures refused_unchanged { (r : Refusal) → IsErrOf result (PullEnd.Refused r)
+        → AtEnd (WasRefused work.now) (H.moments host.old) (H.moments host.new) }
+    ensures remote_fault_unchanged { IsErrOf result PullEnd.RemoteFault
+        → AtEnd (WasRefused work.now) (H.moments host.old) (H.moments host.new) }
+    ensures fault_has_cause { IsCaused (IsErrOf result PullEnd.HostFault) (H.moments host.old)
+        (CanPull root.now work.now) (H.faults host.old) (H.faults host.new) }
+    ensures remote_fault_has_cause { IsRemotes (IsErrOf result PullEnd.RemoteFault)
+        (R.faults remotes.old) (R.faults remotes.new) }
+{
+    let mut kept = Vec::new(alloc);
+    match gather(alloc, host, remotes, root, url, work, commit, &mut kept) {
+        Ok(()) => match store_kept(alloc, host, root, work, &mut kept) {
+            Ok(()) => Ok(()),
+            Err(end) => Err(PullEnd::from(end)),
+        },
+        Err(end) => match clear(alloc, host, work) {
+            Ok(()) => Err(PullEnd::from(end)),
+            Err(fault) => Err(PullEnd::from(fault)),
+        },
+    }
+}

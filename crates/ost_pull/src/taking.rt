@@ -1,0 +1,108 @@
+//! Objects of an order that are found, checked, and kept where they are new.
+ghost use Rattle.std.specs.Prelude.{◌≡◌, None, Some, OnOk, IsErrOf};
+ghost use Rattle.fp_host.specs.Causes.{IsCaused};
+ghost use Rattle.fp_host.specs.Frame.{AtEnd};
+ghost use Rattle.fp_host.specs.Moments.{Always};
+ghost use Rattle.ost_model.specs.Objects.{Have};
+ghost use Rattle.ost_model.specs.Remotes.{Supplies};
+ghost use Rattle.ost_walk.specs.Ends.{EndsBy, IsFaultOf, IsRemotes, of_host};
+ghost use Rattle.ost_walk.specs.Steps.{IsGood, own_fault};
+ghost use Rattle.ost_walk.specs.Surveys.{first_bad, told_fault};
+ghost use Rattle.ost_pull.specs.Pulls.{IsApart};
+ghost use Rattle.ost_pull.specs.Takes.{TakesOne, TakesAll, AddsAmong};
+ghost use Rattle.ost_pull.specs.Work.{Works, Adds, AreOpen};
+
+use crate::keeping::keep;
+use fp_base::ObjKind;
+use fp_host::{Host, HostEnd, Path, Remotes};
+use fp_name::Digest;
+use ost_head::{Found, find};
+use ost_model::Object;
+use ost_walk::{ObjectFault, WalkEnd, WalkFault};
+use std::alloc::Global;
+
+/// How a walk ends where a call of the host does.
+pub(crate) fn walk_end(end: HostEnd) -> WalkEnd
+    ensures { result ≡ of_host end }
+{
+    match end {
+        HostEnd::Fault => WalkEnd::HostFault,
+        HostEnd::NoMemory => WalkEnd::NoMemory,
+    }
+}
+
+/// Takes one object: the store's where it has one, else the remote's, which is kept in the work folder and noted. It is refused
+/// for its fault. It is for a work folder that has nothing to do with the objects of the store.
+fn take<H: Host, R: Remotes>(
+    alloc: Global,
+    host: &mut H,
+    remotes: &mut R,
+    root: &Path,
+    url: &str,
+    work: &Path,
+    digest: &Digest,
+    kind: ObjKind,
+    kept: &mut Vec<(Digest, ObjKind)>,
+) -> Result<(), WalkEnd>
+    requires { IsApart root.now work.now }
+    ensures any_moment { Always (Works work.now) (H.moments host.old) (H.moments host.new) }
+    ensures same { R.holds remotes.new ≡ R.holds remotes.old }
+    ensures adds { OnOk result (Adds (digest.now, kind) kept.old.items kept.new.items) }
+    ensures on_success { OnOk result (AtEnd
+        (TakesOne root.now work.now url.now (R.holds remotes.old) (digest.now, kind) kept.old.items kept.new.items)
+        (H.moments host.old) (H.moments host.new)) }
+    ensures tells { (have : Have) → Supplies root.now (Some url.now) (H.moments host.old)
+        (R.holds remotes.old) have
+        → EndsBy (λ _. IsGood have digest.now kind) (IsFaultOf digest.now kind (own_fault have digest.now kind)) result }
+    ensures fault_has_cause { IsCaused (IsErrOf result WalkEnd.HostFault) (H.moments host.old)
+        (AreOpen work.now) (H.faults host.old) (H.faults host.new) }
+    ensures remote_fault_has_cause { IsRemotes (IsErrOf result WalkEnd.RemoteFault)
+        (R.faults remotes.old) (R.faults remotes.new) }
+{
+    let _bytes = digest.as_bytes();
+    match find(alloc, host, remotes, root, url, digest, kind) {
+        Ok(Found::Stored(_)) => Ok(()),
+        Ok(Found::New(object)) => match keep(alloc, host, work, digest, kind, &object, kept) {
+            Ok(()) => Ok(()),
+            Err(end) => Err(walk_end(end)),
+        },
+        Err(end) => Err(end),
+    }
+}
+
+/// Takes these objects one after another. It is refused with the first that has a fault.
+pub(crate) fn take_all<H: Host, R: Remotes>(
+    alloc: Global,
+    host: &mut H,
+    remotes: &mut R,
+    root: &Path,
+    url: &str,
+    work: &Path,
+    objects: &[(Digest, ObjKind)],
+    kept: &mut Vec<(Digest, ObjKind)>,
+) -> Result<(), WalkEnd>
+    requires { IsApart root.now work.now }
+    ensures any_moment { Always (Works work.now) (H.moments host.old) (H.moments host.new) }
+    ensures same { R.holds remotes.new ≡ R.holds remotes.old }
+    ensures only { OnOk result (AddsAmong objects.now kept.old.items kept.new.items) }
+    ensures on_success { OnOk result (AtEnd
+        (TakesAll root.now work.now url.now (R.holds remotes.old) objects.now kept.old.items kept.new.items)
+        (H.moments host.old) (H.moments host.new)) }
+    ensures tells { (have : Have) → Supplies root.now (Some url.now) (H.moments host.old)
+        (R.holds remotes.old) have
+        → EndsBy (λ _. first_bad have objects.now ≡ None) (λ w. first_bad have objects.now ≡ Some (told_fault w)) result }
+    ensures fault_has_cause { IsCaused (IsErrOf result WalkEnd.HostFault) (H.moments host.old)
+        (AreOpen work.now) (H.faults host.old) (H.faults host.new) }
+    ensures remote_fault_has_cause { IsRemotes (IsErrOf result WalkEnd.RemoteFault)
+        (R.faults remotes.old) (R.faults remotes.new) }
+{
+    for object in objects {
+        match take(
+            alloc, host, remotes, root, url, work, &object.0, object.1, kept,
+        ) {
+            Ok(()) => {}
+            Err(end) => return Err(end),
+        }
+    }
+    Ok(())
+}
