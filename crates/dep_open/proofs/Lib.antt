@@ -6,5 +6,4 @@ pub mod FindingOverrides
 pub mod Linked
 pub mod Joined
 pub mod Synced
-pub mod Tidied
 pub mod Unread

@@ -1,4 +1,3 @@
 pub mod Open
 pub mod Ends
 pub mod Parts
-pub mod Tidy

@@ -9,9 +9,7 @@ mod paths;
 mod reading;
 mod refs;
 mod settings;
-mod tidying;
 
 pub use open_end::OpenEnd;
 pub use opening::open;
 pub use reading::read_state;
-pub use tidying::tidy;

@@ -1,21 +1,25 @@
 //! Laws of the step that changes a ref's deployed commit. Each is the contract of a function that does nothing.
-ghost use Rattle.std.specs.Prelude.{◌≡◌, ℕ, List, None, true};
+ghost use Rattle.std.specs.Prelude.{◌≡◌, ◌≢◌, ℕ, List, None, true};
 ghost use Rattle.fp_host.specs.Paths.{Elements};
 ghost use Rattle.fp_host.specs.View.{View, IsTree};
 ghost use Rattle.fp_host.specs.Outcome.{Disk, Follows, IsSettled, shows};
 ghost use Rattle.fp_name.specs.Hex.{is_digest};
 ghost use Rattle.fp_name.specs.Refs.{Ref, is_ref};
 ghost use Rattle.fp_small.specs.declared.state.State.{State};
+ghost use Rattle.fp_small.specs.declared.state.RefRow.{RefRow};
+ghost use Rattle.dep_states.specs.After.{row_at};
 ghost use Rattle.dep_states.specs.Deployed.{deployed_row};
 ghost use Rattle.dep_states.specs.Names.{commit_dir, deploy};
 ghost use Rattle.dep_states.specs.Shown.{Shows};
 ghost use Rattle.dep_states.specs.Sound.{Sound, Opens, Spares};
 ghost use Rattle.dep_states.specs.Switch.{IsWith, OpensEither};
-ghost use Rattle.dep_switch.specs.Retiring.{RetiresAt};
+ghost use Rattle.dep_switch.specs.Retiring.{RetiresAt, IsPlanOf, CanRetire};
 ghost use Rattle.dep_switch.specs.Rows.{IsAt};
 ghost use Rattle.dep_switch.specs.Samples.{undeployed_disk, undeployed_state};
-ghost use Rattle.dep_switch.specs.Staging.{CanStage};
+ghost use Rattle.dep_switch.specs.Staging.{CanStage, WasStaged, LeadsTo, CanSwitch};
 ghost use Rattle.dep_switch.specs.Writing.{FileAt};
+ghost use Rattle.dep_switch.specs.declared.retiring.RetirePlan.{RetirePlan};
+ghost use Rattle.dep_switch.specs.declared.staged.Staged.{Staged};
 
 /// The removal of an `active`: each outcome shows the state of before or the one without the ref, and is sound.
 pub fn a_retirement_is_old_or_new()
@@ -37,4 +41,16 @@ pub fn a_switch_can_be_staged()
     ensures stages { (v : View) → IsTree v → IsSettled v
         → ((p : Elements) → shows v p ≡ undeployed_disk p)
         → CanStage undeployed_state deployed_row v }
+{}
+
+/// What is asked before a switch is met once it is staged.
+pub fn what_is_staged_can_be_switched()
+    ensures { (s : State) (row : RefRow) (staged : Staged) (u w : View) → LeadsTo s row staged
+        → CanStage s row u → WasStaged s row u w → CanSwitch staged w }
+{}
+
+/// What is asked before a ref goes is met for each plan of a ref that is deployed, wherever every stop leaves the state.
+pub fn a_deployed_ref_can_be_retired()
+    ensures { (s : State) (v : View) (plan : RetirePlan) → IsPlanOf plan.name plan → Opens s v
+        → row_at s plan.name ≢ None → CanRetire s plan v }
 {}
