@@ -1,0 +1,7 @@
+pub mod Named
+pub mod Distinct
+pub mod Quiet
+pub mod Found
+pub mod Standing
+pub mod Local
+pub mod Samples

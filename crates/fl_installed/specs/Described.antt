@@ -1,0 +1,55 @@
+-- The metadata of a commit of a ref, or what is wrong with it.
+use Rattle.std.specs.Prelude.{◌≡◌, ℕ, List, true, Option, Some, None, Result, Ok, Err}
+use Rattle.fp_base.specs.declared.meta_rule.MetaRule.{MetaRule}
+use Rattle.fp_base.specs.declared.meta_rule.MetaRule.TheVariants as rules
+use Rattle.fp_base.specs.declared.meta_rule.MetadataRule.TheVariants as metadata_rules
+use Rattle.fp_keyfile.specs.declared.group.Group.{Group}
+use Rattle.fp_keyfile.specs.declared.fault.KeyFault.{KeyFault}
+use Rattle.fp_keyfile.specs.KeyFile.{are_distinct, file_of}
+use Rattle.fp_name.specs.Refs.{Ref}
+use Rattle.fp_small.specs.Order.{sorted_by}
+use Rattle.fp_small.specs.declared.refusal.Refusal.{Refusal}
+use Rattle.fp_small.specs.declared.refusal.Refusal.TheVariants as refusals
+use Rattle.fl_meta.specs.declared.meta.Meta.{Meta}
+use Rattle.fl_meta.specs.Metadata.{meta_of}
+use Rattle.ost_model.specs.Objects.{Have}
+use Rattle.ost_head.specs.Heads.{meta_kind}
+use Rattle.fl_installed.specs.Files.{metadata_file}
+use Rattle.fl_installed.specs.declared.info.Info.{Info}
+
+-- metadata that breaks a rule, which is of no line
+abbrev pub broken : Ref → MetaRule → Refusal
+broken name rule = refusals.BadMetadata name 0 (metadata_rules.Meta rule)
+
+abbrev pub by_rules : Ref → Result Meta MetaRule → Result Meta Refusal
+by_rules name (Ok meta) = Ok meta
+by_rules name (Err rule) = Err (broken name rule)
+
+abbrev pub by_lines : Ref → Result (List Group) KeyFault → Result Meta Refusal
+by_lines name (Ok file) = by_rules name (meta_of (meta_kind name.kind) file)
+by_lines name (Err fault) = Err (refusals.BadMetadata name fault.line (metadata_rules.Key fault.rule))
+
+-- the file is there, its lines are those of a key file, and they say what the metadata of a ref of its kind has to say
+abbrev pub by_file : Ref → Option (List ℕ) → Result Meta Refusal
+by_file name None = Err (broken name rules.Absent)
+by_file name (Some bytes) = by_lines name (file_of bytes)
+
+unfoldable pub described : Have → Ref → List ℕ → Result Meta Refusal
+described have name commit = by_file name (metadata_file have commit)
+
+-- what a call answered has each extension once
+abbrev pub NamesOnce : Result Meta Refusal → Type 0
+NamesOnce (Ok meta) = are_distinct meta.extensions ≡ true
+NamesOnce (Err refusal) = Unit {0}
+
+-- ---- what is told of it: its runtime, and the names of its extensions, ascending
+
+abbrev pub info_of : Meta → Info
+info_of meta = record { runtime = meta.runtime; extensions = sorted_by (λ name. name) meta.extensions }
+
+abbrev pub as_info : Result Meta Refusal → Result Info Refusal
+as_info (Ok meta) = Ok (info_of meta)
+as_info (Err refusal) = Err refusal
+
+abbrev pub info_in : Have → Ref → List ℕ → Result Info Refusal
+info_in have name commit = as_info (described have name commit)

@@ -1,0 +1,57 @@
+-- The file `metadata` of a commit.
+use Rattle.std.specs.Prelude.{ℕ, ◌*◌, List, [], length, leb, Option, Some, None, unwrap_or, option_and_then, Result, Ok, Err, if◌then◌else◌}
+use Rattle.fp_base.specs.declared.object.ObjKind.TheVariants as kinds
+use Rattle.fp_host.specs.declared.host.HostEnd.{HostEnd}
+use Rattle.fp_host.specs.declared.host.HostEnd.TheVariants as host_ends
+use Rattle.ost_model.specs.declared.object.Object.{Object}
+use Rattle.ost_model.specs.declared.object.Object.TheVariants as objects
+use Rattle.ost_model.specs.Objects.{Have, Fault}
+use Rattle.ost_model.specs.Order.{Place}
+use Rattle.ost_model.specs.Look.{look, look_fault}
+use Rattle.ost_model.specs.Standing.{metadata_name}
+use Rattle.ost_walk.specs.declared.ends.WalkEnd.{WalkEnd}
+use Rattle.ost_walk.specs.declared.ends.WalkEnd.TheVariants as walks
+use Rattle.ost_walk.specs.declared.found.Found.{Found}
+use Rattle.ost_walk.specs.declared.found.Found.TheVariants as found
+use Rattle.ost_head.specs.Heads.{file_in}
+
+-- the digest of the file or link that was found
+abbrev pub digest_of : Found → Option (List ℕ)
+digest_of (found.File d) = Some d
+digest_of found.Dir = None
+digest_of found.Nothing = None
+
+-- the same of a walk; there is none where it was refused
+abbrev pub digest_in : Result Found WalkEnd → Result (Option (List ℕ)) HostEnd
+digest_in (Ok found) = Ok (digest_of found)
+digest_in (Err (walks.Refused fault)) = Ok None
+digest_in (Err walks.HostFault) = Err host_ends.Fault
+digest_in (Err walks.RemoteFault) = Err host_ends.Fault
+digest_in (Err walks.NoMemory) = Err host_ends.NoMemory
+
+abbrev pub unless_faulty : {A : Type 0} → Option (Place × Fault) → Option A → Option A
+unless_faulty None a = a
+unless_faulty (Some fault) a = None
+
+-- the digest of `metadata` in the root of a commit, where neither the commit nor its root's dirtree has a fault
+unfoldable pub metadata_digest : Have → List ℕ → Option (List ℕ)
+metadata_digest have commit = unless_faulty (look_fault have commit metadata_name) (file_in (look have commit metadata_name))
+
+-- at most 1 MiB
+abbrev pub if_short : List ℕ → Option (List ℕ)
+if_short bytes = if leb (length bytes) (1024 * 1024) then Some bytes else None
+
+-- the content of a file of at most 1 MiB
+abbrev pub short_content : Option Object → Option (List ℕ)
+short_content None = None
+short_content (Some (objects.File mode bytes)) = if_short bytes
+short_content (Some (objects.Link text)) = None
+short_content (Some (objects.Meta bytes)) = None
+
+-- The file `metadata` of a commit, where it is a file of at most 1 MiB. Whether its content has its digest isn't asked.
+unfoldable pub metadata_file : Have → List ℕ → Option (List ℕ)
+metadata_file have commit = option_and_then (λ d. short_content (have d kinds.File)) (metadata_digest have commit)
+
+-- its bytes, none where there is no such file
+abbrev pub metadata_in : Have → List ℕ → List ℕ
+metadata_in have commit = unwrap_or (metadata_file have commit) []

@@ -1,0 +1,64 @@
+//! Laws of the words that the contracts use, for crates that build on them. Each is the contract of a function that does nothing.
+ghost use Rattle.std.specs.Prelude.{◌≡◌, ◌+◌, ◌*◌, [], ℕ, List, length, map, Some, None, Ok, Err};
+ghost use Rattle.fp_base.specs.declared.meta_rule.MetaRule.TheVariants as rules;
+ghost use Rattle.ost_model.specs.declared.object.Object.TheVariants as objects;
+ghost use Rattle.fl_installed.specs.Described.{broken, info_in};
+ghost use Rattle.fl_installed.specs.Files.{metadata_file, short_content};
+ghost use Rattle.fl_installed.specs.Standing.{StandingIsRead, MetadataIsLocal, UserIsLocal, MetasAreLocal, PointsAreLocal, ApplicationsName};
+ghost use Rattle.fl_installed.specs.Users.{first_user, runtime_at, installed_metas, installed_points};
+ghost use Rattle.fl_installed.specs.Sample as sample;
+
+/// What is told of the file `metadata` of a commit that stands in a folder is the file there, which reads.
+pub fn metadata_is_what_stands()
+    ensures { StandingIsRead }
+{}
+
+/// The file `metadata` of a commit without a fault depends on the objects of its order, and what is told of the deployed commits
+/// depends on their files.
+pub fn what_is_said_depends_on_the_objects()
+    ensures metadata { MetadataIsLocal }
+    ensures user { UserIsLocal }
+    ensures metas { MetasAreLocal }
+    ensures points { PointsAreLocal }
+{}
+
+/// What is named is a runtime, and an application names it.
+pub fn applications_name_runtimes()
+    ensures { ApplicationsName }
+{}
+
+/// In a small installation: what its commits say, and who uses a runtime.
+pub fn small_installation()
+    ensures first { metadata_file sample.have sample.first_commit ≡ Some sample.first_metadata }
+    ensures second { metadata_file sample.have sample.second_commit ≡ Some sample.second_metadata }
+    // A commit whose root can't be read has no file, nor has one that isn't there.
+    ensures without_tree { metadata_file sample.without_tree sample.first_commit ≡ None }
+    ensures absent { metadata_file sample.have [] ≡ None }
+    ensures base { first_user sample.have sample.base sample.rows ≡ Some sample.first }
+    // Two applications name it. The first is told.
+    ensures platform { first_user sample.have sample.platform sample.rows ≡ Some sample.second }
+    ensures none { first_user sample.have sample.other sample.rows ≡ None }
+    // A runtime's commit names none, whatever it says.
+    ensures runtime { runtime_at sample.have sample.other sample.second_commit ≡ None }
+    ensures metas { map sample.runtime_of (installed_metas sample.have sample.rows)
+        ≡ sample.runtimes }
+    ensures points { map sample.names_of (installed_points sample.have sample.rows)
+        ≡ sample.points }
+{}
+
+/// In the same installation: what is told of a commit, or what is wrong with it.
+pub fn small_installation_is_described()
+    ensures info { info_in sample.have sample.second sample.second_commit
+        ≡ Ok (record { runtime = Some sample.platform; extensions = sample.names }) }
+    ensures absent { info_in sample.have sample.other [] ≡ Err (broken sample.other rules.Absent) }
+    ensures kind { info_in sample.have sample.other sample.second_commit
+        ≡ Err (broken sample.other rules.Group) }
+{}
+
+/// A file `metadata` has at most 1 MiB.
+pub fn files_are_short()
+    ensures most { (mode : ℕ) (bytes : List ℕ) → length bytes ≡ 1024 * 1024
+        → short_content (Some (objects.File mode bytes)) ≡ Some bytes }
+    ensures more { (mode : ℕ) (bytes : List ℕ) → length bytes ≡ 1024 * 1024 + 1
+        → short_content (Some (objects.File mode bytes)) ≡ None }
+{}

@@ -1,0 +1,16 @@
+//! What the metadata of commits says, and what the deployed commits of an installation say.
+#![tactic(auto)]
+
+mod files;
+mod info;
+pub mod laws;
+mod lists;
+mod metadata;
+mod places;
+mod users;
+
+pub use files::{metadata_file, read_metadata};
+pub use info::{Info, described, info_in};
+pub use lists::{metas, points};
+pub use metadata::{meta_said, points_in, runtime_named};
+pub use users::{first_user, runtime_at};

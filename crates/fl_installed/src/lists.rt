@@ -1,0 +1,153 @@
+//! What all deployed commits say.
+ghost use Rattle.std.specs.Prelude.{◌≡◌, ◌++◌, IfOk, OnOk, IsErrOf, option_to_list};
+ghost use Rattle.fp_host.specs.Causes.{IsCounted};
+ghost use Rattle.fp_host.specs.Frame.{Unchanged};
+ghost use Rattle.fp_small.specs.Places.{repo};
+ghost use Rattle.ost_model.specs.Objects.{Have};
+ghost use Rattle.ost_model.specs.Remotes.{Stores};
+ghost use Rattle.fl_installed.specs.Users as spec;
+
+use crate::files::read_metadata;
+use crate::metadata::{meta_said, points_in};
+use crate::users::is_app;
+use fl_extension::Point;
+use fl_meta::Meta;
+use fp_base::{Blob, Items};
+use fp_host::{Host, HostEnd};
+use fp_name::RefName;
+use fp_small::{RefRow, State};
+use std::alloc::{AllocError, Global};
+
+/// The ref and its metadata of these bytes, where they read.
+fn named_meta(
+    alloc: Global,
+    name: &RefName,
+    metadata: &Blob,
+) -> Result<Option<(RefName, Meta)>, AllocError>
+    ensures { IfOk result (λ meta. meta ≡ spec.named_meta name.now metadata.now) }
+{
+    match meta_said(alloc, name, metadata)? {
+        Some(meta) => Ok(Some((name.copy()?, meta))),
+        None => Ok(None),
+    }
+}
+
+/// The application of the row and the metadata of its deployed commit, where it reads. A runtime's commit isn't read.
+fn meta_at<H: Host>(
+    alloc: Global,
+    host: &mut H,
+    row: &RefRow,
+) -> Result<Option<(RefName, Meta)>, HostEnd>
+    ensures unchanged { Unchanged (H.moments host.old) (H.moments host.new) }
+    ensures tells { (have : Have) → Stores repo (H.moments host.old) have
+        → IfOk result (λ meta. meta ≡ spec.meta_at have row.now) }
+    ensures fault_has_cause { IsCounted (IsErrOf result HostEnd.Fault)
+        (H.moments host.old) (H.faults host.old) (H.faults host.new) }
+{
+    if !is_app(&row.name) {
+        return Ok(None);
+    }
+    let metadata = read_metadata(alloc, host, &row.commit)?;
+    Ok(named_meta(alloc, &row.name, &metadata)?)
+}
+
+/// Adds what there is.
+fn add_meta(
+    found: Option<(RefName, Meta)>,
+    metas: &mut Items<(RefName, Meta)>,
+) -> Result<(), AllocError>
+    ensures { OnOk result (metas.new ≡ metas.old ++ option_to_list found) }
+{
+    match found {
+        Some(meta) => metas.push(meta),
+        None => Ok(()),
+    }
+}
+
+/// The applications of these rows with their metadata.
+fn metas_of<H: Host>(
+    alloc: Global,
+    host: &mut H,
+    rows: &[RefRow],
+) -> Result<Items<(RefName, Meta)>, HostEnd>
+    ensures unchanged { Unchanged (H.moments host.old) (H.moments host.new) }
+    ensures tells { (have : Have) → Stores repo (H.moments host.old) have
+        → IfOk result (λ metas. metas ≡ spec.installed_metas have rows.now) }
+    ensures fault_has_cause { IsCounted (IsErrOf result HostEnd.Fault)
+        (H.moments host.old) (H.faults host.old) (H.faults host.new) }
+{
+    let mut metas = Items::new(alloc);
+    for row in rows {
+        let found = meta_at(alloc, host, row)?;
+        add_meta(found, &mut metas)?;
+    }
+    Ok(metas)
+}
+
+/// The deployed applications with the metadata of their commits, each once, in the order of the state, as the installation's store
+/// has them. One whose metadata doesn't read is left out. Nothing changes.
+pub fn metas<H: Host>(
+    alloc: Global,
+    host: &mut H,
+    state: &State,
+) -> Result<Items<(RefName, Meta)>, HostEnd>
+    ensures unchanged { Unchanged (H.moments host.old) (H.moments host.new) }
+    ensures tells { (have : Have) → Stores repo (H.moments host.old) have
+        → IfOk result (λ metas. metas ≡ spec.installed_metas have state.now.refs) }
+    ensures fault_has_cause { IsCounted (IsErrOf result HostEnd.Fault)
+        (H.moments host.old) (H.faults host.old) (H.faults host.new) }
+{
+    metas_of(alloc, host, state.refs.as_slice())
+}
+
+/// The ref of the row and the extension points that its deployed commit says.
+fn points_at<H: Host>(
+    alloc: Global,
+    host: &mut H,
+    row: &RefRow,
+) -> Result<(RefName, Items<Point>), HostEnd>
+    ensures unchanged { Unchanged (H.moments host.old) (H.moments host.new) }
+    ensures tells { (have : Have) → Stores repo (H.moments host.old) have
+        → IfOk result (λ points. points ≡ spec.points_at have row.now) }
+    ensures fault_has_cause { IsCounted (IsErrOf result HostEnd.Fault)
+        (H.moments host.old) (H.faults host.old) (H.faults host.new) }
+{
+    let metadata = read_metadata(alloc, host, &row.commit)?;
+    let points = points_in(alloc, &row.name, &metadata)?;
+    Ok((row.name.copy()?, points))
+}
+
+/// The refs of these rows with their extension points.
+fn points_of<H: Host>(
+    alloc: Global,
+    host: &mut H,
+    rows: &[RefRow],
+) -> Result<Items<(RefName, Items<Point>)>, HostEnd>
+    ensures unchanged { Unchanged (H.moments host.old) (H.moments host.new) }
+    ensures tells { (have : Have) → Stores repo (H.moments host.old) have
+        → IfOk result (λ points. points ≡ spec.installed_points have rows.now) }
+    ensures fault_has_cause { IsCounted (IsErrOf result HostEnd.Fault)
+        (H.moments host.old) (H.faults host.old) (H.faults host.new) }
+{
+    let mut points = Items::new(alloc);
+    for row in rows {
+        points.push(points_at(alloc, host, row)?)?;
+    }
+    Ok(points)
+}
+
+/// The deployed refs with the extension points that their commits say, each once, in the order of the state, as the installation's
+/// store has them. Nothing changes.
+pub fn points<H: Host>(
+    alloc: Global,
+    host: &mut H,
+    state: &State,
+) -> Result<Items<(RefName, Items<Point>)>, HostEnd>
+    ensures unchanged { Unchanged (H.moments host.old) (H.moments host.new) }
+    ensures tells { (have : Have) → Stores repo (H.moments host.old) have
+        → IfOk result (λ points. points ≡ spec.installed_points have state.now.refs) }
+    ensures fault_has_cause { IsCounted (IsErrOf result HostEnd.Fault)
+        (H.moments host.old) (H.faults host.old) (H.faults host.new) }
+{
+    points_of(alloc, host, state.refs.as_slice())
+}

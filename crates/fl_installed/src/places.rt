@@ -1,0 +1,32 @@
+//! Where metadata is.
+ghost use Rattle.std.specs.Prelude.{◌≡◌, None, IfOk};
+ghost use Rattle.fp_small.specs.Places.{repo};
+ghost use Rattle.ost_model.specs.Standing.{metadata_name};
+
+use fp_host::Path;
+use ost_walk::Places;
+use std::alloc::{AllocError, Global};
+
+/// The folder of the installation's store.
+pub(crate) fn repo(alloc: Global) -> Result<Path, AllocError>
+    ensures { IfOk result (λ path. path ≡ repo) }
+{
+    Path::root(alloc).child("repo")
+}
+
+/// The store alone.
+pub(crate) fn store_alone(alloc: Global) -> Result<Places, AllocError>
+    ensures { IfOk result (λ places. (places.root ≡ repo) × (places.url ≡ None)) }
+{
+    Ok(Places {
+        root: repo(alloc)?,
+        url: None,
+    })
+}
+
+/// The path of the file `metadata` in a commit.
+pub(crate) fn metadata_path(alloc: Global) -> Result<Path, AllocError>
+    ensures { IfOk result (λ path. path ≡ metadata_name) }
+{
+    Path::root(alloc).child("metadata")
+}

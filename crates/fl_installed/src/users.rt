@@ -1,0 +1,111 @@
+//! The runtimes that deployed commits name.
+ghost use Rattle.std.specs.Prelude.{◌≡◌, IfOk, IsErrOf};
+ghost use Rattle.std.specs.Option.{option_copied};
+ghost use Rattle.fp_host.specs.Causes.{IsCounted};
+ghost use Rattle.fp_host.specs.Frame.{Unchanged};
+ghost use Rattle.fp_small.specs.Places.{repo};
+ghost use Rattle.ost_model.specs.Objects.{Have};
+ghost use Rattle.ost_model.specs.Remotes.{Stores};
+ghost use Rattle.fl_installed.specs.Users as spec;
+
+use crate::files::read_metadata;
+use crate::metadata::runtime_named;
+use fp_host::{Host, HostEnd};
+use fp_name::{Digest, RefKind, RefName};
+use fp_small::{RefRow, State};
+use std::alloc::Global;
+
+/// Whether the ref is that of an application.
+pub(crate) fn is_app(name: &RefName) -> bool
+    ensures { result ≡ spec.is_app name.now }
+{
+    match name.kind() {
+        RefKind::App => true,
+        RefKind::Runtime => false,
+    }
+}
+
+/// The runtime that a commit of a ref names, as the installation's store has it. None for a runtime's commit, and where the
+/// commit's metadata doesn't read. Nothing changes.
+pub fn runtime_at<H: Host>(
+    alloc: Global,
+    host: &mut H,
+    name: &RefName,
+    commit: &Digest,
+) -> Result<Option<RefName>, HostEnd>
+    ensures unchanged { Unchanged (H.moments host.old) (H.moments host.new) }
+    ensures tells { (have : Have) → Stores repo (H.moments host.old) have
+        → IfOk result (λ runtime. runtime ≡ spec.runtime_at have name.now commit.now) }
+    ensures fault_has_cause { IsCounted (IsErrOf result HostEnd.Fault)
+        (H.moments host.old) (H.faults host.old) (H.faults host.new) }
+{
+    let metadata = read_metadata(alloc, host, commit)?;
+    Ok(runtime_named(alloc, name, &metadata)?)
+}
+
+/// Whether it is this ref.
+fn is_name(name: &RefName, other: Option<&RefName>) -> bool
+    ensures { result ≡ spec.is_name name.now (option_copied other.entry) }
+{
+    match other {
+        Some(other) => *other == *name,
+        None => false,
+    }
+}
+
+/// Whether the deployed commit of the row names the runtime. A runtime's commit names none, and isn't read.
+fn names_it<H: Host>(
+    alloc: Global,
+    host: &mut H,
+    runtime: &RefName,
+    row: &RefRow,
+) -> Result<bool, HostEnd>
+    ensures unchanged { Unchanged (H.moments host.old) (H.moments host.new) }
+    ensures tells { (have : Have) → Stores repo (H.moments host.old) have
+        → IfOk result (λ it. it ≡ spec.names_it have runtime.now row.now) }
+    ensures fault_has_cause { IsCounted (IsErrOf result HostEnd.Fault)
+        (H.moments host.old) (H.faults host.old) (H.faults host.new) }
+{
+    if !is_app(&row.name) {
+        return Ok(false);
+    }
+    let named = runtime_at(alloc, host, &row.name, &row.commit)?;
+    Ok(is_name(runtime, named.as_ref()))
+}
+
+/// The first ref of these rows whose deployed commit names the runtime.
+fn first_among<H: Host>(
+    alloc: Global,
+    host: &mut H,
+    rows: &[RefRow],
+    runtime: &RefName,
+) -> Result<Option<RefName>, HostEnd>
+    ensures unchanged { Unchanged (H.moments host.old) (H.moments host.new) }
+    ensures tells { (have : Have) → Stores repo (H.moments host.old) have
+        → IfOk result (λ user. user ≡ spec.first_user have runtime.now rows.now) }
+    ensures fault_has_cause { IsCounted (IsErrOf result HostEnd.Fault)
+        (H.moments host.old) (H.faults host.old) (H.faults host.new) }
+{
+    for row in rows {
+        if names_it(alloc, host, runtime, row)? {
+            return Ok(Some(row.name.copy()?));
+        }
+    }
+    Ok(None)
+}
+
+/// The first application, in the order of the state, whose deployed commit names the runtime. Nothing changes.
+pub fn first_user<H: Host>(
+    alloc: Global,
+    host: &mut H,
+    state: &State,
+    runtime: &RefName,
+) -> Result<Option<RefName>, HostEnd>
+    ensures unchanged { Unchanged (H.moments host.old) (H.moments host.new) }
+    ensures tells { (have : Have) → Stores repo (H.moments host.old) have
+        → IfOk result (λ user. user ≡ spec.first_user have runtime.now state.now.refs) }
+    ensures fault_has_cause { IsCounted (IsErrOf result HostEnd.Fault)
+        (H.moments host.old) (H.faults host.old) (H.faults host.new) }
+{
+    first_among(alloc, host, state.refs.as_slice(), runtime)
+}

@@ -1,0 +1,66 @@
+-- Operations that may be done one after another.
+use Rattle.std.specs.Prelude.{◌≡◌, ℕ, Bool, true, false, List, [], ◌∷◌}
+use Rattle.std.specs.List.{AllByRecursion, list_any}
+use Rattle.fp_name.specs.Hex.{is_digest}
+use Rattle.fp_name.specs.Refs.{Ref, is_ref}
+use Rattle.fp_small.specs.Config.{name_of}
+use Rattle.fp_small.specs.Order.{has_name}
+use Rattle.fp_small.specs.declared.op.Op.{Op}
+use Rattle.fp_small.specs.declared.op.Op.TheVariants.{Install, Update}
+use Rattle.fp_small.specs.declared.state.State.{State}
+use Rattle.fp_small.specs.declared.state.RemoteRow.{RemoteRow}
+use Rattle.dep_states.specs.After.{Allows, after_op}
+use Rattle.fl_plan.specs.Extensions.{is_coming}
+use Rattle.fl_plan.specs.Plans.{deployed, is_at}
+use Rattle.fl_plan.specs.declared.offer.Offer.{Offer}
+
+-- each may be done on the state that those before it leave, whatever the times of their commits are
+abbrev pub AreAllowed : State → List Op → Type 0
+AreAllowed state [] = Unit {0}
+AreAllowed state (op ∷ ops) = Allows state op × ((timestamp : ℕ) → AreAllowed (after_op state timestamp op) ops)
+
+-- the offer of a ref by a remote
+pub record IsTaken (remote : RemoteRow) (name : Ref) (offer : Offer) : Type 0 where
+  pub name_is : offer.name ≡ name
+  pub good : is_ref name ≡ true
+  pub remote_is : offer.remote ≡ remote
+  pub commit : is_digest offer.commit ≡ true
+
+-- by a remote, of one of these refs
+pub record IsOneOf (remote : RemoteRow) (names : List Ref) (offer : Offer) : Type 0 where
+  pub taken : IsTaken remote offer.name offer
+  pub among : (test : Ref → Bool) → test offer.name ≡ true → list_any test names ≡ true
+
+-- of a ref, by one of these remotes
+pub record IsOfferOf (rows : List RemoteRow) (name : Ref) (offer : Offer) : Type 0 where
+  pub name_is : offer.name ≡ name
+  pub good : is_ref name ≡ true
+  pub remote : has_name name_of rows offer.remote.name ≡ true
+  pub commit : is_digest offer.commit ≡ true
+
+-- an offer that can be taken up: the ref isn't deployed at this commit
+pub record MayCome (state : State) (offer : Offer) : Type 0 where
+  pub name : is_ref offer.name ≡ true
+  pub remote : has_name name_of state.remotes offer.remote.name ≡ true
+  pub commit : is_digest offer.commit ≡ true
+  pub moves : is_at offer.commit (deployed state offer.name) ≡ false
+
+-- one that comes besides those of a plan
+pub record ComesTo (state : State) (plan : List Offer) (offer : Offer) : Type 0 where
+  pub may : MayCome state offer
+  pub apart : is_coming plan offer.name ≡ false
+
+-- no ref comes twice
+abbrev pub AreApart : List Offer → Type 0
+AreApart [] = Unit {0}
+AreApart (offer ∷ offers) = (is_coming offers offer.name ≡ false) × AreApart offers
+
+pub record IsPlan (state : State) (plan : List Offer) : Type 0 where
+  pub each : AllByRecursion (MayCome state) plan
+  pub apart : AreApart plan
+
+-- an operation that brings a commit
+abbrev pub IsComing : Op → Type 0
+IsComing (Install name remote commit) = Unit {0}
+IsComing (Update name remote commit) = Unit {0}
+IsComing _ = ⊥

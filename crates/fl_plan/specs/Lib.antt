@@ -1,0 +1,11 @@
+pub mod Answers
+pub mod Offers
+pub mod Runtimes
+pub mod Extensions
+pub mod Plans
+pub mod Allowed
+pub mod Targets
+pub mod Unused
+pub mod Sample
+pub mod Worked
+pub mod Offered

@@ -1,0 +1,27 @@
+-- A remote that offers a runtime, a store that has its objects, and states without it and with it at another commit.
+use Rattle.std.specs.Prelude.{ℕ, List, [], ◌∷◌, ◌++◌, None, codes, if◌then◌else◌}
+use Rattle.fp_host.specs.Paths.{path_eq}
+use Rattle.fp_host.specs.Remote.{Holdings, nothing, contents}
+use Rattle.fp_small.specs.Places.{repo}
+use Rattle.fp_small.specs.declared.state.State.{State}
+use Rattle.fp_small.specs.declared.state.RefRow.{RefRow}
+use Rattle.ost_model.specs.Objects.{Have, store}
+use Rattle.ost_head.specs.Offers.{config_path, ref_path}
+use Rattle.dep_states.specs.Deployed.{platform, commit_text, deployed_disk, deployed_state}
+
+abbrev pub stored : Have
+stored = store repo deployed_disk
+
+-- `config` and the ref's file
+abbrev pub holdings : Holdings
+holdings url path =
+    if path_eq path config_path then contents 420 (codes "[core]\nrepo_version=1\nmode=bare-user-only\n")
+    else if path_eq path (ref_path platform) then contents 420 (commit_text ++ 10 ∷ [])
+    else nothing
+
+-- deployed at another commit of this time
+abbrev pub since : ℕ → RefRow
+since time = record { name = platform; origin = codes "hub"; commit = []; timestamp = time; previous = None }
+
+abbrev pub with_rows : List RefRow → State
+with_rows rows = record deployed_state { refs = rows }

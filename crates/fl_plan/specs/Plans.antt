@@ -1,0 +1,87 @@
+-- Which operations an install or an update of a ref is.
+use Rattle.std.specs.Prelude.{ℕ, Bool, false, not, leb, ◌+◌, List, [], ◌∷◌, ◌++◌, length, map, count_by, find, Option, Some, None, option_map, option_to_list, Result, Ok, Err, if◌then◌else◌}
+use Rattle.std.specs.Str.{bytes_eq}
+use Rattle.fp_base.specs.declared.what.What.TheVariants as whats
+use Rattle.fp_host.specs.Remote.{Holdings}
+use Rattle.fp_name.specs.Refs.{Ref, ref_text}
+use Rattle.fp_small.specs.declared.op.Op.{Op}
+use Rattle.fp_small.specs.declared.op.Op.TheVariants.{Update}
+use Rattle.fp_small.specs.declared.refusal.Refusal.{Refusal}
+use Rattle.fp_small.specs.declared.refusal.Refusal.TheVariants as refusals
+use Rattle.fp_small.specs.declared.state.State.{State}
+use Rattle.fp_small.specs.declared.state.RefRow.{RefRow}
+use Rattle.fp_small.specs.declared.state.RemoteRow.{RemoteRow}
+use Rattle.ost_model.specs.Objects.{Have}
+use Rattle.ost_head.specs.Heads.{head_of}
+use Rattle.ost_head.specs.Offers.{offered}
+use Rattle.fl_extension.specs.Found.{has_ref}
+use Rattle.fl_plan.specs.Answers.{and_then, mapped}
+use Rattle.fl_plan.specs.Offers.{offer_with, have_at, chosen_with}
+use Rattle.fl_installed.specs.Metadata.{runtime_named}
+use Rattle.fl_plan.specs.Runtimes.{if_named, install_of}
+use Rattle.fl_plan.specs.Extensions.{with_extensions, with_runtime}
+use Rattle.fl_plan.specs.declared.offer.Offer.{Offer}
+use Rattle.fl_plan.specs.declared.offer.Chosen.{Chosen}
+
+-- ---- operations
+
+-- a ref that is there moves, another comes
+abbrev pub op_of : State → Offer → Op
+op_of state offer = if has_ref state offer.name then Update offer.name offer.remote.name offer.commit else install_of offer
+
+-- how many refs are deployed when all of a plan is done
+abbrev pub new_ones : State → List Offer → ℕ
+new_ones state plan = count_by (λ offer. not (has_ref state offer.name)) plan
+
+abbrev pub number_after : State → List Offer → ℕ
+number_after state plan = length state.refs + new_ones state plan
+
+abbrev pub within : State → List Offer → Result (List Op) Refusal
+within state plan = if leb (number_after state plan) 4096 then Ok (map (op_of state) plan) else Err (refusals.Limit whats.Refs 4097)
+
+-- ---- what is to come
+
+-- the runtime first, then the target
+abbrev pub begun : Option Chosen → Chosen → List Offer
+begun runtime target = option_to_list (option_map (λ c. c.offer) runtime) ++ target.offer ∷ []
+
+-- then the extensions of the runtime, and those of the target
+unfoldable pub extended : Holdings → Have → State → Chosen → Option Chosen → Result (List Offer) Refusal
+extended held stored state target runtime = and_then (with_runtime held stored state runtime (begun runtime target)) (with_extensions held stored state target)
+
+abbrev pub plan_with : Holdings → Have → State → Chosen → Option Chosen → Result (List Op) Refusal
+plan_with held stored state target runtime = and_then (extended held stored state target runtime) (within state)
+
+-- the operations of a target that is checked
+unfoldable pub planned : Holdings → Have → State → Chosen → Result (List Op) Refusal
+planned held stored state target =
+    and_then (if_named held stored state target.offer.remote.name (runtime_named target.offer.name target.metadata)) (plan_with held stored state target)
+
+-- ---- the target
+
+-- its row, where it is deployed
+abbrev pub deployed : State → Ref → Option RefRow
+deployed state name = find (λ row. bytes_eq (ref_text row.name) (ref_text name)) state.refs
+
+abbrev pub is_at : List ℕ → Option RefRow → Bool
+is_at commit None = false
+is_at commit (Some row) = bytes_eq row.commit commit
+
+-- the time of the commit that is deployed
+abbrev pub time_of : Option RefRow → Option ℕ
+time_of row = option_map (λ r. r.timestamp) row
+
+-- an offer of the target, with its head checked
+unfoldable pub target_of : Holdings → Have → State → Offer → Result Chosen Refusal
+target_of held stored state offer = mapped (chosen_with offer) (head_of (have_at held stored offer.remote) offer.name offer.commit (time_of (deployed state offer.name)))
+
+-- the operations of a target whose remote offers this: none where that is deployed
+unfoldable pub planned_at : Holdings → Have → State → Offer → Result (List Op) Refusal
+planned_at held stored state offer =
+    if is_at offer.commit (deployed state offer.name) then Ok [] else and_then (target_of held stored state offer) (planned held stored state)
+
+-- The operations of a target from a remote: its runtime's install, where its runtime isn't installed; its own install or update; and
+-- the installs of that runtime's extensions and of its own. `held` is what the remotes hold, `stored` are the store's objects.
+unfoldable pub plan_of : Holdings → Have → State → RemoteRow → Ref → Result (List Op) Refusal
+plan_of held stored state remote name =
+    and_then (offered held remote name) (λ commit. planned_at held stored state (offer_with remote name commit))

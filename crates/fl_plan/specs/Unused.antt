@@ -1,0 +1,50 @@
+-- Which runtimes are unused.
+use Rattle.std.specs.Prelude.{Bool, false, not, ◌&&◌, ◌||◌, List, filter, slice_get, Option, option_and_then}
+use Rattle.std.specs.List.{list_any}
+use Rattle.std.specs.Option.{option_map_or}
+use Rattle.std.specs.Str.{bytes_eq}
+use Rattle.fp_name.specs.Refs.{Ref, ref_text}
+use Rattle.fp_name.specs.Pins.{pin_matches}
+use Rattle.fp_name.specs.declared.kind.RefKind.TheVariants.{App, Runtime}
+use Rattle.fp_small.specs.declared.state.State.{State}
+use Rattle.fl_meta.specs.declared.meta.Meta.{Meta}
+use Rattle.fl_extension.specs.declared.point.Point.{Point}
+use Rattle.fl_extension.specs.Found.{found}
+use Rattle.fl_plan.specs.Targets.{is_kind, names_of}
+
+-- it is this ref
+abbrev pub is_name : Ref → Option Ref → Bool
+is_name name other = option_map_or (λ o. bytes_eq (ref_text o) (ref_text name)) other false
+
+-- an application's metadata names the runtime
+abbrev pub is_named : List (Ref × Meta) → Ref → Bool
+is_named metas name = list_any (λ app. is_name name app.1.runtime) metas
+
+abbrev pub is_pinned : State → Ref → Bool
+is_pinned state name = list_any (λ pin. pin_matches pin name) state.pins
+
+-- one of both
+abbrev pub is_needed : State → List (Ref × Meta) → Ref → Bool
+is_needed state metas name = is_named metas name || is_pinned state name
+
+-- the ref that the point finds
+abbrev pub found_at : State → Point → Option Ref
+found_at state point = option_and_then (slice_get point.candidates) (found point state)
+
+abbrev pub one_finds : State → Ref → List Point → Bool
+one_finds state name points = list_any (λ point. is_name name (found_at state point)) points
+
+-- what the points of an application, or of a runtime that is needed, find is kept
+abbrev pub is_owner : State → List (Ref × Meta) → Ref → Bool
+is_owner state metas name = is_kind App name || is_needed state metas name
+
+abbrev pub is_extension : State → List (Ref × Meta) → List (Ref × List Point) → Ref → Bool
+is_extension state metas points name = list_any (λ owner. is_owner state metas owner.0 && one_finds state name owner.1) points
+
+abbrev pub is_unused : State → List (Ref × Meta) → List (Ref × List Point) → Ref → Bool
+is_unused state metas points name = is_kind Runtime name && not (is_needed state metas name || is_extension state metas points name)
+
+-- the installed runtimes that aren't kept, in the order of the state, where `metas` has the metadata of the installed applications
+-- and `points` has the points of the installed refs
+abbrev pub unused_of : State → List (Ref × Meta) → List (Ref × List Point) → List Ref
+unused_of state metas points = filter (is_unused state metas points) (names_of state.refs)

@@ -1,0 +1,39 @@
+//! What is chosen of an offer.
+ghost use Rattle.std.specs.Prelude.{◌≡◌, IfOk};
+ghost use Rattle.ost_walk.specs.Ends.{outside};
+ghost use Rattle.fl_plan.specs.Answers.{Plans};
+ghost use Rattle.fl_plan.specs.Offers.{chosen};
+
+use crate::offer::{Chosen, Offer};
+use fp_host::{Host, Remotes};
+use ost_head::{PullEnd, read_head};
+use std::alloc::Global;
+
+/// The offer of what isn't deployed, with its head checked.
+pub(crate) fn choose<H: Host, R: Remotes>(
+    alloc: Global,
+    host: &mut H,
+    remotes: &mut R,
+    offer: Offer,
+) -> Result<Chosen, PullEnd>
+    ensures plans { Plans (λ held stored. chosen held stored offer) result
+        (outside (H.moments host.old) (H.faults host.old) (R.holds remotes.old) (R.faults remotes.old))
+        (outside (H.moments host.new) (H.faults host.new) (R.holds remotes.new) (R.faults remotes.new)) }
+    ensures same { IfOk result (λ chosen. chosen.offer ≡ offer) }
+{
+    match read_head(
+        alloc,
+        host,
+        remotes,
+        &offer.remote,
+        &offer.name,
+        &offer.commit,
+        None,
+    ) {
+        Ok(head) => Ok(Chosen {
+            offer,
+            metadata: head.metadata,
+        }),
+        Err(end) => Err(end),
+    }
+}

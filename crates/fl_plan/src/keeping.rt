@@ -1,0 +1,128 @@
+//! Which runtimes are unused.
+ghost use Rattle.std.specs.Prelude.{◌≡◌, [], IfOk};
+ghost use Rattle.fl_plan.specs.Unused as spec;
+
+use crate::updating::same_kind;
+use fl_extension::{Point, found};
+use fl_meta::Meta;
+use fp_base::Items;
+use fp_name::{RefKind, RefName};
+use fp_small::State;
+use std::alloc::{AllocError, Global};
+
+/// Whether the metadata names the runtime.
+fn names_runtime(meta: &Meta, name: &RefName) -> bool
+    ensures { result ≡ spec.is_name name.now meta.now.runtime }
+{
+    match &meta.runtime {
+        Some(runtime) => *runtime == *name,
+        None => false,
+    }
+}
+
+/// Whether an application names the runtime.
+fn is_named(metas: &[(RefName, Meta)], name: &RefName) -> bool
+    ensures { result ≡ spec.is_named metas.now name.now }
+{
+    metas.iter().any(|app| names_runtime(&app.1, name))
+}
+
+/// Whether a pin matches the ref.
+fn is_pinned(state: &State, name: &RefName) -> bool
+    ensures { result ≡ spec.is_pinned state.now name.now }
+{
+    state.pins.as_slice().iter().any(|pin| pin.matches(name))
+}
+
+/// Whether an application needs the runtime, or a pin matches it.
+fn is_needed(state: &State, metas: &[(RefName, Meta)], name: &RefName) -> bool
+    ensures { result ≡ spec.is_needed state.now metas.now name.now }
+{
+    is_named(metas, name) || is_pinned(state, name)
+}
+
+/// Whether the point finds the ref.
+fn finds(state: &State, point: &Point, name: &RefName) -> bool
+    ensures { result ≡ spec.is_name name.now (spec.found_at state.now point.now) }
+{
+    match found(point, state) {
+        Some(place) => match point.candidates.as_slice().get(place) {
+            Some(candidate) => *candidate == *name,
+            None => false,
+        },
+        None => false,
+    }
+}
+
+/// Whether one of the points finds the ref.
+fn one_finds(state: &State, points: &Items<Point>, name: &RefName) -> bool
+    ensures { result ≡ spec.one_finds state.now name.now points.now }
+{
+    points
+        .as_slice()
+        .iter()
+        .any(|point| finds(state, point, name))
+}
+
+/// Whether the points of the ref keep what they find: it is an application, or a runtime that is needed.
+fn is_owner(state: &State, metas: &[(RefName, Meta)], name: &RefName) -> bool
+    ensures { result ≡ spec.is_owner state.now metas.now name.now }
+{
+    same_kind(RefKind::App, name.kind()) || is_needed(state, metas, name)
+}
+
+/// Whether a point that counts finds the ref.
+fn is_extension(
+    state: &State,
+    metas: &[(RefName, Meta)],
+    points: &[(RefName, Items<Point>)],
+    name: &RefName,
+) -> bool
+    ensures { result ≡ spec.is_extension state.now metas.now points.now name.now }
+{
+    points.iter().any(|owner| is_owner(state, metas, &owner.0) && one_finds(state, &owner.1, name))
+}
+
+/// Whether the ref is a runtime that nothing keeps.
+fn is_unused(
+    state: &State,
+    metas: &[(RefName, Meta)],
+    points: &[(RefName, Items<Point>)],
+    name: &RefName,
+) -> bool
+    ensures { result ≡ spec.is_unused state.now metas.now points.now name.now }
+{
+    same_kind(RefKind::Runtime, name.kind())
+        && !(is_needed(state, metas, name) || is_extension(state, metas, points, name))
+}
+
+/// The installed runtimes that aren't kept, in the order of the state. `metas` has the metadata of each installed application, and
+/// `points` the extension points of each installed ref. Kept are the runtimes that an application names or a pin matches, and what
+/// a point of an application or of such a runtime finds.
+pub fn unused_extended(
+    alloc: Global,
+    state: &State,
+    metas: &[(RefName, Meta)],
+    points: &[(RefName, Items<Point>)],
+) -> Result<Items<RefName>, AllocError>
+    ensures { IfOk result (λ names. names ≡ spec.unused_of state.now metas.now points.now) }
+{
+    let mut names = Items::new(alloc);
+    for row in state.refs.as_slice() {
+        if is_unused(state, metas, points, &row.name) {
+            names.push(row.name.copy()?)?;
+        }
+    }
+    Ok(names)
+}
+
+/// The same where no ref has an extension point.
+pub fn unused(
+    alloc: Global,
+    state: &State,
+    metas: &[(RefName, Meta)],
+) -> Result<Items<RefName>, AllocError>
+    ensures { IfOk result (λ names. names ≡ spec.unused_of state.now metas.now []) }
+{
+    unused_extended(alloc, state, metas, &[])
+}

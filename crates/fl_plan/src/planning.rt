@@ -1,0 +1,308 @@
+//! The operations of an install or an update.
+ghost use Rattle.std.specs.Prelude.{◌≡◌, ◌≤◌, ◌++◌, ◌∷◌, [], length, map, true, false, Some, IfOk, IfSome, OnOk};
+ghost use Rattle.std.specs.List.{AllByRecursion};
+ghost use Rattle.std.specs.Str.{bytes_eq};
+ghost use Rattle.fp_name.specs.Refs.{ref_text};
+ghost use Rattle.fp_small.specs.Config.{name_of};
+ghost use Rattle.fp_small.specs.Order.{has_name};
+ghost use Rattle.ost_walk.specs.Ends.{outside};
+ghost use Rattle.ost_head.specs.Ends.{Answers, NoFault};
+ghost use Rattle.fl_plan.specs.Allowed.{AreAllowed, IsComing, IsOfferOf, IsPlan, MayCome};
+ghost use Rattle.fl_plan.specs.Answers.{Plans};
+ghost use Rattle.fl_plan.specs.Offers.{chosen_with, offer_with};
+ghost use Rattle.fl_plan.specs.Runtimes.{if_named};
+ghost use Rattle.fl_plan.specs.Plans as spec;
+
+use crate::extensions::{with_extensions, with_runtime};
+use crate::offer::{Chosen, Offer};
+use crate::runtimes::find_runtime;
+use crate::state::{has_ref, is_at, time_of};
+use fl_installed::runtime_named;
+use fp_base::{Items, What};
+use fp_host::{Host, Remotes};
+use fp_name::{RefName, RemoteName};
+use fp_small::{Op, Refusal, RemoteRow, State};
+use ost_head::{PullEnd, offer, read_head};
+use std::alloc::{AllocError, Global};
+
+/// The most refs that are deployed.
+pub const MOST_REFS: u64 = 4096;
+
+/// The operation that brings what is offered: a ref that is deployed moves, another comes.
+fn op_of(state: &State, offer: &Offer) -> Result<Op, AllocError>
+    ensures { IfOk result (λ op. op ≡ spec.op_of state.now offer.now) }
+{
+    let name = offer.name.copy()?;
+    let remote = offer.remote.name.copy()?;
+    let commit = offer.commit;
+    if has_ref(state, &offer.name) {
+        Ok(Op::Update {
+            name,
+            remote,
+            commit,
+        })
+    } else {
+        Ok(Op::Install {
+            name,
+            remote,
+            commit,
+        })
+    }
+}
+
+/// Adds the operation that brings what is offered.
+fn push_op(ops: &mut Items<Op>, state: &State, offer: &Offer) -> Result<(), AllocError>
+    ensures { OnOk result (ops.new ≡ ops.old ++ spec.op_of state.now offer.now ∷ []) }
+{
+    ops.push(op_of(state, offer)?)
+}
+
+/// The operations of what is to come.
+fn ops_of(alloc: Global, state: &State, plan: &[Offer]) -> Result<Items<Op>, AllocError>
+    ensures { IfOk result (λ ops. ops ≡ map (spec.op_of state.now) plan.now) }
+{
+    let mut ops = Items::new(alloc);
+    for offer in plan {
+        push_op(&mut ops, state, offer)?;
+    }
+    Ok(ops)
+}
+
+/// How many of what is to come aren't deployed.
+#[tactic(auto, using(crate::proofs::Turns::new_few))]
+fn new_ones(state: &State, plan: &[Offer]) -> usize
+    ensures number { result ≡ spec.new_ones state.now plan.now }
+    ensures few { result ≤ length plan.now }
+{
+    plan.iter()
+        .filter(|offer| !has_ref(state, &offer.name))
+        .count()
+}
+
+/// How many refs are deployed when all of what is to come is done.
+fn number_after(state: &State, plan: &[Offer]) -> u64
+    ensures { result ≡ spec.number_after state.now plan.now }
+{
+    let rows = state.refs.as_slice();
+    let _most = plan.len();
+    rows.len() as u64 + new_ones(state, plan) as u64
+}
+
+/// The operations of what is to come, where no more refs would be deployed than may be.
+fn within(alloc: Global, state: &State, plan: &[Offer]) -> Result<Items<Op>, PullEnd>
+    ensures tells { Answers result (spec.within state.now plan.now) }
+    ensures faults { NoFault result }
+    ensures allowed { IsPlan state.now plan.now → IfOk result (AreAllowed state.now) }
+    ensures coming { IfOk result (AllByRecursion IsComing) }
+{
+    if number_after(state, plan) > MOST_REFS {
+        return Err(PullEnd::Refused(Refusal::Limit {
+            what: What::Refs,
+            number: MOST_REFS + 1,
+        }));
+    }
+    Ok(ops_of(alloc, state, plan)?)
+}
+
+/// What is to come without extensions: the runtime, then the target.
+fn begun(
+    alloc: Global,
+    runtime: &Option<Chosen>,
+    target: &Chosen,
+) -> Result<Items<Offer>, AllocError>
+    ensures { IfOk result (λ plan. plan ≡ spec.begun runtime.now target.now) }
+{
+    let mut plan = Items::new(alloc);
+    if let Some(chosen) = runtime {
+        plan.push(chosen.offer.copy()?)?;
+    }
+    plan.push(target.offer.copy()?)?;
+    Ok(plan)
+}
+
+/// What is to come, with the extensions of the runtime and then of the target.
+fn extended<H: Host, R: Remotes>(
+    alloc: Global,
+    host: &mut H,
+    remotes: &mut R,
+    state: &State,
+    target: &Chosen,
+    runtime: &Option<Chosen>,
+) -> Result<Items<Offer>, PullEnd>
+    requires target { MayCome state.now target.now.offer }
+    requires runtime { IfSome runtime.now (λ c. MayCome state.now c.offer
+        × (bytes_eq (ref_text c.offer.name) (ref_text target.now.offer.name) ≡ false)) }
+    ensures plans { Plans (λ held stored. spec.extended held stored
+        state.now target.now runtime.now) result
+        (outside (H.moments host.old) (H.faults host.old) (R.holds remotes.old) (R.faults remotes.old))
+        (outside (H.moments host.new) (H.faults host.new) (R.holds remotes.new) (R.faults remotes.new)) }
+    ensures good { IfOk result (IsPlan state.now) }
+{
+    let plan = begun(alloc, runtime, target)?;
+    match with_runtime(alloc, host, remotes, state, runtime, plan) {
+        Ok(plan) => with_extensions(alloc, host, remotes, state, target, plan),
+        Err(end) => Err(end),
+    }
+}
+
+/// The operations of a target with its runtime, where that is installed along with it.
+fn plan_with<H: Host, R: Remotes>(
+    alloc: Global,
+    host: &mut H,
+    remotes: &mut R,
+    state: &State,
+    target: &Chosen,
+    runtime: &Option<Chosen>,
+) -> Result<Items<Op>, PullEnd>
+    requires target { MayCome state.now target.now.offer }
+    requires runtime { IfSome runtime.now (λ c. MayCome state.now c.offer
+        × (bytes_eq (ref_text c.offer.name) (ref_text target.now.offer.name) ≡ false)) }
+    ensures plans { Plans (λ held stored. spec.plan_with held stored
+        state.now target.now runtime.now) result
+        (outside (H.moments host.old) (H.faults host.old) (R.holds remotes.old) (R.faults remotes.old))
+        (outside (H.moments host.new) (H.faults host.new) (R.holds remotes.new) (R.faults remotes.new)) }
+    ensures allowed { IfOk result (AreAllowed state.now) }
+    ensures coming { IfOk result (AllByRecursion IsComing) }
+{
+    match extended(alloc, host, remotes, state, target, runtime) {
+        Ok(plan) => within(alloc, state, plan.as_slice()),
+        Err(end) => Err(end),
+    }
+}
+
+/// The runtime that is installed along with a target, where its metadata names one and it isn't there.
+fn if_named<H: Host, R: Remotes>(
+    alloc: Global,
+    host: &mut H,
+    remotes: &mut R,
+    state: &State,
+    own: &RemoteName,
+    runtime: Option<RefName>,
+) -> Result<Option<Chosen>, PullEnd>
+    ensures plans { Plans (λ held stored. if_named held stored state.now own.now runtime) result
+        (outside (H.moments host.old) (H.faults host.old) (R.holds remotes.old) (R.faults remotes.old))
+        (outside (H.moments host.new) (H.faults host.new) (R.holds remotes.new) (R.faults remotes.new)) }
+    ensures good { IfOk result (λ found. IfSome found
+        (λ c. (Some c.offer.name ≡ runtime) × MayCome state.now c.offer)) }
+{
+    match runtime {
+        Some(name) => find_runtime(alloc, host, remotes, state, own, &name),
+        None => Ok(None),
+    }
+}
+
+/// The operations of a target that was checked.
+fn planned<H: Host, R: Remotes>(
+    alloc: Global,
+    host: &mut H,
+    remotes: &mut R,
+    state: &State,
+    target: &Chosen,
+) -> Result<Items<Op>, PullEnd>
+    requires target { MayCome state.now target.now.offer }
+    ensures plans { Plans (λ held stored. spec.planned held stored state.now target.now) result
+        (outside (H.moments host.old) (H.faults host.old) (R.holds remotes.old) (R.faults remotes.old))
+        (outside (H.moments host.new) (H.faults host.new) (R.holds remotes.new) (R.faults remotes.new)) }
+    ensures allowed { IfOk result (AreAllowed state.now) }
+    ensures coming { IfOk result (AllByRecursion IsComing) }
+{
+    let named = runtime_named(alloc, &target.offer.name, &target.metadata)?;
+    match if_named(
+        alloc,
+        host,
+        remotes,
+        state,
+        &target.offer.remote.name,
+        named,
+    ) {
+        Ok(runtime) => plan_with(alloc, host, remotes, state, target, &runtime),
+        Err(end) => Err(end),
+    }
+}
+
+/// The target of an offer, with its head checked.
+fn target_of<H: Host, R: Remotes>(
+    alloc: Global,
+    host: &mut H,
+    remotes: &mut R,
+    state: &State,
+    offer: Offer,
+) -> Result<Chosen, PullEnd>
+    ensures plans { Plans (λ held stored. spec.target_of held stored state.now offer) result
+        (outside (H.moments host.old) (H.faults host.old) (R.holds remotes.old) (R.faults remotes.old))
+        (outside (H.moments host.new) (H.faults host.new) (R.holds remotes.new) (R.faults remotes.new)) }
+    ensures same { IfOk result (λ chosen. chosen.offer ≡ offer) }
+{
+    let since = time_of(state, &offer.name);
+    match read_head(
+        alloc,
+        host,
+        remotes,
+        &offer.remote,
+        &offer.name,
+        &offer.commit,
+        since,
+    ) {
+        Ok(head) => Ok(Chosen {
+            offer,
+            metadata: head.metadata,
+        }),
+        Err(end) => Err(end),
+    }
+}
+
+/// The operations of a target whose remote offers this.
+fn planned_at<H: Host, R: Remotes>(
+    alloc: Global,
+    host: &mut H,
+    remotes: &mut R,
+    state: &State,
+    offer: Offer,
+) -> Result<Items<Op>, PullEnd>
+    requires { IsOfferOf state.now.remotes offer.name offer }
+    ensures plans { Plans (λ held stored. spec.planned_at held stored state.now offer) result
+        (outside (H.moments host.old) (H.faults host.old) (R.holds remotes.old) (R.faults remotes.old))
+        (outside (H.moments host.new) (H.faults host.new) (R.holds remotes.new) (R.faults remotes.new)) }
+    ensures allowed { IfOk result (AreAllowed state.now) }
+    ensures coming { IfOk result (AllByRecursion IsComing) }
+{
+    if is_at(state, &offer.name, &offer.commit) {
+        return Ok(Items::new(alloc));
+    }
+    match target_of(alloc, host, remotes, state, offer) {
+        Ok(target) => planned(alloc, host, remotes, state, &target),
+        Err(end) => Err(end),
+    }
+}
+
+/// The operations of an install or an update of the ref from this remote, in their order: the install of its runtime where that
+/// isn't installed; its own install, or its update where it is deployed; and the installs of the extensions of that runtime and of
+/// its own. None exactly where the commit that is offered is deployed. Nothing changes.
+///
+/// `WrongMode` and `NoSuchRef` as `offer` says, of this remote and this ref alone; the refusals of the head; `RuntimeMissing` where
+/// no remote offers the runtime; the refusals of the heads of the runtime and of the extensions, but `Older`; `Limit` where more than
+/// 4,096 refs would be deployed.
+pub fn ops<H: Host, R: Remotes>(
+    alloc: Global,
+    host: &mut H,
+    remotes: &mut R,
+    state: &State,
+    remote: &RemoteRow,
+    name: &RefName,
+) -> Result<Items<Op>, PullEnd>
+    requires { has_name name_of state.now.remotes remote.now.name ≡ true }
+    ensures plans { Plans (λ held stored. spec.plan_of held stored
+        state.now remote.now name.now) result
+        (outside (H.moments host.old) (H.faults host.old) (R.holds remotes.old) (R.faults remotes.old))
+        (outside (H.moments host.new) (H.faults host.new) (R.holds remotes.new) (R.faults remotes.new)) }
+    ensures allowed { IfOk result (AreAllowed state.now) }
+    ensures coming { IfOk result (AllByRecursion IsComing) }
+{
+    match offer(alloc, remotes, remote, name) {
+        Ok(commit) => {
+            let offer = Offer::new(remote, name, commit)?;
+            planned_at(alloc, host, remotes, state, offer)
+        }
+        Err(end) => Err(end),
+    }
+}
