@@ -16,25 +16,26 @@ use Rattle.dep_states.specs.After.{after, plain, IsOnConfig, IsGood, Allows, May
 use Rattle.dep_states.specs.Names.{config}
 use Rattle.dep_states.specs.Sound.{Opens}
 use Rattle.op_deploy.specs.Applied.{Does, WasDone}
-use Rattle.op_change.specs.Applied.{MayChange, Applies, SettingsDone, WasApplied, IsStarved}
+use Rattle.op_change.specs.Applied.{MayChange, SettingsDone}
+use Rattle.op_change.specs.Plainly.{DoesPlainly, WasDonePlainly, IsStarvedPlainly}
 
 -- the settings' operations change the names that a writing of `config` changes
-pub on_config : (op : Op) → IsOnConfig op → (u : View) (q : Elements) (e : Slot) → ReplacesName config u q e → MayChange op u q e
-on_config (AddPin pin) on u q e put = put
-on_config (DropPin pin) on u q e put = put
-on_config (AddRemote row) on u q e put = put
-on_config (ModifyRemote row) on u q e put = put
-on_config (DropRemote name) on u q e put = put
-on_config Migrate on u q e put = put
-on_config (Install name remote commit) on u q e put = absurd on
-on_config (Update name remote commit) on u q e put = absurd on
-on_config (Uninstall name) on u q e put = absurd on
-on_config (SetOverride row) on u q e put = absurd on
-on_config (DropOverride name) on u q e put = absurd on
-on_config (Rollback name commit) on u q e put = absurd on
+pub on_config : (s : State) (op : Op) → IsOnConfig op → (u : View) (q : Elements) (e : Slot) → ReplacesName config u q e → MayChange s op u q e
+on_config s (AddPin pin) on u q e put = put
+on_config s (DropPin pin) on u q e put = put
+on_config s (AddRemote row) on u q e put = put
+on_config s (ModifyRemote row) on u q e put = put
+on_config s (DropRemote name) on u q e put = put
+on_config s Migrate on u q e put = put
+on_config s (Install name remote commit) on u q e put = absurd on
+on_config s (Update name remote commit) on u q e put = absurd on
+on_config s (Uninstall name) on u q e put = absurd on
+on_config s (SetOverride row) on u q e put = absurd on
+on_config s (DropOverride name) on u q e put = absurd on
+on_config s (Rollback name commit) on u q e put = absurd on
 
 module _ (s : State) (op : Op) where
-  pub does_applies : {W : View → Elements → Slot → Type 0} → ((u : View) (q : Elements) (e : Slot) → W u q e → MayChange op u q e) → {u w : View} → Does s (after s (plain op)) W u w → Applies s (plain op) u w
+  pub does_applies : {W : View → Elements → Slot → Type 0} → ((u : View) (q : Elements) (e : Slot) → W u q e → MayChange s op u q e) → {u w : View} → Does s (after s (plain op)) W u w → DoesPlainly s op u w
   does_applies may {u = u} does = record {
     either = does.either;
     names = λ q. elim (does.names q) [ inl same ↦ inl same | inr put ↦ inr (may u q _ put) ];
@@ -42,31 +43,31 @@ module _ (s : State) (op : Op) where
     printed = does.printed;
   }
 
-  pub goes_applies : {W : View → Elements → Slot → Type 0} {a b : Option Moments} → IsTold a → ((u : View) (q : Elements) (e : Slot) → W u q e → MayChange op u q e) → Goes a b (Does s (after s (plain op)) W) (Does s (after s (plain op)) W) → Goes a b (Applies s (plain op)) (Applies s (plain op))
+  pub goes_applies : {W : View → Elements → Slot → Type 0} {a b : Option Moments} → IsTold a → ((u : View) (q : Elements) (e : Slot) → W u q e → MayChange s op u q e) → Goes a b (Does s (after s (plain op)) W) (Does s (after s (plain op)) W) → Goes a b (DoesPlainly s op) (DoesPlainly s op)
   goes_applies told may goes = begins told goes (λ u w t r. does_applies may r) (λ u w t r e. does_applies may e)
 
-  pub ends_done : {a b : Option Moments} → (IsOnConfig op → ⊥) → AtEnd (WasDone s (after s (plain op))) a b → AtEnd (WasApplied s (plain op)) a b
-  ends_done off done = ends_to done (λ u w d. record { opens = d.opens; settled = d.settled; objects = λ brings. d.objects; settings = λ on. absurd (off on) })
+  pub ends_done : {a b : Option Moments} → (IsOnConfig op → ⊥) → AtEnd (WasDone s (after s (plain op))) a b → AtEnd (WasDonePlainly s op) a b
+  ends_done off done = ends_to done (λ u w d. record { opens = d.opens; settled = d.settled; objects = d.objects; settings = λ on. absurd (off on) })
 
-  pub ends_settings : {a b : Option Moments} → AtEnd (SettingsDone s (after s (plain op))) a b → AtEnd (WasApplied s (plain op)) a b
-  ends_settings done = ends_to done (λ u w d. record { opens = d.done.opens; settled = d.done.settled; objects = λ brings. d.done.objects; settings = λ on. d.settings })
+  pub ends_settings : {a b : Option Moments} → AtEnd (SettingsDone s (after s (plain op))) a b → AtEnd (WasDonePlainly s op) a b
+  ends_settings done = ends_to done (λ u w d. record { opens = d.done.opens; settled = d.done.settled; objects = d.done.objects; settings = λ on. d.settings })
 
-  pub starved_same : {a b : Option Moments} → AtEnd (λ u w. w ≡ u) a b → AtEnd (IsStarved s op) a b
+  pub starved_same : {a b : Option Moments} → AtEnd (λ u w. w ≡ u) a b → AtEnd (IsStarvedPlainly s op) a b
   starved_same same = ends_to same (λ u w e. record { opens = λ opens. subst (Opens s) (sym e) opens; settings = λ on. e })
 
-  pub starved_opens : {a b : Option Moments} → (IsOnConfig op → ⊥) → AtEnd (λ u w. Opens s u → Opens s w) a b → AtEnd (IsStarved s op) a b
+  pub starved_opens : {a b : Option Moments} → (IsOnConfig op → ⊥) → AtEnd (λ u w. Opens s u → Opens s w) a b → AtEnd (IsStarvedPlainly s op) a b
   starved_opens off opens = ends_to opens (λ u w o. record { opens = o; settings = λ on. absurd (off on) })
 
 -- what an operation's case says of it
 module _ (s : State) (o x : Op) (e : o ≡ x) where
-  pub goes_as : {W : View → Elements → Slot → Type 0} {a b : Option Moments} → IsTold a → ((u : View) (q : Elements) (e : Slot) → W u q e → MayChange x u q e) → Goes a b (Does s (after s (plain x)) W) (Does s (after s (plain x)) W) → Goes a b (Applies s (plain o)) (Applies s (plain o))
-  goes_as {a = a} {b = b} told may goes = subst (λ (y : Op). Goes a b (Applies s (plain y)) (Applies s (plain y))) (sym e) (goes_applies s x told may goes)
+  pub goes_as : {W : View → Elements → Slot → Type 0} {a b : Option Moments} → IsTold a → ((u : View) (q : Elements) (e : Slot) → W u q e → MayChange s x u q e) → Goes a b (Does s (after s (plain x)) W) (Does s (after s (plain x)) W) → Goes a b (DoesPlainly s o) (DoesPlainly s o)
+  goes_as {a = a} {b = b} told may goes = subst (λ (y : Op). Goes a b (DoesPlainly s y) (DoesPlainly s y)) (sym e) (goes_applies s x told may goes)
 
-  pub done_as : {a b : Option Moments} → (IsOnConfig x → ⊥) → AtEnd (WasDone s (after s (plain x))) a b → AtEnd (WasApplied s (plain o)) a b
-  done_as {a = a} {b = b} off done = subst (λ (y : Op). AtEnd (WasApplied s (plain y)) a b) (sym e) (ends_done s x off done)
+  pub done_as : {a b : Option Moments} → (IsOnConfig x → ⊥) → AtEnd (WasDone s (after s (plain x))) a b → AtEnd (WasDonePlainly s o) a b
+  done_as {a = a} {b = b} off done = subst (λ (y : Op). AtEnd (WasDonePlainly s y) a b) (sym e) (ends_done s x off done)
 
-  pub opens_as : {a b : Option Moments} → (IsOnConfig x → ⊥) → AtEnd (λ u w. Opens s u → Opens s w) a b → AtEnd (IsStarved s o) a b
-  opens_as {a = a} {b = b} off opens = subst (λ (y : Op). AtEnd (IsStarved s y) a b) (sym e) (starved_opens s x off opens)
+  pub opens_as : {a b : Option Moments} → (IsOnConfig x → ⊥) → AtEnd (λ u w. Opens s u → Opens s w) a b → AtEnd (IsStarvedPlainly s o) a b
+  opens_as {a = a} {b = b} off opens = subst (λ (y : Op). AtEnd (IsStarvedPlainly s y) a b) (sym e) (starved_opens s x off opens)
 
   pub state_as : {r : State} → r ≡ after s (plain x) → r ≡ after s (plain o)
   state_as {r = r} is = subst (λ (y : Op). r ≡ after s (plain y)) (sym e) is

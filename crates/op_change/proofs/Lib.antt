@@ -3,3 +3,5 @@ pub mod Either
 pub mod Layers
 pub mod Grown
 pub mod Joined
+pub mod Brought
+pub mod Plain

@@ -1,2 +1,4 @@
 pub mod Applied
+pub mod Ends
 pub mod Overriding
+pub mod Plainly

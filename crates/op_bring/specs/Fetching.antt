@@ -1,0 +1,44 @@
+-- A commit that is fetched: its objects are stored, and it stands in its folder, beside the state.
+use Rattle.std.specs.Prelude.{◌⊎◌, ◌≡◌, ℕ, List, Bool, false, Option, Some, None}
+use Rattle.fp_host.specs.Paths.{Elements, absent}
+use Rattle.fp_host.specs.Remote.{Holdings}
+use Rattle.fp_host.specs.View.{View}
+use Rattle.fp_name.specs.Refs.{Ref}
+use Rattle.fp_small.specs.Places.{repo}
+use Rattle.fp_small.specs.declared.state.State.{State}
+use Rattle.ost_model.specs.Look.{nothing, look}
+use Rattle.ost_model.specs.Objects.{Have}
+use Rattle.ost_model.specs.Order.{first_fault}
+use Rattle.ost_model.specs.Standing.{deploy_name}
+use Rattle.ost_checkout.specs.Checkout.{IsCheckedOut}
+use Rattle.dep_states.specs.Names.{commit_dir}
+use Rattle.dep_states.specs.Sound.{Opens}
+use Rattle.dep_switch.specs.Writing.{new_link}
+use Rattle.op_deploy.specs.Applied.{SameObjects}
+use Rattle.op_bring.specs.Bringing.{AreTold, ChangesFor, LeftName}
+use Rattle.op_bring.specs.Brought.{supply_at, HasObjects}
+
+-- At every moment each stop leaves the state.
+pub record Fetches (s : State) (name : Ref) (commit : List ℕ) (holds : Option Holdings) (u w : View) : Type 0 where
+  pub opens : AreTold holds → Opens s u → Opens s w
+  pub changes : Opens s u → ChangesFor s name commit u w
+
+-- its objects are there, it is laid out where it isn't kept, and nothing is at the new link's name
+pub record IsFetched (name : Ref) (commit : List ℕ) (kept : Bool) (have : Have) (u w : View) : Type 0 where
+  pub clean : first_fault have commit ≡ None
+  pub objects : HasObjects have commit u w
+  pub link_free : w.names new_link ≡ absent
+  pub laid : kept ≡ false → IsCheckedOut repo commit (commit_dir name commit) w
+
+pub record WasFetched (s : State) (name : Ref) (commit : List ℕ) (kept : Bool) (url : List ℕ) (holds : Option Holdings) (u w : View) : Type 0 where
+  pub fetched : (held : Holdings) → holds ≡ Some held → Opens s u → IsFetched name commit kept (supply_at held (Some url) u) u w
+
+-- the root of the commit has no entry `deploy`
+abbrev pub HasNoDeploy : Have → List ℕ → Type 0
+HasNoDeploy have commit = look have commit deploy_name ≡ nothing
+
+-- where it is refused, and where a remote is at fault: the store has the same objects, and what was made is gone
+pub record WasTurnedDown (s : State) (name : Ref) (commit url : List ℕ) (holds : Option Holdings) (u w : View) : Type 0 where
+  pub objects : (held : Holdings) → holds ≡ Some held → Opens s u → HasNoDeploy (supply_at held (Some url) u) commit → SameObjects u w
+  pub names : (held : Holdings) → holds ≡ Some held → Opens s u → HasNoDeploy (supply_at held (Some url) u) commit
+      → (q : Elements) → (w.names q ≡ u.names q) ⊎ LeftName s name commit q (w.names q)

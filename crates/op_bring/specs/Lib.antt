@@ -1,0 +1,10 @@
+pub mod Readying
+pub mod LayingOut
+pub mod Headed
+pub mod Places
+pub mod Rooms
+pub mod Furnishing
+pub mod Ends
+pub mod Brought
+pub mod Bringing
+pub mod Fetching

@@ -1,0 +1,53 @@
+// The store of an installation, made ready for its first commit.
+ghost use Rattle.std.specs.Prelude.{◌≡◌, IfOk, OnOk, IsErrOf};
+ghost use Rattle.fp_host.specs.Causes.{IsCaused};
+ghost use Rattle.fp_host.specs.Frame.{AtEnd};
+ghost use Rattle.fp_host.specs.Moments.{Always};
+ghost use Rattle.fp_small.specs.Replace.{Replaces, CanReplace};
+ghost use Rattle.op_bring.specs.Readying.{store_config, store_text, a_head, ReadiesStore, HasConfigured, WasReadied, CanReady};
+
+use fp_host::{Host, HostEnd, Path, Stat};
+use fp_small::{make_above, replace};
+use std::alloc::{AllocError, Global};
+
+/// What `config` of a store says.
+const CONFIG: &str = "[core]\nrepo_version=1\nmode=bare-user-only\n";
+
+/// `config` of the store, and a name in the folder of its refs.
+fn store_paths(alloc: Global) -> Result<(Path, Path), AllocError>
+    ensures { IfOk result (λ paths. (paths.0 ≡ store_config) × (paths.1 ≡ a_head)) }
+{
+    let repo = Path::root(alloc).child("repo")?;
+    let config = repo.child("config")?;
+    let head = repo.child("refs")?.child("heads")?.child("x")?;
+    Ok((config, head))
+}
+
+/// Writes `config` of the store where it is absent.
+fn write_config<H: Host>(alloc: Global, host: &mut H, config: &Path) -> Result<(), HostEnd>
+    requires { config.now ≡ store_config }
+    ensures any_moment { Always (Replaces store_config store_text)
+        (H.moments host.old) (H.moments host.new) }
+    ensures on_success { OnOk result (AtEnd HasConfigured
+        (H.moments host.old) (H.moments host.new)) }
+    ensures fault_has_cause { IsCaused (IsErrOf result HostEnd.Fault) (H.moments host.old)
+        (CanReplace store_config) (H.faults host.old) (H.faults host.new) }
+{
+    match host.stat(config)? {
+        Stat::Absent => replace(alloc, host, config, CONFIG.as_bytes()),
+        _ => Ok(()),
+    }
+}
+
+/// Makes `repo/config` and the folder `repo/refs/heads`, each where it is absent.
+pub(crate) fn ready_store<H: Host>(alloc: Global, host: &mut H) -> Result<(), HostEnd>
+    ensures any_moment { Always ReadiesStore (H.moments host.old) (H.moments host.new) }
+    ensures on_success { OnOk result (AtEnd WasReadied
+        (H.moments host.old) (H.moments host.new)) }
+    ensures fault_has_cause { IsCaused (IsErrOf result HostEnd.Fault) (H.moments host.old)
+        CanReady (H.faults host.old) (H.faults host.new) }
+{
+    let (config, head) = store_paths(alloc)?;
+    write_config(alloc, host, &config)?;
+    make_above(alloc, host, &head)
+}

@@ -1,0 +1,148 @@
+-- An operation that brings no commit, among all.
+use Rattle.std.proofs.Common.{◌≡◌, Option, None, Result, Ok, Err, refl, sym, ◌∙◌, ap, subst, Some}
+use Rattle.std.specs.Prelude.{IsErrOf}
+use Rattle.fp_host.specs.Frame.{AtEnd}
+use Rattle.fp_host.specs.Moments.{Moments, Always}
+use Rattle.fp_host.specs.Remote.{Holdings}
+use Rattle.fp_host.specs.View.{View}
+use Rattle.fp_host.specs.declared.host.HostEnd.{HostEnd}
+use Rattle.fp_host.specs.declared.host.HostEnd.TheVariants as host_ends
+use Rattle.fp_host.proofs.Ending.{ends_to}
+use Rattle.fp_host.proofs.Framed.{IsTold}
+use Rattle.fp_host.proofs.Goes.{begins}
+use Rattle.fp_small.specs.declared.op.Op.{Op}
+use Rattle.fp_small.specs.declared.op.Op.TheVariants.{Install, Update, Uninstall, AddPin, DropPin, AddRemote, ModifyRemote, DropRemote, SetOverride, DropOverride, Migrate, Rollback}
+use Rattle.fp_small.specs.declared.refusal.Refusal.{Refusal}
+use Rattle.fp_small.specs.declared.state.State.{State}
+use Rattle.ost_model.specs.Objects.{Have}
+use Rattle.dep_states.specs.After.{after, plain}
+use Rattle.dep_states.specs.Sound.{Opens}
+use Rattle.dep_states.specs.Switch.{OpensEither}
+use Rattle.op_deploy.specs.Applied.{SameObjects}
+use Rattle.op_change.specs.Applied.{Brings, have_for, done_with, op_refusal, Applies, WasApplied, IsStarved, AppliesWith, AppliesPlainly, HasObjectsFor}
+use Rattle.op_change.specs.Ends.{of_host}
+use Rattle.op_change.specs.Plainly.{DoesPlainly, WasDonePlainly, IsStarvedPlainly}
+use Rattle.op_change.specs.declared.ending.ApplyEnd.{ApplyEnd}
+use Rattle.op_change.specs.declared.ending.ApplyEnd.TheVariants as ends
+
+none_some : {A : Type 0} {a : A} → ◌≡◌ {A = Option A} None (Some a) → ⊥
+none_some is = cc is
+
+pub done_plain : (have : Have) (op : Op) → (Brings op → ⊥) → done_with have op ≡ plain op
+done_plain have (Install name origin commit) off = absurd (off tt)
+done_plain have (Update name origin commit) off = absurd (off tt)
+done_plain have (Uninstall name) off = refl
+done_plain have (AddPin pin) off = refl
+done_plain have (DropPin pin) off = refl
+done_plain have (AddRemote row) off = refl
+done_plain have (ModifyRemote row) off = refl
+done_plain have (DropRemote name) off = refl
+done_plain have (SetOverride row) off = refl
+done_plain have (DropOverride name) off = refl
+done_plain have Migrate off = refl
+done_plain have (Rollback name commit) off = refl
+
+none_refused : (have : Have) (op : Op) → (Brings op → ⊥) → op_refusal have op ≡ None
+none_refused have (Install name origin commit) off = absurd (off tt)
+none_refused have (Update name origin commit) off = absurd (off tt)
+none_refused have (Uninstall name) off = refl
+none_refused have (AddPin pin) off = refl
+none_refused have (DropPin pin) off = refl
+none_refused have (AddRemote row) off = refl
+none_refused have (ModifyRemote row) off = refl
+none_refused have (DropRemote name) off = refl
+none_refused have (SetOverride row) off = refl
+none_refused have (DropOverride name) off = refl
+none_refused have Migrate off = refl
+none_refused have (Rollback name commit) off = refl
+
+same_for : (have : Have) (op : Op) (u w : View) → (Brings op → ⊥) → SameObjects u w → HasObjectsFor have op u w
+same_for have (Install name origin commit) u w off same = absurd (off tt)
+same_for have (Update name origin commit) u w off same = absurd (off tt)
+same_for have (Uninstall name) u w off same = same
+same_for have (AddPin pin) u w off same = same
+same_for have (DropPin pin) u w off same = same
+same_for have (AddRemote row) u w off same = same
+same_for have (ModifyRemote row) u w off same = same
+same_for have (DropRemote name) u w off same = same
+same_for have (SetOverride row) u w off same = same
+same_for have (DropOverride name) u w off same = same
+same_for have Migrate u w off same = same
+same_for have (Rollback name commit) u w off same = same
+
+module _ (s : State) (op : Op) (off : Brings op → ⊥) where
+  after_is : (have : Have) → after s (plain op) ≡ after s (done_with have op)
+  after_is have = sym (ap (after s) (done_plain have op off))
+
+  applies : {holds : Option Holdings} {u w : View} → DoesPlainly s op u w → Applies s op holds u w
+  applies {u = u} {w = w} does = record {
+    either = λ held is opens. subst (λ (t : State). OpensEither s t w) (after_is (have_for s op held u)) (does.either opens);
+    refused = λ held is r refused opens. absurd (none_some (sym (none_refused (have_for s op held u) op off) ∙ refused));
+    changes = λ opens. record { names = does.names; files = does.files; printed = does.printed };
+  }
+
+  pub goes_plain : {holds : Option Holdings} {a b : Option Moments} → IsTold a → Always (DoesPlainly s op) a b → Always (Applies s op holds) a b
+  goes_plain told goes = begins told goes (λ u w t r. applies r) (λ u w t r e. applies e)
+
+  pub end_plain : {holds : Option Holdings} {a b : Option Moments} → AtEnd (WasDonePlainly s op) a b → AtEnd (WasApplied s op holds) a b
+  end_plain done = ends_to done (λ u w d. record {
+    opens = λ held is opens. subst (λ (t : State). Opens t w) (after_is (have_for s op held u)) (d.opens opens);
+    objects = λ held is opens. same_for (have_for s op held u) op u w off d.objects;
+    settled = d.settled;
+    settings = d.settings;
+  })
+
+  pub ok_plain : (have : Have) (t : State) → t ≡ after s (plain op) → AppliesWith have s op (Ok t)
+  ok_plain have t is = (none_refused have op off, is ∙ after_is have)
+
+pub starved_plain : {s : State} {op : Op} {holds : Option Holdings} {a b : Option Moments} → AtEnd (IsStarvedPlainly s op) a b → AtEnd (IsStarved s op holds) a b
+starved_plain starved = ends_to starved (λ u w d. record { opens = λ told. d.opens; settings = d.settings })
+
+-- ---- how it ends
+
+pub err_with : (have : Have) (s : State) (op : Op) (end : HostEnd) → AppliesWith have s op (Err (of_host end))
+err_with have s op host_ends.Fault = tt
+err_with have s op host_ends.NoMemory = tt
+
+pub err_plainly : (s : State) (op : Op) (end : HostEnd) → AppliesPlainly s op (Err (of_host end))
+err_plainly s op host_ends.Fault = tt
+err_plainly s op host_ends.NoMemory = tt
+
+same_end : {A : Type 0} (x y : ApplyEnd) → ◌≡◌ {A = Result A ApplyEnd} (Err x) (Err y) → x ≡ y
+same_end x y is = cc is
+
+no_refusal : (end : HostEnd) (r : Refusal) → of_host end ≡ ends.Refused r → ⊥
+no_refusal host_ends.Fault r is = cc is
+no_refusal host_ends.NoMemory r is = cc is
+
+no_remote : (end : HostEnd) → of_host end ≡ ends.RemoteFault → ⊥
+no_remote host_ends.Fault is = cc is
+no_remote host_ends.NoMemory is = cc is
+
+is_fault : (end : HostEnd) → of_host end ≡ ends.Fault → end ≡ host_ends.Fault
+is_fault host_ends.Fault is = refl
+is_fault host_ends.NoMemory is = absurd (cc is)
+
+is_starved : (end : HostEnd) → of_host end ≡ ends.NoMemory → end ≡ host_ends.NoMemory
+is_starved host_ends.Fault is = absurd (cc is)
+is_starved host_ends.NoMemory is = refl
+
+module _ {A : Type 0} (end : HostEnd) (result : ApplyEnd) (from : result ≡ of_host end) where
+  pub never_refused : (r : Refusal) → IsErrOf {T = A} (Err result) (ends.Refused r) → ⊥
+  never_refused r is = no_refusal end r (sym from ∙ same_end {A = A} result (ends.Refused r) is)
+
+  pub never_remote : IsErrOf {T = A} (Err result) ends.RemoteFault → ⊥
+  never_remote is = no_remote end (sym from ∙ same_end {A = A} result ends.RemoteFault is)
+
+module _ {A B : Type 0} (end : HostEnd) (result : ApplyEnd) (from : result ≡ of_host end) where
+  pub host_fault : IsErrOf {T = A} (Err result) ends.Fault → IsErrOf {T = B} (Err end) host_ends.Fault
+  host_fault is = ap (λ (e : HostEnd). Err e) (is_fault end (sym from ∙ same_end {A = A} result ends.Fault is))
+
+  pub host_starved : IsErrOf {T = A} (Err result) ends.NoMemory → IsErrOf {T = B} (Err end) host_ends.NoMemory
+  host_starved is = ap (λ (e : HostEnd). Err e) (is_starved end (sym from ∙ same_end {A = A} result ends.NoMemory is))
+
+pub err_with_as : (have : Have) (s : State) (op : Op) (end : HostEnd) (result : ApplyEnd) → result ≡ of_host end → AppliesWith have s op (Err result)
+err_with_as have s op end result from = subst (λ (e : ApplyEnd). AppliesWith have s op (Err e)) (sym from) (err_with have s op end)
+
+pub err_plainly_as : (s : State) (op : Op) (end : HostEnd) (result : ApplyEnd) → result ≡ of_host end → AppliesPlainly s op (Err result)
+err_plainly_as s op end result from = subst (λ (e : ApplyEnd). AppliesPlainly s op (Err e)) (sym from) (err_plainly s op end)

@@ -1,0 +1,56 @@
+// One operation that brings no commit.
+ghost use Rattle.std.specs.Prelude.{◌≡◌, IfOk, OnOk, IsErrOf};
+ghost use Rattle.fp_host.specs.Causes.{IsCaused};
+ghost use Rattle.fp_host.specs.Frame.{AtEnd};
+ghost use Rattle.fp_host.specs.Moments.{Always};
+ghost use Rattle.dep_states.specs.Sound.{Opens};
+ghost use Rattle.dep_states.specs.After.{after, plain, May, IsGood};
+ghost use Rattle.op_change.specs.Applied.{Brings, IsShort};
+ghost use Rattle.op_change.specs.Plainly.{DoesPlainly, WasDonePlainly, IsStarvedPlainly};
+
+use crate::overriding::{drop_override, set_override};
+use crate::settings::change_settings;
+use dep_states::Opened;
+use fp_host::{Host, HostEnd};
+use fp_small::Op;
+use op_deploy::{roll_back, uninstall};
+use std::alloc::Global;
+
+/// Does one operation that brings no commit: every stop leaves the state of before or the one after, and once it is done, the one
+/// after.
+pub(crate) fn apply_plainly<H: Host>(
+    alloc: Global,
+    host: &mut H,
+    opened: Opened,
+    op: &Op,
+) -> Result<Opened, HostEnd>
+    requires may { May opened op.now }
+    requires good { IsGood opened }
+    requires short { IsShort op.now }
+    requires brings_none { Brings op.now → ⊥ }
+    ensures state { IfOk result (λ o. o ≡ after opened (plain op.now)) }
+    ensures good { IfOk result IsGood }
+    // A stop at any moment leaves the one state or the other.
+    ensures any_moment { Always (DoesPlainly opened op.now)
+        (H.moments host.old) (H.moments host.new) }
+    ensures on_success { OnOk result (AtEnd (WasDonePlainly opened op.now)
+        (H.moments host.old) (H.moments host.new)) }
+    ensures fault_has_cause { IsCaused (IsErrOf result HostEnd.Fault) (H.moments host.old)
+        (Opens opened) (H.faults host.old) (H.faults host.new) }
+    ensures starved { IsErrOf result HostEnd.NoMemory → AtEnd (IsStarvedPlainly opened op.now)
+        (H.moments host.old) (H.moments host.new) }
+{
+    match op {
+        Op::Uninstall { name } => uninstall(alloc, host, opened, name),
+        Op::Rollback { name, commit } => roll_back(alloc, host, opened, name, commit),
+        Op::SetOverride(row) => set_override(alloc, host, opened, row),
+        Op::DropOverride(name) => drop_override(alloc, host, opened, name),
+        Op::Install { .. } | Op::Update { .. } => unreachable!(),
+        Op::AddPin(_)
+        | Op::DropPin(_)
+        | Op::AddRemote(_)
+        | Op::ModifyRemote(_)
+        | Op::DropRemote(_)
+        | Op::Migrate => change_settings(alloc, host, opened, op),
+    }
+}
