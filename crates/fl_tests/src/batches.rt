@@ -31,7 +31,7 @@ fn reads_as(alloc: Global, bytes: &[u8], want: &str) -> Result<bool, AllocError>
 }
 
 /// Batches, and what they read as.
-const BATCHES: [(&[u8], &str); 9] = [
+const BATCHES: [(&[u8], &str); 12] = [
     (b"", ""),
     (b"pin app/*/*/*\n", "Pin app/*/*/*\n"),
     (b"pin app/*/*/*", "Pin app/*/*/*\n"),
@@ -50,10 +50,24 @@ const BATCHES: [(&[u8], &str); 9] = [
     ),
     (b"remote-add lab file:///", "RemoteAdd lab file:///\n"),
     (b"remote-delete 0\n", "RemoteDelete 0\n"),
+    (
+        b"install hub app/org.x.App/x86_64/stable\nupdate\nupdate app/org.x.App/x86_64/stable",
+        "Install hub app/org.x.App/x86_64/stable\nUpdateAll\nUpdateOne app/org.x.App/x86_64/stable\n",
+    ),
+    (
+        b"rollback app/org.x.App/x86_64/stable\nuninstall app/org.x.App/x86_64/stable\nuninstall --unused\n",
+        "Rollback app/org.x.App/x86_64/stable\nUninstall app/org.x.App/x86_64/stable\nUninstallUnused\n",
+    ),
+    (
+        b"override --reset\noverride --reset org.x.App\n",
+        "OverrideReset global\nOverrideReset org.x.App\n",
+    ),
 ];
 
 /// Batches with a bad line, and its number.
-const BAD_LINES: [(&[u8], u64); 23] = [
+const BAD_LINES: [(&[u8], u64); 25] = [
+    (b"update\noverride --show\n", 2),
+    (b"info app/org.x.App/x86_64/stable\n", 1),
     (b"\n", 1),
     (b"\n\n", 1),
     (b" ", 1),

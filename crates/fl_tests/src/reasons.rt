@@ -21,8 +21,20 @@ usage: fpk unpin PATTERN
 usage: fpk remote-add NAME URL
 usage: fpk remote-modify NAME URL
 usage: fpk remote-delete NAME
+usage: fpk install NAME REF
+usage: fpk update
+usage: fpk update REF
+usage: fpk uninstall REF
+usage: fpk uninstall --unused
+usage: fpk rollback REF
+usage: fpk override --reset
+usage: fpk override --reset ID
+usage: fpk list
 usage: fpk list --remotes
 usage: fpk list --pins
+usage: fpk info REF
+usage: fpk override --show
+usage: fpk override --show ID
 usage: fpk batch
 usage: fpk show commit
 usage: fpk show dirtree
@@ -31,7 +43,27 @@ usage: fpk show value TYPE
 ";
 
 /// Words that are no command, and what is said of them.
-const REASONS: [(&[&str], &str); 10] = [
+const REASONS: [(&[&str], &str); 15] = [
+    (
+        &["override", "--show", "global"],
+        "fpk: 'global' is no ID of an application\nusage: fpk override --show\nusage: fpk override --show ID\n",
+    ),
+    (
+        &["install", "hub", "org.x.App"],
+        "fpk: 'org.x.App' is no ref: KIND/ID/ARCH/BRANCH\nusage: fpk install NAME REF\n",
+    ),
+    (
+        &["update", "org.x.App"],
+        "fpk: 'org.x.App' is no ref: KIND/ID/ARCH/BRANCH\nusage: fpk update\nusage: fpk update REF\n",
+    ),
+    (
+        &["uninstall"],
+        "fpk: a word is missing\nusage: fpk uninstall REF\nusage: fpk uninstall --unused\n",
+    ),
+    (
+        &["uninstall", "--unused", "x"],
+        "fpk: 'x' is one word too many\nusage: fpk uninstall --unused\n",
+    ),
     (
         &["pin", "app/*/*"],
         "fpk: 'app/*/*' is no pattern: KIND/ID/ARCH/BRANCH\nusage: fpk pin PATTERN\n",
@@ -50,7 +82,7 @@ const REASONS: [(&[&str], &str); 10] = [
     ),
     (
         &["list", "pins"],
-        "fpk: 'pins' isn't known here\nusage: fpk list --remotes\nusage: fpk list --pins\n",
+        "fpk: 'pins' isn't known here\nusage: fpk list\nusage: fpk list --remotes\nusage: fpk list --pins\n",
     ),
     (
         &["list", "--pins", "x", "y"],
@@ -153,7 +185,15 @@ const LINES: [(&[u8], Option<&str>); 8] = [
             usage: unpin PATTERN\n\
             usage: remote-add NAME URL\n\
             usage: remote-modify NAME URL\n\
-            usage: remote-delete NAME\n",
+            usage: remote-delete NAME\n\
+            usage: install NAME REF\n\
+            usage: update\n\
+            usage: update REF\n\
+            usage: uninstall REF\n\
+            usage: uninstall --unused\n\
+            usage: rollback REF\n\
+            usage: override --reset\n\
+            usage: override --reset ID\n",
         ),
     ),
 ];

@@ -21,8 +21,7 @@ fn told(alloc: Global, words: &[&str]) -> Result<String, AllocError> {
 fn told_command(alloc: Global, command: &Command) -> Result<String, AllocError> {
     match command {
         Command::Change(change) => told_change(alloc, change),
-        Command::List(Listing::Remotes) => "ListRemotes".to_string(alloc),
-        Command::List(Listing::Pins) => "ListPins".to_string(alloc),
+        Command::List(listing) => told_listing(alloc, listing),
         Command::Show(thing) => told_shown(alloc, thing),
         Command::Batch => "Batch".to_string(alloc),
     }
@@ -36,6 +35,25 @@ pub fn told_change(alloc: Global, change: &Change) -> Result<String, AllocError>
         Change::RemoteAdd(row) => told_remote(alloc, "RemoteAdd", row),
         Change::RemoteModify(row) => told_remote(alloc, "RemoteModify", row),
         Change::RemoteDelete(name) => format!(in alloc; "RemoteDelete {}", name.as_str()),
+        Change::Install { remote, name } => {
+            format!(in alloc; "Install {} {}", remote.as_str(), name.as_str())
+        }
+        Change::UpdateAll => "UpdateAll".to_string(alloc),
+        Change::UpdateOne(name) => format!(in alloc; "UpdateOne {}", name.as_str()),
+        Change::Uninstall(name) => format!(in alloc; "Uninstall {}", name.as_str()),
+        Change::UninstallUnused => "UninstallUnused".to_string(alloc),
+        Change::Rollback(name) => format!(in alloc; "Rollback {}", name.as_str()),
+        Change::OverrideReset { name } => format!(in alloc; "OverrideReset {}", name.as_str()),
+    }
+}
+
+fn told_listing(alloc: Global, listing: &Listing) -> Result<String, AllocError> {
+    match listing {
+        Listing::Refs => "ListRefs".to_string(alloc),
+        Listing::Remotes => "ListRemotes".to_string(alloc),
+        Listing::Pins => "ListPins".to_string(alloc),
+        Listing::Info(name) => format!(in alloc; "Info {}", name.as_str()),
+        Listing::OverrideShow { name } => format!(in alloc; "OverrideShow {}", name.as_str()),
     }
 }
 
@@ -53,7 +71,7 @@ fn told_remote(alloc: Global, what: &str, row: &RemoteRow) -> Result<String, All
 }
 
 /// Words, and the command that they are, or the place of the first bad one.
-const WORDS: [(&[&str], &str); 67] = [
+const WORDS: [(&[&str], &str); 66] = [
     // remotes
     (
         &["remote-add", "lab", "file:///lab"],
@@ -112,7 +130,6 @@ const WORDS: [(&[&str], &str); 67] = [
     (&["unpin"], "bad words at 1"),
     (&["unpin", "x"], "bad words at 1"),
     (&["unpin", "app/*/*/*", "x"], "bad words at 2"),
-    (&["list"], "bad words at 1"),
     (&["list", ""], "bad words at 1"),
     (&["list", "--pin"], "bad words at 1"),
     (&["list", "pins"], "bad words at 1"),
@@ -136,6 +153,113 @@ const WORDS: [(&[&str], &str); 67] = [
     (&["show", "value", "si"], "bad words at 2"),
     (&["show", "value", "a{vs}"], "bad words at 2"),
     (&["show", "value", "s", "s"], "bad words at 3"),
+];
+
+/// The same of words on refs and overrides.
+const REF_WORDS: [(&[&str], &str); 44] = [
+    // refs
+    (
+        &["install", "hub", "app/org.x.App/x86_64/stable"],
+        "Install hub app/org.x.App/x86_64/stable",
+    ),
+    (
+        &["install", "hub", "runtime/org.x.Y/x/1"],
+        "Install hub runtime/org.x.Y/x/1",
+    ),
+    (&["update"], "UpdateAll"),
+    (
+        &["update", "app/org.x.App/x86_64/stable"],
+        "UpdateOne app/org.x.App/x86_64/stable",
+    ),
+    (
+        &["uninstall", "runtime/org.x.Y/x/1"],
+        "Uninstall runtime/org.x.Y/x/1",
+    ),
+    (&["uninstall", "--unused"], "UninstallUnused"),
+    (
+        &["rollback", "app/org.x.App/x86_64/stable"],
+        "Rollback app/org.x.App/x86_64/stable",
+    ),
+    (&["install"], "bad words at 1"),
+    (
+        &["install", "a/b", "app/org.x.App/x86_64/stable"],
+        "bad words at 1",
+    ),
+    (
+        &["install", "app/org.x.App/x86_64/stable"],
+        "bad words at 1",
+    ),
+    (&["install", "hub"], "bad words at 2"),
+    (&["install", "hub", "org.x.App"], "bad words at 2"),
+    (&["install", "hub", "app/*/*/*"], "bad words at 2"),
+    (
+        &["install", "hub", "app/org.x.App/x86_64/stable", ""],
+        "bad words at 3",
+    ),
+    (&["update", ""], "bad words at 1"),
+    (&["update", "org.x.App"], "bad words at 1"),
+    (&["update", "app/org.x.App/x86_64"], "bad words at 1"),
+    (&["update", "--unused"], "bad words at 1"),
+    (
+        &["update", "app/org.x.App/x86_64/stable", "x"],
+        "bad words at 2",
+    ),
+    (&["uninstall"], "bad words at 1"),
+    (&["uninstall", "--unuse"], "bad words at 1"),
+    (&["uninstall", "app/x/x/x"], "bad words at 1"),
+    (
+        &["uninstall", "--unused", "app/org.x.App/x86_64/stable"],
+        "bad words at 2",
+    ),
+    (
+        &["uninstall", "app/org.x.App/x86_64/stable", "--unused"],
+        "bad words at 2",
+    ),
+    (&["rollback"], "bad words at 1"),
+    (
+        &["rollback", "app/org.x.App/x86_64/stable/"],
+        "bad words at 1",
+    ),
+    (
+        &["rollback", "app/org.x.App/x86_64/stable", "x"],
+        "bad words at 2",
+    ),
+    // one ref, and overrides
+    (&["list"], "ListRefs"),
+    (
+        &["info", "app/org.x.App/x86_64/stable"],
+        "Info app/org.x.App/x86_64/stable",
+    ),
+    (&["override", "--reset"], "OverrideReset global"),
+    (
+        &["override", "--reset", "org.x.App"],
+        "OverrideReset org.x.App",
+    ),
+    (&["override", "--show"], "OverrideShow global"),
+    (
+        &["override", "--show", "org.x.App"],
+        "OverrideShow org.x.App",
+    ),
+    (&["info"], "bad words at 1"),
+    (&["info", "org.x.App"], "bad words at 1"),
+    (
+        &["info", "app/org.x.App/x86_64/stable", "x"],
+        "bad words at 2",
+    ),
+    (&["override"], "bad words at 1"),
+    (&["override", "org.x.App"], "bad words at 1"),
+    (&["override", "--res"], "bad words at 1"),
+    (&["override", "--reset", "global"], "bad words at 2"),
+    (
+        &["override", "--reset", "app/org.x.App/x86_64/stable"],
+        "bad words at 2",
+    ),
+    (&["override", "--show", ""], "bad words at 2"),
+    (
+        &["override", "--show", "org.x.App", "org.x.App"],
+        "bad words at 3",
+    ),
+    (&["override", "--show", "--reset"], "bad words at 2"),
 ];
 
 /// The first of the words that are something else.
@@ -184,6 +308,12 @@ fn many_are_bad(alloc: Global) -> Result<bool, AllocError> {
 /// Whether want of memory is told so.
 fn says_no_memory(alloc: Global) -> Result<bool, AllocError> {
     Ok(format!(in alloc; "{}", WordsError::NoMemory)?.as_str() == "out of memory")
+}
+
+#[test]
+fn words_on_refs(rt: HostRuntime) -> Result<(), Fail> {
+    assert_eq!(rt; first_other_words(rt.alloc(), &REF_WORDS)?, None);
+    Ok(())
 }
 
 #[test]

@@ -1,8 +1,10 @@
 pub mod Batches
 pub mod Beginnings
+pub mod Finding
 pub mod FirstWords
 pub mod LineWords
 pub mod Reaching
 pub mod ReadBack
+pub mod RefTexts
 pub mod Rows
 pub mod TypeTexts

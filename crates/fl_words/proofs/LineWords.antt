@@ -1,7 +1,7 @@
 -- The words of a line, one after another.
 use Rattle.std.proofs.Common.{subst, Result, Ok, Err, IsErrAnd, IfErr, ◌≡◌, ℕ, ◌+◌, ◌≤◌, suc, Bool, true, false, eqb, List, [], ◌∷◌, ◌++◌, length, take, drop, Some, None, refl, ap, sym, ◌∙◌, inl, inr, arith}
 use Rattle.std.specs.List.{position, list_all, onto_first, find}
-use Rattle.std.specs.Option.{option_map}
+use Rattle.std.specs.Option.{option_map, is_some}
 use Rattle.std.proofs.lemmas.List.{length-append}
 use Rattle.std.proofs.lemmas.Slice.Eq.{bytes_eq-Decides}
 use Rattle.std.specs.Prelude.{option_and_then}
@@ -9,19 +9,21 @@ use Rattle.std.specs.Str.{is_utf8, IsUtf8}
 use Rattle.std.proofs.lemmas.Bool.{cases_Bool, false≢true, and_parts, false_from_ne_true}
 use Rattle.std.proofs.lemmas.Str.{IsUtf8-from_is_utf8, is_utf8-from_IsUtf8}
 use Rattle.fp_name.specs.Bytes.{is_dotted}
-use Rattle.fp_name.specs.Grammar.{is_remote_name, is_url}
+use Rattle.fp_name.specs.Grammar.{is_remote_name, is_url, is_id}
 use Rattle.fp_name.specs.Pins.{is_pin}
-use Rattle.fp_name.proofs.Bytes.{Utf8-from_dotted, no_text_no_remote_name, no_text_no_url}
+use Rattle.fp_name.specs.Refs.{ref_of}
+use Rattle.fp_name.proofs.Bytes.{Utf8-from_dotted, no_text_no_remote_name, no_text_no_url, no_text_no_id}
 use Rattle.fp_name.proofs.Pins.{no_text_no_pin}
 use Rattle.fp_keyfile.proofs.FirstPlace.{at_place, at_none}
 use Rattle.fl_words.specs.declared.command.Command.{Command}
 use Rattle.fl_words.specs.declared.command.WordsError.{WordsError}
 use Rattle.fl_words.specs.declared.command.WordsError.TheVariants.{BadWords, NoMemory}
 use Rattle.fl_words.specs.declared.forms.Form.{Form}
-use Rattle.fl_words.specs.declared.forms.Form.TheVariants.{Pin, Unpin, RemoteAdd, RemoteModify, RemoteDelete, ListRemotes, ListPins, Batch, ShowCommit, ShowDirTree, ShowDirMeta, ShowValue}
+use Rattle.fl_words.specs.declared.forms.Form.TheVariants.{Pin, Unpin, RemoteAdd, RemoteModify, RemoteDelete, Install, UpdateAll, UpdateOne, Uninstall, UninstallUnused, Rollback, OverrideReset, OverrideResetApp, ListRefs, ListRemotes, ListPins, Info, OverrideShow, OverrideShowApp, Batch, ShowCommit, ShowDirTree, ShowDirMeta, ShowValue}
+use Rattle.fl_words.proofs.RefTexts.{no_text as no_text_no_ref}
 use Rattle.fl_words.proofs.TypeTexts.{no_text_no_type}
 use Rattle.fl_words.specs.Types.{is_type_text}
-use Rattle.fl_words.specs.Forms.{Place, literal, pattern, remote, url, type_string, fits, forms, slots_of, made, reads, command_of}
+use Rattle.fl_words.specs.Forms.{Place, literal, pattern, remote, url, ref_name, app_id, type_string, fits, forms, slots_of, made, reads, command_of}
 use Rattle.fl_words.specs.Reading.{IsNoCommand}
 use Rattle.fl_words.specs.Batch.{words_in, change_of, batch_change, IsNoText, IsNoWords, IsNoRecord}
 use Rattle.fl_words.proofs.Reaching.{AllFit, reads_fit, fit_length}
@@ -67,6 +69,18 @@ few_places Unpin = omega arith
 few_places RemoteAdd = omega arith
 few_places RemoteModify = omega arith
 few_places RemoteDelete = omega arith
+few_places Install = omega arith
+few_places UpdateAll = omega arith
+few_places UpdateOne = omega arith
+few_places Uninstall = omega arith
+few_places UninstallUnused = omega arith
+few_places Rollback = omega arith
+few_places OverrideReset = omega arith
+few_places OverrideResetApp = omega arith
+few_places ListRefs = omega arith
+few_places Info = omega arith
+few_places OverrideShow = omega arith
+few_places OverrideShowApp = omega arith
 few_places ListRemotes = omega arith
 few_places ListPins = omega arith
 few_places Batch = omega arith
@@ -107,6 +121,8 @@ is_plain (literal w) = list_all is_dotted w
 is_plain pattern = true
 is_plain remote = true
 is_plain url = true
+is_plain ref_name = true
+is_plain app_id = true
 is_plain type_string = true
 
 plain_places : (form : Form) → list_all is_plain (slots_of form) ≡ true
@@ -115,6 +131,18 @@ plain_places Unpin = refl
 plain_places RemoteAdd = refl
 plain_places RemoteModify = refl
 plain_places RemoteDelete = refl
+plain_places Install = refl
+plain_places UpdateAll = refl
+plain_places UpdateOne = refl
+plain_places Uninstall = refl
+plain_places UninstallUnused = refl
+plain_places Rollback = refl
+plain_places OverrideReset = refl
+plain_places OverrideResetApp = refl
+plain_places ListRefs = refl
+plain_places Info = refl
+plain_places OverrideShow = refl
+plain_places OverrideShowApp = refl
 plain_places ListRemotes = refl
 plain_places ListPins = refl
 plain_places Batch = refl
@@ -128,6 +156,8 @@ fit_text (literal w) text plain fit = ap is_utf8 ((bytes_eq-Decides text w).0 fi
 fit_text pattern text plain fit = text_where is_pin no_text_no_pin text fit
 fit_text remote text plain fit = text_where is_remote_name no_text_no_remote_name text fit
 fit_text url text plain fit = text_where is_url no_text_no_url text fit
+fit_text ref_name text plain fit = text_where (λ t. is_some (ref_of t)) no_text_no_ref text fit
+fit_text app_id text plain fit = text_where is_id no_text_no_id text fit
 fit_text type_string text plain fit = text_where is_type_text no_text_no_type text fit
 
 fit_texts : (places : List Place) (words : List (List ℕ)) → list_all is_plain places ≡ true → AllFit places words → list_all is_utf8 words ≡ true

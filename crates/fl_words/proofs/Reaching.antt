@@ -4,11 +4,12 @@ use Rattle.std.specs.Prelude.{codes}
 use Rattle.std.proofs.lemmas.Bool.{and_parts, eqb-true, eq-eqb}
 use Rattle.std.proofs.lemmas.List.{drop_all}
 use Rattle.std.proofs.lemmas.Slice.Eq.{bytes_eq-Decides}
-use Rattle.fp_name.specs.Grammar.{is_remote_name, is_url}
+use Rattle.fp_name.specs.Grammar.{is_remote_name, is_url, is_id}
 use Rattle.fp_name.specs.Pins.{is_pin}
+use Rattle.fl_words.proofs.RefTexts.{some_ref}
 use Rattle.fl_words.proofs.TypeTexts.{byte_is}
 use Rattle.fl_words.specs.declared.forms.Form.{Form}
-use Rattle.fl_words.specs.Forms.{Place, literal, pattern, remote, url, type_string, fits, slots_of, reach, reads}
+use Rattle.fl_words.specs.Forms.{Place, literal, pattern, remote, url, ref_name, app_id, type_string, fits, slots_of, reach, reads}
 
 -- each place has its word, and each word its place
 abbrev pub AllFit : List Place → List (List ℕ) → Type 0
@@ -74,6 +75,8 @@ sample (literal w) = w
 sample pattern = codes "app/*/*/*"
 sample remote = codes "lab"
 sample url = codes "file:///lab"
+sample ref_name = codes "app/a.b.c/x/1"
+sample app_id = codes "a.b.c"
 sample type_string = 121 ∷ []
 
 any_pin : is_pin (codes "app/*/*/*") ≡ true
@@ -88,11 +91,17 @@ any_url : is_url (codes "file:///lab") ≡ true
 unfolding is_url
 any_url = refl
 
+any_id : is_id (codes "a.b.c") ≡ true
+unfolding is_id
+any_id = refl
+
 sample_fits : (place : Place) → fits place (sample place) ≡ true
 sample_fits (literal w) = (bytes_eq-Decides w w).1 refl
 sample_fits pattern = any_pin
 sample_fits remote = any_name
 sample_fits url = any_url
+sample_fits ref_name = some_ref
+sample_fits app_id = any_id
 sample_fits type_string = byte_is
 
 pub samples_fit : (places : List Place) → AllFit places (map sample places)

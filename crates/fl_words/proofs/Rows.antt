@@ -7,10 +7,12 @@ use Rattle.std.specs.Str.Lossy.{utf8_lossy}
 use Rattle.std.proofs.lemmas.Str.{utf8_lossy-IsUtf8}
 use Rattle.fp_name.specs.Bytes.{is_dotted}
 use Rattle.fp_name.proofs.Bytes.{Utf8-from_dotted}
-use Rattle.fp_name.specs.Grammar.{is_id, is_branch}
+use Rattle.fp_name.specs.Grammar.{is_id, is_arch, is_branch, is_remote_name}
+use Rattle.fp_name.specs.Refs.{Ref, ref_of}
+use Rattle.fp_name.specs.declared.kind.RefKind.TheVariants.{App}
 use Rattle.fp_name.specs.Pins.{is_pin}
 use Rattle.fl_words.specs.declared.command.Command.TheVariants.{Change as Changing, List as Listed, Show as Showing, Batch}
-use Rattle.fl_words.specs.declared.command.Change.TheVariants.{Pin, Unpin}
+use Rattle.fl_words.specs.declared.command.Change.TheVariants.{Pin, Unpin, Install, UpdateAll, UpdateOne, Uninstall, UninstallUnused, Rollback}
 use Rattle.fl_words.specs.declared.command.Listing.TheVariants as listings
 use Rattle.fl_words.specs.declared.command.Shown.TheVariants.{Commit, DirTree, DirMeta, Value}
 use Rattle.fl_words.specs.Types.{is_type_text}
@@ -49,7 +51,7 @@ pub pin_and_more : bad_index (codes "pin" ∷ codes "app/*/*/*" ∷ codes "x" �
 unfolding is_pin
 pin_and_more = refl
 
-pub list_alone : bad_index (codes "list" ∷ []) ≡ 1
+pub list_alone : command_of (codes "list" ∷ []) ≡ Some (Listed listings.Refs)
 list_alone = refl
 
 pub list_pin : bad_index (codes "list" ∷ codes "--pin" ∷ []) ≡ 1
@@ -57,6 +59,38 @@ list_pin = refl
 
 pub list_and_more : bad_index (codes "list" ∷ codes "--pins" ∷ [] ∷ []) ≡ 2
 list_and_more = refl
+
+-- ---- commands on refs
+
+abbrev name : Ref
+name = record { kind = App; id = codes "org.x.App"; arch = codes "x86_64"; branch = codes "stable" }
+
+pub install_one : command_of (codes "install" ∷ codes "hub" ∷ codes "app/org.x.App/x86_64/stable" ∷ []) ≡ Some (Changing (Install (codes "hub") name))
+unfolding is_remote_name ref_of is_id is_arch is_branch
+install_one = refl
+
+pub update_all : command_of (codes "update" ∷ []) ≡ Some (Changing UpdateAll)
+update_all = refl
+
+pub update_one : command_of (codes "update" ∷ codes "app/org.x.App/x86_64/stable" ∷ []) ≡ Some (Changing (UpdateOne name))
+unfolding ref_of is_id is_arch is_branch
+update_one = refl
+
+pub uninstall_one : command_of (codes "uninstall" ∷ codes "app/org.x.App/x86_64/stable" ∷ []) ≡ Some (Changing (Uninstall name))
+unfolding ref_of is_id is_arch is_branch
+uninstall_one = refl
+
+pub uninstall_unused : command_of (codes "uninstall" ∷ codes "--unused" ∷ []) ≡ Some (Changing UninstallUnused)
+unfolding ref_of
+uninstall_unused = refl
+
+pub rollback_one : command_of (codes "rollback" ∷ codes "app/org.x.App/x86_64/stable" ∷ []) ≡ Some (Changing (Rollback name))
+unfolding ref_of is_id is_arch is_branch
+rollback_one = refl
+
+pub install_no_ref : bad_index (codes "install" ∷ codes "hub" ∷ codes "org.x.App" ∷ []) ≡ 2
+unfolding is_remote_name ref_of
+install_no_ref = refl
 
 pub batch_alone : command_of (codes "batch" ∷ []) ≡ Some Batch
 batch_alone = refl
@@ -133,8 +167,9 @@ pub bad_pattern : reason_text (codes "pin" ∷ codes "app/*/*" ∷ []) ≡ codes
 unfolding is_pin
 bad_pattern = refl
 
-pub none_listed : reason_text (codes "list" ∷ []) ≡ codes "fpk: a word is missing\nusage: fpk list --remotes\nusage: fpk list --pins\n"
-none_listed = refl
+pub none_shown : reason_text (codes "override" ∷ codes "--reset" ∷ codes "x" ∷ []) ≡ codes "fpk: 'x' is no ID of an application\nusage: fpk override --reset\nusage: fpk override --reset ID\n"
+unfolding is_id
+none_shown = refl
 
 pub one_more_word : reason_text (codes "batch" ∷ codes "x" ∷ []) ≡ codes "fpk: 'x' is one word too many\nusage: fpk batch\n"
 one_more_word = refl

@@ -1,11 +1,12 @@
 -- The forms of words. A row says what stands at each place of a command line; P is the pattern of a pin, N the name of a remote
--- and U its URL, and T the type string of a type of GVariant.
+-- and U its URL, R a ref, I the ID of an application, and T the type string of a type of GVariant.
 use Rattle.std.specs.Prelude.{ℕ, ◌+◌, ◌==◌, ◌&&◌, List, [], ◌∷◌, length, max, slice_index_or, Bool, Option, codes, if◌then◌else◌}
 use Rattle.std.specs.List.{find}
-use Rattle.std.specs.Option.{option_map}
+use Rattle.std.specs.Option.{option_map, is_some}
 use Rattle.std.specs.Str.{bytes_eq}
-use Rattle.fp_name.specs.Grammar.{is_remote_name, is_url}
+use Rattle.fp_name.specs.Grammar.{is_remote_name, is_url, is_id}
 use Rattle.fp_name.specs.Pins.{is_pin}
+use Rattle.fp_name.specs.Refs.{ref_of, ref_at}
 use Rattle.fp_small.specs.declared.state.RemoteRow.{RemoteRow}
 use Rattle.fl_words.specs.declared.command.Command.{Command}
 use Rattle.fl_words.specs.declared.command.Command.TheVariants.{Change as Changing, List as Listed, Show as Showing, Batch as Batched}
@@ -15,17 +16,19 @@ use Rattle.fl_words.specs.declared.command.Shown.TheVariants as things
 use Rattle.fl_words.specs.declared.forms.Slot.{Slot}
 use Rattle.fl_words.specs.declared.forms.Slot.TheVariants as slots
 use Rattle.fl_words.specs.declared.forms.Form.{Form}
-use Rattle.fl_words.specs.declared.forms.Form.TheVariants.{Pin, Unpin, RemoteAdd, RemoteModify, RemoteDelete, ListRemotes, ListPins, Batch, ShowCommit, ShowDirTree, ShowDirMeta, ShowValue}
+use Rattle.fl_words.specs.declared.forms.Form.TheVariants.{Pin, Unpin, RemoteAdd, RemoteModify, RemoteDelete, Install, UpdateAll, UpdateOne, Uninstall, UninstallUnused, Rollback, OverrideReset, OverrideResetApp, ListRefs, ListRemotes, ListPins, Info, OverrideShow, OverrideShowApp, Batch, ShowCommit, ShowDirTree, ShowDirMeta, ShowValue}
 use Rattle.fl_words.specs.Types.{is_type_text}
 
 -- ---- places
 
--- what may stand at a place: this word alone, P, N, U or T
+-- what may stand at a place: this word alone, P, N, U, R, I or T
 pub data Place : Type 0 where
   literal : List ℕ → Place
   pattern : Place
   remote : Place
   url : Place
+  ref_name : Place
+  app_id : Place
   type_string : Place
 
 abbrev pub place_of : Slot → Place
@@ -33,6 +36,8 @@ place_of (slots.Word text) = literal text.now
 place_of slots.Pattern = pattern
 place_of slots.Remote = remote
 place_of slots.Url = url
+place_of slots.Ref = ref_name
+place_of slots.Id = app_id
 place_of slots.Type = type_string
 
 -- a text may stand there
@@ -41,13 +46,17 @@ fits (literal w) text = bytes_eq text w
 fits pattern text = is_pin text
 fits remote text = is_remote_name text
 fits url text = is_url text
+fits ref_name text = is_some (ref_of text)
+fits app_id text = is_id text
 fits type_string text = is_type_text text
 
 -- ---- the table
 
 abbrev pub forms : List Form
 forms =
-    Pin ∷ Unpin ∷ RemoteAdd ∷ RemoteModify ∷ RemoteDelete ∷ ListRemotes ∷ ListPins ∷ Batch
+    Pin ∷ Unpin ∷ RemoteAdd ∷ RemoteModify ∷ RemoteDelete
+    ∷ Install ∷ UpdateAll ∷ UpdateOne ∷ Uninstall ∷ UninstallUnused ∷ Rollback ∷ OverrideReset ∷ OverrideResetApp
+    ∷ ListRefs ∷ ListRemotes ∷ ListPins ∷ Info ∷ OverrideShow ∷ OverrideShowApp ∷ Batch
     ∷ ShowCommit ∷ ShowDirTree ∷ ShowDirMeta ∷ ShowValue ∷ []
 
 abbrev pub slots_of : Form → List Place
@@ -56,8 +65,20 @@ slots_of Unpin = literal (codes "unpin") ∷ pattern ∷ []
 slots_of RemoteAdd = literal (codes "remote-add") ∷ remote ∷ url ∷ []
 slots_of RemoteModify = literal (codes "remote-modify") ∷ remote ∷ url ∷ []
 slots_of RemoteDelete = literal (codes "remote-delete") ∷ remote ∷ []
+slots_of Install = literal (codes "install") ∷ remote ∷ ref_name ∷ []
+slots_of UpdateAll = literal (codes "update") ∷ []
+slots_of UpdateOne = literal (codes "update") ∷ ref_name ∷ []
+slots_of Uninstall = literal (codes "uninstall") ∷ ref_name ∷ []
+slots_of UninstallUnused = literal (codes "uninstall") ∷ literal (codes "--unused") ∷ []
+slots_of Rollback = literal (codes "rollback") ∷ ref_name ∷ []
+slots_of OverrideReset = literal (codes "override") ∷ literal (codes "--reset") ∷ []
+slots_of OverrideResetApp = literal (codes "override") ∷ literal (codes "--reset") ∷ app_id ∷ []
+slots_of ListRefs = literal (codes "list") ∷ []
 slots_of ListRemotes = literal (codes "list") ∷ literal (codes "--remotes") ∷ []
 slots_of ListPins = literal (codes "list") ∷ literal (codes "--pins") ∷ []
+slots_of Info = literal (codes "info") ∷ ref_name ∷ []
+slots_of OverrideShow = literal (codes "override") ∷ literal (codes "--show") ∷ []
+slots_of OverrideShowApp = literal (codes "override") ∷ literal (codes "--show") ∷ app_id ∷ []
 slots_of Batch = literal (codes "batch") ∷ []
 slots_of ShowCommit = literal (codes "show") ∷ literal (codes "commit") ∷ []
 slots_of ShowDirTree = literal (codes "show") ∷ literal (codes "dirtree") ∷ []
@@ -78,8 +99,20 @@ made Unpin words = Changing (changes.Unpin (word_at 1 words))
 made RemoteAdd words = Changing (changes.RemoteAdd (remote_in words))
 made RemoteModify words = Changing (changes.RemoteModify (remote_in words))
 made RemoteDelete words = Changing (changes.RemoteDelete (word_at 1 words))
+made Install words = Changing (changes.Install (word_at 1 words) (ref_at (word_at 2 words)))
+made UpdateAll words = Changing changes.UpdateAll
+made UpdateOne words = Changing (changes.UpdateOne (ref_at (word_at 1 words)))
+made Uninstall words = Changing (changes.Uninstall (ref_at (word_at 1 words)))
+made UninstallUnused words = Changing changes.UninstallUnused
+made Rollback words = Changing (changes.Rollback (ref_at (word_at 1 words)))
+made OverrideReset words = Changing (changes.OverrideReset (codes "global"))
+made OverrideResetApp words = Changing (changes.OverrideReset (word_at 2 words))
+made ListRefs words = Listed listings.Refs
 made ListRemotes words = Listed listings.Remotes
 made ListPins words = Listed listings.Pins
+made Info words = Listed (listings.Info (ref_at (word_at 1 words)))
+made OverrideShow words = Listed (listings.OverrideShow (codes "global"))
+made OverrideShowApp words = Listed (listings.OverrideShow (word_at 2 words))
 made Batch words = Batched
 made ShowCommit words = Showing things.Commit
 made ShowDirTree words = Showing things.DirTree

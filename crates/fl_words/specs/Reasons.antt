@@ -6,8 +6,8 @@ use Rattle.fp_keyfile.specs.Lines.{lines_of}
 use Rattle.fl_words.specs.declared.batch.TheConstants.{MOST_WORDS}
 use Rattle.fl_words.specs.declared.command.Change.{Change}
 use Rattle.fl_words.specs.declared.forms.Form.{Form}
-use Rattle.fl_words.specs.declared.forms.Form.TheVariants.{Pin, Unpin, RemoteAdd, RemoteModify, RemoteDelete}
-use Rattle.fl_words.specs.Forms.{Place, literal, pattern, remote, url, type_string, forms, slots_of, reach, most}
+use Rattle.fl_words.specs.declared.forms.Form.TheVariants.{Pin, Unpin, RemoteAdd, RemoteModify, RemoteDelete, Install, UpdateAll, UpdateOne, Uninstall, UninstallUnused, Rollback, OverrideReset, OverrideResetApp}
+use Rattle.fl_words.specs.Forms.{Place, literal, pattern, remote, url, ref_name, app_id, type_string, forms, slots_of, reach, most}
 use Rattle.fl_words.specs.Batch.{words_in, batch_of}
 use Rattle.fl_lines.specs.Lines.{line, escaped}
 
@@ -19,6 +19,8 @@ place_name (literal w) = w
 place_name pattern = codes "PATTERN"
 place_name remote = codes "NAME"
 place_name url = codes "URL"
+place_name ref_name = codes "REF"
+place_name app_id = codes "ID"
 place_name type_string = codes "TYPE"
 
 abbrev pub named_place : Place → List ℕ
@@ -57,6 +59,8 @@ fault_at (Some (literal w)) = codes "isn't known here"
 fault_at (Some pattern) = codes "is no pattern: KIND/ID/ARCH/BRANCH"
 fault_at (Some remote) = codes "is no name of a remote"
 fault_at (Some url) = codes "is no URL of a remote: file:///PATH"
+fault_at (Some ref_name) = codes "is no ref: KIND/ID/ARCH/BRANCH"
+fault_at (Some app_id) = codes "is no ID of an application"
 fault_at (Some type_string) = codes "is no type of GVariant"
 
 -- the word there, and what is wrong with it, or that there is none
@@ -80,7 +84,9 @@ reason_text words = codes "fpk: " ++ why (codes " fpk") forms words
 
 -- the forms of what changes the installation
 abbrev pub change_forms : List Form
-change_forms = Pin ∷ Unpin ∷ RemoteAdd ∷ RemoteModify ∷ RemoteDelete ∷ []
+change_forms =
+    Pin ∷ Unpin ∷ RemoteAdd ∷ RemoteModify ∷ RemoteDelete
+    ∷ Install ∷ UpdateAll ∷ UpdateOne ∷ Uninstall ∷ UninstallUnused ∷ Rollback ∷ OverrideReset ∷ OverrideResetApp ∷ []
 
 -- The first words of a line, one more than a change has at most. What is no UTF-8 in them is replaced.
 abbrev pub words_shown : List ℕ → List (List ℕ)

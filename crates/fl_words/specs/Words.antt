@@ -1,16 +1,27 @@
 -- The words of commands.
-use Rattle.std.specs.Prelude.{ℕ, List, [], ◌∷◌, ◌++◌, ◌&&◌, Bool, true, false, IsSome, codes}
-use Rattle.fp_name.specs.Grammar.{is_remote_name, is_url}
+use Rattle.std.specs.Prelude.{ℕ, List, [], ◌∷◌, ◌++◌, ◌&&◌, Bool, true, false, ◌||◌, IsSome, codes, if◌then◌else◌}
+use Rattle.std.specs.Str.{bytes_eq}
+use Rattle.fp_name.specs.Grammar.{is_remote_name, is_url, is_id}
 use Rattle.fp_name.specs.Pins.{is_pin}
+use Rattle.fp_name.specs.Refs.{is_ref, ref_text}
 use Rattle.fl_words.specs.declared.command.Command.{Command}
 use Rattle.fl_words.specs.declared.command.Command.TheVariants.{Change as Changing, List as Listed, Show as Showing, Batch}
 use Rattle.fl_words.specs.declared.command.Change.{Change}
-use Rattle.fl_words.specs.declared.command.Change.TheVariants.{Pin, Unpin, RemoteAdd, RemoteModify, RemoteDelete}
-use Rattle.fl_words.specs.declared.command.Listing.TheVariants.{Remotes, Pins}
+use Rattle.fl_words.specs.declared.command.Change.TheVariants.{Pin, Unpin, RemoteAdd, RemoteModify, RemoteDelete, Install, UpdateAll, UpdateOne, Uninstall, UninstallUnused, Rollback, OverrideReset}
+use Rattle.fl_words.specs.declared.command.Listing.{Listing}
+use Rattle.fl_words.specs.declared.command.Listing.TheVariants.{Refs, Remotes, Pins, Info, OverrideShow}
 use Rattle.fl_words.specs.declared.command.Shown.{Shown}
 use Rattle.fl_words.specs.declared.command.Shown.TheVariants.{Commit, DirTree, DirMeta, Value}
 use Rattle.fl_words.specs.Forms.{command_of}
 use Rattle.fl_words.specs.Types.{is_type_text}
+
+-- the name of an override: `global`, or the ID of an application
+abbrev pub is_override_name : List ℕ → Bool
+is_override_name name = bytes_eq name (codes "global") || is_id name
+
+-- the word for it, which is left out for the global one
+abbrev pub override_word : List ℕ → List (List ℕ)
+override_word name = if bytes_eq name (codes "global") then [] else name ∷ []
 
 -- the words of each command
 abbrev pub words_of : Command → List (List ℕ)
@@ -19,8 +30,18 @@ words_of (Changing (Unpin p)) = codes "unpin" ∷ p ∷ []
 words_of (Changing (RemoteAdd row)) = codes "remote-add" ∷ row.name ∷ row.url ∷ []
 words_of (Changing (RemoteModify row)) = codes "remote-modify" ∷ row.name ∷ row.url ∷ []
 words_of (Changing (RemoteDelete name)) = codes "remote-delete" ∷ name ∷ []
+words_of (Changing (Install remote name)) = codes "install" ∷ remote ∷ ref_text name ∷ []
+words_of (Changing UpdateAll) = codes "update" ∷ []
+words_of (Changing (UpdateOne name)) = codes "update" ∷ ref_text name ∷ []
+words_of (Changing (Uninstall name)) = codes "uninstall" ∷ ref_text name ∷ []
+words_of (Changing UninstallUnused) = codes "uninstall" ∷ codes "--unused" ∷ []
+words_of (Changing (Rollback name)) = codes "rollback" ∷ ref_text name ∷ []
+words_of (Changing (OverrideReset name)) = codes "override" ∷ codes "--reset" ∷ override_word name
+words_of (Listed Refs) = codes "list" ∷ []
 words_of (Listed Remotes) = codes "list" ∷ codes "--remotes" ∷ []
 words_of (Listed Pins) = codes "list" ∷ codes "--pins" ∷ []
+words_of (Listed (Info name)) = codes "info" ∷ ref_text name ∷ []
+words_of (Listed (OverrideShow name)) = codes "override" ∷ codes "--show" ∷ override_word name
 words_of Batch = codes "batch" ∷ []
 words_of (Showing Commit) = codes "show" ∷ codes "commit" ∷ []
 words_of (Showing DirTree) = codes "show" ∷ codes "dirtree" ∷ []
@@ -34,13 +55,27 @@ may_change (Listed listing) = false
 may_change (Showing thing) = false
 may_change Batch = true
 
--- its patterns, names and URLs are such, as they are in each value of the code
+-- its patterns, names, refs and URLs are such, as they are in each value of the code
 abbrev pub is_change : Change → Bool
 is_change (Pin p) = is_pin p
 is_change (Unpin p) = is_pin p
 is_change (RemoteAdd row) = is_remote_name row.name && is_url row.url
 is_change (RemoteModify row) = is_remote_name row.name && is_url row.url
 is_change (RemoteDelete name) = is_remote_name name
+is_change (Install remote name) = is_remote_name remote && is_ref name
+is_change UpdateAll = true
+is_change (UpdateOne name) = is_ref name
+is_change (Uninstall name) = is_ref name
+is_change UninstallUnused = true
+is_change (Rollback name) = is_ref name
+is_change (OverrideReset name) = is_override_name name
+
+abbrev pub is_listing : Listing → Bool
+is_listing Refs = true
+is_listing Remotes = true
+is_listing Pins = true
+is_listing (Info name) = is_ref name
+is_listing (OverrideShow name) = is_override_name name
 
 abbrev pub is_shown : Shown → Bool
 is_shown Commit = true
@@ -50,7 +85,7 @@ is_shown (Value of) = is_type_text of
 
 abbrev pub is_command : Command → Bool
 is_command (Changing change) = is_change change
-is_command (Listed listing) = true
+is_command (Listed listing) = is_listing listing
 is_command (Showing thing) = is_shown thing
 is_command Batch = true
 

@@ -4,14 +4,15 @@ ghost use Rattle.fl_words.specs.Words.{may_change};
 ghost use Rattle.fl_words.specs.declared.command.WordsError.TheVariants.{NoMemory};
 
 use crate::value_type::ValueType;
-use fp_name::{PinPattern, RemoteName};
+use fp_base::Text;
+use fp_name::{PinPattern, RefName, RemoteName};
 use fp_small::RemoteRow;
 use std::alloc::AllocError;
 use std::error::Error;
 use std::fmt;
 
 /// A command, by its kind.
-#[derive(Debug, Drop)]
+#[derive(Drop)]
 pub enum Command {
     /// Changes the installation.
     Change(Change),
@@ -33,7 +34,7 @@ impl Command {
 }
 
 /// What changes the installation.
-#[derive(Debug, Drop)]
+#[derive(Drop)]
 pub enum Change {
     /// `pin P`: pins what the pattern matches.
     Pin(PinPattern),
@@ -45,19 +46,39 @@ pub enum Change {
     RemoteModify(RemoteRow),
     /// `remote-delete N`: takes the remote away.
     RemoteDelete(RemoteName),
+    /// `install N REF`: installs a ref from a remote.
+    Install { remote: RemoteName, name: RefName },
+    /// `update`: updates all that is installed.
+    UpdateAll,
+    /// `update REF`: updates one ref.
+    UpdateOne(RefName),
+    /// `uninstall REF`: takes a ref away.
+    Uninstall(RefName),
+    /// `uninstall --unused`: takes the runtimes away that nothing needs.
+    UninstallUnused,
+    /// `rollback REF`: puts a ref back to the commit that it was at before.
+    Rollback(RefName),
+    /// `override --reset` or `override --reset ID`: takes an override away. The name is `global` or the ID.
+    OverrideReset { name: Text },
 }
 
-/// What is listed, a line each.
-#[derive(Clone, Copy, Debug, PartialEq, Eq)]
+/// What is printed of the installation.
+#[derive(Drop)]
 pub enum Listing {
+    /// `list`: the deployed refs.
+    Refs,
     /// `list --remotes`: the remotes.
     Remotes,
     /// `list --pins`: the patterns.
     Pins,
+    /// `info REF`: what is known of a deployed ref.
+    Info(RefName),
+    /// `override --show` or `override --show ID`: an override. The name is `global` or the ID.
+    OverrideShow { name: Text },
 }
 
 /// What the input is shown as: an object of a kind, or a value of a type.
-#[derive(Debug, Drop)]
+#[derive(Drop)]
 pub enum Shown {
     /// `show commit`: what a commit says.
     Commit,

@@ -5,11 +5,11 @@ ghost use Rattle.fl_words.specs.Reading.{IsMisfit};
 ghost use Rattle.fl_words.specs.Reasons.{change_forms};
 
 use crate::command::{Change, Command, Listing, Shown, WordsError};
-use crate::values::{name_at, pattern_at, remote_in, type_at};
+use crate::values::{global_name, id_at, name_at, pattern_at, ref_at, remote_in, type_at};
 use std::alloc::Global;
 
 /// What may stand at a place of a form.
-#[derive(Clone, Copy, Debug, PartialEq, Eq)]
+#[derive(Clone, Copy)]
 pub enum Slot {
     /// This word alone.
     Word(&'static str),
@@ -19,20 +19,36 @@ pub enum Slot {
     Remote,
     /// The URL of a remote.
     Url,
+    /// A ref.
+    Ref,
+    /// The ID of an application.
+    Id,
     /// The type string of a type of GVariant.
     Type,
 }
 
 /// A form of words.
-#[derive(Clone, Copy, Debug, PartialEq, Eq)]
+#[derive(Clone, Copy)]
 pub enum Form {
     Pin,
     Unpin,
     RemoteAdd,
     RemoteModify,
     RemoteDelete,
+    Install,
+    UpdateAll,
+    UpdateOne,
+    Uninstall,
+    UninstallUnused,
+    Rollback,
+    OverrideReset,
+    OverrideResetApp,
+    ListRefs,
     ListRemotes,
     ListPins,
+    Info,
+    OverrideShow,
+    OverrideShowApp,
     Batch,
     ShowCommit,
     ShowDirTree,
@@ -51,8 +67,20 @@ impl Form {
             Form::RemoteAdd,
             Form::RemoteModify,
             Form::RemoteDelete,
+            Form::Install,
+            Form::UpdateAll,
+            Form::UpdateOne,
+            Form::Uninstall,
+            Form::UninstallUnused,
+            Form::Rollback,
+            Form::OverrideReset,
+            Form::OverrideResetApp,
+            Form::ListRefs,
             Form::ListRemotes,
             Form::ListPins,
+            Form::Info,
+            Form::OverrideShow,
+            Form::OverrideShowApp,
             Form::Batch,
             Form::ShowCommit,
             Form::ShowDirTree,
@@ -71,6 +99,14 @@ impl Form {
             Form::RemoteAdd,
             Form::RemoteModify,
             Form::RemoteDelete,
+            Form::Install,
+            Form::UpdateAll,
+            Form::UpdateOne,
+            Form::Uninstall,
+            Form::UninstallUnused,
+            Form::Rollback,
+            Form::OverrideReset,
+            Form::OverrideResetApp,
         ]
     }
 
@@ -84,8 +120,20 @@ impl Form {
             Form::RemoteAdd => &[Slot::Word("remote-add"), Slot::Remote, Slot::Url],
             Form::RemoteModify => &[Slot::Word("remote-modify"), Slot::Remote, Slot::Url],
             Form::RemoteDelete => &[Slot::Word("remote-delete"), Slot::Remote],
+            Form::Install => &[Slot::Word("install"), Slot::Remote, Slot::Ref],
+            Form::UpdateAll => &[Slot::Word("update")],
+            Form::UpdateOne => &[Slot::Word("update"), Slot::Ref],
+            Form::Uninstall => &[Slot::Word("uninstall"), Slot::Ref],
+            Form::UninstallUnused => &[Slot::Word("uninstall"), Slot::Word("--unused")],
+            Form::Rollback => &[Slot::Word("rollback"), Slot::Ref],
+            Form::OverrideReset => &[Slot::Word("override"), Slot::Word("--reset")],
+            Form::OverrideResetApp => &[Slot::Word("override"), Slot::Word("--reset"), Slot::Id],
+            Form::ListRefs => &[Slot::Word("list")],
             Form::ListRemotes => &[Slot::Word("list"), Slot::Word("--remotes")],
             Form::ListPins => &[Slot::Word("list"), Slot::Word("--pins")],
+            Form::Info => &[Slot::Word("info"), Slot::Ref],
+            Form::OverrideShow => &[Slot::Word("override"), Slot::Word("--show")],
+            Form::OverrideShowApp => &[Slot::Word("override"), Slot::Word("--show"), Slot::Id],
             Form::Batch => &[Slot::Word("batch")],
             Form::ShowCommit => &[Slot::Word("show"), Slot::Word("commit")],
             Form::ShowDirTree => &[Slot::Word("show"), Slot::Word("dirtree")],
@@ -105,8 +153,31 @@ impl Form {
             Form::RemoteAdd => Command::Change(Change::RemoteAdd(remote_in(alloc, words)?)),
             Form::RemoteModify => Command::Change(Change::RemoteModify(remote_in(alloc, words)?)),
             Form::RemoteDelete => Command::Change(Change::RemoteDelete(name_at(alloc, words, 1)?)),
+            Form::Install => Command::Change(Change::Install {
+                remote: name_at(alloc, words, 1)?,
+                name: ref_at(alloc, words, 2)?,
+            }),
+            Form::UpdateAll => Command::Change(Change::UpdateAll),
+            Form::UpdateOne => Command::Change(Change::UpdateOne(ref_at(alloc, words, 1)?)),
+            Form::Uninstall => Command::Change(Change::Uninstall(ref_at(alloc, words, 1)?)),
+            Form::UninstallUnused => Command::Change(Change::UninstallUnused),
+            Form::Rollback => Command::Change(Change::Rollback(ref_at(alloc, words, 1)?)),
+            Form::OverrideReset => Command::Change(Change::OverrideReset {
+                name: global_name(alloc)?,
+            }),
+            Form::OverrideResetApp => Command::Change(Change::OverrideReset {
+                name: id_at(alloc, words, 2)?,
+            }),
+            Form::ListRefs => Command::List(Listing::Refs),
             Form::ListRemotes => Command::List(Listing::Remotes),
             Form::ListPins => Command::List(Listing::Pins),
+            Form::Info => Command::List(Listing::Info(ref_at(alloc, words, 1)?)),
+            Form::OverrideShow => Command::List(Listing::OverrideShow {
+                name: global_name(alloc)?,
+            }),
+            Form::OverrideShowApp => Command::List(Listing::OverrideShow {
+                name: id_at(alloc, words, 2)?,
+            }),
             Form::Batch => Command::Batch,
             Form::ShowCommit => Command::Show(Shown::Commit),
             Form::ShowDirTree => Command::Show(Shown::DirTree),

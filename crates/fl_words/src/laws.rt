@@ -34,7 +34,7 @@ pub fn usage_is_of_forms_begun()
         (take n words ++ more) form ≡ true → begins words n form ≡ true }
 {}
 
-/// The patterns, names and URLs of each change of a batch are such.
+/// The patterns, names, refs and URLs of each change of a batch are such.
 pub fn batches_hold_changes()
     ensures { (bytes : List ℕ) (changes : List Change) → batch_of bytes ≡ Ok changes → list_all
         is_change changes ≡ true }

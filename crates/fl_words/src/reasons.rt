@@ -117,6 +117,8 @@ fn fault_of(slot: &Slot) -> &'static str
         Slot::Pattern => "is no pattern: KIND/ID/ARCH/BRANCH",
         Slot::Remote => "is no name of a remote",
         Slot::Url => "is no URL of a remote: file:///PATH",
+        Slot::Ref => "is no ref: KIND/ID/ARCH/BRANCH",
+        Slot::Id => "is no ID of an application",
         Slot::Type => "is no type of GVariant",
     }
 }
@@ -190,6 +192,8 @@ fn name_of(slot: &Slot) -> &str
         Slot::Pattern => "PATTERN",
         Slot::Remote => "NAME",
         Slot::Url => "URL",
+        Slot::Ref => "REF",
+        Slot::Id => "ID",
         Slot::Type => "TYPE",
     }
 }

@@ -10,7 +10,7 @@ use std::alloc::Global;
 use std::marker::Model;
 
 /// A type of GVariant, which contracts see as its type string.
-#[derive(Debug, Drop)]
+#[derive(Drop)]
 pub struct ValueType {
     of: GvType,
 }

@@ -1,12 +1,14 @@
 //! What stands at the places of a command line.
-ghost use Rattle.std.specs.Prelude.{◌≡◌, Ok, IfOk, IfErr, map, string_bytes};
-ghost use Rattle.fl_words.specs.Forms.{place_of, fits as may_stand, word_at as text_at, remote_in as remote_of, pattern, remote, url, type_string};
+ghost use Rattle.std.specs.Prelude.{◌≡◌, Ok, IfOk, IfErr, map, string_bytes, codes};
+ghost use Rattle.fl_words.specs.Forms.{place_of, fits as may_stand, word_at as text_at, remote_in as remote_of, pattern, remote, url, ref_name, app_id, type_string};
+ghost use Rattle.fp_name.specs.Refs.{ref_at as ref_of_text};
 ghost use Rattle.fl_words.specs.Reading.{IsMisplaced, IsRemoteMisplaced, IsReadBy, IsUnread};
 
 use crate::command::WordsError;
 use crate::forms::Slot;
 use crate::value_type::ValueType;
-use fp_name::{NameFault, PinPattern, RemoteName, RemoteUrl};
+use fp_base::Text;
+use fp_name::{AppId, NameFault, PinPattern, RefName, RemoteName, RemoteUrl};
 use fp_small::RemoteRow;
 use std::alloc::{AllocError, Global};
 
@@ -19,6 +21,8 @@ pub fn fits(alloc: Global, slot: &Slot, word: &str) -> Result<bool, AllocError>
         Slot::Pattern => is_read(PinPattern::parse(alloc, word.as_bytes())),
         Slot::Remote => is_read(RemoteName::parse(alloc, word.as_bytes())),
         Slot::Url => is_read(RemoteUrl::parse(alloc, word.as_bytes())),
+        Slot::Ref => is_read(RefName::parse(alloc, word.as_bytes())),
+        Slot::Id => is_read(AppId::parse(alloc, word.as_bytes())),
         Slot::Type => is_read(ValueType::parse(alloc, word.as_bytes())),
     }
 }
@@ -74,6 +78,32 @@ fn url_at(alloc: Global, words: &[String], place: usize) -> Result<RemoteUrl, Wo
     ensures bad { IfErr result (IsMisplaced url (text_at place (map string_bytes words.now))) }
 {
     placed(RemoteUrl::parse(alloc, word_at(words, place).as_bytes()))
+}
+
+/// The ref at a place.
+#[tactic(auto, using(crate::proofs::RefTexts::is_read, crate::proofs::RefTexts::is_none))]
+pub(crate) fn ref_at(alloc: Global, words: &[String], place: usize) -> Result<RefName, WordsError>
+    ensures ok { IfOk result (λ name. name ≡ ref_of_text
+        (text_at place (map string_bytes words.now))) }
+    ensures bad { IfErr result (IsMisplaced ref_name (text_at place (map string_bytes words.now))) }
+{
+    placed(RefName::parse(alloc, word_at(words, place).as_bytes()))
+}
+
+/// The ID at a place, which names an application's override.
+pub(crate) fn id_at(alloc: Global, words: &[String], place: usize) -> Result<Text, WordsError>
+    ensures ok { IfOk result (λ id. id ≡ text_at place (map string_bytes words.now)) }
+    ensures bad { IfErr result (IsMisplaced app_id (text_at place (map string_bytes words.now))) }
+{
+    let id = placed(AppId::parse(alloc, word_at(words, place).as_bytes()))?;
+    Ok(id.write()?)
+}
+
+/// The name of the override for all applications.
+pub(crate) fn global_name(alloc: Global) -> Result<Text, AllocError>
+    ensures { IfOk result (λ name. name ≡ codes "global") }
+{
+    Text::from_str(alloc, "global")
 }
 
 /// The type at a place.

@@ -1,0 +1,3 @@
+pub mod Layers
+pub mod Lines
+pub mod Rows

@@ -1,0 +1,151 @@
+-- The options that change permissions, after flatpak-override(1), as `NAME=REST`. An option stands for a key file of two lines, a
+-- group and a pair, and mentions what an override of these lines mentions.
+use Rattle.std.specs.Prelude.{◌≡◌, ℕ, Bool, true, false, not, ◌&&◌, ◌||◌, ◌==◌, List, [], ◌∷◌, ◌++◌, length, codes, Option, Some, None, option_and_then, Result, Ok, Err, if◌then◌else◌}
+use Rattle.std.specs.List.{list_any, flat_map}
+use Rattle.std.specs.Option.{option_or, option_map_or, is_some}
+use Rattle.std.specs.Str.{bytes_eq, is_utf8}
+use Rattle.fp_name.specs.Grammar.{is_element}
+use Rattle.fp_keyfile.specs.declared.group.Group.{Group}
+use Rattle.fp_keyfile.specs.declared.fault.KeyFault.{KeyFault}
+use Rattle.fp_keyfile.specs.Grammar.{is_blank, is_control, begins_so}
+use Rattle.fp_keyfile.specs.KeyFile.{file_of, is_good}
+use Rattle.fp_keyfile.specs.Lines.{split_at}
+use Rattle.fl_meta.specs.declared.permission.Mention.{Mention}
+use Rattle.fl_meta.specs.declared.mentions.Source.TheVariants as sources
+use Rattle.fl_meta.specs.Mentions.{file_mentions}
+use Rattle.fl_meta.specs.Names.{is_among}
+use Rattle.fl_meta.specs.Patterns.{is_pattern}
+
+-- ---- what stands after the name
+
+-- a byte that no name of a permission has: `;`, `=` or a control character
+abbrev pub is_barred : ℕ → Bool
+is_barred b = is_control b || (b == 59 || b == 61)
+
+-- one that it doesn't begin with: `!`, a space or a tab
+abbrev pub is_lead : ℕ → Bool
+is_lead b = is_blank b || b == 33
+
+-- the name of a permission
+unfoldable pub is_given : List ℕ → Bool
+is_given text = not (length text == 0) && (not (list_any is_barred text) && not (begins_so is_lead text))
+
+-- the text of a variable has no control character, and begins with neither a space nor a tab
+abbrev pub is_text : List ℕ → Bool
+is_text text = not (list_any is_control text) && not (begins_so is_blank text)
+
+-- VAR and its text; VAR begins with a letter or `_` and goes on with letters, digits and `_`
+abbrev pub are_variable : Option (List ℕ × List ℕ) → Bool
+are_variable None = false
+are_variable (Some parts) = is_element parts.0 && is_text parts.1
+
+unfoldable pub is_variable : List ℕ → Bool
+is_variable text = are_variable (split_at 61 text)
+
+-- ---- the names
+
+-- the list to which the option adds
+abbrev pub granted_key : List ℕ → Option (List ℕ)
+granted_key name =
+    if bytes_eq name (codes "--share") then Some (codes "shared")
+    else (if bytes_eq name (codes "--socket") then Some (codes "sockets")
+    else (if bytes_eq name (codes "--device") then Some (codes "devices")
+    else (if bytes_eq name (codes "--allow") then Some (codes "features")
+    else (if bytes_eq name (codes "--filesystem") then Some (codes "filesystems")
+    else (if bytes_eq name (codes "--persist") then Some (codes "persistent") else None)))))
+
+-- the list from which it takes away
+abbrev pub denied_key : List ℕ → Option (List ℕ)
+denied_key name =
+    if bytes_eq name (codes "--unshare") then Some (codes "shared")
+    else (if bytes_eq name (codes "--nosocket") then Some (codes "sockets")
+    else (if bytes_eq name (codes "--nodevice") then Some (codes "devices")
+    else (if bytes_eq name (codes "--disallow") then Some (codes "features")
+    else (if bytes_eq name (codes "--nofilesystem") then Some (codes "filesystems") else None))))
+
+-- the group of the bus whose policy it changes
+abbrev pub bus_group : List ℕ → Option (List ℕ)
+bus_group name =
+    if is_among (codes "--talk-name" ∷ codes "--own-name" ∷ codes "--no-talk-name" ∷ []) name then Some (codes "Session Bus Policy")
+    else (if is_among (codes "--system-talk-name" ∷ codes "--system-own-name" ∷ codes "--system-no-talk-name" ∷ []) name then Some (codes "System Bus Policy") else None)
+
+-- the level that it gives
+abbrev pub bus_level : List ℕ → List ℕ
+bus_level name =
+    if is_among (codes "--talk-name" ∷ codes "--system-talk-name" ∷ []) name then codes "talk"
+    else (if is_among (codes "--own-name" ∷ codes "--system-own-name" ∷ []) name then codes "own" else codes "none")
+
+-- ---- the two lines
+
+-- in a list, after `=` or `=!`
+abbrev pub list_lines : Option (List ℕ) → List ℕ → List ℕ → Option (List ℕ)
+list_lines None mark name = None
+list_lines (Some key) mark name = if is_given name then Some (codes "[Context]\n" ++ (key ++ (mark ++ name))) else None
+
+abbrev pub bus_lines : Option (List ℕ) → List ℕ → List ℕ → Option (List ℕ)
+bus_lines None level pattern = None
+bus_lines (Some group) level pattern = if is_pattern pattern then Some (codes "[" ++ (group ++ (codes "]\n" ++ (pattern ++ (codes "=" ++ level))))) else None
+
+abbrev pub variable_lines : List ℕ → List ℕ → Option (List ℕ)
+variable_lines name text = if bytes_eq name (codes "--env") && is_variable text then Some (codes "[Environment]\n" ++ text) else None
+
+unfoldable pub lines_with : List ℕ → List ℕ → Option (List ℕ)
+lines_with name text =
+    option_or (list_lines (granted_key name) (codes "=") text)
+    (option_or (list_lines (denied_key name) (codes "=!") text)
+    (option_or (bus_lines (bus_group name) (bus_level name) text) (variable_lines name text)))
+
+abbrev pub lines_of_parts : List ℕ × List ℕ → Option (List ℕ)
+lines_of_parts parts = lines_with parts.0 parts.1
+
+-- the lines of a text, which is cut at its first `=`
+unfoldable pub option_lines : List ℕ → Option (List ℕ)
+option_lines word = if is_utf8 word then option_and_then lines_of_parts (split_at 61 word) else None
+
+-- ---- what it mentions
+
+abbrev pub mentions_read : Result (List Group) KeyFault → List Mention
+mentions_read (Ok file) = file_mentions sources.Override file
+mentions_read (Err fault) = []
+
+abbrev pub text_mentions : List ℕ → List Mention
+text_mentions text = mentions_read (file_of text)
+
+-- what a word mentions: nothing, where it is no option
+unfoldable pub option_layer : List ℕ → List Mention
+option_layer word = option_map_or text_mentions (option_lines word) []
+
+-- A word is an option where it mentions something: a filesystem of endings alone has no name.
+abbrev pub is_option : List ℕ → Bool
+is_option word = not (length (option_layer word) == 0)
+
+-- an override that can be written mentions these
+pub record IsOfFile (mentions : List Mention) : Type 0 where
+  pub file : List Group
+  pub good : is_good file ≡ true
+  pub mentioned : mentions ≡ file_mentions sources.Override file
+
+-- what words mention, one after another
+abbrev pub layer_of : List (List ℕ) → List Mention
+layer_of words = flat_map option_layer words
+
+-- ---- the command of a launch
+
+abbrev pub command_in : List ℕ × List ℕ → Option (List ℕ)
+command_in parts = if bytes_eq parts.0 (codes "--command") && is_given parts.1 then Some parts.1 else None
+
+-- what `--command=X` names, of a text
+unfoldable pub command_option : List ℕ → Option (List ℕ)
+command_option word = if is_utf8 word then option_and_then command_in (split_at 61 word) else None
+
+-- an option of a launch: one that changes permissions, or its command
+abbrev pub is_launch_option : List ℕ → Bool
+is_launch_option word = is_option word || is_some (command_option word)
+
+-- the last command that words name, or the one before them
+abbrev pub command_after : Option (List ℕ) → List (List ℕ) → Option (List ℕ)
+command_after before [] = before
+command_after before (word ∷ words) = command_after (option_or (command_option word) before) words
+
+abbrev pub last_command : List (List ℕ) → Option (List ℕ)
+last_command words = command_after None words

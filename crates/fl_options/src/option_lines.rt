@@ -1,0 +1,86 @@
+//! The two lines of a key file for which an option stands.
+
+ghost use Rattle.std.specs.Prelude.{◌≡◌, IfOk, option_map, string_bytes};
+ghost use Rattle.std.specs.Option.{option_copied};
+ghost use Rattle.fl_options.specs.Options as spec;
+
+use crate::names::{bus_group, bus_level, denied_key, granted_key};
+use crate::tests_of_text::{cut, is_given, is_variable};
+use fl_meta::is_pattern;
+use std::alloc::{AllocError, Global};
+
+/// The lines of a word, where it is an option.
+pub(crate) fn option_lines(alloc: Global, word: &str) -> Result<Option<String>, AllocError>
+    ensures { IfOk result (λ lines. option_map string_bytes lines ≡ spec.option_lines word.now) }
+{
+    match cut(word) {
+        Some((name, text)) => lines_with(alloc, name, text),
+        None => Ok(None),
+    }
+}
+
+/// The lines of an option of this name.
+#[tactic(auto, unfolding(crate::specs::Options::lines_with))]
+fn lines_with(alloc: Global, name: &str, text: &str) -> Result<Option<String>, AllocError>
+    ensures { IfOk result (λ lines. option_map string_bytes lines ≡ spec.lines_with name.now
+        text.now) }
+{
+    if let Some(lines) = list_lines(alloc, granted_key(name), "=", text)? {
+        return Ok(Some(lines));
+    }
+    if let Some(lines) = list_lines(alloc, denied_key(name), "=!", text)? {
+        return Ok(Some(lines));
+    }
+    if let Some(lines) = bus_lines(alloc, bus_group(name), bus_level(name), text)? {
+        return Ok(Some(lines));
+    }
+    variable_lines(alloc, name, text)
+}
+
+/// The lines of an entry of a list, after `=` or `=!`.
+fn list_lines(
+    alloc: Global,
+    key: Option<&str>,
+    mark: &str,
+    name: &str,
+) -> Result<Option<String>, AllocError>
+    ensures { IfOk result (λ lines. option_map string_bytes lines ≡ spec.list_lines
+        (option_copied key.entry) mark.now name.now) }
+{
+    match key {
+        Some(key) if is_given(name) => {
+            Ok(Some(format!(in alloc; "[Context]\n{key}{mark}{name}")?))
+        }
+        _ => Ok(None),
+    }
+}
+
+/// The lines of a pattern of bus names and its level.
+fn bus_lines(
+    alloc: Global,
+    group: Option<&str>,
+    level: &str,
+    pattern: &str,
+) -> Result<Option<String>, AllocError>
+    ensures { IfOk result (λ lines. option_map string_bytes lines ≡ spec.bus_lines
+        (option_copied group.entry) level.now pattern.now) }
+{
+    match group {
+        Some(group) if is_pattern(pattern) => {
+            Ok(Some(format!(in alloc; "[{group}]\n{pattern}={level}")?))
+        }
+        _ => Ok(None),
+    }
+}
+
+/// The lines of a variable.
+fn variable_lines(alloc: Global, name: &str, text: &str) -> Result<Option<String>, AllocError>
+    ensures { IfOk result (λ lines. option_map string_bytes lines ≡ spec.variable_lines name.now
+        text.now) }
+{
+    if name == "--env" && is_variable(text) {
+        Ok(Some(format!(in alloc; "[Environment]\n{text}")?))
+    } else {
+        Ok(None)
+    }
+}

@@ -1,0 +1,118 @@
+//! What options mention.
+
+ghost use Rattle.std.specs.Prelude.{◌≡◌, ◌++◌, IfOk, OnOk, map, string_bytes};
+ghost use Rattle.std.specs.Option.{option_copied};
+ghost use Rattle.fl_options.specs.Options as spec;
+
+use crate::option_lines::option_lines;
+use crate::tests_of_text::{cut, is_given};
+use fl_meta::{Layer, Source, mentions_of};
+use fp_base::Text;
+use fp_keyfile::{KeyError, KeyFile};
+use std::alloc::{AllocError, Global};
+
+/// What a word mentions as an option: one permission, or nothing where it is no option.
+///
+/// After `--share=`, `--unshare=`, `--socket=`, `--nosocket=`, `--device=`, `--nodevice=`, `--allow=`, `--disallow=`,
+/// `--filesystem=`, `--nofilesystem=` and `--persist=` stands the name of a permission, after `--env=` a variable and its
+/// text, and after `--talk-name=`, `--own-name=`, `--no-talk-name=`, `--system-talk-name=`, `--system-own-name=` and
+/// `--system-no-talk-name=` a pattern of bus names.
+#[tactic(auto, unfolding(crate::specs::Options::option_layer))]
+pub fn option_layer(alloc: Global, word: &str) -> Result<Layer, AllocError>
+    ensures { IfOk result (λ layer. layer ≡ spec.option_layer word.now) }
+{
+    match option_lines(alloc, word)? {
+        Some(lines) => mentions_in(alloc, &lines),
+        None => Ok(Layer::new(alloc)),
+    }
+}
+
+/// What an override of these lines mentions.
+fn mentions_in(alloc: Global, lines: &str) -> Result<Layer, AllocError>
+    ensures { IfOk result (λ layer. layer ≡ spec.text_mentions lines.now) }
+{
+    match KeyFile::parse(alloc, lines.as_bytes()) {
+        Ok(file) => mentions_of(alloc, &file, Source::Override),
+        Err(KeyError::Fault(_)) => Ok(Layer::new(alloc)),
+        Err(KeyError::NoMemory) => Err(AllocError),
+    }
+}
+
+/// Whether a word is an option.
+pub fn is_option(alloc: Global, word: &str) -> Result<bool, AllocError>
+    ensures { IfOk result (λ b. b ≡ spec.is_option word.now) }
+{
+    Ok(!option_layer(alloc, word)?.is_empty())
+}
+
+/// What words mention as options, one after another. A word that is no option mentions nothing.
+pub fn layer_of(alloc: Global, words: &[String]) -> Result<Layer, AllocError>
+    ensures { IfOk result (λ layer. layer ≡ spec.layer_of (map string_bytes words.now)) }
+{
+    let mut layer = Layer::new(alloc);
+    for word in words {
+        push_option(alloc, &mut layer, word.as_str())?;
+    }
+    Ok(layer)
+}
+
+/// Adds what a word mentions.
+fn push_option(alloc: Global, layer: &mut Layer, word: &str) -> Result<(), AllocError>
+    ensures { OnOk result (layer.new ≡ layer.old ++ spec.option_layer word.now) }
+{
+    for mention in option_layer(alloc, word)?.into_vec() {
+        layer.push(mention)?;
+    }
+    Ok(())
+}
+
+/// The command that `--command=X` names.
+fn command_option(word: &str) -> Option<&str>
+    ensures { option_copied result ≡ spec.command_option word.now }
+{
+    match cut(word) {
+        Some((option, name)) => command_in(option, name),
+        None => None,
+    }
+}
+
+/// The command that an option of this name has.
+fn command_in<'a>(option: &str, name: &'a str) -> Option<&'a str>
+    ensures { option_copied result ≡ spec.command_in (option.now, name.now) }
+{
+    if option == "--command" && is_given(name) {
+        Some(name)
+    } else {
+        None
+    }
+}
+
+/// Whether a word is an option of a launch: one that changes permissions, or `--command=X`.
+pub fn is_launch_option(alloc: Global, word: &str) -> Result<bool, AllocError>
+    ensures { IfOk result (λ b. b ≡ spec.is_launch_option word.now) }
+{
+    Ok(is_option(alloc, word)? || command_option(word).is_some())
+}
+
+/// The command that the last `--command=X` of words names, where there is one.
+pub fn last_command(alloc: Global, words: &[String]) -> Result<Option<Text>, AllocError>
+    ensures { IfOk result (λ command. command ≡ spec.last_command (map string_bytes words.now)) }
+{
+    match last_named(words) {
+        Some(name) => Ok(Some(Text::from_str(alloc, name)?)),
+        None => Ok(None),
+    }
+}
+
+/// The name of the last command of words.
+fn last_named(words: &[String]) -> Option<&str>
+    ensures { option_copied result ≡ spec.last_command (map string_bytes words.now) }
+{
+    let mut last = None;
+    for word in words {
+        if let Some(name) = command_option(word.as_str()) {
+            last = Some(name);
+        }
+    }
+    last
+}
