@@ -6,22 +6,25 @@ use Rattle.fp_host.specs.Paths.{Elements}
 use Rattle.fp_host.specs.Remote.{Holdings}
 use Rattle.fp_host.specs.View.{View}
 use Rattle.fp_host.specs.Outcome.{Disk, Leaves, Follows, Nothing}
-use Rattle.fp_small.specs.declared.state.State.{State}
 use Rattle.fp_small.specs.declared.refusal.Refusal.{Refusal}
 use Rattle.fp_small.specs.declared.refusal.Refusal.TheVariants.{MalformedObject, MalformedValue, Limit, BadRecord, Damaged}
 use Rattle.fp_base.specs.declared.what.What.TheVariants.{Input}
 use Rattle.dep_states.specs.Shown.{IsShown}
 use Rattle.dep_states.specs.Sound.{IsSound}
 use Rattle.dep_states.specs.After.{Done, after_all}
-use Rattle.fl_lines.specs.Lines.{refusal_text}
+use Rattle.fl_lines.specs.Lines.{refusal_text, refs_text, pins_text, remotes_text}
 use Rattle.fl_words.specs.Batch.{batch_of}
 use Rattle.fl_words.specs.declared.command.Command.{Command}
 use Rattle.fl_words.specs.declared.command.Command.TheVariants.{Change as Changing, List as Listed, Show as Showing, Batch}
 use Rattle.fl_words.specs.declared.command.Change.{Change}
+use Rattle.fl_words.specs.declared.command.Listing.{Listing}
+use Rattle.fl_words.specs.declared.command.Listing.TheVariants as listings
 use Rattle.fl_words.specs.declared.command.Shown.{Shown}
 use Rattle.fl_words.specs.declared.command.Shown.TheVariants as things
-use Rattle.fl_top.specs.World.{World}
-use Rattle.fl_top.specs.Answer.{Answer, Given, Piece, lines_of, last_of, joined, ops_in, ops_of, text_answer, refusal_answer, changing, listed, listed_text, shown_by, over, of_batch, answer_over, by_read, by_value, by_type, commit_shown, tree_shown, meta_shown, value_shown, over_input}
+use Rattle.fl_change.specs.World.{World}
+use Rattle.fl_change.specs.Answer.{Answer, Piece, lines_of, last_of, joined, ops_in, ops_of, text_answer, refusal_answer}
+use Rattle.fl_top.specs.Answer.{Given, listed, override_text, shown_by, over, of_batch, answer_over, by_read, by_value, by_type, commit_shown, tree_shown, meta_shown, value_shown, over_input}
+use Rattle.fl_change.specs.Turns.{changing}
 use Rattle.fl_top.specs.Objects.{commit_lines, tree_lines, meta_lines}
 use Rattle.gv_value.specs.Shape.{Shape}
 use Rattle.gv_value.specs.Tree.{Tree}
@@ -33,17 +36,18 @@ use Rattle.fp_base.specs.declared.rule.Rule.{Rule}
 use Rattle.ost_model.specs.Contents.{meta_digest}
 use Rattle.ost_model.specs.Readers.{commit_read, tree_read, meta_read}
 use Rattle.fl_top.specs.Input.{input_most}
-use Rattle.fl_top.specs.Runs.{ShowsAfter, IsPrefix, IsJust, Printed, Runs, Stands, Answers, Ran}
-use Rattle.fl_top.specs.Performs.{Completes, Ended}
-use Rattle.fl_top.specs.Says.{Says, WasSaid, Refuses}
-use Rattle.fl_top.specs.Changes.{IsUntouched}
+use Rattle.fl_top.specs.Runs.{ShowsAfter, IsPrefix, IsJust, Runs, Stands, Answers, Ran}
+use Rattle.fl_change.specs.Performs.{Printed}
+use Rattle.fl_top.specs.RunsOver.{Completes, Ended}
+use Rattle.fl_change.specs.Says.{Says, WasSaid, Refuses}
+use Rattle.fl_change.specs.Changes.{IsUntouched}
 use Rattle.dep_states.specs.Names.{config}
 use Rattle.fl_top.specs.Status.{status_of, status_by, IsAnswered}
-use Rattle.fl_top.proofs.Same.{unmoved, same_shown, same_sound, same_settled}
+use Rattle.fl_change.proofs.Same.{unmoved, same_shown, same_sound, same_settled}
 use Rattle.fl_top.proofs.Starting.{stood, unchanged}
-use Rattle.fl_top.proofs.Changing.{tidied_on, tidied_none, untouched_both, text_on, keeps_files}
-use Rattle.fl_top.proofs.Turning.{joined-append}
-use Rattle.fl_top.proofs.Refusing.{of_changing}
+use Rattle.fl_change.proofs.Changing.{tidied_on, tidied_none, untouched_both, text_on, keeps_files}
+use Rattle.fl_change.proofs.Turning.{joined-append}
+use Rattle.fl_top.proofs.Refusing.{changing_later, known_later}
 
 -- ---- pieces
 
@@ -176,8 +180,9 @@ ran_fault a runs = record { answers = λ answered. absurd (not_answered 3 (omega
 pub ran_input : (a : Answer) {u w : View} → Runs a u w → w ≡ u → Ran a 5 u w
 ran_input a {u = u} runs same = record { answers = λ answered. absurd (not_answered 5 (omega arith) answered); stands = λ three. subst (λ (x : View). Stands a u x) (sym same) (stood a unchanged); sound = runs_sound runs }
 
-pub ran_memory : (a : Answer) {u w : View} → Runs a u w → Stands a u w → Ran a 6 u w
-ran_memory a runs stands = record { answers = λ answered. absurd (not_answered 6 (omega arith) answered); stands = λ three. stands; sound = runs_sound runs }
+-- the remotes failed, or there was no memory
+pub ran_halted : (a : Answer) (status : ℕ) {u w : View} → 4 ≤ status → Runs a u w → Stands a u w → Ran a status u w
+ran_halted a status high runs stands = record { answers = λ answered. absurd (not_answered status (omega (arith, high)) answered); stands = λ three. stands; sound = runs_sound runs }
 
 pub ran_refused : (a : Answer) (r : Refusal) (status result : ℕ) {u v w : View} → a.refusal ≡ Some r → status ≡ status_of r → Completes a u v → Runs a u w → Refuses (refusal_text r) status result v w → Ran a result u w
 ran_refused a r status result {u = u} {w = w} is status_is done runs refuses = elim refuses [
@@ -188,7 +193,7 @@ ran_refused a r status result {u = u} {w = w} is status_is done runs refuses = e
   })
   | inr other ↦ elim other [
     | inl three ↦ subst (λ (n : ℕ). Ran a n u w) (sym three) (ran_fault a runs)
-    | inr six ↦ subst (λ (n : ℕ). Ran a n u w) (sym six.0) (ran_memory a runs (subst (λ (x : View). Stands a u x) (sym six.1) (stands_before a done)))
+    | inr six ↦ subst (λ (n : ℕ). Ran a n u w) (sym six.0) (ran_halted a 6 (omega arith) runs (subst (λ (x : View). Stands a u x) (sym six.1) (stands_before a done)))
   ]
 ]
 
@@ -202,7 +207,7 @@ abbrev IsPlain : Answer → Type 0
 IsPlain a = (r : Refusal) → a.refusal ≡ Some r → 1 ≡ status_of r
 
 changing_plain : (changes : List Change) (held : Holdings) (x : World) → IsPlain (changing changes held x)
-changing_plain changes held x = of_changing (λ r. 1 ≡ status_of r) (record { pin_there = λ pin. refl; pins_full = refl; no_pin = λ pin. refl; remote_there = λ name. refl; remotes_full = refl; no_remote = λ name. refl }) changes held x
+changing_plain changes held x r is = (changing_later changes held x r is).one
 
 over_plain : (f : World → Answer) (shown : Result World Elements) → ((x : World) → IsPlain (f x)) → IsPlain (over f shown)
 over_plain f (Err path) plain r is = one_of_some (Damaged path) r is refl
@@ -256,8 +261,15 @@ shown_plain things.DirTree bytes = dirtree_plain bytes
 shown_plain things.DirMeta bytes = dirmeta_plain bytes
 shown_plain (things.Value of) bytes = value_plain of bytes
 
+listed_plain : (listing : Listing) (x : World) → IsPlain (listed listing x)
+listed_plain listings.Refs x = told_plain (refs_text x.state.refs)
+listed_plain listings.Pins x = told_plain (pins_text x.state.pins)
+listed_plain listings.Remotes x = told_plain (remotes_text x.state.remotes)
+listed_plain (listings.Info name) x = λ r is. (known_later name x r is).one
+listed_plain (listings.OverrideShow name) x = told_plain (override_text x.state name)
+
 pub command_plain : (command : Command) (given : Given) (shown : Result World Elements) → IsPlain (answer_over command given shown)
 command_plain (Changing change) given shown = over_plain (changing (change ∷ []) given.held) shown (changing_plain (change ∷ []) given.held)
-command_plain (Listed listing) given shown = over_plain (listed listing) shown (λ x. told_plain (listed_text listing x.state))
+command_plain (Listed listing) given shown = over_plain (listed listing) shown (listed_plain listing)
 command_plain (Showing thing) given shown = input_plain (shown_by thing) given.input (shown_plain thing given.input)
 command_plain Batch given shown = input_plain (λ bytes. of_batch (batch_of bytes) given.held shown) given.input (batch_plain (batch_of given.input) given.held shown)

@@ -8,9 +8,9 @@ use Rattle.fp_host.specs.Outcome.{shows}
 use Rattle.fp_host.specs.Causes.{IsCaused}
 use Rattle.fp_host.specs.Moments.{Moments, Goes, Rose}
 use Rattle.fp_host.specs.Frame.{Unchanged}
+use Rattle.fp_host.proofs.Cause.{Rose-later}
 use Rattle.fp_host.proofs.Framed.{IsTold}
 use Rattle.fp_host.proofs.Goes.{begins, stays, goes_on}
-use Rattle.fp_small.specs.declared.state.State.{State}
 use Rattle.fp_small.specs.declared.refusal.Refusal.{Refusal}
 use Rattle.fp_small.specs.declared.refusal.Refusal.TheVariants.{BadWords, BadRecord, Limit}
 use Rattle.fp_base.specs.declared.what.What.TheVariants.{Input}
@@ -22,25 +22,32 @@ use Rattle.fl_words.specs.declared.command.Change.{Change}
 use Rattle.fl_words.specs.declared.batch.BatchError.{BatchError}
 use Rattle.fl_words.specs.declared.batch.BatchError.TheVariants as batch
 use Rattle.fl_words.specs.Batch.{batch_of, IsBadBatch}
-use Rattle.fl_top.specs.World.{World}
-use Rattle.fl_top.specs.Answer.{Answer, Given, answer, answer_to, answer_over, over, refusal_answer, over_input, changing, of_batch, IsOver, IsAtOnce}
+use Rattle.fl_change.specs.World.{World}
+use Rattle.fl_change.specs.Answer.{Answer, refusal_answer}
+use Rattle.fl_top.specs.Answer.{Given, answer, answer_to, answer_over, over, over_input, of_batch, IsOver, IsAtOnce}
+use Rattle.fl_change.specs.Turns.{changing, MayDo}
+use Rattle.fl_top.specs.Asked.{OpsBy, OpsFor}
+use Rattle.fp_small.specs.declared.op.Op.{Op}
 use Rattle.fl_top.specs.Runs.{Runs, Ran, Told, RunsBy, RanBy, IsGiven, IsGivenTo, Looks, IsReady, Serves, MayAnswer, WasTaken}
-use Rattle.fl_top.specs.Performs.{RunsOver, LooksOver, EndedOver, LookedOver, RunsOn, EndedOn, RanOn, Ended, Closed, IsGivenBy, IsClosedBy, Takes, TakenBy}
-use Rattle.fl_top.specs.Says.{Says, Refuses}
+use Rattle.fl_top.specs.RunsOver.{RunsOver, LooksOver, EndedOver, LookedOver, RunsOn, EndedOn, RanOn, Ended, Closed, IsGivenBy, IsClosedBy, Takes, TakenBy}
+use Rattle.fl_change.specs.Says.{Says, Refuses}
 use Rattle.fl_top.specs.Status.{only_looks, reads_input, asks_remotes, IsAnswered}
-use Rattle.fl_top.specs.declared.end.RunEnd.{RunEnd}
-use Rattle.fl_top.specs.declared.end.RunEnd.TheVariants as run
+use Rattle.fl_change.specs.declared.end.RunEnd.{RunEnd}
+use Rattle.fl_change.specs.declared.end.RunEnd.TheVariants as run
 use Rattle.fl_top.specs.declared.command_end.CommandEnd.{CommandEnd}
-use Rattle.fl_top.specs.declared.command_end.CommandEnd.TheVariants.{Refused, Fault, InputFault, NoMemory}
+use Rattle.fl_top.specs.declared.command_end.CommandEnd.TheVariants.{Refused, Fault, RemoteFault, InputFault, NoMemory}
 use Rattle.fl_top.specs.declared.input.InputEnd.{InputEnd}
 use Rattle.fl_top.specs.declared.input.InputEnd.TheVariants as input
 use Rattle.fl_top.specs.Input.{input_most, IsWhole, IsTaken, IsDrained, InputStops}
 use Rattle.fl_top.specs.Ends.{end_of_run, end_of_input, end_of_batch}
-use Rattle.fl_top.proofs.Changing.{change_on, change_not, change_untouched, not_touched}
+use Rattle.fl_change.specs.Changes.{Changes}
+use Rattle.fl_change.specs.Performs.{AsksBy}
+use Rattle.fl_change.proofs.Changing.{change_on, change_to, change_not, change_untouched, not_touched}
+use Rattle.fl_top.proofs.Asked.{asks_to}
 use Rattle.fl_top.proofs.Over.{IsConstant, over_same, counts_same, counts_constant}
 use Rattle.fl_top.proofs.Starting.{begun, stood, unchanged, refused_at_once, IsLate, over_late}
 use Rattle.fl_top.proofs.Refusing.{changing_late}
-use Rattle.fl_top.proofs.Ending.{refusing, untouched_on, ran_done, ran_fault, ran_input, ran_memory, ran_refused, command_plain, not_answered}
+use Rattle.fl_top.proofs.Ending.{refusing, untouched_on, ran_done, ran_fault, ran_input, ran_halted, ran_refused, command_plain, not_answered}
 
 -- ---- a command
 
@@ -52,11 +59,13 @@ is_end r e is = let p = err_from_is_err_and r is in p.1 ∙ ap (λ (x : CommandE
 closed : (a : Answer) (e : RunEnd) (u w : View) → Ended a (Err e) u w → Closed a (Err (end_of_run e)) u w
 closed a (run.Refused refusal) u w is = is
 closed a run.Fault u w is = tt
+closed a run.RemoteFault u w is = is
 closed a run.NoMemory u w is = is
 
 given_by : (e : RunEnd) → IsClosedBy (Err (end_of_run e)) → IsGivenBy (Err e)
 given_by (run.Refused refusal) by = tt
 given_by run.Fault by = absurd by
+given_by run.RemoteFault by = absurd by
 given_by run.NoMemory by = absurd by
 
 -- the answer to it is this over the world that it works on
@@ -84,26 +93,27 @@ holds_told command t given asks gave = elim gave.held [
   | inr told ↦ told
 ]
 
--- what is known of a command that changes something
-pub record IsChanging (command : Command) (t : Told) (f : Holdings → World → Answer) : Type 0 where
+-- what is known of a command that changes something, by these operations
+pub record IsChanging (command : Command) (t : Told) (May : Op → Type 0) (f : Holdings → World → Answer) : Type 0 where
   pub changes : only_looks command ≡ false
   pub asks : asks_remotes command ≡ true
   pub late : IsLate f
   pub is : IsAnswer command t f
+  pub may : (op : Op) → May op → OpsBy command t.left op
 
-runs_change : (command : Command) (t : Told) (f : Holdings → World → Answer) (u w : View) → IsChanging command t f → RunsOver t.holds f u w → RunsOn command t u w
-runs_change command t f u w known p = record {
+runs_change : (command : Command) (t : Told) (May : Op → Type 0) (f : Holdings → World → Answer) (u w : View) → IsChanging command t May f → RunsOver t.holds May f u w → RunsOn command t u w
+runs_change command t May f u w known p = record {
   runs = λ given gave shown counts may.
       let is = known.is given gave in
       subst (λ (x : Answer). Runs x u w) (is shown)
       (p.runs (ready_for command (f given.held) given u shown known.changes (known.late given.held) (is shown) may) given.held (holds_told command t given known.asks gave) shown (counts_for command (f given.held) given u shown is counts));
-  changes = p.changes;
+  changes = λ ready. change_to known.may (p.changes (λ asks. ready (asks_to known.may asks)));
   untouched = λ why. elim why [ inl looks ↦ absurd (let both : true ≡ false = sym looks ∙ known.changes in cc both) | inr none ↦ p.untouched none ];
 }
 
-ended_change : (command : Command) (t : Told) (f : Holdings → World → Answer) (r : Result (Unit {0}) RunEnd) (s : Result (Unit {0}) CommandEnd) (u w : View) → IsChanging command t f
+ended_change : (command : Command) (t : Told) (May : Op → Type 0) (f : Holdings → World → Answer) (r : Result (Unit {0}) RunEnd) (s : Result (Unit {0}) CommandEnd) (u w : View) → IsChanging command t May f
     → ((a : Answer) → Ended a r u w → Closed a s u w) → (IsClosedBy s → IsGivenBy r) → EndedOver t.holds f r u w → EndedOn command t s u w
-ended_change command t f r s u w known close give q = record {
+ended_change command t May f r s u w known close give q = record {
   ended = λ given gave shown counts may.
       let is = known.is given gave in
       subst (λ (x : Answer). Closed x s u w) (is shown) (close (over (f given.held) shown)
@@ -112,17 +122,17 @@ ended_change command t f r s u w known close give q = record {
 }
 
 -- one that changes something
-pub goes_change : {a b : Option Moments} (command : Command) (t : Told) (f : Holdings → World → Answer) → IsTold a → IsChanging command t f
-    → Goes a b (RunsOver t.holds f) (EndedOver t.holds f (Ok tt)) → Goes a b (RunsOn command t) (EndedOn command t (Ok tt))
-goes_change command t f known is goes = begins known goes
-    (λ u w tree p. runs_change command t f u w is p)
-    (λ u w tree p q. ended_change command t f (Ok tt) (Ok tt) u w is (λ a e. e) (λ by. by) q)
+pub goes_change : {a b : Option Moments} (command : Command) (t : Told) (May : Op → Type 0) (f : Holdings → World → Answer) → IsTold a → IsChanging command t May f
+    → Goes a b (RunsOver t.holds May f) (EndedOver t.holds f (Ok tt)) → Goes a b (RunsOn command t) (EndedOn command t (Ok tt))
+goes_change command t May f known is goes = begins known goes
+    (λ u w tree p. runs_change command t May f u w is p)
+    (λ u w tree p q. ended_change command t May f (Ok tt) (Ok tt) u w is (λ a e. e) (λ by. by) q)
 
-pub goes_not_changed : {a b : Option Moments} (command : Command) (t : Told) (f : Holdings → World → Answer) (e : RunEnd) (r : Result (Unit {0}) CommandEnd) → IsTold a → IsChanging command t f
-    → Goes a b (RunsOver t.holds f) (EndedOver t.holds f (Err e)) → IsErrAnd r (λ end. end ≡ end_of_run e) → Goes a b (RunsOn command t) (EndedOn command t r)
-goes_not_changed {a = a} {b = b} command t f e r known is goes err =
+pub goes_not_changed : {a b : Option Moments} (command : Command) (t : Told) (May : Op → Type 0) (f : Holdings → World → Answer) (e : RunEnd) (r : Result (Unit {0}) CommandEnd) → IsTold a → IsChanging command t May f
+    → Goes a b (RunsOver t.holds May f) (EndedOver t.holds f (Err e)) → IsErrAnd r (λ end. end ≡ end_of_run e) → Goes a b (RunsOn command t) (EndedOn command t r)
+goes_not_changed {a = a} {b = b} command t May f e r known is goes err =
     subst (λ (x : Result (Unit {0}) CommandEnd). Goes a b (RunsOn command t) (EndedOn command t x)) (sym (is_end r (end_of_run e) err))
-    (begins known goes (λ u w tree p. runs_change command t f u w is p) (λ u w tree p q. ended_change command t f (Err e) (Err (end_of_run e)) u w is (λ a x. closed a e u w x) (given_by e) q))
+    (begins known goes (λ u w tree p. runs_change command t May f u w is p) (λ u w tree p q. ended_change command t May f (Err e) (Err (end_of_run e)) u w is (λ a x. closed a e u w x) (given_by e) q))
 
 -- the answer of a command that looks is this over the world
 abbrev pub IsLook : Command → (World → Answer) → Type 0
@@ -131,7 +141,7 @@ IsLook command f = (given : Given) (shown : Result World Elements) → over f sh
 runs_look : (command : Command) (t : Told) (f : World → Answer) (u w : View) → IsLook command f → LooksOver f u w → RunsOn command t u w
 runs_look command t f u w is p = record {
   runs = λ given gave shown counts may. subst (λ (x : Answer). Runs x u w) (is given shown) (p.runs shown (counts_for command f given u shown (is given) counts));
-  changes = change_untouched p.untouched;
+  changes = λ known. change_untouched p.untouched;
   untouched = λ why. p.untouched;
 }
 
@@ -162,7 +172,34 @@ run_fault r s e is err fault = is ∙ ap (λ (x : RunEnd). Err x) (of_run e (let
     of_run : (e : RunEnd) → end_of_run e ≡ Fault → e ≡ run.Fault
     of_run (run.Refused refusal) same = absurd (cc same)
     of_run run.Fault same = refl
+    of_run run.RemoteFault same = absurd (cc same)
     of_run run.NoMemory same = absurd (cc same)
+
+-- and so is a fault of the remotes
+pub run_remote : (r : Result (Unit {0}) RunEnd) (s : Result (Unit {0}) CommandEnd) (e : RunEnd) → r ≡ Err e → IsErrAnd s (λ end. end ≡ end_of_run e) → IsErrOf s RemoteFault → IsErrOf r run.RemoteFault
+run_remote r s e is err fault = is ∙ ap (λ (x : RunEnd). Err x) (of_run e (let both : Err (end_of_run e) ≡ Err RemoteFault = sym (is_end s (end_of_run e) err) ∙ fault in cc both))
+  where
+    of_run : (e : RunEnd) → end_of_run e ≡ RemoteFault → e ≡ run.RemoteFault
+    of_run (run.Refused refusal) same = absurd (cc same)
+    of_run run.Fault same = absurd (cc same)
+    of_run run.RemoteFault same = refl
+    of_run run.NoMemory same = absurd (cc same)
+
+-- an end before the work is none
+pub input_remote : (s : Result (Unit {0}) CommandEnd) (e : InputEnd) → IsErrAnd s (λ end. end ≡ end_of_input e) → IsErrOf s RemoteFault → ⊥
+input_remote s e err fault = of_input e (let both : Err (end_of_input e) ≡ Err RemoteFault = sym (is_end s (end_of_input e) err) ∙ fault in cc both)
+  where
+    of_input : (e : InputEnd) → end_of_input e ≡ RemoteFault → ⊥
+    of_input input.TooLong same = cc same
+    of_input input.Fault same = cc same
+    of_input input.NoMemory same = cc same
+
+pub batch_remote : (s : Result (Unit {0}) CommandEnd) (e : BatchError) → IsErrAnd s (λ end. end ≡ end_of_batch e) → IsErrOf s RemoteFault → ⊥
+batch_remote s e err fault = of_batch_end e (let both : Err (end_of_batch e) ≡ Err RemoteFault = sym (is_end s (end_of_batch e) err) ∙ fault in cc both)
+  where
+    of_batch_end : (e : BatchError) → end_of_batch e ≡ RemoteFault → ⊥
+    of_batch_end (batch.BadRecord line) same = cc same
+    of_batch_end batch.NoMemory same = cc same
 
 -- and its end is no failure of the input
 pub run_input : (s : Result (Unit {0}) CommandEnd) (e : RunEnd) → IsErrAnd s (λ end. end ≡ end_of_run e) → IsErrOf s InputFault → ⊥
@@ -171,6 +208,7 @@ run_input s e err fault = of_run e (let both : Err (end_of_run e) ≡ Err InputF
     of_run : (e : RunEnd) → end_of_run e ≡ InputFault → ⊥
     of_run (run.Refused refusal) same = cc same
     of_run run.Fault same = cc same
+    of_run run.RemoteFault same = cc same
     of_run run.NoMemory same = cc same
 
 -- ---- its cause
@@ -185,9 +223,16 @@ serves_change command v changes serves = elim serves [
 pub caused_change : {a : Option Moments} {F G : Type 0} (command : Command) (before now : ℕ) → only_looks command ≡ false → IsCaused F a IsReady before now → (G → F) → IsCaused G a (Serves (Some command)) before now
 caused_change command before now changes cause passes = record { later = cause.later; fault = λ is m told serves. cause.fault (passes is) m told (serves_change command m.now changes serves) }
 
+-- of a call after others, which leave the count no lower
+pub caused_after : {a b : Option Moments} {R Q : View → View → Type 0} {C D : View → Type 0} {F G : Type 0} (n m k : ℕ) → n ≤ m → Goes a b R Q → ((u w : View) → Q u w → C u → D w) → IsCaused F b D m k → (G → F) → IsCaused G a C n k
+caused_after n m k le goes leads cause passes = record {
+  later = omega (arith, le, cause.later);
+  fault = λ is known told at. let one = goes.told known told in Rose-later n m k le (cause.fault (passes is) one.0 one.1 (leads known.now one.0.now one.3 at));
+}
+
 -- nothing was done
 pub not_begun : (command : Command) (t : Told) (u : View) → RunsOn command t u u
-not_begun command t u = record { runs = λ given gave shown counts may. begun (answer_over command given shown) unchanged (λ why. not_touched); changes = change_not; untouched = λ why. not_touched }
+not_begun command t u = record { runs = λ given gave shown counts may. begun (answer_over command given shown) unchanged (λ why. not_touched); changes = λ known. change_not; untouched = λ why. not_touched }
 
 -- What ends a command before the installation is looked at: so it ends whatever the image gives.
 pub record EndsEarly (command : Command) (given : Given) (e : CommandEnd) : Type 0 where
@@ -279,12 +324,18 @@ batch_ends t bytes batch.NoMemory whole bad given gave = halted_early Batch give
 batch_answers : (t : Told) (bytes : List ℕ) (changes : List Change) → IsWhole t.left bytes → batch_of bytes ≡ Ok changes → IsAnswer Batch t (changing changes)
 batch_answers t bytes changes whole is given gave shown = ap (λ (x : Result (List Change) ℕ). of_batch x given.held shown) (sym is) ∙ read_is Batch batch_by batch_input t bytes whole given gave shown
 
-pub batch_changes : (t : Told) (bytes : List ℕ) (changes : List Change) → IsWhole t.left bytes → batch_of bytes ≡ Ok changes → IsChanging Batch t (changing changes)
-batch_changes t bytes changes whole is = record { changes = refl; asks = refl; late = changing_late changes; is = batch_answers t bytes changes whole is }
+pub batch_changes : (t : Told) (bytes : List ℕ) (changes : List Change) → IsWhole t.left bytes → batch_of bytes ≡ Ok changes → IsChanging Batch t (MayDo changes) (changing changes)
+batch_changes t bytes changes whole is = record {
+  changes = refl;
+  asks = refl;
+  late = changing_late changes;
+  is = batch_answers t bytes changes whole is;
+  may = λ op may. (changes, record { bytes = bytes; whole = whole; read = is }, may);
+}
 
 -- one change
-pub change_changes : (t : Told) (change : Change) → IsChanging (Changing change) t (changing (change ∷ []))
-change_changes t change = record { changes = refl; asks = refl; late = changing_late (change ∷ []); is = λ given gave shown. refl }
+pub change_changes : (t : Told) (change : Change) → IsChanging (Changing change) t (MayDo (change ∷ [])) (changing (change ∷ []))
+change_changes t change = record { changes = refl; asks = refl; late = changing_late (change ∷ []); is = λ given gave shown. refl; may = λ op may. may }
 
 -- ---- what it takes of the input
 
@@ -292,6 +343,7 @@ pub drained_by : (r : Result (Unit {0}) CommandEnd) (old new : Option (List ℕ)
 drained_by (Ok t) old new taken = λ all told few. taken all told
 drained_by (Err (Refused refusal)) old new taken = λ all told few. taken all told
 drained_by (Err Fault) old new taken = tt
+drained_by (Err RemoteFault) old new taken = tt
 drained_by (Err InputFault) old new taken = tt
 drained_by (Err NoMemory) old new taken = tt
 
@@ -333,9 +385,15 @@ goes_input command t known goes = begins known goes (λ u w tree r. r) (λ u w t
   given = λ given gave answered. absurd (not_answered 5 (omega arith) answered);
 })
 
+pub goes_remote : {a b : Option Moments} (command : Command) (t : Told) → IsTold a → Goes a b (RunsOn command t) (EndedOn command t (Err RemoteFault)) → Goes a b (RunsOn command t) (RanOn command t 4)
+goes_remote command t known goes = begins known goes (λ u w tree r. r) (λ u w tree r q. record {
+  ran = λ given gave shown counts may. ran_halted (answer_over command given shown) 4 (omega arith) (r.runs given gave shown counts may) (q.ended given gave shown counts may);
+  given = λ given gave answered. absurd (not_answered 4 (omega arith) answered);
+})
+
 pub goes_memory : {a b : Option Moments} (command : Command) (t : Told) → IsTold a → Goes a b (RunsOn command t) (EndedOn command t (Err NoMemory)) → Goes a b (RunsOn command t) (RanOn command t 6)
 goes_memory command t known goes = begins known goes (λ u w tree r. r) (λ u w tree r q. record {
-  ran = λ given gave shown counts may. ran_memory (answer_over command given shown) (r.runs given gave shown counts may) (q.ended given gave shown counts may);
+  ran = λ given gave shown counts may. ran_halted (answer_over command given shown) 6 (omega arith) (r.runs given gave shown counts may) (q.ended given gave shown counts may);
   given = λ given gave answered. absurd (not_answered 6 (omega arith) answered);
 })
 
@@ -345,7 +403,7 @@ goes_refused command t r result known_b first second =
     goes_on known_b first second
     (λ u v w tree p q s. record {
       runs = λ given gave shown counts may. let e = q.ended given gave shown counts may in refusing (answer_over command given shown) r e.0 (p.runs given gave shown counts may) e.1 s;
-      changes = change_on u v w p.changes (change_untouched s.untouched);
+      changes = λ known. change_on u v w (p.changes known) (change_untouched s.untouched);
       untouched = λ why. untouched_on (p.untouched why) s;
     })
     (λ u v w tree p q s last. record {
@@ -375,7 +433,7 @@ pub goes_command : {a b : Option Moments} (words : List (List ℕ)) (t : Told) (
 goes_command words t command status known is goes = begins known goes
     (λ u w tree r. record {
       runs = λ given gave shown counts may. subst (λ (a : Answer). Runs a u w) (answer_is words command given is shown) (r.runs given (given_to words command t given is gave) shown (counted u given shown counts) (may_answer words command u given shown is may));
-      changes = r.changes;
+      changes = λ known. subst (λ (o : Option Command). Changes (OpsFor o t.left) u w) (sym is) (r.changes (λ asks. known (subst (λ (o : Option Command). AsksBy (OpsFor o t.left)) (sym is) asks)));
       untouched = λ why. r.untouched (elim why [ inl looks ↦ inl (subst Looks is looks) | inr none ↦ inr none ]);
     })
     (λ u w tree r q. record {
@@ -390,7 +448,7 @@ pub goes_no_command : {a b : Option Moments} (words : List (List ℕ)) (t : Told
 goes_no_command words t index result known none is goes = begins known goes
     (λ u w tree s. record {
       runs = λ given gave shown counts may. subst (λ (a : Answer). Runs a u w) (no_answer words index given none is shown) (runs u w s);
-      changes = change_untouched s.untouched;
+      changes = λ known. change_untouched s.untouched;
       untouched = λ why. s.untouched;
     })
     (λ u w tree s e. record {
@@ -404,9 +462,9 @@ goes_no_command words t index result known none is goes = begins known goes
 -- out of memory for the words
 pub goes_unread : {a : Option Moments} (words : List (List ℕ)) (t : Told) → IsTold a → Goes a a (RunsBy words t) (RanBy words t 6)
 goes_unread words t known = stays known
-    (λ u. record { runs = λ given gave shown counts may. begun (answer words given shown) unchanged (λ why. not_touched); changes = change_not; untouched = λ why. not_touched })
+    (λ u. record { runs = λ given gave shown counts may. begun (answer words given shown) unchanged (λ why. not_touched); changes = λ known. change_not; untouched = λ why. not_touched })
     (λ u tree. record {
-      ran = λ given gave shown counts may. ran_memory (answer words given shown) (begun (answer words given shown) unchanged (λ why. not_touched)) (stood (answer words given shown) unchanged);
+      ran = λ given gave shown counts may. ran_halted (answer words given shown) 6 (omega arith) (begun (answer words given shown) unchanged (λ why. not_touched)) (stood (answer words given shown) unchanged);
       given = λ given gave answered. absurd (not_answered 6 (omega arith) answered);
     })
 

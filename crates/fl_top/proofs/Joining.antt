@@ -9,11 +9,12 @@ use Rattle.dep_states.specs.Shown.{Shows}
 use Rattle.dep_states.specs.Sound.{IsSound}
 use Rattle.dep_states.specs.After.{Done, after_all}
 use Rattle.dep_states.proofs.Single.{one_state}
-use Rattle.fl_top.specs.World.{World}
-use Rattle.fl_top.specs.Answer.{answer, Given, ops_in, ops_of}
+use Rattle.fl_change.specs.World.{World}
+use Rattle.fl_top.specs.Answer.{answer, Given}
+use Rattle.fl_change.specs.Answer.{ops_in, ops_of}
 use Rattle.fl_top.specs.Runs.{Runs, ShowsAfter}
 use Rattle.fl_top.specs.History.{Stretch, Reopens, History, begins, runs, stops, IsReached}
-use Rattle.fl_top.proofs.Same.{same_shown, same_sound, now_left}
+use Rattle.fl_change.proofs.Same.{same_shown, same_sound, now_left}
 use Rattle.fl_top.proofs.Ending.{runs_sound}
 
 -- a reopened view has one outcome: what the stop left

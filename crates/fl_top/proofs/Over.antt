@@ -1,5 +1,5 @@
 -- The answer over each result that counts: the one over the world that was read, or the refusal of the path that doesn't read.
-use Rattle.std.proofs.Common.{◌≡◌, inl, inr, [], ℕ, List, Option, None, Result, Ok, Err, refl, sym, ◌∙◌, ap, subst}
+use Rattle.std.proofs.Common.{◌≡◌, inl, inr, [], ℕ, List, Option, None, Result, Ok, Err, refl, sym, ◌∙◌, ap}
 use Rattle.fp_host.specs.Paths.{Elements}
 use Rattle.fp_host.specs.View.{View}
 use Rattle.fp_host.specs.Outcome.{Disk, shows}
@@ -8,15 +8,16 @@ use Rattle.fp_small.specs.declared.state.State.{State}
 use Rattle.fp_small.specs.declared.refusal.Refusal.TheVariants.{BadWords, Damaged}
 use Rattle.ost_model.specs.Objects.{Have, store}
 use Rattle.dep_states.specs.Shown.{Shows}
-use Rattle.dep_states.specs.Damaged.{IsFirstDamaged, Gives}
+use Rattle.dep_states.specs.Damaged.{IsFirstDamaged}
 use Rattle.dep_states.specs.Sound.{IsSound}
 use Rattle.dep_states.proofs.Single.{one_result, damaged_shows_none}
 use Rattle.dep_open.specs.Open.{NotShown}
 use Rattle.fl_words.specs.Forms.{command_of, bad_index}
 use Rattle.fl_words.specs.declared.command.Command.{Command}
-use Rattle.fl_top.specs.World.{World, world_in, used_of}
-use Rattle.fl_top.specs.Answer.{Answer, Given, answer, answer_to, over, refusal_answer, GivesWorld, IsOver}
-use Rattle.fl_top.proofs.Same.{now_left}
+use Rattle.fl_change.specs.World.{World, world_in, used_of}
+use Rattle.fl_change.specs.Answer.{Answer, refusal_answer}
+use Rattle.fl_top.specs.Answer.{Given, answer, answer_to, over, GivesWorld, IsOver}
+use Rattle.fl_change.proofs.Same.{now_left}
 
 -- ---- what an image gives
 

@@ -10,24 +10,25 @@ use Rattle.fp_host.specs.declared.host.HostEnd.{HostEnd}
 use Rattle.fp_host.specs.declared.host.HostEnd.TheVariants as host
 use Rattle.fp_host.proofs.Framed.{IsTold}
 use Rattle.fp_host.proofs.Goes.{begins}
-use Rattle.fp_small.specs.declared.state.State.{State}
 use Rattle.fl_words.specs.declared.command.Command.{Command}
-use Rattle.fl_top.specs.World.{World}
-use Rattle.fl_top.specs.Answer.{Answer, Given, shown_by, text_answer, answer_over}
+use Rattle.fl_change.specs.World.{World}
+use Rattle.fl_change.specs.Answer.{Answer, text_answer}
+use Rattle.fl_top.specs.Answer.{Given, shown_by, answer_over}
 use Rattle.fl_top.specs.Runs.{Runs, Stands, Told, IsGivenTo, Serves}
-use Rattle.fl_top.specs.Performs.{RunsOn, EndedOn, Closed}
-use Rattle.fl_top.specs.Says.{Says, SaidBy}
+use Rattle.fl_top.specs.RunsOver.{RunsOn, EndedOn, Closed}
+use Rattle.fl_change.specs.Says.{Says, SaidBy}
 use Rattle.fl_words.specs.declared.command.Command.TheVariants.{Show as Showing}
 use Rattle.fl_words.specs.declared.command.Shown.{Shown}
 use Rattle.fl_top.specs.Input.{IsWhole}
-use Rattle.fl_top.specs.Ends.{end_of_host, end_of_run, Prints}
-use Rattle.fl_top.specs.declared.end.RunEnd.{RunEnd}
-use Rattle.fl_top.specs.declared.end.RunEnd.TheVariants as run
+use Rattle.fl_change.specs.Ends.{end_of_host}
+use Rattle.fl_top.specs.Ends.{end_of_run, Prints}
+use Rattle.fl_change.specs.declared.end.RunEnd.{RunEnd}
+use Rattle.fl_change.specs.declared.end.RunEnd.TheVariants as run
 use Rattle.fl_top.specs.declared.command_end.CommandEnd.{CommandEnd}
-use Rattle.fl_top.specs.declared.command_end.CommandEnd.TheVariants.{Fault}
-use Rattle.fl_top.proofs.Changing.{change_untouched}
+use Rattle.fl_top.specs.declared.command_end.CommandEnd.TheVariants.{Fault, RemoteFault}
+use Rattle.fl_change.proofs.Changing.{change_untouched}
 use Rattle.fl_top.proofs.Starting.{unchanged, stood}
-use Rattle.fl_top.proofs.Listing.{telling, tells}
+use Rattle.fl_top.proofs.Listed.{telling, tells}
 use Rattle.fl_top.proofs.Over.{counts_constant}
 use Rattle.fl_top.proofs.Finishing.{is_end, EndsEarly, refused_early, halted_early, ByInput, read_is}
 
@@ -49,6 +50,7 @@ shown_is thing t bytes whole given gave shown = read_is (Showing thing) (show_by
 pub show_ends : (thing : Shown) (t : Told) (bytes : List ℕ) (e : RunEnd) → IsWhole t.left bytes → Prints (shown_by thing bytes) (Err e) → (given : Given) → IsGivenTo (Showing thing) t given → EndsEarly (Showing thing) given (end_of_run e)
 show_ends thing t bytes (run.Refused refusal) whole prints given gave = refused_early (Showing thing) given refusal (λ shown. sym prints ∙ shown_is thing t bytes whole given gave shown)
 show_ends thing t bytes run.Fault whole prints given gave = absurd prints
+show_ends thing t bytes run.RemoteFault whole prints given gave = absurd prints
 show_ends thing t bytes run.NoMemory whole prints given gave = halted_early (Showing thing) given
 
 -- and no call of the host failed
@@ -58,6 +60,7 @@ no_fault thing bytes e r shown err fault = of_run e shown (let both : Err (end_o
     of_run : (e : RunEnd) → Prints (shown_by thing bytes) (Err e) → end_of_run e ≡ Fault → ⊥
     of_run (run.Refused refusal) shown same = cc same
     of_run run.Fault shown same = shown
+    of_run run.RemoteFault shown same = cc same
     of_run run.NoMemory shown same = cc same
 
 -- ---- what is printed
@@ -65,7 +68,7 @@ no_fault thing bytes e r shown err fault = of_run e shown (let both : Err (end_o
 runs_shown : (thing : Shown) (t : Told) (bytes text : List ℕ) → IsWhole t.left bytes → shown_by thing bytes ≡ text_answer text → (u w : View) → Says text u w → RunsOn (Showing thing) t u w
 runs_shown thing t bytes text whole shown u w said = record {
   runs = λ given gave image counts may. subst (λ (a : Answer). Runs a u w) (sym shown ∙ shown_is thing t bytes whole given gave image) (telling text said);
-  changes = change_untouched said.untouched;
+  changes = λ known. change_untouched said.untouched;
   untouched = λ why. said.untouched;
 }
 
@@ -103,3 +106,20 @@ said_fault s r e was err fault = was ∙ ap (λ (x : HostEnd). Err x) (of_host e
 
 pub show_causes : {a : Option Moments} {F : Type 0} {before now : ℕ} (command : Command) → IsCaused F a (λ v. Unit {0}) before now → IsCaused F a (Serves (Some command)) before now
 show_causes command cause = record { later = cause.later; fault = λ is m told serves. cause.fault is m told tt }
+
+-- and no call of the remotes
+pub no_remote : (thing : Shown) (bytes : List ℕ) (e : RunEnd) (r : Result (Unit {0}) CommandEnd) → Prints (shown_by thing bytes) (Err e) → IsErrAnd r (λ end. end ≡ end_of_run e) → IsErrOf r RemoteFault → ⊥
+no_remote thing bytes e r shown err fault = of_run e shown (let both : Err (end_of_run e) ≡ Err RemoteFault = sym (is_end r (end_of_run e) err) ∙ fault in cc both)
+  where
+    of_run : (e : RunEnd) → Prints (shown_by thing bytes) (Err e) → end_of_run e ≡ RemoteFault → ⊥
+    of_run (run.Refused refusal) shown same = cc same
+    of_run run.Fault shown same = shown
+    of_run run.RemoteFault shown same = shown
+    of_run run.NoMemory shown same = cc same
+
+pub said_remote : (r : Result (Unit {0}) CommandEnd) (e : HostEnd) → IsErrAnd r (λ end. end ≡ end_of_run (end_of_host e)) → IsErrOf r RemoteFault → ⊥
+said_remote r e err fault = of_host e (let both : Err (end_of_run (end_of_host e)) ≡ Err RemoteFault = sym (is_end r (end_of_run (end_of_host e)) err) ∙ fault in cc both)
+  where
+    of_host : (e : HostEnd) → end_of_run (end_of_host e) ≡ RemoteFault → ⊥
+    of_host host.Fault same = cc same
+    of_host host.NoMemory same = cc same

@@ -20,14 +20,15 @@ use Rattle.fl_lines.specs.PrintedWords.{kind_word}
 use Rattle.ost_model.specs.Contents.{meta_digest}
 use Rattle.ost_model.specs.Fields.{CommitView, TreeView, MetaView}
 use Rattle.ost_model.specs.Readers.{commit_read, tree_read, meta_read}
-use Rattle.fl_top.specs.Answer.{Answer, text_answer, refusal_answer, by_read, by_value, by_type, commit_shown, tree_shown, meta_shown, value_shown}
+use Rattle.fl_change.specs.Answer.{Answer, text_answer, refusal_answer}
+use Rattle.fl_top.specs.Answer.{by_read, by_value, by_type, commit_shown, tree_shown, meta_shown, value_shown}
 use Rattle.ost_object.specs.Answers.{Breaks}
 use Rattle.ost_object.specs.declared.error.ObjectError.{ObjectError}
 use Rattle.ost_object.specs.declared.error.ObjectError.TheVariants.{Malformed}
 use Rattle.ost_object.specs.declared.error.ObjectError.TheVariants as object
 use Rattle.fl_top.specs.Ends.{Prints, end_of_object}
 use Rattle.fl_top.specs.Objects.{head, parent_text, commit_lines, tree_lines, meta_lines, normal_line}
-use Rattle.fl_top.specs.declared.end.RunEnd.{RunEnd}
+use Rattle.fl_change.specs.declared.end.RunEnd.{RunEnd}
 
 read_told : {A : Type 0} (digest text : List ℕ) (kind : ObjKind) (lines : A → List ℕ) (read : Result A Rule) (a : A) → read ≡ Ok a → text ≡ head digest (kind_word kind) ++ lines a → by_read digest kind lines read ≡ text_answer text
 read_told digest text kind lines read a is said = ap (by_read digest kind lines) is ∙ ap text_answer (sym said)

@@ -12,6 +12,7 @@ use Rattle.fp_small.specs.Places.{repo}
 use Rattle.ost_model.specs.Objects.{object_path}
 use Rattle.fp_small.proofs.Keeping.{files_stay, files_kept}
 use Rattle.fp_small.specs.declared.state.State.{State}
+use Rattle.fp_small.specs.declared.op.Op.{Op}
 use Rattle.fp_small.specs.declared.refusal.Refusal.{Refusal}
 use Rattle.fp_small.specs.declared.refusal.Refusal.TheVariants.{Damaged}
 use Rattle.dep_states.specs.Shown.{Shows}
@@ -21,18 +22,22 @@ use Rattle.dep_states.proofs.Single.{one_state}
 use Rattle.dep_open.specs.Open.{NotShown, NoName, IsOpened, Opened, StaysUnread}
 use Rattle.dep_open.specs.declared.open_end.OpenEnd.{OpenEnd}
 use Rattle.dep_open.specs.declared.open_end.OpenEnd.TheVariants as open_end
-use Rattle.fl_top.specs.World.{World, world, world_at}
-use Rattle.fl_top.specs.Answer.{Answer, Piece, lines_of, joined, ops_in, ops_of, over, refusal_answer, IsAtOnce}
-use Rattle.fl_top.specs.Ends.{end_of_open}
-use Rattle.fl_top.specs.Runs.{ShowsAfter, IsPrefix, IsJust, Printed, Runs, Stands, IsReady}
-use Rattle.fl_top.specs.Performs.{Performs, IsDone, IsHalted, Performed, PerformsOver, PerformedOver, RunsOver, Completes, Ended, EndedOver, LookedOver}
-use Rattle.fl_top.specs.declared.end.RunEnd.{RunEnd}
-use Rattle.fl_top.specs.declared.end.RunEnd.TheVariants.{Refused, Fault, NoMemory}
-use Rattle.fl_top.specs.Changes.{IsUntouched, HasText, OnlyTidied}
-use Rattle.fl_top.proofs.Changing.{change_on, change_none, tidied_on, tidied_none, same_untouched}
-use Rattle.fl_top.proofs.Same.{unmoved, same_shown, same_sound, same_settled, now_left}
+use Rattle.fl_change.specs.World.{World, world, world_at}
+use Rattle.fl_change.specs.Answer.{Answer, Piece, joined, ops_in, ops_of, refusal_answer}
+use Rattle.fl_top.specs.Answer.{over, IsAtOnce}
+use Rattle.fl_change.specs.Ends.{end_of_open}
+use Rattle.fl_top.specs.Asked.{AreToldFor}
+use Rattle.fl_top.specs.Runs.{ShowsAfter, IsPrefix, IsJust, Runs, Stands, IsReady}
+use Rattle.fl_change.specs.Performs.{Printed, Performs, IsDone, IsHalted, Performed, PerformsOver, PerformedOver, ChangesFrom}
+use Rattle.fl_top.specs.RunsOver.{RunsOver, Completes, Ended, EndedOver, LookedOver}
+use Rattle.fl_change.specs.declared.end.RunEnd.{RunEnd}
+use Rattle.fl_change.specs.declared.end.RunEnd.TheVariants.{Refused, Fault, RemoteFault, NoMemory}
+use Rattle.fl_change.specs.Changes.{IsUntouched, HasText, OnlyTidied}
+use Rattle.fl_change.proofs.Changing.{change_on, change_none, tidied_on, tidied_none, same_untouched}
+use Rattle.fl_change.proofs.Same.{unmoved, same_shown, same_sound, same_settled, now_left}
 use Rattle.fl_top.proofs.Over.{over_is, over_damaged, not_shown, counts_shown, counts_damaged}
-use Rattle.fl_top.proofs.Worlds.{store_same, shows_same, worlds_state}
+use Rattle.fl_change.proofs.Worlds.{store_same, shows_same, worlds_state}
+use Rattle.fl_change.proofs.Doing.{none_yet}
 
 -- ---- nothing is printed and nothing shown changes
 
@@ -44,9 +49,6 @@ pub record Keeping (u w : View) : Type 0 where
 
 pub kept : {u w : View} → Keeps Nothing NoName NoPath u w → Keeping u w
 kept keeps = record { printed = keeps.printed; follows = keeps.follows; names = λ q. elim (keeps.names q) [ inl same ↦ same | inr put ↦ absurd put ]; files = files_kept keeps }
-
-pub none_yet : (a : Answer) {u w : View} → w.printed ≡ u.printed → Printed a [] u w
-none_yet a {u = u} same = record { left = lines_of a; pieces = refl; printed = same ∙ sym (append-nil u.printed) }
 
 -- a step that gives nothing leaves what some stop before would have left
 pub shows_before : {u w : View} → Follows Nothing u w → IsSound u → (disk : Disk) → Leaves w disk → IsJust [] u disk
@@ -79,10 +81,10 @@ pub over_late : (f : World → Answer) → ((x : World) → IsAtOnce (f x).refus
 over_late f late (Err path) at_once = at_once
 over_late f late (Ok x) at_once = late x at_once
 
-pub begun_over : (holds : Option Holdings) (f : Holdings → World → Answer) → IsLate f → {u w : View} → Keeping u w → StaysUnread u w → RunsOver holds f u w
-begun_over holds f late {u = u} keeping unread = record {
+pub begun_over : (holds : Option Holdings) (May : Op → Type 0) (f : Holdings → World → Answer) → IsLate f → {u w : View} → Keeping u w → StaysUnread u w → RunsOver holds May f u w
+begun_over holds May f late {u = u} keeping unread = record {
   runs = λ ready held is shown counts. begun (over (f held) shown) keeping (λ at_once. absurd (over_late (f held) (late held) shown at_once));
-  changes = change_none keeping.names keeping.files;
+  changes = λ known. change_none keeping.names keeping.files;
   untouched = λ none. same_untouched (unread none);
 }
 
@@ -105,7 +107,7 @@ pub record Begun (s : State) (u v : View) : Type 0 where
   pub opened : IsOpened s u v
 
 -- where a state is shown, what is ready is sound
-ready_sound : {s : State} {u : View} → Shows (shows u) s → IsReady u → IsSound u
+pub ready_sound : {s : State} {u : View} → Shows (shows u) s → IsReady u → IsSound u
 ready_sound {s = s} shown ready = elim ready [ inl sound ↦ sound | inr none ↦ absurd (none s shown) ]
 
 -- what stands was seen before
@@ -135,13 +137,18 @@ runs_opened a s {u = u} {w = w} late opened keeping performs = record {
   untouched = λ at_once. absurd (late at_once);
 }
 
-pub runs_over : (holds : Option Holdings) (f : Holdings → World → Answer) (s : State) {u v w : View} → IsLate f → Begun s u v → IsTree v → PerformsOver holds f s v w → RunsOver holds f u w
-runs_over holds f s {u = u} {v = v} {w = w} late begun tree performs = record {
+-- what is known at each moment of work that may do these operations
+pub record Working (holds : Option Holdings) (May : Op → Type 0) (f : Holdings → World → Answer) (s : State) (v w : View) : Type 0 where
+  pub performs : PerformsOver (Opens s) holds f s v w
+  pub changes : AreToldFor May holds → ChangesFrom May s v w
+
+pub runs_over : (holds : Option Holdings) (May : Op → Type 0) (f : Holdings → World → Answer) (s : State) {u v w : View} → IsLate f → Begun s u v → IsTree v → Working holds May f s v w → RunsOver holds May f u w
+runs_over holds May f s {u = u} {v = v} {w = w} late begun tree work = record {
   runs = λ ready held is shown counts.
       let opens = begun.opened.opens (ready_sound begun.opened.shown ready) in
       subst (λ (a : Answer). Runs a u w) (ap (f held) (begun_world s begun tree) ∙ sym (over_is (f held) (shows u) shown s begun.opened.shown counts))
-      (runs_opened (f held (world_at s v)) s (late held (world_at s v)) begun.opened begun.keeping (performs.performs held is opens));
-  changes = change_on u v w (change_none begun.keeping.names begun.keeping.files) performs.changes;
+      (runs_opened (f held (world_at s v)) s (late held (world_at s v)) begun.opened begun.keeping (work.performs.performs held is opens));
+  changes = λ known. change_on u v w (change_none begun.keeping.names begun.keeping.files) (work.changes (λ asks. (known asks).0) (λ asks. begun.opened.opens (ready_sound begun.opened.shown (known asks).1)));
   untouched = λ none. absurd (none s begun.opened.shown);
 }
 
@@ -171,9 +178,10 @@ stands a s {u = u} opened keeping is = record {
 ended : (held : Holdings) (a : Answer) (s : State) (e : RunEnd) {u v : View} (w : View) → Begun s u v → IsTree v → Performed held a (world_at s v) (Err e) v w → Ended a (Err e) u w
 ended held a s (Refused refusal) {v = v} w begun tree is = (is.0, completes held a s (world_at s v) refl (begun_seen begun tree) begun.opened begun.keeping is.1)
 ended held a s Fault w begun tree is = tt
+ended held a s RemoteFault {v = v} w begun tree is = stands a s begun.opened begun.keeping is
 ended held a s NoMemory w begun tree is = stands a s begun.opened begun.keeping is
 
-pub failed_over : (holds : Option Holdings) (f : Holdings → World → Answer) (s : State) (e : RunEnd) {u v : View} (w : View) → Begun s u v → IsTree v → PerformedOver holds f s (Err e) v w → EndedOver holds f (Err e) u w
+pub failed_over : (holds : Option Holdings) (f : Holdings → World → Answer) (s : State) (e : RunEnd) {u v : View} (w : View) → Begun s u v → IsTree v → PerformedOver (Opens s) holds f s (Err e) v w → EndedOver holds f (Err e) u w
 failed_over holds f s e {u = u} {v = v} w begun tree is = record {
   ended = λ ready held told shown counts.
       let opens = begun.opened.opens (ready_sound begun.opened.shown ready) in
@@ -182,7 +190,7 @@ failed_over holds f s e {u = u} {v = v} w begun tree is = record {
   given = λ held by. counts_shown (over (f held)) (shows u) s begun.opened.shown;
 }
 
-pub done_over : (holds : Option Holdings) (f : Holdings → World → Answer) (s t : State) {u v : View} (w : View) → Begun s u v → IsTree v → PerformedOver holds f s (Ok t) v w → EndedOver holds f (Ok tt) u w
+pub done_over : (holds : Option Holdings) (f : Holdings → World → Answer) (s t : State) {u v : View} (w : View) → Begun s u v → IsTree v → PerformedOver (Opens s) holds f s (Ok t) v w → EndedOver holds f (Ok tt) u w
 done_over holds f s t {u = u} {v = v} w begun tree is = record {
   ended = λ ready held told shown counts.
       let opens = begun.opened.opens (ready_sound begun.opened.shown ready) in
@@ -200,7 +208,7 @@ damaged path {u = u} keeping none = record {
   just = shows_before keeping.follows;
   shown = λ sound s at. absurd (none s at);
   tidied = λ sound why. let is = sound.shown (shows u) (now_left u) in absurd (none is.state is.shows);
-  text = λ some s at. absurd (some refl);
+  text = λ some s at. absurd (none s at);
 }
 
 -- want of memory before anything is done
@@ -233,5 +241,5 @@ refused_at_once refusal u = record {
   just = shows_before follows_refl;
   shown = λ sound s at. at;
   tidied = λ sound why. elim why [ inl tidy ↦ tidy | inr some ↦ absurd (some refl) ];
-  text = λ some s at. absurd (some refl);
+  text = λ some s at. absurd (cc some);
 }

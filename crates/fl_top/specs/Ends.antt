@@ -1,34 +1,20 @@
 -- The ends of the layers below as ends of a run.
-use Rattle.std.specs.Prelude.{◌≡◌, ◌+◌, ℕ, List, Option, Some, None, Result, Ok, Err}
-use Rattle.fp_host.specs.declared.host.HostEnd.{HostEnd}
-use Rattle.fp_host.specs.declared.host.HostEnd.TheVariants as host
-use Rattle.dep_open.specs.declared.open_end.OpenEnd.{OpenEnd}
-use Rattle.dep_open.specs.declared.open_end.OpenEnd.TheVariants as open_end
-use Rattle.fp_small.specs.declared.refusal.Refusal.{Refusal}
-use Rattle.fp_small.specs.declared.refusal.Refusal.TheVariants.{Damaged, BadRecord, Limit, MalformedObject}
+use Rattle.std.specs.Prelude.{◌≡◌, ◌+◌, ℕ, List, Result, Ok, Err}
+use Rattle.fp_small.specs.declared.refusal.Refusal.TheVariants.{BadRecord, Limit, MalformedObject}
 use Rattle.fp_base.specs.declared.object.ObjKind.{ObjKind}
 use Rattle.ost_object.specs.declared.error.ObjectError.{ObjectError}
 use Rattle.ost_object.specs.declared.error.ObjectError.TheVariants as object
 use Rattle.fp_base.specs.declared.what.What.TheVariants.{Input}
 use Rattle.fl_words.specs.declared.batch.BatchError.{BatchError}
 use Rattle.fl_words.specs.declared.batch.BatchError.TheVariants as batch
-use Rattle.fl_top.specs.Answer.{Answer, text_answer, refusal_answer}
+use Rattle.fl_change.specs.Answer.{Answer, text_answer, refusal_answer}
 use Rattle.fl_top.specs.Input.{input_most}
 use Rattle.fl_top.specs.declared.input.InputEnd.{InputEnd}
 use Rattle.fl_top.specs.declared.input.InputEnd.TheVariants as input
-use Rattle.fl_top.specs.declared.end.RunEnd.{RunEnd}
-use Rattle.fl_top.specs.declared.end.RunEnd.TheVariants.{Refused, Fault, NoMemory}
+use Rattle.fl_change.specs.declared.end.RunEnd.{RunEnd}
+use Rattle.fl_change.specs.declared.end.RunEnd.TheVariants.{Refused, Fault, RemoteFault, NoMemory}
 use Rattle.fl_top.specs.declared.command_end.CommandEnd.{CommandEnd}
 use Rattle.fl_top.specs.declared.command_end.CommandEnd.TheVariants as command
-
-abbrev pub end_of_host : HostEnd → RunEnd
-end_of_host host.Fault = Fault
-end_of_host host.NoMemory = NoMemory
-
-abbrev pub end_of_open : OpenEnd → RunEnd
-end_of_open (open_end.Damaged path) = Refused (Damaged path)
-end_of_open open_end.Fault = Fault
-end_of_open open_end.NoMemory = NoMemory
 
 -- bytes with this digest are no object of this kind
 abbrev pub end_of_object : List ℕ → ObjKind → ObjectError → RunEnd
@@ -40,6 +26,7 @@ end_of_object digest kind object.NoMemory = NoMemory
 abbrev pub end_of_run : RunEnd → CommandEnd
 end_of_run (Refused refusal) = command.Refused refusal
 end_of_run Fault = command.Fault
+end_of_run RemoteFault = command.RemoteFault
 end_of_run NoMemory = command.NoMemory
 
 abbrev pub end_of_input : InputEnd → CommandEnd
@@ -51,16 +38,18 @@ abbrev pub end_of_batch : BatchError → CommandEnd
 end_of_batch (batch.BadRecord line) = command.Refused (BadRecord line)
 end_of_batch batch.NoMemory = command.NoMemory
 
--- What speaks against an operation, exactly.
-abbrev pub IsTried : Option Refusal → Result (Unit {0}) RunEnd → Type 0
-IsTried refusal (Ok u) = refusal ≡ None
-IsTried refusal (Err (Refused r)) = refusal ≡ Some r
-IsTried refusal (Err Fault) = ⊥
-IsTried refusal (Err NoMemory) = Unit {0}
-
 -- What is shown, exactly: this text, or a refusal.
 abbrev pub Prints : Answer → Result (List ℕ) RunEnd → Type 0
 Prints a (Ok text) = a ≡ text_answer text
 Prints a (Err (Refused r)) = a ≡ refusal_answer r
 Prints a (Err Fault) = ⊥
+Prints a (Err RemoteFault) = ⊥
 Prints a (Err NoMemory) = Unit {0}
+
+-- The same where the host is asked, which may fail.
+abbrev pub PrintsOf : Answer → Result (List ℕ) RunEnd → Type 0
+PrintsOf a (Ok text) = a ≡ text_answer text
+PrintsOf a (Err (Refused r)) = a ≡ refusal_answer r
+PrintsOf a (Err Fault) = Unit {0}
+PrintsOf a (Err RemoteFault) = ⊥
+PrintsOf a (Err NoMemory) = Unit {0}

@@ -6,8 +6,9 @@ use Rattle.fp_host.specs.Outcome.{Disk, Leaves, IsSettled, shows}
 use Rattle.fp_small.specs.declared.state.State.{State}
 use Rattle.dep_states.specs.Shown.{Shows}
 use Rattle.dep_states.specs.After.{Done, after_all}
-use Rattle.fl_top.specs.World.{World}
-use Rattle.fl_top.specs.Answer.{answer, Given, IsOver, ops_in, ops_of}
+use Rattle.fl_change.specs.World.{World}
+use Rattle.fl_top.specs.Answer.{answer, Given, IsOver}
+use Rattle.fl_change.specs.Answer.{ops_in, ops_of}
 use Rattle.fl_top.specs.Runs.{Runs}
 
 -- the operations of a run, and those that it acknowledged

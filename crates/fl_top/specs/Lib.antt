@@ -1,11 +1,9 @@
-pub mod World
 pub mod Answer
 pub mod Status
-pub mod Changes
+pub mod Asked
 pub mod Runs
-pub mod Performs
+pub mod RunsOver
 pub mod Ends
-pub mod Says
 pub mod History
 pub mod Input
 pub mod Objects

@@ -12,11 +12,16 @@ use Rattle.dep_open.specs.Open.{NotShown}
 use Rattle.dep_states.specs.Settled.{Settled}
 use Rattle.fl_words.specs.declared.command.Command.{Command}
 use Rattle.fl_words.specs.Forms.{command_of}
-use Rattle.fl_top.specs.World.{World}
-use Rattle.fl_top.specs.Answer.{Answer, Given, Piece, lines_of, joined, ops_in, ops_of, answer, IsOver, IsAtOnce}
+use Rattle.fl_change.specs.World.{World}
+use Rattle.fl_change.specs.Answer.{Answer, Piece, lines_of, joined, ops_in, ops_of, set_config, IsIdle}
+use Rattle.fl_top.specs.Answer.{Given, answer, IsOver, IsAtOnce}
 use Rattle.fl_top.specs.Input.{IsDrained}
-use Rattle.fl_top.specs.Changes.{Changes, OnlyTidied, IsUntouched, HasText}
+use Rattle.fl_change.specs.Changes.{Changes, OnlyTidied, IsUntouched, HasText}
 use Rattle.fl_top.specs.Status.{status_at, IsAnswered, only_looks, reads_input, asks_remotes}
+use Rattle.fl_change.specs.Performs.{Printed, AsksBy}
+use Rattle.fp_small.specs.declared.op.Op.{Op}
+use Rattle.op_bring.specs.Bringing.{AreTold}
+use Rattle.fl_top.specs.Asked.{OpsFor}
 
 -- The image shows what these operations make of the state that stood at the start; where there are none, a state that a stop
 -- at the start would have left.
@@ -39,20 +44,14 @@ pub record IsJust (acknowledged : List Done) (u : View) (disk : Disk) : Type 0 w
   pub shown : ShowsAfter u acknowledged disk
   pub sound : Sound disk
 
--- these pieces of the answer, which come first, were printed
-pub record Printed (a : Answer) (said : List Piece) (u w : View) : Type 0 where
-  pub left : List Piece
-  pub pieces : lines_of a ≡ said ++ left
-  pub printed : w.printed ≡ u.printed ++ joined said
-
 -- At every moment: the bytes printed since the start are the first pieces of the answer; every stop leaves the installation
--- after a prefix of its operations that holds those that these pieces acknowledge. Where the answer has no operation, names
--- only changed by tidying. Where the words or the input are refused, no name changed, and no file.
+-- after a prefix of its operations that holds those that these pieces acknowledge. Where the answer has no operation and nothing
+-- is pulled, names only changed by tidying. Where the words or the input are refused, no name changed, and no file.
 pub record Runs (a : Answer) (u w : View) : Type 0 where
   pub said : List Piece
   pub so_far : Printed a said u w
   pub prefix : IsSound u → (disk : Disk) → Leaves w disk → IsPrefix a (ops_in said) u disk
-  pub only_tidied : ops_of a ≡ [] → (s : State) → Shows (shows u) s → OnlyTidied s u w
+  pub only_tidied : IsIdle a → (s : State) → Shows (shows u) s → OnlyTidied s u w
   pub untouched : IsAtOnce a.refusal → IsUntouched u w
 
 -- every stop leaves the installation after the acknowledged operations
@@ -62,15 +61,15 @@ pub record Stands (a : Answer) (u w : View) : Type 0 where
   pub just : IsSound u → (disk : Disk) → Leaves w disk → IsJust (ops_in said) u disk
 
 -- The whole answer was printed; what stands now is the state after its operations. Where one was done, or all was settled before,
--- all is settled. Where one was done `config` has exactly its text, and the permission bits 0644.
+-- all is settled. Where one of them set it, `config` has exactly its text, and the permission bits 0644.
 pub record Answers (a : Answer) (status : ℕ) (u w : View) : Type 0 where
   pub status_is : status ≡ status_at a
   pub printed : w.printed ≡ u.printed ++ joined (lines_of a)
   pub shown : IsSound u → (s : State) → Shows (shows u) s → Shows (shows w) (after_all s (ops_of a))
   pub tidied : IsSound u → Settled (shows u) ⊎ (ops_of a ≢ []) → Settled (shows w)
-  pub text : ops_of a ≢ [] → (s : State) → Shows (shows u) s → HasText (after_all s (ops_of a)) w
+  pub text : set_config (ops_of a) ≡ true → (s : State) → Shows (shows u) s → HasText (after_all s (ops_of a)) w
 
--- At the return. 3 says that the host failed, 5 that the input did, and 6 that there was no memory.
+-- At the return. 3 says that the host failed, 4 that the remotes did, 5 that the input did, and 6 that there was no memory.
 pub record Ran (a : Answer) (status : ℕ) (u w : View) : Type 0 where
   pub answers : IsAnswered status → Answers a status u w
   pub stands : (status ≡ 3 → ⊥) → Stands a u w
@@ -105,6 +104,10 @@ IsGiven t (Some command) given = IsGivenTo command t given
 abbrev pub IsReady : View → Type 0
 IsReady v = IsSound v ⊎ NotShown (shows v)
 
+-- where one of these operations brings a commit, the remotes tell what they hold, and the installation is ready
+abbrev pub IsKnown : (Op → Type 0) → Option Holdings → View → Type 0
+IsKnown May holds v = AsksBy May → AreTold holds × IsReady v
+
 -- A fault of a command that changes something has a cause over an installation that is sound, or shows no state. A command that
 -- only looks needs neither.
 abbrev pub Serves : Option Command → View → Type 0
@@ -114,11 +117,12 @@ Serves command v = Looks command ⊎ IsReady v
 abbrev pub MayAnswer : Option Command → View → Answer → Type 0
 MayAnswer command v a = Serves command v ⊎ IsAtOnce a.refusal
 
--- At every moment the run is that of each answer that counts. Also where source and remotes tell nothing, no name changed but
--- `config`, those of work, and the files of layout 1, which went; each file that was there keeps its mode and its bytes; and
--- words that are no command, a command that only looks, and one that sees no state change nothing.
+-- At every moment the run is that of each answer that counts. Whatever the source tells, no name changed but those that the
+-- command's operations and tidying change, and each file that was there keeps its mode and its bytes: where a commit may be brought,
+-- over remotes that tell what they hold and an installation that is ready. Words that are no command, a command that only looks, and
+-- one that sees no state change nothing.
 pub record RunsBy (words : List (List ℕ)) (t : Told) (u w : View) : Type 0 where
-  pub changes : Changes u w
+  pub changes : IsKnown (OpsFor (command_of words) t.left) t.holds u → Changes (OpsFor (command_of words) t.left) u w
   pub runs : (given : Given) → IsGiven t (command_of words) given → (shown : Result World Elements)
       → IsOver (answer words given) (shows u) shown → MayAnswer (command_of words) u (answer words given shown) → Runs (answer words given shown) u w
   pub untouched : Looks (command_of words) ⊎ NotShown (shows u) → IsUntouched u w

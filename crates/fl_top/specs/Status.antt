@@ -1,19 +1,14 @@
 -- How a run ends.
-use Rattle.std.specs.Prelude.{◌≡◌, ◌⊎◌, ℕ, Bool, true, false, Option, Some, None}
-use Rattle.fp_name.specs.Grammar.{is_remote_name}
-use Rattle.fp_name.specs.Pins.{is_pin}
-use Rattle.fp_small.specs.Config.{is_row}
+use Rattle.std.specs.Prelude.{◌≡◌, ◌≤◌, ◌⊎◌, ℕ, Bool, true, false, Option, Some, None}
 use Rattle.fp_small.specs.declared.refusal.Refusal.{Refusal}
 use Rattle.fp_small.specs.declared.refusal.Refusal.TheVariants.{BadWords}
-use Rattle.fl_words.specs.declared.command.Change.{Change}
-use Rattle.fl_words.specs.declared.command.Change.TheVariants.{Pin, Unpin, RemoteAdd, RemoteModify, RemoteDelete}
 use Rattle.fl_words.specs.declared.command.Command.{Command}
 use Rattle.fl_words.specs.declared.command.Command.TheVariants.{Change as Changing, List as Listed, Show as Showing, Batch}
-use Rattle.fl_top.specs.Answer.{Answer}
+use Rattle.fl_change.specs.Answer.{Answer}
 
--- 0 done, 1 refused, 2 no command, 3 a fault of the host, 5 a fault of the input, 6 want of memory
+-- 0 done, 1 refused, 2 no command, 3 a fault of the host, 4 a fault of the remotes, 5 a fault of the input, 6 want of memory
 abbrev pub IsStatus : ℕ → Type 0
-IsStatus n = (n ≡ 0) ⊎ ((n ≡ 1) ⊎ ((n ≡ 2) ⊎ ((n ≡ 3) ⊎ ((n ≡ 5) ⊎ (n ≡ 6)))))
+IsStatus n = n ≤ 6
 
 -- the whole answer was given
 abbrev pub IsAnswered : ℕ → Type 0
@@ -32,7 +27,7 @@ reads_input (Listed listing) = false
 reads_input (Showing thing) = true
 reads_input Batch = true
 
--- what it does depends on what the remotes hold
+-- what it does may depend on what the remotes hold
 abbrev pub asks_remotes : Command → Bool
 asks_remotes (Changing change) = true
 asks_remotes (Listed listing) = false
@@ -52,19 +47,11 @@ status_by (Some refusal) = status_of refusal
 abbrev pub status_at : Answer → ℕ
 status_at a = status_by a.refusal
 
--- a command ends with these; 5 comes only for one that reads the input
+-- a command ends with these; 4 comes only for one that changes something, and 5 for one that reads the input
 abbrev pub IsOfCommand : Command → ℕ → Type 0
-IsOfCommand command n = (n ≡ 0) ⊎ ((n ≡ 1) ⊎ ((n ≡ 3) ⊎ (((n ≡ 5) × (reads_input command ≡ true)) ⊎ (n ≡ 6))))
+IsOfCommand command n = (n ≡ 0) ⊎ ((n ≡ 1) ⊎ ((n ≡ 3) ⊎ (((n ≡ 4) × (only_looks command ≡ false)) ⊎ (((n ≡ 5) × (reads_input command ≡ true)) ⊎ (n ≡ 6)))))
 
 -- Whatever the host: 2 comes exactly for words that are no command, where nothing fails and memory isn't wanting.
 abbrev pub IsOfWords : Option Command → ℕ → Type 0
 IsOfWords None status = (status ≡ 2) ⊎ ((status ≡ 3) ⊎ (status ≡ 6))
 IsOfWords (Some command) status = IsOfCommand command status
-
--- its patterns, names and URLs are such
-abbrev pub IsChange : Change → Type 0
-IsChange (Pin pin) = is_pin pin ≡ true
-IsChange (Unpin pin) = is_pin pin ≡ true
-IsChange (RemoteAdd row) = is_row row ≡ true
-IsChange (RemoteModify row) = is_row row ≡ true
-IsChange (RemoteDelete name) = is_remote_name name ≡ true

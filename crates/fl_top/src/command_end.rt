@@ -1,8 +1,8 @@
 // How a command ends where it isn't done.
 ghost use Rattle.std.specs.Prelude.{◌≡◌};
 
-use crate::end::RunEnd;
 use crate::input::InputEnd;
+use fl_change::RunEnd;
 use fl_words::BatchError;
 use fp_base::What;
 use fp_host::HostEnd;
@@ -14,6 +14,8 @@ pub(crate) enum CommandEnd {
     Refused(Refusal),
     /// A call of the host failed.
     Fault,
+    /// A call of the remotes failed.
+    RemoteFault,
     /// The input failed.
     InputFault,
     NoMemory,
@@ -29,6 +31,7 @@ impl From<RunEnd> for CommandEnd {
         match end {
             RunEnd::Refused(refusal) => CommandEnd::Refused(refusal),
             RunEnd::Fault => CommandEnd::Fault,
+            RunEnd::RemoteFault => CommandEnd::RemoteFault,
             RunEnd::NoMemory => CommandEnd::NoMemory,
         }
     }
@@ -36,7 +39,8 @@ impl From<RunEnd> for CommandEnd {
 
 impl From<HostEnd> for CommandEnd {
     ghost use Rattle.std.specs.Prelude.{◌≡◌};
-    ghost use Rattle.fl_top.specs.Ends.{end_of_host, end_of_run};
+    ghost use Rattle.fl_top.specs.Ends.{end_of_run};
+    ghost use Rattle.fl_change.specs.Ends.{end_of_host};
 
     ghost from_gives = { λ host end. end ≡ end_of_run (end_of_host host) };
 

@@ -1,11 +1,10 @@
 //! The run of a command.
 #![tactic(auto)]
 
-mod change;
 mod command_end;
-mod end;
 mod input;
 pub mod laws;
+mod listing;
 mod running;
 mod showing;
 

@@ -1,5 +1,5 @@
 //! The run of a command.
-ghost use Rattle.std.specs.Prelude.{◌≡◌, ◌≢◌, ◌≤◌, ◌⊎◌, true, Option, Some, map, string_bytes, IfOk, IsErrOf};
+ghost use Rattle.std.specs.Prelude.{◌≡◌, ◌≢◌, ◌≤◌, ◌⊎◌, true, false, Option, Some, map, string_bytes, IfOk, IsErrOf};
 ghost use Rattle.fp_host.specs.Causes.{IsCaused, IsCounted};
 ghost use Rattle.fp_host.specs.Frame.{AtEnd, Unchanged};
 ghost use Rattle.fp_host.specs.Moments.{Goes, Rose, Always};
@@ -8,29 +8,30 @@ ghost use Rattle.fp_small.specs.declared.refusal.Refusal.TheVariants.{BadWords};
 ghost use Rattle.fl_lines.specs.Lines.{refusal_text};
 ghost use Rattle.fl_words.specs.Forms.{command_of};
 ghost use Rattle.fl_words.specs.declared.command.Command.TheVariants.{Show as Showing, Batch};
-ghost use Rattle.fl_top.specs.Answer.{listed, listed_text as text_listed};
-ghost use Rattle.fl_top.specs.Performs.{LooksOver, LookedOver, RunsOn, EndedOn, RanOn, Takes, TakenBy};
+ghost use Rattle.fl_change.specs.Says.{Says, SaidBy, Refuses};
+ghost use Rattle.fl_change.specs.Turns.{changing, MayDo};
+ghost use Rattle.fl_top.specs.Asked.{OpsBy, OpsFor, AreToldFor, AsksRemotes};
+ghost use Rattle.fl_top.specs.RunsOver.{RunsOver, EndedOver, RunsOn, EndedOn, RanOn, Takes, TakenBy};
 ghost use Rattle.fl_top.specs.Runs.{RunsBy, RanBy, told, WasTaken, IsReady, Serves};
-ghost use Rattle.fl_top.specs.Says.{Says, SaidBy, Refuses};
-ghost use Rattle.fl_top.specs.Status.{IsStatus, IsOfWords, IsOfCommand, reads_input};
+ghost use Rattle.fl_top.specs.Status.{IsStatus, IsOfWords, IsOfCommand, only_looks, reads_input};
 
-use crate::change::change_all;
 use crate::command_end::CommandEnd;
-use crate::end::RunEnd;
 use crate::input::read_input;
+use crate::listing::list;
 use crate::showing::shown_text;
-use dep_open::read_state;
-use fl_lines::{pins_text, refusal_line, remotes_text};
-use fl_words::{Command, Listing, Shown, WordsError, read_batch, read_words};
+use dep_open::open;
+use fl_change::{RunEnd, change_all};
+use fl_lines::refusal_line;
+use fl_words::{Change, Command, Shown, WordsError, read_batch, read_words};
 use fp_base::Text;
 use fp_host::{Host, HostEnd, Remotes, Source};
-use fp_small::{Refusal, State};
+use fp_small::Refusal;
 use std::alloc::{AllocError, Global};
 use std::thread::Threads;
 
 /// Runs the command of these words on the installation in the host, and prints what it answers there. The status is 0 where
-/// it was done, 1 where it was refused, 2 where the words are no command, 3 where the host failed, 5 where the input failed,
-/// 6 where there was no memory.
+/// it was done, 1 where it was refused, 2 where the words are no command, 3 where the host failed, 4 where the remotes failed, 5
+/// where the input failed, 6 where there was no memory.
 pub fn run<H: Host, R: Remotes, I: Source>(
     _rt: &(impl Threads + Sync),
     alloc: Global,
@@ -49,63 +50,78 @@ pub fn run<H: Host, R: Remotes, I: Source>(
     ensures at_return { AtEnd (RanBy (map string_bytes words.now)
         (told (I.left input.old) (R.holds remotes.old)) result)
         (H.moments host.old) (H.moments host.new) }
-    ensures fault_has_cause { IsCaused (result ≡ 3) (H.moments host.old)
+    ensures fault_has_cause { IsCaused (AreToldFor (OpsFor (command_of (map string_bytes words.now))
+        (I.left input.old)) (R.holds remotes.old) × (result ≡ 3)) (H.moments host.old)
         (Serves (command_of (map string_bytes words.now))) (H.faults host.old) (H.faults host.new) }
+    // The remotes stay as they are. Where the command brings no commit they aren't asked, and the status isn't 4; else it comes
+    // only where their count rose.
+    ensures remotes { AsksRemotes (OpsFor (command_of (map string_bytes words.now)) (I.left input.old))
+        (result ≡ 4) (R.holds remotes.old) (R.holds remotes.new)
+        (R.faults remotes.old) (R.faults remotes.new) }
     // The input is read before anything is done.
     ensures input { result ≡ 5 → Rose (I.faults input.old) (I.faults input.new) × Unchanged
         (H.moments host.old) (H.moments host.new) }
     ensures taken { WasTaken (command_of (map string_bytes words.now)) result (I.left input.old)
         (I.left input.new) }
     ensures later { I.faults input.old ≤ I.faults input.new }
-    // No command asks the remotes.
-    ensures remotes { R.faults remotes.new ≡ R.faults remotes.old }
 {
     match read_words(alloc, words) {
-        Ok(command) => run_command(alloc, input, host, command),
+        Ok(command) => run_command(alloc, input, host, remotes, command),
         Err(WordsError::BadWords { index }) => refuse_words(alloc, host, index),
         Err(WordsError::NoMemory) => 6,
     }
 }
 
 /// Runs a command, and prints the line of its refusal.
-fn run_command<H: Host, I: Source>(
+fn run_command<H: Host, R: Remotes, I: Source>(
     alloc: Global,
     input: &mut I,
     host: &mut H,
+    remotes: &mut R,
     command: Command,
 ) -> u8
     ensures status { IsOfCommand command result }
-    ensures any_moment { (holds : Option Holdings) → Goes (H.moments host.old) (H.moments host.new)
-        (RunsOn command (told (I.left input.old) holds))
-        (RanOn command (told (I.left input.old) holds) result) }
-    ensures fault_has_cause { IsCaused (result ≡ 3) (H.moments host.old) (Serves (Some command))
+    ensures any_moment { Goes (H.moments host.old) (H.moments host.new)
+        (RunsOn command (told (I.left input.old) (R.holds remotes.old)))
+        (RanOn command (told (I.left input.old) (R.holds remotes.old)) result) }
+    ensures fault_has_cause { IsCaused (AreToldFor (OpsBy command (I.left input.old))
+        (R.holds remotes.old) × (result ≡ 3)) (H.moments host.old) (Serves (Some command))
         (H.faults host.old) (H.faults host.new) }
+    ensures remotes { AsksRemotes (OpsBy command (I.left input.old)) (result ≡ 4)
+        (R.holds remotes.old) (R.holds remotes.new) (R.faults remotes.old) (R.faults remotes.new) }
     ensures input { result ≡ 5 → Rose (I.faults input.old) (I.faults input.new) × Unchanged
         (H.moments host.old) (H.moments host.new) }
     ensures taken { WasTaken (Some command) result (I.left input.old) (I.left input.new) }
     ensures later { I.faults input.old ≤ I.faults input.new }
 {
-    match perform(alloc, input, host, command) {
+    match perform(alloc, input, host, remotes, command) {
         Ok(()) => 0,
         Err(CommandEnd::Refused(refusal)) => refuse(alloc, host, refusal, 1),
         Err(CommandEnd::Fault) => 3,
+        Err(CommandEnd::RemoteFault) => 4,
         Err(CommandEnd::InputFault) => 5,
         Err(CommandEnd::NoMemory) => 6,
     }
 }
 
 /// Does a command, up to the line of its refusal.
-fn perform<H: Host, I: Source>(
+fn perform<H: Host, R: Remotes, I: Source>(
     alloc: Global,
     input: &mut I,
     host: &mut H,
+    remotes: &mut R,
     command: Command,
 ) -> Result<(), CommandEnd>
-    ensures any_moment { (holds : Option Holdings) → Goes (H.moments host.old) (H.moments host.new)
-        (RunsOn command (told (I.left input.old) holds))
-        (EndedOn command (told (I.left input.old) holds) result) }
-    ensures fault_has_cause { IsCaused (IsErrOf result CommandEnd.Fault) (H.moments host.old)
+    ensures any_moment { Goes (H.moments host.old) (H.moments host.new)
+        (RunsOn command (told (I.left input.old) (R.holds remotes.old)))
+        (EndedOn command (told (I.left input.old) (R.holds remotes.old)) result) }
+    ensures fault_has_cause { IsCaused (AreToldFor (OpsBy command (I.left input.old))
+        (R.holds remotes.old) × IsErrOf result CommandEnd.Fault) (H.moments host.old)
         (Serves (Some command)) (H.faults host.old) (H.faults host.new) }
+    ensures remotes { AsksRemotes (OpsBy command (I.left input.old))
+        (IsErrOf result CommandEnd.RemoteFault) (R.holds remotes.old) (R.holds remotes.new)
+        (R.faults remotes.old) (R.faults remotes.new) }
+    ensures changes { IsErrOf result CommandEnd.RemoteFault → only_looks command ≡ false }
     ensures input { IsErrOf result CommandEnd.InputFault → (reads_input command ≡ true) × Rose
         (I.faults input.old) (I.faults input.new) × Unchanged
         (H.moments host.old) (H.moments host.new) }
@@ -113,10 +129,10 @@ fn perform<H: Host, I: Source>(
     ensures later { I.faults input.old ≤ I.faults input.new }
 {
     match command {
-        Command::Change(change) => Ok(change_all(alloc, host, &[change])?),
+        Command::Change(change) => Ok(make_changes(alloc, host, remotes, &[change])?),
         Command::List(listing) => Ok(list(alloc, host, listing)?),
         Command::Show(thing) => show(alloc, input, host, &thing),
-        Command::Batch => batch(alloc, input, host),
+        Command::Batch => batch(alloc, input, host, remotes),
     }
 }
 
@@ -132,6 +148,7 @@ fn show<H: Host, I: Source>(
         (EndedOn (Showing thing.now) (told (I.left input.old) holds) result) }
     ensures fault_has_cause { IsCounted (IsErrOf result CommandEnd.Fault)
         (H.moments host.old) (H.faults host.old) (H.faults host.new) }
+    ensures no_remote_fault { IsErrOf result CommandEnd.RemoteFault → ⊥ }
     ensures input { IsErrOf result CommandEnd.InputFault → Rose
         (I.faults input.old) (I.faults input.new) × Unchanged
         (H.moments host.old) (H.moments host.new) }
@@ -144,12 +161,21 @@ fn show<H: Host, I: Source>(
 }
 
 /// Reads the changes that the input asks for, and makes them one after another.
-fn batch<H: Host, I: Source>(alloc: Global, input: &mut I, host: &mut H) -> Result<(), CommandEnd>
-    ensures any_moment { (holds : Option Holdings) → Goes (H.moments host.old) (H.moments host.new)
-        (RunsOn Batch (told (I.left input.old) holds))
-        (EndedOn Batch (told (I.left input.old) holds) result) }
-    ensures fault_has_cause { IsCaused (IsErrOf result CommandEnd.Fault) (H.moments host.old)
-        IsReady (H.faults host.old) (H.faults host.new) }
+fn batch<H: Host, R: Remotes, I: Source>(
+    alloc: Global,
+    input: &mut I,
+    host: &mut H,
+    remotes: &mut R,
+) -> Result<(), CommandEnd>
+    ensures any_moment { Goes (H.moments host.old) (H.moments host.new)
+        (RunsOn Batch (told (I.left input.old) (R.holds remotes.old)))
+        (EndedOn Batch (told (I.left input.old) (R.holds remotes.old)) result) }
+    ensures fault_has_cause { IsCaused (AreToldFor (OpsBy Batch (I.left input.old))
+        (R.holds remotes.old) × IsErrOf result CommandEnd.Fault) (H.moments host.old) IsReady
+        (H.faults host.old) (H.faults host.new) }
+    ensures remotes { AsksRemotes (OpsBy Batch (I.left input.old))
+        (IsErrOf result CommandEnd.RemoteFault) (R.holds remotes.old) (R.holds remotes.new)
+        (R.faults remotes.old) (R.faults remotes.new) }
     ensures input { IsErrOf result CommandEnd.InputFault → Rose
         (I.faults input.old) (I.faults input.new) × Unchanged
         (H.moments host.old) (H.moments host.new) }
@@ -158,30 +184,28 @@ fn batch<H: Host, I: Source>(alloc: Global, input: &mut I, host: &mut H) -> Resu
 {
     let bytes = read_input(alloc, input)?;
     let changes = read_batch(alloc, bytes.as_slice())?;
-    Ok(change_all(alloc, host, changes.as_slice())?)
+    Ok(make_changes(alloc, host, remotes, changes.as_slice())?)
 }
 
-/// Prints what is listed.
-fn list<H: Host>(alloc: Global, host: &mut H, listing: Listing) -> Result<(), RunEnd>
+/// Opens the installation and makes the changes, one after another up to the first refusal.
+fn make_changes<H: Host, R: Remotes>(
+    alloc: Global,
+    host: &mut H,
+    remotes: &mut R,
+    changes: &[Change],
+) -> Result<(), RunEnd>
     ensures any_moment { Goes (H.moments host.old) (H.moments host.new)
-        (LooksOver (listed listing)) (LookedOver (listed listing) result) }
-    ensures fault_has_cause { IsCounted (IsErrOf result RunEnd.Fault)
-        (H.moments host.old) (H.faults host.old) (H.faults host.new) }
+        (RunsOver (R.holds remotes.old) (MayDo changes.now) (changing changes.now))
+        (EndedOver (R.holds remotes.old) (changing changes.now) result) }
+    ensures fault_has_cause { IsCaused (AreToldFor (MayDo changes.now) (R.holds remotes.old)
+        × IsErrOf result RunEnd.Fault) (H.moments host.old) IsReady
+        (H.faults host.old) (H.faults host.new) }
+    ensures remotes { AsksRemotes (MayDo changes.now) (IsErrOf result RunEnd.RemoteFault)
+        (R.holds remotes.old) (R.holds remotes.new) (R.faults remotes.old) (R.faults remotes.new) }
 {
-    let state = read_state(alloc, host)?;
-    let text = listed_text(alloc, listing, &state)?;
-    host.say(text.as_str().as_bytes())?;
+    let opened = open(alloc, host)?;
+    change_all(alloc, host, remotes, opened, changes)?;
     Ok(())
-}
-
-/// What is listed of a state.
-fn listed_text(alloc: Global, listing: Listing, state: &State) -> Result<Text, AllocError>
-    ensures { IfOk result (λ t. t ≡ text_listed listing state.now) }
-{
-    match listing {
-        Listing::Pins => pins_text(alloc, state.pins.as_slice()),
-        Listing::Remotes => remotes_text(alloc, state.remotes.as_slice()),
-    }
 }
 
 /// Prints the line of words that are no command.

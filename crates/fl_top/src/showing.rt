@@ -10,7 +10,7 @@ ghost use Rattle.fl_top.specs.Answer.{commit_shown, tree_shown, meta_shown, valu
 ghost use Rattle.fl_top.specs.Ends.{Prints, end_of_object};
 ghost use Rattle.fl_top.specs.Objects.{head, root_lines, commit_lines, tree_lines, meta_lines, file_line, dir_line, files_text, dirs_text, parent_text};
 
-use crate::end::RunEnd;
+use fl_change::RunEnd;
 use fl_lines::{digits_of, escape, octal_of};
 use fl_words::{Shown, ValueType};
 use fp_base::{ObjKind, Text};

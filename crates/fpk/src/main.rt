@@ -5,7 +5,7 @@ ghost use Rattle.std.specs.Prelude.{◌≡◌};
 
 use fl_top::run;
 use fl_words::{batch_reason, reason};
-use fp_realhost::{DirRemotes, HostDir, StdinSource};
+use fp_realhost::{DirRemotes, HostDir, StdinSource, SystemError};
 use std::alloc::Global;
 use std::env::{self, VarError};
 use std::io::{self, ErrorKind, Input};
@@ -20,7 +20,19 @@ fpk unpin PATTERN            takes the pin away
 fpk remote-add NAME URL      adds a remote
 fpk remote-modify NAME URL   gives a remote another URL
 fpk remote-delete NAME       takes the remote away
+fpk install NAME REF         installs a ref from the remote
+fpk update                   updates all that is installed
+fpk update REF               updates one ref
+fpk uninstall REF            takes a ref away
+fpk uninstall --unused       takes the runtimes away that nothing needs
+fpk rollback REF             puts a ref back to the commit that it was at before
+fpk override --reset         takes the override for all applications away
+fpk override --reset ID      takes an application's override away
 fpk batch                    does the commands of standard input, one a line
+fpk list                     prints the installed refs, each with its commit and its remote
+fpk info REF                 prints what is known of an installed ref
+fpk override --show          prints the override for all applications
+fpk override --show ID       prints an application's override
 fpk list --pins              prints the patterns that are pinned
 fpk list --remotes           prints the remotes
 fpk show commit              prints what a commit says
@@ -30,7 +42,7 @@ fpk show value TYPE          prints the size of a value of a type
 fpk --help                   prints this
 fpk --version                prints the version
 
-A pattern is KIND/ID/ARCH/BRANCH, where KIND is app or runtime, and * may stand for each of the others.
+A REF is KIND/ID/ARCH/BRANCH, where KIND is app or runtime. In a PATTERN * may stand for each of the others.
 What show prints is read from standard input: an object of OSTree, or the normal form of a value of GVariant.
 The installation is the folder that FPK_INSTALLATION names, else the folder `installation` here.
 ";
@@ -107,27 +119,15 @@ fn run_on(
             if let Some(bytes) = input.kept() {
                 explain_batch(rt, alloc, bytes);
             }
-            1
         }
-        2 => {
-            explain(rt, alloc, words);
-            2
-        }
-        3 => {
-            if let Some(error) = host.last_error() {
-                let _said = eprintln!(rt; "fpk: {error}");
-            }
-            3
-        }
-        5 => {
-            if let Some(error) = input.last_error() {
-                let _said = eprintln!(rt; "fpk: {error}");
-            }
-            5
-        }
-        6 => out_of_memory(rt),
-        _ => status,
+        2 => explain(rt, alloc, words),
+        3 => say_refused(rt, host.last_error()),
+        4 => say_refused(rt, remotes.last_error()),
+        5 => say_refused(rt, input.last_error()),
+        6 => say(rt, OUT_OF_MEMORY),
+        _ => {}
     }
+    status
 }
 
 /// The standard input, which is kept where a line of it may have to be explained.
@@ -158,6 +158,13 @@ fn explain_batch(rt: &impl Eprint, alloc: Global, bytes: &[u8]) {
 /// Says lines on standard error.
 fn say(rt: &impl Eprint, lines: &str) {
     let _said = eprint!(rt; "{lines}");
+}
+
+/// Says on standard error what the system refused.
+fn say_refused(rt: &impl Eprint, refused: Option<&SystemError>) {
+    if let Some(error) = refused {
+        let _said = eprintln!(rt; "fpk: {error}");
+    }
 }
 
 /// Prints what was asked for.

@@ -1,50 +1,87 @@
-use Rattle.std.proofs.Common.{◌≡◌, refl, subst, List, ℕ, Ok, Err}
+use Rattle.std.proofs.Common.{◌≡◌, subst, List, ℕ, Ok, Err, IsErrOf}
+use Rattle.fp_host.specs.Causes.{IsCaused}
 use Rattle.fp_host.specs.Moments.{Goes}
 use Rattle.fl_words.specs.Batch.{IsBadBatch, batch_of}
 use Rattle.fl_words.specs.declared.command.Change.{Change}
 use Rattle.fl_words.specs.declared.command.Command.TheVariants.{Batch}
-use Rattle.fl_top.specs.Runs.{told}
-use Rattle.fl_top.specs.Answer.{changing}
+use Rattle.fl_change.specs.Turns.{changing, MayDo}
+use Rattle.fl_change.specs.declared.end.RunEnd.TheVariants as run
+use Rattle.fl_top.specs.Asked.{OpsBy, AreToldFor, AsksRemotes}
+use Rattle.fl_top.specs.Runs.{told, IsReady}
 use Rattle.fl_top.specs.Ends.{end_of_input, end_of_batch}
-use Rattle.fl_top.specs.Performs.{RunsOver, EndedOver}
-use Rattle.fl_top.proofs.Finishing.{goes_none, input_failed, input_ends, batch_by, batch_input, batch_ends, batch_changes, goes_change, goes_not_changed, run_fault, drained_by, not_taken}
+use Rattle.fl_top.specs.RunsOver.{RunsOver, EndedOver}
+use Rattle.fl_top.specs.declared.command_end.CommandEnd.TheVariants.{RemoteFault}
+use Rattle.fl_top.proofs.Asked.{asks_to, not_asked, asks_more}
+use Rattle.fl_top.proofs.Finishing.{IsChanging, goes_none, input_failed, input_ends, batch_by, batch_input, batch_ends, batch_changes, goes_change, goes_not_changed, run_fault, run_remote, input_remote, batch_remote, drained_by, not_taken}
 use Rattle.fl_top.proofs.running.batch.Goals as goal
 
 pub returns-in_err-bytes-clause-any_moment : goal.returns-in_err-bytes-clause-any_moment
-returns-in_err-bytes-clause-any_moment g c = λ holds.
-    let t = told (g.I.Source.left c.args.input.now) holds in
+returns-in_err-bytes-clause-any_moment g c =
+    let t = told (g.I.Source.left c.args.input.now) (g.R.Remotes.holds c.args.remotes.now) in
     goes_none Batch t (end_of_input c.in_err-bytes.field-0.0) c.from_residual.result (g.met.H.Host.is_tree c.args.host.now) c.from_residual.ensures.1 (input_ends Batch batch_by batch_input t (g.I.Source.faults c.args.input.now) (g.I.Source.faults c.read_input.new.input) c.in_err-bytes.field-0.0 c.in_err-bytes.ensures.stops)
+
+pub returns-in_err-bytes-clause-remotes : goal.returns-in_err-bytes-clause-remotes
+returns-in_err-bytes-clause-remotes g c = not_asked (OpsBy Batch (g.I.Source.left c.args.input.now)) (IsErrOf c.from_residual.result RemoteFault) (g.R.Remotes.holds c.args.remotes.now) (g.R.Remotes.faults c.args.remotes.now) (input_remote c.from_residual.result c.in_err-bytes.field-0.0 c.from_residual.ensures.1)
 
 pub returns-in_err-bytes-clause-input : goal.returns-in_err-bytes-clause-input
 returns-in_err-bytes-clause-input g c = input_failed (g.I.Source.left c.args.input.now) (g.I.Source.faults c.args.input.now) (g.I.Source.faults c.read_input.new.input) c.in_err-bytes.field-0.0 c.from_residual.result (g.met.H.Host.is_tree c.args.host.now) c.from_residual.ensures.1 c.in_err-bytes.ensures.stops
 
 pub returns-in_err-changes-clause-any_moment : goal.returns-in_err-changes-clause-any_moment
-returns-in_err-changes-clause-any_moment g c = λ holds.
-    let t = told (g.I.Source.left c.args.input.now) holds in
+returns-in_err-changes-clause-any_moment g c =
+    let t = told (g.I.Source.left c.args.input.now) (g.R.Remotes.holds c.args.remotes.now) in
     let bad : IsBadBatch c.in_ok-bytes.bytes c.in_err-changes.field-0.0 = subst (λ (b : List ℕ). IsBadBatch b c.in_err-changes.field-0.0) c.as_slice.ensures c.in_err-changes.ensures.bad in
     goes_none Batch t (end_of_batch c.in_err-changes.field-0.0) c.from_residual-in_err-changes.result (g.met.H.Host.is_tree c.args.host.now) c.from_residual-in_err-changes.ensures.1 (batch_ends t c.in_ok-bytes.bytes c.in_err-changes.field-0.0 c.in_ok-bytes.ensures.ok bad)
 
-pub returns-in_err-change_all-clause-any_moment : goal.returns-in_err-change_all-clause-any_moment
-returns-in_err-change_all-clause-any_moment g c = λ holds.
+pub returns-in_err-changes-clause-remotes : goal.returns-in_err-changes-clause-remotes
+returns-in_err-changes-clause-remotes g c = not_asked (OpsBy Batch (g.I.Source.left c.args.input.now)) (IsErrOf c.from_residual-in_err-changes.result RemoteFault) (g.R.Remotes.holds c.args.remotes.now) (g.R.Remotes.faults c.args.remotes.now) (batch_remote c.from_residual-in_err-changes.result c.in_err-changes.field-0.0 c.from_residual-in_err-changes.ensures.1)
+
+pub returns-in_err-make_changes-clause-any_moment : goal.returns-in_err-make_changes-clause-any_moment
+returns-in_err-make_changes-clause-any_moment g c =
+    let holds = g.R.Remotes.holds c.args.remotes.now in
     let t = told (g.I.Source.left c.args.input.now) holds in
     let commands : c.as_slice-2.result.now ≡ c.in_ok-changes.changes = c.as_slice-2.ensures in
     let read : batch_of c.in_ok-bytes.bytes ≡ Ok c.in_ok-changes.changes = subst (λ (b : List ℕ). batch_of b ≡ Ok c.in_ok-changes.changes) c.as_slice.ensures c.in_ok-changes.ensures.ok in
-    let changed = subst (λ (l : List Change). Goes (g.H.Host.moments c.args.host.now) (g.H.Host.moments c.change_all.new.host) (RunsOver holds (changing l)) (EndedOver holds (changing l) (Err c.in_err-change_all.field-0.0))) commands (c.in_err-change_all.ensures.any_moment holds) in
-    goes_not_changed Batch t (changing c.in_ok-changes.changes) c.in_err-change_all.field-0.0 c.from_residual-in_err-change_all.result (g.met.H.Host.is_tree c.args.host.now) (batch_changes t c.in_ok-bytes.bytes c.in_ok-changes.changes c.in_ok-bytes.ensures.ok read) changed c.from_residual-in_err-change_all.ensures.1
+    let changed = subst (λ (l : List Change). Goes (g.H.Host.moments c.args.host.now) (g.H.Host.moments c.make_changes.new.host) (RunsOver holds (MayDo l) (changing l)) (EndedOver holds (changing l) (Err c.in_err-make_changes.field-0.0))) commands c.in_err-make_changes.ensures.any_moment in
+    goes_not_changed Batch t (MayDo c.in_ok-changes.changes) (changing c.in_ok-changes.changes) c.in_err-make_changes.field-0.0 c.from_residual-in_err-make_changes.result (g.met.H.Host.is_tree c.args.host.now) (batch_changes t c.in_ok-bytes.bytes c.in_ok-changes.changes c.in_ok-bytes.ensures.ok read) changed c.from_residual-in_err-make_changes.ensures.1
 
-pub returns-in_err-change_all-clause-fault_has_cause : goal.returns-in_err-change_all-clause-fault_has_cause
-returns-in_err-change_all-clause-fault_has_cause g c = record {
-  later = c.change_all.ensures.fault_has_cause.later;
-  fault = λ is. c.change_all.ensures.fault_has_cause.fault (run_fault c.change_all.result c.from_residual-in_err-change_all.result c.in_err-change_all.field-0.0 c.in_err-change_all.was c.from_residual-in_err-change_all.ensures.1 is);
-}
+pub returns-in_err-make_changes-clause-fault_has_cause : goal.returns-in_err-make_changes-clause-fault_has_cause
+returns-in_err-make_changes-clause-fault_has_cause g c =
+    let holds = g.R.Remotes.holds c.args.remotes.now in
+    let t = told (g.I.Source.left c.args.input.now) holds in
+    let read : batch_of c.in_ok-bytes.bytes ≡ Ok c.in_ok-changes.changes = subst (λ (b : List ℕ). batch_of b ≡ Ok c.in_ok-changes.changes) c.as_slice.ensures c.in_ok-changes.ensures.ok in
+    let known : IsChanging Batch t (MayDo c.in_ok-changes.changes) (changing c.in_ok-changes.changes) = batch_changes t c.in_ok-bytes.bytes c.in_ok-changes.changes c.in_ok-bytes.ensures.ok read in
+    let cause = subst (λ (l : List Change). IsCaused (AreToldFor (MayDo l) holds × IsErrOf c.make_changes.result run.Fault) (g.H.Host.moments c.args.host.now) IsReady (g.H.Host.faults c.args.host.now) (g.H.Host.faults c.make_changes.new.host)) c.as_slice-2.ensures c.make_changes.ensures.fault_has_cause in
+    record {
+      later = cause.later;
+      fault = λ is. cause.fault (λ asks. is.0 (asks_to known.may asks), run_fault c.make_changes.result c.from_residual-in_err-make_changes.result c.in_err-make_changes.field-0.0 c.in_err-make_changes.was c.from_residual-in_err-make_changes.ensures.1 is.1);
+    }
+
+pub returns-in_err-make_changes-clause-remotes : goal.returns-in_err-make_changes-clause-remotes
+returns-in_err-make_changes-clause-remotes g c =
+    let holds = g.R.Remotes.holds c.args.remotes.now in
+    let t = told (g.I.Source.left c.args.input.now) holds in
+    let read : batch_of c.in_ok-bytes.bytes ≡ Ok c.in_ok-changes.changes = subst (λ (b : List ℕ). batch_of b ≡ Ok c.in_ok-changes.changes) c.as_slice.ensures c.in_ok-changes.ensures.ok in
+    let known : IsChanging Batch t (MayDo c.in_ok-changes.changes) (changing c.in_ok-changes.changes) = batch_changes t c.in_ok-bytes.bytes c.in_ok-changes.changes c.in_ok-bytes.ensures.ok read in
+    let asks = subst (λ (l : List Change). AsksRemotes (MayDo l) (IsErrOf c.make_changes.result run.RemoteFault) holds (g.R.Remotes.holds c.make_changes.new.remotes) (g.R.Remotes.faults c.args.remotes.now) (g.R.Remotes.faults c.make_changes.new.remotes)) c.as_slice-2.ensures c.make_changes.ensures.remotes in
+    asks_more known.may (run_remote c.make_changes.result c.from_residual-in_err-make_changes.result c.in_err-make_changes.field-0.0 c.in_err-make_changes.was c.from_residual-in_err-make_changes.ensures.1) asks
 
 pub returns-clause-any_moment : goal.returns-clause-any_moment
-returns-clause-any_moment g c = λ holds.
+returns-clause-any_moment g c =
+    let holds = g.R.Remotes.holds c.args.remotes.now in
     let t = told (g.I.Source.left c.args.input.now) holds in
     let commands : c.as_slice-2.result.now ≡ c.in_ok-changes.changes = c.as_slice-2.ensures in
     let read : batch_of c.in_ok-bytes.bytes ≡ Ok c.in_ok-changes.changes = subst (λ (b : List ℕ). batch_of b ≡ Ok c.in_ok-changes.changes) c.as_slice.ensures c.in_ok-changes.ensures.ok in
-    let changed = subst (λ (l : List Change). Goes (g.H.Host.moments c.args.host.now) (g.H.Host.moments c.change_all.new.host) (RunsOver holds (changing l)) (EndedOver holds (changing l) (Ok tt))) commands (c.in_ok-change_all.ensures.any_moment holds) in
-    goes_change Batch t (changing c.in_ok-changes.changes) (g.met.H.Host.is_tree c.args.host.now) (batch_changes t c.in_ok-bytes.bytes c.in_ok-changes.changes c.in_ok-bytes.ensures.ok read) changed
+    let changed = subst (λ (l : List Change). Goes (g.H.Host.moments c.args.host.now) (g.H.Host.moments c.make_changes.new.host) (RunsOver holds (MayDo l) (changing l)) (EndedOver holds (changing l) (Ok tt))) commands c.in_ok-make_changes.ensures.any_moment in
+    goes_change Batch t (MayDo c.in_ok-changes.changes) (changing c.in_ok-changes.changes) (g.met.H.Host.is_tree c.args.host.now) (batch_changes t c.in_ok-bytes.bytes c.in_ok-changes.changes c.in_ok-bytes.ensures.ok read) changed
+
+pub returns-clause-remotes : goal.returns-clause-remotes
+returns-clause-remotes g c =
+    let holds = g.R.Remotes.holds c.args.remotes.now in
+    let t = told (g.I.Source.left c.args.input.now) holds in
+    let read : batch_of c.in_ok-bytes.bytes ≡ Ok c.in_ok-changes.changes = subst (λ (b : List ℕ). batch_of b ≡ Ok c.in_ok-changes.changes) c.as_slice.ensures c.in_ok-changes.ensures.ok in
+    let known : IsChanging Batch t (MayDo c.in_ok-changes.changes) (changing c.in_ok-changes.changes) = batch_changes t c.in_ok-bytes.bytes c.in_ok-changes.changes c.in_ok-bytes.ensures.ok read in
+    let asks = subst (λ (l : List Change). AsksRemotes (MayDo l) (IsErrOf c.make_changes.result run.RemoteFault) holds (g.R.Remotes.holds c.make_changes.new.remotes) (g.R.Remotes.faults c.args.remotes.now) (g.R.Remotes.faults c.make_changes.new.remotes)) c.as_slice-2.ensures c.make_changes.ensures.remotes in
+    asks_more known.may (λ is. absurd (cc is)) asks
 
 pub returns-in_err-bytes-clause-taken : goal.returns-in_err-bytes-clause-taken
 returns-in_err-bytes-clause-taken g c = not_taken c.in_err-bytes.field-0.0 c.from_residual.result (g.I.Source.left c.args.input.now) (g.I.Source.left c.read_input.new.input) (g.I.Source.faults c.args.input.now) (g.I.Source.faults c.read_input.new.input) c.from_residual.ensures.1 c.in_err-bytes.ensures.stops
@@ -52,8 +89,8 @@ returns-in_err-bytes-clause-taken g c = not_taken c.in_err-bytes.field-0.0 c.fro
 pub returns-in_err-changes-clause-taken : goal.returns-in_err-changes-clause-taken
 returns-in_err-changes-clause-taken g c = drained_by c.from_residual-in_err-changes.result (g.I.Source.left c.args.input.now) (g.I.Source.left c.read_input.new.input) c.in_ok-bytes.ensures.taken
 
-pub returns-in_err-change_all-clause-taken : goal.returns-in_err-change_all-clause-taken
-returns-in_err-change_all-clause-taken g c = drained_by c.from_residual-in_err-change_all.result (g.I.Source.left c.args.input.now) (g.I.Source.left c.read_input.new.input) c.in_ok-bytes.ensures.taken
+pub returns-in_err-make_changes-clause-taken : goal.returns-in_err-make_changes-clause-taken
+returns-in_err-make_changes-clause-taken g c = drained_by c.from_residual-in_err-make_changes.result (g.I.Source.left c.args.input.now) (g.I.Source.left c.read_input.new.input) c.in_ok-bytes.ensures.taken
 
 pub returns-clause-taken : goal.returns-clause-taken
 returns-clause-taken g c = drained_by (Ok tt) (g.I.Source.left c.args.input.now) (g.I.Source.left c.read_input.new.input) c.in_ok-bytes.ensures.taken

@@ -1,19 +1,22 @@
-use Rattle.std.proofs.Common.{Option, map, string_bytes, sym, subst, inl, inr, arith}
+use Rattle.std.proofs.Common.{◌≡◌, Option, map, string_bytes, sym, subst, inl, inr, arith}
 use Rattle.fl_words.specs.Forms.{command_of}
 use Rattle.fp_host.proofs.Ending.{ends_goes, goes_last}
 use Rattle.fl_words.specs.Reading.{IsNoCommand}
 use Rattle.fl_words.specs.declared.command.Command.{Command}
-use Rattle.fl_top.specs.Runs.{WasTaken, told}
+use Rattle.fl_top.specs.Runs.{WasTaken, told, Serves}
+use Rattle.fp_host.specs.Causes.{IsCaused}
+use Rattle.fl_top.specs.Asked.{OpsFor, AreToldFor, AsksRemotes}
+use Rattle.fl_top.proofs.Asked.{not_asked}
 use Rattle.fl_top.proofs.Finishing.{goes_command, goes_no_command, goes_unread, took_nothing}
 use Rattle.fl_top.proofs.running.run.Goals as goal
 
 pub returns-in-Ok-clause-any_moment : goal.returns-in-Ok-clause-any_moment
-returns-in-Ok-clause-any_moment g c = goes_last (goes_command (map string_bytes c.args.words.now) (told (g.I.Source.left c.args.input.now) (g.R.Remotes.holds c.args.remotes.now)) c.in-Ok.command c.run_command.result (g.met.H.Host.is_tree c.args.host.now) c.in-Ok.ensures.ok (c.run_command.ensures.any_moment (g.R.Remotes.holds c.args.remotes.now)))
+returns-in-Ok-clause-any_moment g c = goes_last (goes_command (map string_bytes c.args.words.now) (told (g.I.Source.left c.args.input.now) (g.R.Remotes.holds c.args.remotes.now)) c.in-Ok.command c.run_command.result (g.met.H.Host.is_tree c.args.host.now) c.in-Ok.ensures.ok c.run_command.ensures.any_moment)
 
 pub returns-in-Ok-clause-at_return : goal.returns-in-Ok-clause-at_return
 returns-in-Ok-clause-at_return g c =
     let t = g.met.H.Host.is_tree c.args.host.now in
-    ends_goes t (goes_command (map string_bytes c.args.words.now) (told (g.I.Source.left c.args.input.now) (g.R.Remotes.holds c.args.remotes.now)) c.in-Ok.command c.run_command.result t c.in-Ok.ensures.ok (c.run_command.ensures.any_moment (g.R.Remotes.holds c.args.remotes.now)))
+    ends_goes t (goes_command (map string_bytes c.args.words.now) (told (g.I.Source.left c.args.input.now) (g.R.Remotes.holds c.args.remotes.now)) c.in-Ok.command c.run_command.result t c.in-Ok.ensures.ok c.run_command.ensures.any_moment)
 
 pub returns-in-Err-BadWords-clause-any_moment : goal.returns-in-Err-BadWords-clause-any_moment
 returns-in-Err-BadWords-clause-any_moment g c =
@@ -47,3 +50,20 @@ returns-in-Err-BadWords-clause-input g c = λ five. absurd (elim c.refuse_words.
 
 pub returns-in-Err-NoMemory-clause-taken : goal.returns-in-Err-NoMemory-clause-taken
 returns-in-Err-NoMemory-clause-taken g c = took_nothing (command_of (map string_bytes c.args.words.now)) (g.I.Source.left c.args.input.now)
+
+pub returns-in-Ok-clause-fault_has_cause : goal.returns-in-Ok-clause-fault_has_cause
+returns-in-Ok-clause-fault_has_cause g c =
+    subst (λ (o : Option Command). IsCaused (AreToldFor (OpsFor o (g.I.Source.left c.args.input.now)) (g.R.Remotes.holds c.args.remotes.now) × (c.run_command.result ≡ 3)) (g.H.Host.moments c.args.host.now) (Serves o) (g.H.Host.faults c.args.host.now) (g.H.Host.faults c.run_command.new.host)) (sym c.in-Ok.ensures.ok) c.run_command.ensures.fault_has_cause
+
+pub returns-in-Ok-clause-remotes : goal.returns-in-Ok-clause-remotes
+returns-in-Ok-clause-remotes g c =
+    subst (λ (o : Option Command). AsksRemotes (OpsFor o (g.I.Source.left c.args.input.now)) (c.run_command.result ≡ 4) (g.R.Remotes.holds c.args.remotes.now) (g.R.Remotes.holds c.run_command.new.remotes) (g.R.Remotes.faults c.args.remotes.now) (g.R.Remotes.faults c.run_command.new.remotes)) (sym c.in-Ok.ensures.ok) c.run_command.ensures.remotes
+
+pub returns-in-Err-BadWords-clause-remotes : goal.returns-in-Err-BadWords-clause-remotes
+returns-in-Err-BadWords-clause-remotes g c = not_asked (OpsFor (command_of (map string_bytes c.args.words.now)) (g.I.Source.left c.args.input.now)) (c.refuse_words.result ≡ 4) (g.R.Remotes.holds c.args.remotes.now) (g.R.Remotes.faults c.args.remotes.now) (λ four. elim c.refuse_words.ensures.status [
+  | inl is ↦ omega (arith, four, is)
+  | inr more ↦ elim more [ inl is ↦ omega (arith, four, is) | inr is ↦ omega (arith, four, is) ]
+])
+
+pub returns-in-Err-NoMemory-clause-remotes : goal.returns-in-Err-NoMemory-clause-remotes
+returns-in-Err-NoMemory-clause-remotes g c = not_asked (OpsFor (command_of (map string_bytes c.args.words.now)) (g.I.Source.left c.args.input.now)) (6 ≡ 4) (g.R.Remotes.holds c.args.remotes.now) (g.R.Remotes.faults c.args.remotes.now) (λ four. omega (arith, four))

@@ -1,44 +1,64 @@
-use Rattle.std.proofs.Common.{◌≡◌, ◌∙◌, Result, Ok, Err, None, subst, ap, arith}
+use Rattle.std.proofs.Common.{◌≡◌, ◌∙◌, inl, inr, Result, Ok, Err, refl, subst, ap, arith}
 use Rattle.fp_host.specs.Moments.{Goes}
 use Rattle.fl_top.specs.Runs.{told}
-use Rattle.fl_top.specs.Performs.{RunsOn, EndedOn}
+use Rattle.fl_top.specs.RunsOver.{RunsOn, EndedOn, Takes}
 use Rattle.fl_top.specs.declared.command_end.CommandEnd.{CommandEnd}
 use Rattle.fl_top.specs.declared.command_end.CommandEnd.TheVariants.{Refused}
-use Rattle.fl_top.proofs.Finishing.{goes_done, goes_fault, goes_input, goes_memory, goes_refused, taken_at}
-use Rattle.fl_top.proofs.Composing.{caused_after}
+use Rattle.fl_top.proofs.Finishing.{goes_done, goes_fault, goes_remote, goes_input, goes_memory, goes_refused, taken_at, caused_after}
+use Rattle.fl_top.proofs.Asked.{asks_more, fails_changing}
 use Rattle.fl_top.proofs.Ending.{not_answered}
-use Rattle.fl_top.specs.Performs.{Takes}
 use Rattle.fl_top.proofs.running.run_command.Goals as goal
 
 pub returns-in-Ok-clause-any_moment : goal.returns-in-Ok-clause-any_moment
-returns-in-Ok-clause-any_moment g c = λ holds. goes_done c.args.command (told (g.I.Source.left c.args.input.now) holds) (g.met.H.Host.is_tree c.args.host.now) (c.in-Ok.ensures.any_moment holds)
+returns-in-Ok-clause-any_moment g c = goes_done c.args.command (told (g.I.Source.left c.args.input.now) (g.R.Remotes.holds c.args.remotes.now)) (g.met.H.Host.is_tree c.args.host.now) c.in-Ok.ensures.any_moment
 
 pub returns-in-Err-Refused-clause-any_moment : goal.returns-in-Err-Refused-clause-any_moment
-returns-in-Err-Refused-clause-any_moment g c = λ holds.
-    let t = told (g.I.Source.left c.args.input.now) holds in
-    let performed = subst (λ (e : CommandEnd). Goes (g.H.Host.moments c.args.host.now) (g.H.Host.moments c.perform.new.host) (RunsOn c.args.command t) (EndedOn c.args.command t (Err e))) c.in-Err-Refused.field-0-is (c.in-Err-Refused.ensures.any_moment holds) in
+returns-in-Err-Refused-clause-any_moment g c =
+    let t = told (g.I.Source.left c.args.input.now) (g.R.Remotes.holds c.args.remotes.now) in
+    let performed = subst (λ (e : CommandEnd). Goes (g.H.Host.moments c.args.host.now) (g.H.Host.moments c.perform.new.host) (RunsOn c.args.command t) (EndedOn c.args.command t (Err e))) c.in-Err-Refused.field-0-is c.in-Err-Refused.ensures.any_moment in
     goes_refused c.args.command t c.in-Err-Refused.refusal c.refuse.result (g.met.H.Host.is_tree c.perform.new.host) performed c.refuse.ensures.any_moment
 
 pub returns-in-Err-Fault-clause-any_moment : goal.returns-in-Err-Fault-clause-any_moment
-returns-in-Err-Fault-clause-any_moment g c = λ holds.
-    let t = told (g.I.Source.left c.args.input.now) holds in
-    goes_fault c.args.command t (g.met.H.Host.is_tree c.args.host.now) (subst (λ (e : CommandEnd). Goes (g.H.Host.moments c.args.host.now) (g.H.Host.moments c.perform.new.host) (RunsOn c.args.command t) (EndedOn c.args.command t (Err e))) c.in-Err-Fault.field-0-is (c.in-Err-Fault.ensures.any_moment holds))
+returns-in-Err-Fault-clause-any_moment g c =
+    let t = told (g.I.Source.left c.args.input.now) (g.R.Remotes.holds c.args.remotes.now) in
+    goes_fault c.args.command t (g.met.H.Host.is_tree c.args.host.now) (subst (λ (e : CommandEnd). Goes (g.H.Host.moments c.args.host.now) (g.H.Host.moments c.perform.new.host) (RunsOn c.args.command t) (EndedOn c.args.command t (Err e))) c.in-Err-Fault.field-0-is c.in-Err-Fault.ensures.any_moment)
 
 pub returns-in-Err-Fault-clause-fault_has_cause : goal.returns-in-Err-Fault-clause-fault_has_cause
 returns-in-Err-Fault-clause-fault_has_cause g c = record {
   later = c.perform.ensures.fault_has_cause.later;
-  fault = λ same. c.perform.ensures.fault_has_cause.fault (c.in-Err-Fault.is ∙ ap (λ (e : CommandEnd). Err e) c.in-Err-Fault.field-0-is);
+  fault = λ same. c.perform.ensures.fault_has_cause.fault (same.0, c.in-Err-Fault.is ∙ ap (λ (e : CommandEnd). Err e) c.in-Err-Fault.field-0-is);
 }
 
+pub returns-in-Err-RemoteFault-clause-any_moment : goal.returns-in-Err-RemoteFault-clause-any_moment
+returns-in-Err-RemoteFault-clause-any_moment g c =
+    let t = told (g.I.Source.left c.args.input.now) (g.R.Remotes.holds c.args.remotes.now) in
+    goes_remote c.args.command t (g.met.H.Host.is_tree c.args.host.now) (subst (λ (e : CommandEnd). Goes (g.H.Host.moments c.args.host.now) (g.H.Host.moments c.perform.new.host) (RunsOn c.args.command t) (EndedOn c.args.command t (Err e))) c.in-Err-RemoteFault.field-0-is c.in-Err-RemoteFault.ensures.any_moment)
+
+pub returns-in-Err-RemoteFault-clause-status : goal.returns-in-Err-RemoteFault-clause-status
+returns-in-Err-RemoteFault-clause-status g c =
+    inr (inr (inr (inl (refl, fails_changing c.args.command (g.I.Source.left c.args.input.now) c.perform.ensures.remotes (c.in-Err-RemoteFault.is ∙ ap (λ (e : CommandEnd). Err e) c.in-Err-RemoteFault.field-0-is)))))
+
+pub returns-in-Err-RemoteFault-clause-remotes : goal.returns-in-Err-RemoteFault-clause-remotes
+returns-in-Err-RemoteFault-clause-remotes g c = asks_more (λ op may. may) (λ four. c.in-Err-RemoteFault.is ∙ ap (λ (e : CommandEnd). Err e) c.in-Err-RemoteFault.field-0-is) c.perform.ensures.remotes
+
+pub returns-in-Err-RemoteFault-clause-taken : goal.returns-in-Err-RemoteFault-clause-taken
+returns-in-Err-RemoteFault-clause-taken g c = taken_at c.args.command c.perform.result 4 (g.I.Source.left c.args.input.now) (g.I.Source.left c.perform.new.input) c.perform.ensures.taken (λ taken answered. absurd (not_answered 4 (omega arith) answered))
+
+pub returns-in-Err-Refused-clause-remotes : goal.returns-in-Err-Refused-clause-remotes
+returns-in-Err-Refused-clause-remotes g c = asks_more (λ op may. may) (λ four. absurd (elim c.refuse.ensures.status [
+  | inl is ↦ omega (arith, four, is)
+  | inr more ↦ elim more [ inl is ↦ omega (arith, four, is) | inr is ↦ omega (arith, four, is) ]
+])) c.perform.ensures.remotes
+
 pub returns-in-Err-InputFault-clause-any_moment : goal.returns-in-Err-InputFault-clause-any_moment
-returns-in-Err-InputFault-clause-any_moment g c = λ holds.
-    let t = told (g.I.Source.left c.args.input.now) holds in
-    goes_input c.args.command t (g.met.H.Host.is_tree c.args.host.now) (subst (λ (e : CommandEnd). Goes (g.H.Host.moments c.args.host.now) (g.H.Host.moments c.perform.new.host) (RunsOn c.args.command t) (EndedOn c.args.command t (Err e))) c.in-Err-InputFault.field-0-is (c.in-Err-InputFault.ensures.any_moment holds))
+returns-in-Err-InputFault-clause-any_moment g c =
+    let t = told (g.I.Source.left c.args.input.now) (g.R.Remotes.holds c.args.remotes.now) in
+    goes_input c.args.command t (g.met.H.Host.is_tree c.args.host.now) (subst (λ (e : CommandEnd). Goes (g.H.Host.moments c.args.host.now) (g.H.Host.moments c.perform.new.host) (RunsOn c.args.command t) (EndedOn c.args.command t (Err e))) c.in-Err-InputFault.field-0-is c.in-Err-InputFault.ensures.any_moment)
 
 pub returns-in-Err-NoMemory-clause-any_moment : goal.returns-in-Err-NoMemory-clause-any_moment
-returns-in-Err-NoMemory-clause-any_moment g c = λ holds.
-    let t = told (g.I.Source.left c.args.input.now) holds in
-    goes_memory c.args.command t (g.met.H.Host.is_tree c.args.host.now) (subst (λ (e : CommandEnd). Goes (g.H.Host.moments c.args.host.now) (g.H.Host.moments c.perform.new.host) (RunsOn c.args.command t) (EndedOn c.args.command t (Err e))) c.in-Err-NoMemory.field-0-is (c.in-Err-NoMemory.ensures.any_moment holds))
+returns-in-Err-NoMemory-clause-any_moment g c =
+    let t = told (g.I.Source.left c.args.input.now) (g.R.Remotes.holds c.args.remotes.now) in
+    goes_memory c.args.command t (g.met.H.Host.is_tree c.args.host.now) (subst (λ (e : CommandEnd). Goes (g.H.Host.moments c.args.host.now) (g.H.Host.moments c.perform.new.host) (RunsOn c.args.command t) (EndedOn c.args.command t (Err e))) c.in-Err-NoMemory.field-0-is c.in-Err-NoMemory.ensures.any_moment)
 
 pub returns-in-Ok-clause-taken : goal.returns-in-Ok-clause-taken
 returns-in-Ok-clause-taken g c =
@@ -64,4 +84,16 @@ pub returns-in-Err-NoMemory-clause-taken : goal.returns-in-Err-NoMemory-clause-t
 returns-in-Err-NoMemory-clause-taken g c = taken_at c.args.command c.perform.result 6 (g.I.Source.left c.args.input.now) (g.I.Source.left c.perform.new.input) c.perform.ensures.taken (λ taken answered. absurd (not_answered 6 (omega arith) answered))
 
 pub returns-in-Err-Refused-clause-fault_has_cause : goal.returns-in-Err-Refused-clause-fault_has_cause
-returns-in-Err-Refused-clause-fault_has_cause g c = caused_after _ _ _ c.perform.ensures.fault_has_cause.later (c.in-Err-Refused.ensures.any_moment None) (λ u w q at. tt) c.refuse.ensures.fault_has_cause (λ is. is)
+returns-in-Err-Refused-clause-fault_has_cause g c = caused_after _ _ _ c.perform.ensures.fault_has_cause.later c.in-Err-Refused.ensures.any_moment (λ u w q at. tt) c.refuse.ensures.fault_has_cause (λ is. is.1)
+
+pub returns-in-Ok-clause-remotes : goal.returns-in-Ok-clause-remotes
+returns-in-Ok-clause-remotes g c = asks_more (λ op may. may) (λ four. absurd (let is : 0 ≡ 4 = four in omega (arith, is))) c.perform.ensures.remotes
+
+pub returns-in-Err-Fault-clause-remotes : goal.returns-in-Err-Fault-clause-remotes
+returns-in-Err-Fault-clause-remotes g c = asks_more (λ op may. may) (λ four. absurd (let is : 3 ≡ 4 = four in omega (arith, is))) c.perform.ensures.remotes
+
+pub returns-in-Err-InputFault-clause-remotes : goal.returns-in-Err-InputFault-clause-remotes
+returns-in-Err-InputFault-clause-remotes g c = asks_more (λ op may. may) (λ four. absurd (let is : 5 ≡ 4 = four in omega (arith, is))) c.perform.ensures.remotes
+
+pub returns-in-Err-NoMemory-clause-remotes : goal.returns-in-Err-NoMemory-clause-remotes
+returns-in-Err-NoMemory-clause-remotes g c = asks_more (λ op may. may) (λ four. absurd (let is : 6 ≡ 4 = four in omega (arith, is))) c.perform.ensures.remotes

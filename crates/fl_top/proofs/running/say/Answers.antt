@@ -1,5 +1,5 @@
 use Rattle.std.proofs.Common.{refl}
-use Rattle.fl_top.proofs.Saying.{goes_err, goes_ok}
+use Rattle.fl_change.proofs.Saying.{goes_err, goes_ok}
 use Rattle.fl_top.proofs.running.say.Goals as goal
 
 pub returns-in_err-say-clause-any_moment : goal.returns-in_err-say-clause-any_moment

@@ -1,6 +1,6 @@
 use Rattle.std.proofs.Common.{rules}
 use Rattle.fl_lines.specs.Lines.{refusal_text}
-use Rattle.fl_top.proofs.Saying.{goes_err, goes_ok}
+use Rattle.fl_change.proofs.Saying.{goes_err, goes_ok}
 use Rattle.fl_top.proofs.running.say_refusal.Goals as goal
 
 pub returns-in_err-say-clause-any_moment : goal.returns-in_err-say-clause-any_moment

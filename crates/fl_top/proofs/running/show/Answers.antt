@@ -1,8 +1,10 @@
 use Rattle.std.proofs.Common.{◌≡◌, sym, subst, rules, arith, List, ℕ, Ok, Err}
 use Rattle.fl_top.specs.Runs.{told}
-use Rattle.fl_top.specs.Answer.{shown_by, text_answer}
+use Rattle.fl_top.specs.Answer.{shown_by}
+use Rattle.fl_change.specs.Answer.{text_answer}
 use Rattle.fl_words.specs.declared.command.Command.TheVariants.{Show as Showing}
-use Rattle.fl_top.specs.Ends.{end_of_host, end_of_input, end_of_run, Prints}
+use Rattle.fl_change.specs.Ends.{end_of_host}
+use Rattle.fl_top.specs.Ends.{end_of_input, end_of_run, Prints}
 use Rattle.fl_top.proofs.Finishing.{goes_none, input_failed, input_ends, run_input, drained_by, not_taken}
 use Rattle.fl_top.proofs.ShowInput.{show_by, show_input, show_ends, no_fault, goes_shown, goes_not_shown, said_fault}
 use Rattle.fl_top.proofs.running.show.Goals as goal

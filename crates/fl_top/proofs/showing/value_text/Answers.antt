@@ -1,6 +1,6 @@
 use Rattle.std.proofs.Common.{List, ℕ, ap, sym, ◌∙◌, rules}
 use Rattle.fp_small.specs.declared.refusal.Refusal.TheVariants.{MalformedValue}
-use Rattle.fl_top.specs.Answer.{refusal_answer}
+use Rattle.fl_change.specs.Answer.{refusal_answer}
 use Rattle.gv_value.specs.Views.{shape_of}
 use Rattle.fl_top.proofs.Shown.{value_told, value_bad}
 use Rattle.fl_top.proofs.showing.value_text.Goals as goal

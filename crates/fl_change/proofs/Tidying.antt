@@ -1,0 +1,109 @@
+-- An installation that is tidied before anything else is done with it.
+use Rattle.std.proofs.Common.{◌≡◌, inl, List, [], ◌++◌, ℕ, Option, Result, Ok, Err, OnOk, refl, ◌∙◌, ap, subst}
+use Rattle.fp_host.specs.Causes.{IsCaused}
+use Rattle.fp_host.specs.Frame.{AtEnd}
+use Rattle.fp_host.specs.Moments.{Always}
+use Rattle.fp_host.specs.Remote.{Holdings}
+use Rattle.fp_host.specs.View.{View}
+use Rattle.fp_host.specs.Outcome.{shows}
+use Rattle.fp_host.specs.declared.host.HostEnd.{HostEnd}
+use Rattle.fp_host.specs.declared.host.HostEnd.TheVariants as host
+use Rattle.fp_host.proofs.Framed.{IsTold}
+use Rattle.fp_small.specs.declared.state.State.{State}
+use Rattle.fp_small.specs.declared.op.Op.{Op}
+use Rattle.fp_small.proofs.Keeping.{files_on}
+use Rattle.ost_walk.specs.Ends.{Outside}
+use Rattle.dep_states.specs.Sound.{Opens}
+use Rattle.dep_states.specs.Settled.{Settled}
+use Rattle.dep_tidy.specs.Tidy.{Tidies, WasTidied}
+use Rattle.fl_change.specs.World.{World, world_at}
+use Rattle.fl_change.specs.Answer.{Answer, Piece, joined}
+use Rattle.fl_change.specs.Ends.{end_of_host}
+use Rattle.fl_change.specs.Performs.{Printed, Performs, IsDone, IsHalted, Performed, PerformsOver, PerformedOver, Works, Acts, Rests}
+use Rattle.fl_change.specs.declared.end.RunEnd.{RunEnd}
+use Rattle.fl_change.specs.declared.end.RunEnd.TheVariants.{Refused, Fault, RemoteFault, NoMemory}
+use Rattle.fl_change.proofs.Changing.{tidied_on, tidies_only, config_tidied}
+use Rattle.fl_change.proofs.Composing.{Tidying, works_tidied, works_untidied}
+use Rattle.fl_change.proofs.Doing.{none_yet, not_done}
+use Rattle.fl_change.proofs.Working.{works_as, works_on}
+use Rattle.fl_change.proofs.Worlds.{holds_at, holds_tidied, world_held}
+
+-- the clauses of a tidying
+pub tidying_of : (s : State) (result : Result State HostEnd) {u v : Outside} → Always (Tidies s) u.told v.told → OnOk result (AtEnd (WasTidied s) u.told v.told) → ((t : State) → result ≡ Ok t → t ≡ s)
+    → IsCaused (result ≡ Err host.Fault) u.told (Opens s) u.host_faults v.host_faults → v.holdings ≡ u.holdings → v.remote_faults ≡ u.remote_faults → Tidying s result u v
+tidying_of s result moments success state cause holdings remote = record { moments = moments; success = success; state = state; host = cause; holdings = holdings; remote_faults = remote }
+
+first_moved : {a : Answer} {said : List Piece} {u v w : View} → v.printed ≡ u.printed → Printed a said v w → Printed a said u w
+first_moved {said = said} same printed = record { left = printed.left; pieces = printed.pieces; printed = printed.printed ∙ ap (λ (p : List ℕ). p ++ joined said) same }
+
+module _ (s : State) {u v : View} (tidies : Tidies s u v) (opens : Opens s u) where
+  -- the world after a tidying is that of before
+  tidied_world : world_at s v ≡ world_at s u
+  tidied_world = world_held s refl (holds_tidied tidies (holds_at s u opens))
+
+  -- nothing is done yet
+  tidied_first : (a : Answer) → Performs a s u v
+  tidied_first a = record { said = []; so_far = none_yet a tidies.printed; files = tidies.files; only_tidied = λ idle. tidies_only tidies; some = λ disk left. not_done a s disk (tidies.opens opens) left }
+
+  halted_first : (a : Answer) → IsHalted a s u v
+  halted_first a = record { said = []; so_far = none_yet a tidies.printed; opens = tidies.opens opens }
+
+  performs_moved : (a : Answer) {w : View} → Performs a s v w → Performs a s u w
+  performs_moved a performs = record {
+    said = performs.said;
+    so_far = first_moved tidies.printed performs.so_far;
+    files = files_on tidies.files performs.files;
+    only_tidied = λ idle. tidied_on (tidies_only tidies) (performs.only_tidied idle);
+    some = performs.some;
+  }
+
+  module _ (held : Holdings) (settled : Settled (shows v)) where
+    done_moved : (a : Answer) {w : View} → IsDone held a (world_at s v) v w → IsDone held a (world_at s v) u w
+    done_moved a done = record {
+      only_tidied = λ idle. tidied_on (tidies_only tidies) (done.only_tidied idle);
+      printed = done.printed ∙ ap (λ (p : List ℕ). p ++ joined a.pieces) tidies.printed;
+      holds = done.holds;
+      tidied = λ why. done.tidied (inl settled);
+      text = done.text;
+      config = λ not. done.config not ∙ config_tidied tidies;
+    }
+
+    halted_moved : (a : Answer) {w : View} → IsHalted a s v w → IsHalted a s u w
+    halted_moved a halted = record { said = halted.said; so_far = first_moved tidies.printed halted.so_far; opens = halted.opens }
+
+    performed_moved : (a : Answer) (r : Result State RunEnd) (w : View) → Performed held a (world_at s v) r v w → Performed held a (world_at s v) r u w
+    performed_moved a (Ok t) w done = (done.0, done.1, done_moved a done.2)
+    performed_moved a (Err (Refused refusal)) w done = (done.0, done_moved a done.1)
+    performed_moved a (Err Fault) w done = tt
+    performed_moved a (Err RemoteFault) w done = halted_moved a done
+    performed_moved a (Err NoMemory) w done = halted_moved a done
+
+-- ---- work after it
+
+first_over : (f : Holdings → World → Answer) (s : State) (holds : Option Holdings) (x y : View) → Tidies s x y → PerformsOver (Opens s) holds f s x y
+first_over f s holds x y tidies = record { performs = λ held told opens. tidied_first s tidies opens (f held (world_at s x)) }
+
+pub acts_untidied_first : {May : Op → Type 0} (f : Holdings → World → Answer) (s : State) (e : HostEnd) {u v : Outside} → Tidying s (Err e) u v → Acts (Opens s) May f s (Err (end_of_host e)) u v
+acts_untidied_first f s e {u = u} call = works_as (λ x y first p. first_over f s u.holdings x y p) (λ x y first p q. by e x y q) (works_untidied s e call)
+  where
+    by : (e : HostEnd) (x y : View) → Tidies s x y → PerformedOver (Opens s) u.holdings f s (Err (end_of_host e)) x y
+    by host.Fault x y tidies = record { performed = λ held told opens. tt }
+    by host.NoMemory x y tidies = record { performed = λ held told opens. halted_first s tidies opens (f held (world_at s x)) }
+
+pub acts_tidied_first : {May : Op → Type 0} (f : Holdings → World → Answer) (s t : State) (r : Result State RunEnd) {u v w : Outside} → IsTold v.told → Tidying s (Ok t) u v → Acts (Rests s) May f s r v w → Acts (Opens s) May f s r u w
+acts_tidied_first {May = May} f s t r {u = u} {v = v} {w = w} told call acts = works_on told first
+    (subst (λ (h : Option Holdings). Works May s (PerformsOver (Rests s) h f s) (PerformedOver (Rests s) h f s r) r v w) call.holdings acts)
+    (λ x y z p q n. record {
+      performs = λ held known opens.
+          let rests : Rests s y = record { opens = q.0.opens opens; settled = q.1.settled opens } in
+          subst (λ (a : World). Performs (f held a) s x z) (tidied_world s q.0 opens) (performs_moved s q.0 opens (f held (world_at s y)) (n.performs held known rests));
+    })
+    (λ x y z p q n l. record {
+      performed = λ held known opens.
+          let rests : Rests s y = record { opens = q.0.opens opens; settled = q.1.settled opens } in
+          subst (λ (a : World). Performed held (f held a) a r x z) (tidied_world s q.0 opens) (performed_moved s q.0 opens held rests.settled (f held (world_at s y)) r z (l.performed held known rests));
+    })
+  where
+    first : Works May s (PerformsOver (Opens s) u.holdings f s) (λ x y. Tidies s x y × WasTidied s x y) (Ok s) u v
+    first = works_as (λ x y first p. first_over f s u.holdings x y p) (λ x y first p q. q)
+        (subst (λ (z : State). Works May s (Tidies s) (λ x y. Tidies s x y × WasTidied s x y) (Ok z) u v) (call.state t refl) (works_tidied s t call))

@@ -1,0 +1,15 @@
+use Rattle.std.proofs.Common.{◌≡◌, drop}
+use Rattle.fp_small.specs.declared.state.Layout.TheVariants.{Two}
+use Rattle.ost_walk.specs.Ends.{outside}
+use Rattle.dep_states.specs.After.{IsGood}
+use Rattle.fl_change.specs.Refs.{drop_over}
+use Rattle.fl_change.specs.Turns.{IsUninstall}
+use Rattle.fl_change.proofs.Acting.{Turned}
+use Rattle.fl_change.proofs.removing.drop_each.Given as goal
+
+abbrev pub invariant-loop-name : goal.invariant-loop-name
+invariant-loop-name g l = record {
+  good : IsGood l.current;
+  layout : l.current.layout ≡ Two;
+  turned : Turned drop_over l.names IsUninstall l.fn.opened (drop l.name-index l.names) l.current (outside (g.H.Host.moments l.fn.host) (g.H.Host.faults l.fn.host) (g.R.Remotes.holds l.fn.remotes) (g.R.Remotes.faults l.fn.remotes)) (outside (g.H.Host.moments l.host) (g.H.Host.faults l.host) (g.R.Remotes.holds l.remotes) (g.R.Remotes.faults l.remotes));
+}

@@ -1,0 +1,10 @@
+pub mod World
+pub mod Answer
+pub mod Settings
+pub mod Refs
+pub mod Turns
+pub mod Changes
+pub mod Performs
+pub mod Ends
+pub mod Says
+pub mod Sample

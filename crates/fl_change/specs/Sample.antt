@@ -1,0 +1,55 @@
+-- A remote that offers a runtime with all its objects, and an installation that has nothing of it.
+use Rattle.std.specs.Prelude.{ℕ, ◌++◌, [], ◌∷◌, Some, None, codes}
+use Rattle.fp_host.specs.Outcome.{Spot, gone, folder, holds, points}
+use Rattle.fp_host.specs.Remote.{Held, Holdings, nothing, directory, contents, target}
+use Rattle.fp_small.specs.Places.{repo}
+use Rattle.fp_small.specs.declared.op.Op.TheVariants.{Install, Update, Uninstall}
+use Rattle.fp_small.specs.declared.state.State.{State}
+use Rattle.dep_states.specs.After.{Done, plain}
+use Rattle.dep_states.specs.Deployed.{platform, commit, deployed_disk, deployed_row}
+use Rattle.fl_plan.specs.Offered as shop
+use Rattle.fl_change.specs.World.{World, world_after}
+
+abbrev pub as_held : Spot → Held
+as_held gone = nothing
+as_held folder = directory
+as_held (holds id mode bytes) = contents mode bytes
+as_held (points text) = target text
+
+abbrev pub or_held : Held → Held → Held
+or_held nothing other = other
+or_held directory other = directory
+or_held (contents mode bytes) other = contents mode bytes
+or_held (target text) other = target text
+
+-- `config` and the ref's file, and else what a store with the runtime's objects has
+abbrev pub holdings : Holdings
+holdings url path = or_held (shop.holdings url path) (as_held (deployed_disk (path ++ repo)))
+
+-- the remote is set up, and no ref is deployed
+abbrev pub fresh : World
+fresh = record { state = shop.with_rows []; have = λ d kind. None }
+
+-- of a commit of time 7
+abbrev pub install : Done
+install = record { op = Install platform (codes "hub") commit; timestamp = 7 }
+
+abbrev pub installed : World
+installed = world_after holdings fresh install
+
+abbrev pub uninstalled : World
+uninstalled = world_after holdings installed (plain (Uninstall platform))
+
+-- the ref is deployed at another commit of this time, of which there is no object
+abbrev pub since : ℕ → World
+since time = record { state = shop.with_rows (shop.since time ∷ []); have = λ d kind. None }
+
+abbrev pub update : Done
+update = record { op = Update platform (codes "hub") commit; timestamp = 7 }
+
+abbrev pub updated : World
+updated = world_after holdings (since 7) update
+
+-- the commit of before is the previous one
+abbrev pub updated_state : State
+updated_state = shop.with_rows (record deployed_row { previous = Some (record { commit = []; timestamp = 7 }) } ∷ [])

@@ -1,0 +1,41 @@
+-- What speaks against a change of the settings.
+use Rattle.std.specs.Prelude.{ℕ, List, Bool, length, nat_le, find, Option, Some, None, option_map, if◌then◌else◌}
+use Rattle.std.specs.List.{list_any}
+use Rattle.std.specs.Str.{bytes_eq}
+use Rattle.fp_base.specs.declared.what.What.TheVariants.{Pins, Remotes}
+use Rattle.fp_name.specs.Refs.{Ref}
+use Rattle.fp_small.specs.Config.{name_of}
+use Rattle.fp_small.specs.Order.{has_name}
+use Rattle.fp_small.specs.declared.state.State.{State}
+use Rattle.fp_small.specs.declared.state.RefRow.{RefRow}
+use Rattle.fp_small.specs.declared.state.RemoteRow.{RemoteRow}
+use Rattle.fp_small.specs.declared.refusal.Refusal.{Refusal}
+use Rattle.fp_small.specs.declared.refusal.Refusal.TheVariants.{NoSuchRemote, RemoteExists, RemoteInUse, PinExists, NoSuchPin, Limit}
+
+abbrev pub is_pinned : List (List ℕ) → List ℕ → Bool
+is_pinned pins pin = list_any (bytes_eq pin) pins
+
+-- there may be 1,024 pins
+abbrev pub add_pin_refusal : List (List ℕ) → List ℕ → Option Refusal
+add_pin_refusal pins pin = if is_pinned pins pin then Some (PinExists pin) else (if nat_le 1024 (length pins) then Some (Limit Pins 1025) else None)
+
+abbrev pub drop_pin_refusal : List (List ℕ) → List ℕ → Option Refusal
+drop_pin_refusal pins pin = if is_pinned pins pin then None else Some (NoSuchPin pin)
+
+-- there may be 256 remotes
+abbrev pub add_remote_refusal : List RemoteRow → List ℕ → Option Refusal
+add_remote_refusal remotes name = if has_name name_of remotes name then Some (RemoteExists name) else (if nat_le 256 (length remotes) then Some (Limit Remotes 257) else None)
+
+abbrev pub remote_refusal : List RemoteRow → List ℕ → Option Refusal
+remote_refusal remotes name = if has_name name_of remotes name then None else Some (NoSuchRemote name)
+
+-- the first ref that comes from a remote
+abbrev pub first_from : List ℕ → List RefRow → Option Ref
+first_from remote rows = option_map (λ row. row.name) (find (λ row. bytes_eq row.origin remote) rows)
+
+abbrev pub in_use_refusal : List ℕ → Option Ref → Option Refusal
+in_use_refusal remote name = option_map (RemoteInUse remote) name
+
+-- a remote isn't deleted from which a ref comes
+abbrev pub drop_remote_refusal : State → List ℕ → Option Refusal
+drop_remote_refusal s name = if has_name name_of s.remotes name then in_use_refusal name (first_from name s.refs) else Some (NoSuchRemote name)

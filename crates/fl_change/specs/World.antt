@@ -1,0 +1,77 @@
+-- What a command works on: the state of the installation, and the objects that it has.
+use Rattle.std.specs.Prelude.{ℕ, List, [], ◌∷◌, Bool, true, false, ◌&&◌, None, if◌then◌else◌}
+use Rattle.std.specs.List.{list_any}
+use Rattle.std.specs.Str.{bytes_eq}
+use Rattle.fp_host.specs.Outcome.{Disk, shows}
+use Rattle.fp_host.specs.Remote.{Holdings}
+use Rattle.fp_host.specs.View.{View}
+use Rattle.fp_base.specs.declared.object.ObjKind.{ObjKind}
+use Rattle.fp_base.specs.declared.object.ObjKind.TheVariants as kinds
+use Rattle.fp_small.specs.Places.{repo}
+use Rattle.fp_small.specs.declared.state.State.{State}
+use Rattle.fp_small.specs.declared.op.Op.{Op}
+use Rattle.fp_small.specs.declared.op.Op.TheVariants.{Install, Update}
+use Rattle.ost_model.specs.Objects.{Have, store, supply}
+use Rattle.ost_model.specs.Order.{Place, order}
+use Rattle.ost_model.specs.Remotes.{remote}
+use Rattle.dep_states.specs.After.{Done, after}
+use Rattle.dep_tidy.specs.Kept.{kept_of}
+use Rattle.op_change.specs.Applied.{url_for}
+
+-- ---- the objects that commits use
+
+abbrev pub same_kind : ObjKind → ObjKind → Bool
+same_kind kinds.Commit kinds.Commit = true
+same_kind kinds.DirTree kinds.DirTree = true
+same_kind kinds.DirMeta kinds.DirMeta = true
+same_kind kinds.File kinds.File = true
+same_kind _ _ = false
+
+-- the object stands at this place of an order
+abbrev pub is_at : List ℕ → ObjKind → Place → Bool
+is_at d kind p = bytes_eq p.digest d && same_kind p.kind kind
+
+-- the commits that a state keeps: of each ref its commit and the previous one
+abbrev pub kept_commits : State → List (List ℕ)
+kept_commits s = kept_of s.refs
+
+-- the object stands in the order of a commit that the state keeps
+abbrev pub is_used : State → Have → List ℕ → ObjKind → Bool
+is_used s have d kind = list_any (λ commit. list_any (is_at d kind) (order have commit)) (kept_commits s)
+
+-- of these objects those that the state's commits use
+unfoldable pub used_of : State → Have → Have
+used_of s have d kind = if is_used s have d kind then have d kind else None
+
+-- ---- worlds
+
+pub record World : Type 0 where
+  pub state : State
+  pub have : Have
+
+-- An object that no kept commit uses counts as absent: it is taken away before a command works.
+abbrev pub world : State → Have → World
+world s have = record { state = s; have = used_of s have }
+
+-- the world of an image that shows this state
+abbrev pub world_in : State → Disk → World
+world_in s disk = world s (store repo disk)
+
+abbrev pub world_at : State → View → World
+world_at s v = world_in s (shows v)
+
+-- ---- what operations make of a world
+
+-- an operation that brings a commit begins with the objects of its remote beside those that are there
+abbrev pub supplied : Holdings → World → Op → Have
+supplied held x (Install name origin commit) = supply x.have (remote held (url_for x.state (Install name origin commit)))
+supplied held x (Update name origin commit) = supply x.have (remote held (url_for x.state (Update name origin commit)))
+supplied held x _ = x.have
+
+abbrev pub world_after : Holdings → World → Done → World
+world_after held x done = world (after x.state done) (supplied held x done.op)
+
+-- the world after operations in turn
+abbrev pub worlds_after : Holdings → World → List Done → World
+worlds_after held x [] = x
+worlds_after held x (done ∷ more) = worlds_after held (world_after held x done) more

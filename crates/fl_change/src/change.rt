@@ -1,0 +1,159 @@
+//! What changes the installation.
+ghost use Rattle.std.specs.Prelude.{◌≡◌, Option, IfOk};
+ghost use Rattle.fp_small.specs.declared.state.Layout.TheVariants.{Two};
+ghost use Rattle.ost_walk.specs.Ends.{outside};
+ghost use Rattle.fp_small.specs.declared.refusal.Refusal.{Refusal as SomeRefusal};
+ghost use Rattle.fp_small.specs.declared.op.Op.{Op as SomeOp};
+ghost use Rattle.fp_small.specs.declared.op.Op.TheVariants as ops;
+ghost use Rattle.dep_states.specs.After.{IsGood};
+ghost use Rattle.dep_states.specs.Sound.{Opens};
+ghost use Rattle.fl_change.specs.Answer.{op_answer, unless};
+ghost use Rattle.fl_change.specs.Ends.{IsAsked, IsPlain};
+ghost use Rattle.fl_change.specs.Performs.{Acts, Rests, Just};
+ghost use Rattle.fl_change.specs.Turns.{migrating, change_over, in_turn, changing, OpsOf, OpsOfAny, MayDo};
+
+use crate::end::RunEnd;
+use crate::going_back::roll_back;
+use crate::installing::install;
+use crate::operation::do_op;
+use crate::overriding::reset;
+use crate::removing::{uninstall, uninstall_unused};
+use crate::settings::{add_pin, add_remote, drop_pin, drop_remote, modify_remote};
+use crate::updating::{update_all, update_one};
+use dep_states::Opened;
+use dep_tidy::tidy;
+use fl_words::Change;
+use fp_host::{Host, Remotes};
+use fp_small::{Layout, Op};
+use std::alloc::Global;
+
+/// Makes the changes on an opened installation, one after another up to the first refusal. It is tidied and migrated before.
+/// Whatever the end but Ok, the installation is opened again before anything else is done with it.
+pub fn change_all<H: Host, R: Remotes>(
+    alloc: Global,
+    host: &mut H,
+    remotes: &mut R,
+    opened: Opened,
+    changes: &[Change],
+) -> Result<Opened, RunEnd>
+    requires good { IsGood opened }
+    // At every moment the first pieces of the answer were printed, and a stop leaves the state after a prefix of its operations
+    // that holds those that these pieces acknowledge.
+    ensures acts { Acts (Opens opened) (MayDo changes.now) (changing changes.now) opened result
+        (outside (H.moments host.old) (H.faults host.old) (R.holds remotes.old) (R.faults remotes.old))
+        (outside (H.moments host.new) (H.faults host.new) (R.holds remotes.new) (R.faults remotes.new)) }
+{
+    let tidied = tidy(alloc, host, opened)?;
+    let current = migrate(alloc, host, remotes, tidied)?;
+    do_each(alloc, host, remotes, current, changes)
+}
+
+/// Migrates an installation of layout 1.
+fn migrate<H: Host, R: Remotes>(
+    alloc: Global,
+    host: &mut H,
+    remotes: &mut R,
+    opened: Opened,
+) -> Result<Opened, RunEnd>
+    requires good { IsGood opened }
+    ensures good { IfOk result IsGood }
+    ensures layout { IfOk result (λ o. o.layout ≡ Two) }
+    ensures acts { Acts (Rests opened) (Just ops.Migrate) migrating opened result
+        (outside (H.moments host.old) (H.faults host.old) (R.holds remotes.old) (R.faults remotes.old))
+        (outside (H.moments host.new) (H.faults host.new) (R.holds remotes.new) (R.faults remotes.new)) }
+{
+    match opened.state().layout {
+        Layout::One => do_op(alloc, host, remotes, opened, &Op::Migrate),
+        Layout::Two => Ok(opened),
+    }
+}
+
+/// Makes the changes one after another, up to the first refusal.
+fn do_each<H: Host, R: Remotes>(
+    alloc: Global,
+    host: &mut H,
+    remotes: &mut R,
+    opened: Opened,
+    changes: &[Change],
+) -> Result<Opened, RunEnd>
+    requires good { IsGood opened }
+    requires layout { opened.layout ≡ Two }
+    ensures acts { Acts (Rests opened) (OpsOfAny changes.now) (in_turn changes.now) opened result
+        (outside (H.moments host.old) (H.faults host.old) (R.holds remotes.old) (R.faults remotes.old))
+        (outside (H.moments host.new) (H.faults host.new) (R.holds remotes.new) (R.faults remotes.new)) }
+{
+    let mut current = opened;
+    for change in changes {
+        current = do_change(alloc, host, remotes, current, change)?;
+    }
+    Ok(current)
+}
+
+/// Makes one change, where nothing speaks against it.
+fn do_change<H: Host, R: Remotes>(
+    alloc: Global,
+    host: &mut H,
+    remotes: &mut R,
+    opened: Opened,
+    change: &Change,
+) -> Result<Opened, RunEnd>
+    requires good { IsGood opened }
+    requires layout { opened.layout ≡ Two }
+    ensures good { IfOk result IsGood }
+    ensures layout { IfOk result (λ o. o.layout ≡ Two) }
+    ensures acts { Acts (Rests opened) (OpsOf change.now) (change_over change.now) opened result
+        (outside (H.moments host.old) (H.faults host.old) (R.holds remotes.old) (R.faults remotes.old))
+        (outside (H.moments host.new) (H.faults host.new) (R.holds remotes.new) (R.faults remotes.new)) }
+{
+    match change {
+        Change::Install { remote, name } => install(alloc, host, remotes, opened, remote, name),
+        Change::UpdateAll => update_all(alloc, host, remotes, opened),
+        Change::UpdateOne(name) => update_one(alloc, host, remotes, opened, name),
+        Change::Uninstall(name) => uninstall(alloc, host, remotes, opened, name),
+        Change::UninstallUnused => uninstall_unused(alloc, host, remotes, opened),
+        Change::Rollback(name) => roll_back(alloc, host, remotes, opened, name),
+        Change::OverrideReset { name } => reset(alloc, host, remotes, opened, name),
+        Change::Pin(pin) => {
+            let asked = add_pin(opened.state(), pin);
+            do_asked(alloc, host, remotes, opened, asked)
+        }
+        Change::Unpin(pin) => {
+            let asked = drop_pin(opened.state(), pin);
+            do_asked(alloc, host, remotes, opened, asked)
+        }
+        Change::RemoteAdd(row) => {
+            let asked = add_remote(opened.state(), row);
+            do_asked(alloc, host, remotes, opened, asked)
+        }
+        Change::RemoteModify(row) => {
+            let asked = modify_remote(opened.state(), row);
+            do_asked(alloc, host, remotes, opened, asked)
+        }
+        Change::RemoteDelete(name) => {
+            let asked = drop_remote(opened.state(), name);
+            do_asked(alloc, host, remotes, opened, asked)
+        }
+    }
+}
+
+/// Does the operation that is asked for, where nothing speaks against it.
+fn do_asked<H: Host, R: Remotes>(
+    alloc: Global,
+    host: &mut H,
+    remotes: &mut R,
+    opened: Opened,
+    asked: Result<Op, RunEnd>,
+) -> Result<Opened, RunEnd>
+    requires good { IsGood opened }
+    requires layout { opened.layout ≡ Two }
+    requires plain { IfOk asked (IsPlain opened) }
+    ensures good { IfOk result IsGood }
+    ensures layout { IfOk result (λ o. o.layout ≡ Two) }
+    ensures acts { (refusal : Option SomeRefusal) (op : SomeOp) → IsAsked refusal op asked
+        → Acts (Rests opened) (Just op) (λ held x. unless refusal (op_answer op)) opened result
+        (outside (H.moments host.old) (H.faults host.old) (R.holds remotes.old) (R.faults remotes.old))
+        (outside (H.moments host.new) (H.faults host.new) (R.holds remotes.new) (R.faults remotes.new)) }
+{
+    let op = asked?;
+    do_op(alloc, host, remotes, opened, &op)
+}

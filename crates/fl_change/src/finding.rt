@@ -1,0 +1,112 @@
+//! What the state has.
+ghost use Rattle.std.specs.Prelude.{◌≡◌, option_map, IfOk};
+ghost use Rattle.std.specs.List.{find};
+ghost use Rattle.std.specs.Option.{option_copied};
+ghost use Rattle.std.specs.Str.{bytes_eq};
+ghost use Rattle.fp_small.specs.Config.{name_of};
+ghost use Rattle.fl_extension.specs.Found.{has_ref as has_row};
+ghost use Rattle.fp_small.specs.declared.refusal.Refusal.TheVariants as refusals;
+ghost use Rattle.dep_states.specs.After.{row_at};
+ghost use Rattle.dep_states.specs.Shown.{at_name};
+ghost use Rattle.fl_change.specs.Ends.{IsTried, IsSaid, or_refuse};
+ghost use Rattle.fl_change.specs.Refs.{previous_in, missing_refusal, installed_refusal};
+
+use crate::end::RunEnd;
+use dep_switch::find_ref;
+use fp_name::{Digest, RefName, RemoteName};
+use fp_small::{Refusal, RemoteRow, State};
+use std::alloc::AllocError;
+
+/// The first remote whose name has this text.
+fn find_text<'a>(rows: &'a [RemoteRow], text: &str) -> Option<&'a RemoteRow>
+    ensures { option_copied result ≡ find (λ row. bytes_eq (name_of row) text.now) rows.now }
+{
+    rows.iter().find(|row| row.name.as_str() == text)
+}
+
+/// The remote of this name among others.
+fn remote_among<'a>(rows: &'a [RemoteRow], name: &RemoteName) -> Option<&'a RemoteRow>
+    ensures { option_copied result ≡ at_name name_of rows.now name.now }
+{
+    find_text(rows, name.as_str())
+}
+
+/// Whether the ref is deployed.
+fn has_ref(state: &State, name: &RefName) -> bool
+    ensures { result ≡ has_row state.now name.now }
+{
+    state.refs.as_slice().iter().any(|row| row.name == *name)
+}
+
+/// The remote of this name, where there is one.
+pub(crate) fn find_remote(state: &State, name: &RemoteName) -> Result<Option<RemoteRow>, AllocError>
+    ensures { IfOk result (λ row. row ≡ at_name name_of state.now.remotes name.now) }
+{
+    match remote_among(state.remotes.as_slice(), name) {
+        Some(row) => Ok(Some(row.copy()?)),
+        None => Ok(None),
+    }
+}
+
+/// The remote of this name.
+pub(crate) fn known_remote(state: &State, name: &RemoteName) -> Result<RemoteRow, RunEnd>
+    ensures { IsSaid (or_refuse (refusals.NoSuchRemote name.now)
+        (at_name name_of state.now.remotes name.now)) result }
+{
+    match find_remote(state, name)? {
+        Some(row) => Ok(row),
+        None => Err(RunEnd::Refused(Refusal::NoSuchRemote {
+            remote: name.copy()?,
+        })),
+    }
+}
+
+/// A ref that is deployed isn't installed again.
+pub(crate) fn try_new(state: &State, name: &RefName) -> Result<(), RunEnd>
+    ensures { IsTried (installed_refusal name.now (row_at state.now name.now)) result }
+{
+    match find_ref(state.refs.as_slice(), name) {
+        Some(_) => Err(RunEnd::Refused(Refusal::AlreadyInstalled { name: name.copy()? })),
+        None => Ok(()),
+    }
+}
+
+/// The remote that a deployed ref comes from.
+pub(crate) fn origin_of(state: &State, name: &RefName) -> Result<RemoteName, RunEnd>
+    ensures { IsSaid (or_refuse (refusals.NotInstalled name.now)
+        (option_map (λ row. row.origin) (row_at state.now name.now))) result }
+{
+    match find_ref(state.refs.as_slice(), name) {
+        Some(row) => Ok(row.origin.copy()?),
+        None => Err(RunEnd::Refused(Refusal::NotInstalled { name: name.copy()? })),
+    }
+}
+
+/// The commit that a deployed ref was at before.
+pub(crate) fn previous_of(state: &State, name: &RefName) -> Result<Digest, RunEnd>
+    ensures { IsSaid (previous_in name.now (row_at state.now name.now)) result }
+{
+    match find_ref(state.refs.as_slice(), name) {
+        Some(row) => match row.previous {
+            Some(previous) => Ok(previous.commit),
+            None => Err(RunEnd::Refused(Refusal::NoPrevious { name: name.copy()? })),
+        },
+        None => Err(RunEnd::Refused(Refusal::NotInstalled { name: name.copy()? })),
+    }
+}
+
+/// A runtime that is named has to be there.
+pub(crate) fn try_runtime(state: &State, runtime: &Option<RefName>) -> Result<(), RunEnd>
+    ensures { IsTried (missing_refusal state.now runtime.now) result }
+{
+    match runtime {
+        Some(name) => {
+            if has_ref(state, name) {
+                Ok(())
+            } else {
+                Err(RunEnd::Refused(Refusal::RuntimeMissing { name: name.copy()? }))
+            }
+        }
+        None => Ok(()),
+    }
+}

@@ -1,0 +1,48 @@
+//! Rollbacks.
+ghost use Rattle.std.specs.Prelude.{◌≡◌, IfOk};
+ghost use Rattle.fp_small.specs.declared.state.Layout.TheVariants.{Two};
+ghost use Rattle.ost_walk.specs.Ends.{outside};
+ghost use Rattle.dep_states.specs.After.{IsGood};
+ghost use Rattle.fl_change.specs.Performs.{Acts, Rests};
+ghost use Rattle.fl_change.specs.Refs.{rollback_over};
+ghost use Rattle.fl_change.specs.Turns.{IsRollback};
+
+use crate::end::RunEnd;
+use crate::finding::{previous_of, try_runtime};
+use crate::operation::do_op;
+use dep_states::Opened;
+use fl_installed::described;
+use fp_host::{Host, Remotes};
+use fp_name::RefName;
+use fp_small::Op;
+use std::alloc::Global;
+
+/// Puts a ref back to the commit that it was at before, whose runtime has to be there.
+pub(crate) fn roll_back<H: Host, R: Remotes>(
+    alloc: Global,
+    host: &mut H,
+    remotes: &mut R,
+    opened: Opened,
+    name: &RefName,
+) -> Result<Opened, RunEnd>
+    requires good { IsGood opened }
+    requires layout { opened.layout ≡ Two }
+    ensures good { IfOk result IsGood }
+    ensures layout { IfOk result (λ o. o.layout ≡ Two) }
+    ensures acts { Acts (Rests opened) (IsRollback name.now) (rollback_over name.now) opened result
+        (outside (H.moments host.old) (H.faults host.old) (R.holds remotes.old) (R.faults remotes.old))
+        (outside (H.moments host.new) (H.faults host.new) (R.holds remotes.new) (R.faults remotes.new)) }
+{
+    let commit = previous_of(opened.state(), name)?;
+    match described(alloc, host, name, &commit)? {
+        Ok(meta) => {
+            try_runtime(opened.state(), &meta.runtime)?;
+            let op = Op::Rollback {
+                name: name.copy()?,
+                commit,
+            };
+            do_op(alloc, host, remotes, opened, &op)
+        }
+        Err(refusal) => Err(RunEnd::Refused(refusal)),
+    }
+}

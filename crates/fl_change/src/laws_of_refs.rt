@@ -1,0 +1,279 @@
+//! Laws of what changes of refs and of overrides answer. Each is the contract of a function that does nothing.
+ghost use Rattle.std.specs.Prelude.{◌≡◌, ℕ, List, [], ◌∷◌, ◌++◌, true, false, Option, Some, None, Ok, Err, codes};
+ghost use Rattle.fp_host.specs.Remote.{Holdings};
+ghost use Rattle.fp_name.specs.Refs.{Ref};
+ghost use Rattle.fp_small.specs.Config.{name_of};
+ghost use Rattle.fp_small.specs.declared.op.Op.{Op};
+ghost use Rattle.fp_small.specs.declared.op.Op.TheVariants as ops;
+ghost use Rattle.fp_small.specs.declared.refusal.Refusal.{Refusal};
+ghost use Rattle.fp_small.specs.declared.refusal.Refusal.TheVariants as refusals;
+ghost use Rattle.fp_small.specs.declared.state.OverrideRow.{OverrideRow};
+ghost use Rattle.fp_small.specs.declared.state.Previous.{Previous};
+ghost use Rattle.fp_small.specs.declared.state.RefRow.{RefRow};
+ghost use Rattle.fp_small.specs.declared.state.RemoteRow.{RemoteRow};
+ghost use Rattle.ost_head.specs.Offers.{offered};
+ghost use Rattle.dep_states.specs.After.{Done, plain, row_at};
+ghost use Rattle.dep_states.specs.Deployed.{platform, commit_text, deployed_state};
+ghost use Rattle.dep_states.specs.Shown.{at_name, override_key};
+ghost use Rattle.op_change.specs.Applied.{done_with, op_refusal};
+ghost use Rattle.fl_meta.specs.declared.meta.Meta.{Meta};
+ghost use Rattle.fl_extension.specs.Found.{has_ref};
+ghost use Rattle.fl_installed.specs.Described.{described};
+ghost use Rattle.fl_installed.specs.Users.{first_user, installed_metas, installed_points};
+ghost use Rattle.fl_plan.specs.Plans.{plan_of};
+ghost use Rattle.fl_plan.specs.Targets.{targets_of};
+ghost use Rattle.fl_plan.specs.Unused.{unused_of};
+ghost use Rattle.fl_lines.specs.Lines.{op_text, skipped_text};
+ghost use Rattle.fl_words.specs.declared.command.Change.TheVariants as changes;
+ghost use Rattle.fl_change.specs.World.{World, supplied, world_after};
+ghost use Rattle.fl_change.specs.Answer.{Answer, done_answer, each_over, nothing, op_answer, refusal_answer};
+ghost use Rattle.fl_change.specs.Refs.{drop_over, ops_over, skipped, target_over};
+ghost use Rattle.fl_change.specs.Sample as sample;
+ghost use Rattle.fl_change.specs.Turns.{change_over};
+
+/// Operations go in turn. Each prints its line, and the next one works on the world that it leaves. The first whose commit is
+/// refused ends them: nothing is printed of those that would come after it.
+pub fn operations_go_in_turn()
+    ensures none { (held : Holdings) (x : World) → ops_over [] held x ≡ nothing }
+    ensures done { (held : Holdings) (x : World) (op : Op) (more : List Op) (d : Done)
+        (next : Answer) → op_refusal (supplied held x op) op ≡ None
+        → done_with (supplied held x op) op ≡ d → ops_over more held (world_after held x d) ≡ next
+        → ops_over (op ∷ more) held x
+        ≡ record {
+          pieces = record { text = op_text d.op; op = Some d } ∷ next.pieces;
+          refusal = next.refusal;
+        } }
+    ensures refused { (held : Holdings) (x : World) (op : Op) (more : List Op)
+        (refusal : Refusal) → op_refusal (supplied held x op) op ≡ Some refusal
+        → ops_over (op ∷ more) held x ≡ refusal_answer refusal }
+{}
+
+/// An install is refused for its remote first, then for its ref, which may not be deployed, and then for what the plan is refused
+/// for. Else the operations of the plan are done.
+pub fn installs_answer()
+    ensures no_remote { (held : Holdings) (x : World) (remote : List ℕ) (name : Ref)
+        → at_name name_of x.state.remotes remote ≡ None
+        → change_over (changes.Install remote name) held x
+        ≡ refusal_answer (refusals.NoSuchRemote remote) }
+    ensures installed { (held : Holdings) (x : World) (remote : List ℕ) (name : Ref)
+        (from : RemoteRow) (row : RefRow) → at_name name_of x.state.remotes remote ≡ Some from
+        → row_at x.state name ≡ Some row
+        → change_over (changes.Install remote name) held x
+        ≡ refusal_answer (refusals.AlreadyInstalled name) }
+    ensures refused { (held : Holdings) (x : World) (remote : List ℕ) (name : Ref)
+        (from : RemoteRow) (refusal : Refusal)
+        → at_name name_of x.state.remotes remote ≡ Some from → row_at x.state name ≡ None
+        → plan_of held x.have x.state from name ≡ Err refusal
+        → change_over (changes.Install remote name) held x ≡ refusal_answer refusal }
+    ensures planned { (held : Holdings) (x : World) (remote : List ℕ) (name : Ref)
+        (from : RemoteRow) (plan : List Op)
+        → at_name name_of x.state.remotes remote ≡ Some from → row_at x.state name ≡ None
+        → plan_of held x.have x.state from name ≡ Ok plan
+        → change_over (changes.Install remote name) held x ≡ ops_over plan held x }
+{}
+
+/// An update of a ref is refused for the ref first, which has to be deployed, then for the remote that it comes from, and then for
+/// what the plan is refused for: here a ref that isn't offered is refused too. Where there is nothing to do, nothing is printed.
+pub fn updates_answer()
+    ensures not_installed { (held : Holdings) (x : World) (name : Ref)
+        → row_at x.state name ≡ None
+        → change_over (changes.UpdateOne name) held x
+        ≡ refusal_answer (refusals.NotInstalled name) }
+    ensures no_remote { (held : Holdings) (x : World) (name : Ref) (row : RefRow)
+        → row_at x.state name ≡ Some row → at_name name_of x.state.remotes row.origin ≡ None
+        → change_over (changes.UpdateOne name) held x
+        ≡ refusal_answer (refusals.NoSuchRemote row.origin) }
+    ensures refused { (held : Holdings) (x : World) (name : Ref) (row : RefRow)
+        (from : RemoteRow) (refusal : Refusal) → row_at x.state name ≡ Some row
+        → at_name name_of x.state.remotes row.origin ≡ Some from
+        → plan_of held x.have x.state from name ≡ Err refusal
+        → change_over (changes.UpdateOne name) held x ≡ refusal_answer refusal }
+    ensures planned { (held : Holdings) (x : World) (name : Ref) (row : RefRow)
+        (from : RemoteRow) (plan : List Op) → row_at x.state name ≡ Some row
+        → at_name name_of x.state.remotes row.origin ≡ Some from
+        → plan_of held x.have x.state from name ≡ Ok plan
+        → change_over (changes.UpdateOne name) held x ≡ ops_over plan held x }
+    ensures up_to_date { (held : Holdings) (x : World) (name : Ref) (row : RefRow)
+        (from : RemoteRow) → row_at x.state name ≡ Some row
+        → at_name name_of x.state.remotes row.origin ≡ Some from
+        → plan_of held x.have x.state from name ≡ Ok []
+        → change_over (changes.UpdateOne name) held x ≡ nothing }
+{}
+
+/// Of an update of all that is installed, a target whose remote is gone is skipped, and so is one that its remote doesn't offer.
+/// Any other refusal is one here too: that a remote has the wrong mode is no reason to skip.
+pub fn targets_answer()
+    ensures remote_gone { (held : Holdings) (x : World) (name : Ref) (row : RefRow)
+        → row_at x.state name ≡ Some row → at_name name_of x.state.remotes row.origin ≡ None
+        → target_over name held x ≡ skipped name }
+    ensures not_offered { (held : Holdings) (x : World) (name : Ref) (row : RefRow)
+        (from : RemoteRow) (remote : List ℕ) (missed : Ref) → row_at x.state name ≡ Some row
+        → at_name name_of x.state.remotes row.origin ≡ Some from
+        → offered held from name ≡ Err (refusals.NoSuchRef remote missed)
+        → target_over name held x ≡ skipped name }
+    ensures wrong_mode { (held : Holdings) (x : World) (name : Ref) (row : RefRow)
+        (from : RemoteRow) (remote mode : List ℕ) → row_at x.state name ≡ Some row
+        → at_name name_of x.state.remotes row.origin ≡ Some from
+        → offered held from name ≡ Err (refusals.WrongMode remote mode)
+        → target_over name held x ≡ refusal_answer (refusals.WrongMode remote mode) }
+    ensures refused { (held : Holdings) (x : World) (name : Ref) (row : RefRow)
+        (from : RemoteRow) (refusal : Refusal) → row_at x.state name ≡ Some row
+        → at_name name_of x.state.remotes row.origin ≡ Some from
+        → plan_of held x.have x.state from name ≡ Err refusal
+        → ((remote : List ℕ) (missed : Ref) → refusal ≡ refusals.NoSuchRef remote missed → ⊥)
+        → target_over name held x ≡ refusal_answer refusal }
+    ensures planned { (held : Holdings) (x : World) (name : Ref) (row : RefRow)
+        (from : RemoteRow) (plan : List Op) → row_at x.state name ≡ Some row
+        → at_name name_of x.state.remotes row.origin ≡ Some from
+        → plan_of held x.have x.state from name ≡ Ok plan
+        → target_over name held x ≡ ops_over plan held x }
+{}
+
+/// An update of all goes through the targets that are there at its start. After one that is skipped the next is asked over the
+/// same world, after one that is brought over the world with it. A target that is refused ends the update.
+pub fn updates_of_all_go_on()
+    ensures begins { (held : Holdings) (x : World)
+        → change_over changes.UpdateAll held x
+        ≡ each_over target_over (targets_of x.state None) held x }
+    ensures none { (held : Holdings) (x : World) → each_over target_over [] held x ≡ nothing }
+    ensures skips { (held : Holdings) (x : World) (name : Ref) (more : List Ref) (next : Answer)
+        → target_over name held x ≡ skipped name → each_over target_over more held x ≡ next
+        → each_over target_over (name ∷ more) held x
+        ≡ record {
+          pieces = record { text = skipped_text name; op = None } ∷ next.pieces;
+          refusal = next.refusal;
+        } }
+    ensures stays { (held : Holdings) (x : World) (name : Ref) (more : List Ref)
+        → target_over name held x ≡ nothing
+        → each_over target_over (name ∷ more) held x ≡ each_over target_over more held x }
+    ensures brings { (held : Holdings) (x : World) (name : Ref) (more : List Ref) (op : Op)
+        (d : Done) (next : Answer) → target_over name held x ≡ ops_over (op ∷ []) held x
+        → op_refusal (supplied held x op) op ≡ None → done_with (supplied held x op) op ≡ d
+        → each_over target_over more held (world_after held x d) ≡ next
+        → each_over target_over (name ∷ more) held x
+        ≡ record {
+          pieces = record { text = op_text d.op; op = Some d } ∷ next.pieces;
+          refusal = next.refusal;
+        } }
+    ensures refused { (held : Holdings) (x : World) (name : Ref) (more : List Ref)
+        (refusal : Refusal) → target_over name held x ≡ refusal_answer refusal
+        → each_over target_over (name ∷ more) held x ≡ refusal_answer refusal }
+{}
+
+/// A ref that isn't deployed isn't uninstalled, nor is a runtime that a deployed application names: the first such is told.
+pub fn uninstalls_answer()
+    ensures not_installed { (held : Holdings) (x : World) (name : Ref)
+        → row_at x.state name ≡ None
+        → change_over (changes.Uninstall name) held x
+        ≡ refusal_answer (refusals.NotInstalled name) }
+    ensures in_use { (held : Holdings) (x : World) (name app : Ref) (row : RefRow)
+        → row_at x.state name ≡ Some row → first_user x.have name x.state.refs ≡ Some app
+        → change_over (changes.Uninstall name) held x
+        ≡ refusal_answer (refusals.RuntimeInUse name app) }
+    ensures done { (held : Holdings) (x : World) (name : Ref) (row : RefRow)
+        → row_at x.state name ≡ Some row → first_user x.have name x.state.refs ≡ None
+        → change_over (changes.Uninstall name) held x ≡ op_answer (ops.Uninstall name) }
+{}
+
+/// The runtimes that nothing needs at the start are taken away one after another, without a further question. Where there are none,
+/// nothing is printed.
+pub fn unused_runtimes_go()
+    ensures begins { (held : Holdings) (x : World)
+        → change_over changes.UninstallUnused held x
+        ≡ each_over drop_over (unused_of x.state (installed_metas x.have x.state.refs)
+        (installed_points x.have x.state.refs)) held x }
+    ensures none { (held : Holdings) (x : World) → each_over drop_over [] held x ≡ nothing }
+    ensures taken { (held : Holdings) (x : World) (name : Ref) (more : List Ref) (row : RefRow)
+        (next : Answer) → row_at x.state name ≡ Some row
+        → each_over drop_over more held (world_after held x (plain (ops.Uninstall name))) ≡ next
+        → each_over drop_over (name ∷ more) held x
+        ≡ record {
+          pieces = record {
+            text = op_text (ops.Uninstall name);
+            op = Some (plain (ops.Uninstall name));
+          } ∷ next.pieces;
+          refusal = next.refusal;
+        } }
+{}
+
+/// A rollback is refused for a ref that isn't deployed, then for one that has no previous commit, then for what is wrong with the
+/// metadata of that commit, and then for the runtime that this metadata names, where it isn't there.
+pub fn rollbacks_answer()
+    ensures not_installed { (held : Holdings) (x : World) (name : Ref)
+        → row_at x.state name ≡ None
+        → change_over (changes.Rollback name) held x
+        ≡ refusal_answer (refusals.NotInstalled name) }
+    ensures no_previous { (held : Holdings) (x : World) (name : Ref) (row : RefRow)
+        → row_at x.state name ≡ Some row → row.previous ≡ None
+        → change_over (changes.Rollback name) held x
+        ≡ refusal_answer (refusals.NoPrevious name) }
+    ensures bad_metadata { (held : Holdings) (x : World) (name : Ref) (row : RefRow)
+        (previous : Previous) (refusal : Refusal) → row_at x.state name ≡ Some row
+        → row.previous ≡ Some previous
+        → described x.have name previous.commit ≡ Err refusal
+        → change_over (changes.Rollback name) held x ≡ refusal_answer refusal }
+    ensures runtime_missing { (held : Holdings) (x : World) (name : Ref) (row : RefRow)
+        (previous : Previous) (meta : Meta) (runtime : Ref) → row_at x.state name ≡ Some row
+        → row.previous ≡ Some previous → described x.have name previous.commit ≡ Ok meta
+        → meta.runtime ≡ Some runtime → has_ref x.state runtime ≡ false
+        → change_over (changes.Rollback name) held x
+        ≡ refusal_answer (refusals.RuntimeMissing runtime) }
+    ensures runtime_there { (held : Holdings) (x : World) (name : Ref) (row : RefRow)
+        (previous : Previous) (meta : Meta) (runtime : Ref) → row_at x.state name ≡ Some row
+        → row.previous ≡ Some previous → described x.have name previous.commit ≡ Ok meta
+        → meta.runtime ≡ Some runtime → has_ref x.state runtime ≡ true
+        → change_over (changes.Rollback name) held x
+        ≡ op_answer (ops.Rollback name previous.commit) }
+    ensures no_runtime { (held : Holdings) (x : World) (name : Ref) (row : RefRow)
+        (previous : Previous) (meta : Meta) → row_at x.state name ≡ Some row
+        → row.previous ≡ Some previous → described x.have name previous.commit ≡ Ok meta
+        → meta.runtime ≡ None
+        → change_over (changes.Rollback name) held x
+        ≡ op_answer (ops.Rollback name previous.commit) }
+{}
+
+/// An override that is there is taken away. Where there is none, nothing is done and nothing is printed.
+pub fn resets_answer()
+    ensures none { (held : Holdings) (x : World) (name : List ℕ)
+        → at_name override_key x.state.overrides name ≡ None
+        → change_over (changes.OverrideReset name) held x ≡ nothing }
+    ensures done { (held : Holdings) (x : World) (name : List ℕ) (row : OverrideRow)
+        → at_name override_key x.state.overrides name ≡ Some row
+        → change_over (changes.OverrideReset name) held x ≡ op_answer (ops.DropOverride name) }
+{}
+
+/// A runtime is installed from a remote that offers it with all its objects: its line is printed, and it is deployed. After that the
+/// same install is refused, an update of all has nothing to do and prints nothing, a rollback has no commit to go back to, and an
+/// uninstall leaves the state of before.
+pub fn sample_runtime_is_installed()
+    ensures done { change_over (changes.Install (codes "hub") platform) sample.holdings sample.fresh
+        ≡ done_answer sample.install }
+    ensures text { op_text sample.install.op
+        ≡ codes "installed runtime/org.x.Platform/x86_64/1 " ++ (commit_text ++ 10 ∷ []) }
+    ensures state { sample.installed.state ≡ deployed_state }
+    ensures again { change_over (changes.Install (codes "hub") platform)
+        sample.holdings sample.installed
+        ≡ refusal_answer (refusals.AlreadyInstalled platform) }
+    ensures uninstalled { change_over (changes.Uninstall platform) sample.holdings sample.installed
+        ≡ op_answer (ops.Uninstall platform) }
+    ensures gone { sample.uninstalled.state ≡ sample.fresh.state }
+    ensures not_rolled_back { change_over (changes.Rollback platform)
+        sample.holdings sample.installed ≡ refusal_answer (refusals.NoPrevious platform) }
+    ensures idle { change_over changes.UpdateAll sample.holdings sample.installed ≡ nothing }
+{}
+
+/// A runtime is updated from the same remote, by an update of the ref and by one of all: the commit of before becomes the previous
+/// one. An older commit that the remote offers is refused by both.
+pub fn sample_runtime_is_updated()
+    ensures done { change_over (changes.UpdateOne platform) sample.holdings (sample.since 7)
+        ≡ done_answer sample.update }
+    ensures done_of_all { change_over changes.UpdateAll sample.holdings (sample.since 7)
+        ≡ done_answer sample.update }
+    ensures text { op_text sample.update.op
+        ≡ codes "updated runtime/org.x.Platform/x86_64/1 " ++ (commit_text ++ 10 ∷ []) }
+    ensures state { sample.updated.state ≡ sample.updated_state }
+    ensures older { change_over (changes.UpdateOne platform) sample.holdings (sample.since 8)
+        ≡ refusal_answer (refusals.Older platform 8 7) }
+    ensures older_of_all { change_over changes.UpdateAll sample.holdings (sample.since 8)
+        ≡ refusal_answer (refusals.Older platform 8 7) }
+{}

@@ -1,0 +1,18 @@
+//! Changes of an opened installation, one after another.
+#![tactic(auto)]
+
+mod change;
+mod end;
+mod finding;
+mod going_back;
+mod installing;
+pub mod laws;
+pub mod laws_of_refs;
+mod operation;
+mod overriding;
+mod removing;
+mod settings;
+mod updating;
+
+pub use change::change_all;
+pub use end::RunEnd;

@@ -1,0 +1,135 @@
+//! Uninstalls.
+ghost use Rattle.std.specs.Prelude.{◌≡◌, ◌≢◌, None, IfOk};
+ghost use Rattle.fp_small.specs.declared.state.Layout.TheVariants.{Two};
+ghost use Rattle.ost_walk.specs.Ends.{outside};
+ghost use Rattle.dep_states.specs.After.{IsGood, row_at};
+ghost use Rattle.fp_small.specs.declared.op.Op.TheVariants as ops;
+ghost use Rattle.fl_change.specs.Answer.{each_over};
+ghost use Rattle.fl_change.specs.Performs.{Acts, Rests, Just};
+ghost use Rattle.fl_change.specs.Refs.{op_over, uninstall_over, unused_over, drop_over};
+ghost use Rattle.fl_change.specs.Turns.{IsUninstall};
+
+use crate::end::RunEnd;
+use crate::finding::origin_of;
+use crate::operation::do_op;
+use dep_states::Opened;
+use dep_switch::find_ref;
+use fl_installed::{first_user, metas, points};
+use fl_plan::unused_extended;
+use fp_host::{Host, Remotes};
+use fp_name::RefName;
+use fp_small::{Op, Refusal};
+use std::alloc::Global;
+
+/// Takes a ref away, unless a deployed application names it as its runtime.
+pub(crate) fn uninstall<H: Host, R: Remotes>(
+    alloc: Global,
+    host: &mut H,
+    remotes: &mut R,
+    opened: Opened,
+    name: &RefName,
+) -> Result<Opened, RunEnd>
+    requires good { IsGood opened }
+    requires layout { opened.layout ≡ Two }
+    ensures good { IfOk result IsGood }
+    ensures layout { IfOk result (λ o. o.layout ≡ Two) }
+    ensures acts { Acts (Rests opened) (Just (ops.Uninstall name.now)) (uninstall_over name.now) opened result
+        (outside (H.moments host.old) (H.faults host.old) (R.holds remotes.old) (R.faults remotes.old))
+        (outside (H.moments host.new) (H.faults host.new) (R.holds remotes.new) (R.faults remotes.new)) }
+{
+    origin_of(opened.state(), name)?;
+    match first_user(alloc, host, opened.state(), name)? {
+        Some(app) => Err(RunEnd::Refused(Refusal::RuntimeInUse {
+            runtime: name.copy()?,
+            app,
+        })),
+        None => take_away(alloc, host, remotes, opened, name),
+    }
+}
+
+/// Takes a deployed ref away.
+fn take_away<H: Host, R: Remotes>(
+    alloc: Global,
+    host: &mut H,
+    remotes: &mut R,
+    opened: Opened,
+    name: &RefName,
+) -> Result<Opened, RunEnd>
+    requires good { IsGood opened }
+    requires layout { opened.layout ≡ Two }
+    requires deployed { row_at opened name.now ≢ None }
+    ensures good { IfOk result IsGood }
+    ensures layout { IfOk result (λ o. o.layout ≡ Two) }
+    ensures acts { Acts (Rests opened) (Just (ops.Uninstall name.now)) (op_over (ops.Uninstall name.now)) opened result
+        (outside (H.moments host.old) (H.faults host.old) (R.holds remotes.old) (R.faults remotes.old))
+        (outside (H.moments host.new) (H.faults host.new) (R.holds remotes.new) (R.faults remotes.new)) }
+{
+    let op = Op::Uninstall { name: name.copy()? };
+    do_op(alloc, host, remotes, opened, &op)
+}
+
+/// Takes the runtimes away that nothing keeps.
+pub(crate) fn uninstall_unused<H: Host, R: Remotes>(
+    alloc: Global,
+    host: &mut H,
+    remotes: &mut R,
+    opened: Opened,
+) -> Result<Opened, RunEnd>
+    requires good { IsGood opened }
+    requires layout { opened.layout ≡ Two }
+    ensures good { IfOk result IsGood }
+    ensures layout { IfOk result (λ o. o.layout ≡ Two) }
+    ensures acts { Acts (Rests opened) IsUninstall unused_over opened result
+        (outside (H.moments host.old) (H.faults host.old) (R.holds remotes.old) (R.faults remotes.old))
+        (outside (H.moments host.new) (H.faults host.new) (R.holds remotes.new) (R.faults remotes.new)) }
+{
+    let metas = metas(alloc, host, opened.state())?;
+    let points = points(alloc, host, opened.state())?;
+    let names = unused_extended(alloc, opened.state(), metas.as_slice(), points.as_slice())?;
+    drop_each(alloc, host, remotes, opened, names.as_slice())
+}
+
+/// Takes these refs away, one after another.
+fn drop_each<H: Host, R: Remotes>(
+    alloc: Global,
+    host: &mut H,
+    remotes: &mut R,
+    opened: Opened,
+    names: &[RefName],
+) -> Result<Opened, RunEnd>
+    requires good { IsGood opened }
+    requires layout { opened.layout ≡ Two }
+    ensures good { IfOk result IsGood }
+    ensures layout { IfOk result (λ o. o.layout ≡ Two) }
+    ensures acts { Acts (Rests opened) IsUninstall (each_over drop_over names.now) opened result
+        (outside (H.moments host.old) (H.faults host.old) (R.holds remotes.old) (R.faults remotes.old))
+        (outside (H.moments host.new) (H.faults host.new) (R.holds remotes.new) (R.faults remotes.new)) }
+{
+    let mut current = opened;
+    for name in names {
+        current = drop_one(alloc, host, remotes, current, name)?;
+    }
+    Ok(current)
+}
+
+/// Takes a ref away, where it is deployed.
+fn drop_one<H: Host, R: Remotes>(
+    alloc: Global,
+    host: &mut H,
+    remotes: &mut R,
+    opened: Opened,
+    name: &RefName,
+) -> Result<Opened, RunEnd>
+    requires good { IsGood opened }
+    requires layout { opened.layout ≡ Two }
+    ensures good { IfOk result IsGood }
+    ensures layout { IfOk result (λ o. o.layout ≡ Two) }
+    ensures acts { Acts (Rests opened) IsUninstall (drop_over name.now) opened result
+        (outside (H.moments host.old) (H.faults host.old) (R.holds remotes.old) (R.faults remotes.old))
+        (outside (H.moments host.new) (H.faults host.new) (R.holds remotes.new) (R.faults remotes.new)) }
+{
+    match find_ref(opened.state().refs.as_slice(), name) {
+        Some(_) => take_away(alloc, host, remotes, opened, name),
+        None => Ok(opened),
+    }
+}

@@ -1,0 +1,174 @@
+//! Updates.
+ghost use Rattle.std.specs.Prelude.{◌≡◌, true, IfOk};
+ghost use Rattle.fp_small.specs.Config.{name_of};
+ghost use Rattle.fp_small.specs.Order.{has_name};
+ghost use Rattle.fp_small.specs.declared.state.Layout.TheVariants.{Two};
+ghost use Rattle.ost_walk.specs.Ends.{outside};
+ghost use Rattle.dep_states.specs.After.{IsGood};
+ghost use Rattle.op_change.specs.Applied.{Brings};
+ghost use Rattle.fl_change.specs.Answer.{each_over};
+ghost use Rattle.fl_change.specs.Performs.{Acts, Rests};
+ghost use Rattle.fl_change.specs.Refs.{update_over, update_all_over, target_over, updated_from, skipped, is_no_offer as no_offer};
+
+use crate::end::RunEnd;
+use crate::finding::{find_remote, known_remote, origin_of};
+use crate::installing::{bring_target, do_ops};
+use dep_states::Opened;
+use dep_switch::find_ref;
+use fl_lines::skipped_line;
+use fl_plan::{ops, targets};
+use fp_host::{Host, Remotes};
+use fp_name::RefName;
+use fp_small::{Refusal, RemoteRow};
+use ost_head::PullEnd;
+use std::alloc::Global;
+
+/// Updates one ref, from the remote that it comes from.
+pub(crate) fn update_one<H: Host, R: Remotes>(
+    alloc: Global,
+    host: &mut H,
+    remotes: &mut R,
+    opened: Opened,
+    name: &RefName,
+) -> Result<Opened, RunEnd>
+    requires good { IsGood opened }
+    requires layout { opened.layout ≡ Two }
+    ensures good { IfOk result IsGood }
+    ensures layout { IfOk result (λ o. o.layout ≡ Two) }
+    ensures acts { Acts (Rests opened) Brings (update_over name.now) opened result
+        (outside (H.moments host.old) (H.faults host.old) (R.holds remotes.old) (R.faults remotes.old))
+        (outside (H.moments host.new) (H.faults host.new) (R.holds remotes.new) (R.faults remotes.new)) }
+{
+    let origin = origin_of(opened.state(), name)?;
+    let remote = known_remote(opened.state(), &origin)?;
+    bring_target(alloc, host, remotes, opened, &remote, name)
+}
+
+/// Updates all that is installed: the runtimes, and then the applications.
+pub(crate) fn update_all<H: Host, R: Remotes>(
+    alloc: Global,
+    host: &mut H,
+    remotes: &mut R,
+    opened: Opened,
+) -> Result<Opened, RunEnd>
+    requires good { IsGood opened }
+    requires layout { opened.layout ≡ Two }
+    ensures good { IfOk result IsGood }
+    ensures layout { IfOk result (λ o. o.layout ≡ Two) }
+    ensures acts { Acts (Rests opened) Brings update_all_over opened result
+        (outside (H.moments host.old) (H.faults host.old) (R.holds remotes.old) (R.faults remotes.old))
+        (outside (H.moments host.new) (H.faults host.new) (R.holds remotes.new) (R.faults remotes.new)) }
+{
+    let names = targets(alloc, opened.state(), None)?;
+    update_each(alloc, host, remotes, opened, names.as_slice())
+}
+
+/// Updates these refs, one after another up to the first that is refused.
+fn update_each<H: Host, R: Remotes>(
+    alloc: Global,
+    host: &mut H,
+    remotes: &mut R,
+    opened: Opened,
+    names: &[RefName],
+) -> Result<Opened, RunEnd>
+    requires good { IsGood opened }
+    requires layout { opened.layout ≡ Two }
+    ensures good { IfOk result IsGood }
+    ensures layout { IfOk result (λ o. o.layout ≡ Two) }
+    ensures acts { Acts (Rests opened) Brings (each_over target_over names.now) opened result
+        (outside (H.moments host.old) (H.faults host.old) (R.holds remotes.old) (R.faults remotes.old))
+        (outside (H.moments host.new) (H.faults host.new) (R.holds remotes.new) (R.faults remotes.new)) }
+{
+    let mut current = opened;
+    for name in names {
+        current = update_target(alloc, host, remotes, current, name)?;
+    }
+    Ok(current)
+}
+
+/// Updates one of all. It is passed over where the remote that it comes from isn't there any more.
+fn update_target<H: Host, R: Remotes>(
+    alloc: Global,
+    host: &mut H,
+    remotes: &mut R,
+    opened: Opened,
+    name: &RefName,
+) -> Result<Opened, RunEnd>
+    requires good { IsGood opened }
+    requires layout { opened.layout ≡ Two }
+    ensures good { IfOk result IsGood }
+    ensures layout { IfOk result (λ o. o.layout ≡ Two) }
+    ensures acts { Acts (Rests opened) Brings (target_over name.now) opened result
+        (outside (H.moments host.old) (H.faults host.old) (R.holds remotes.old) (R.faults remotes.old))
+        (outside (H.moments host.new) (H.faults host.new) (R.holds remotes.new) (R.faults remotes.new)) }
+{
+    let origin = match find_ref(opened.state().refs.as_slice(), name) {
+        Some(row) => row.origin.copy()?,
+        None => return Ok(opened),
+    };
+    match find_remote(opened.state(), &origin)? {
+        Some(remote) => update_from(alloc, host, remotes, opened, &remote, name),
+        None => skip(alloc, host, remotes, opened, name),
+    }
+}
+
+/// Whether a remote that can be pulled from doesn't offer the ref.
+fn is_no_offer(refusal: &Refusal) -> bool
+    ensures { result ≡ no_offer refusal.now }
+{
+    matches!(refusal, Refusal::NoSuchRef { .. })
+}
+
+/// Updates one of all from this remote. It is passed over where the remote doesn't offer it.
+fn update_from<H: Host, R: Remotes>(
+    alloc: Global,
+    host: &mut H,
+    remotes: &mut R,
+    opened: Opened,
+    remote: &RemoteRow,
+    name: &RefName,
+) -> Result<Opened, RunEnd>
+    requires good { IsGood opened }
+    requires layout { opened.layout ≡ Two }
+    requires remote { has_name name_of opened.remotes remote.now.name ≡ true }
+    ensures good { IfOk result IsGood }
+    ensures layout { IfOk result (λ o. o.layout ≡ Two) }
+    ensures acts { Acts (Rests opened) Brings (updated_from remote.now name.now) opened result
+        (outside (H.moments host.old) (H.faults host.old) (R.holds remotes.old) (R.faults remotes.old))
+        (outside (H.moments host.new) (H.faults host.new) (R.holds remotes.new) (R.faults remotes.new)) }
+{
+    match ops(alloc, host, remotes, opened.state(), remote, name) {
+        Ok(plan) => do_ops(alloc, host, remotes, opened, plan.as_slice()),
+        Err(PullEnd::Refused(refusal)) => {
+            if is_no_offer(&refusal) {
+                skip(alloc, host, remotes, opened, name)
+            } else {
+                Err(RunEnd::Refused(refusal))
+            }
+        }
+        Err(PullEnd::HostFault) => Err(RunEnd::Fault),
+        Err(PullEnd::RemoteFault) => Err(RunEnd::RemoteFault),
+        Err(PullEnd::NoMemory) => Err(RunEnd::NoMemory),
+    }
+}
+
+/// Says that a ref is passed over.
+fn skip<H: Host, R: Remotes>(
+    alloc: Global,
+    host: &mut H,
+    remotes: &mut R,
+    opened: Opened,
+    name: &RefName,
+) -> Result<Opened, RunEnd>
+    requires good { IsGood opened }
+    requires layout { opened.layout ≡ Two }
+    ensures good { IfOk result IsGood }
+    ensures layout { IfOk result (λ o. o.layout ≡ Two) }
+    ensures acts { Acts (Rests opened) Brings (λ held x. skipped name.now) opened result
+        (outside (H.moments host.old) (H.faults host.old) (R.holds remotes.old) (R.faults remotes.old))
+        (outside (H.moments host.new) (H.faults host.new) (R.holds remotes.new) (R.faults remotes.new)) }
+{
+    let line = skipped_line(alloc, name)?;
+    host.say(line.as_str().as_bytes())?;
+    Ok(opened)
+}

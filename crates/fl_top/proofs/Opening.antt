@@ -1,0 +1,159 @@
+-- An installation that is opened, and what goes on from there.
+use Rattle.std.proofs.Common.{◌≡◌, ◌≤◌, ℕ, List, [], ◌∷◌, Option, Result, Ok, Err, IsErrAnd, IsErrOf, refl, sym, ◌∙◌, ap, subst, arith}
+use Rattle.std.specs.List.{AllByRecursion}
+use Rattle.std.proofs.lemmas.List.{append_cancel_right}
+use Rattle.fp_host.specs.Causes.{IsCaused}
+use Rattle.fp_host.specs.Remote.{Holdings}
+use Rattle.fp_host.specs.View.{View, IsTree}
+use Rattle.fp_host.specs.Outcome.{Nothing}
+use Rattle.fp_host.specs.Moments.{Moments, Since, Goes, Always, views}
+use Rattle.fp_host.specs.Frame.{Frame, AtEnd, NoPath}
+use Rattle.fp_host.proofs.Cause.{Rose-later}
+use Rattle.fp_host.proofs.Framed.{IsTold}
+use Rattle.fp_host.proofs.Goes.{begins, goes_on}
+use Rattle.fp_host.proofs.Ending.{goes_known}
+use Rattle.fp_small.specs.declared.op.Op.{Op}
+use Rattle.fp_small.specs.declared.state.State.{State}
+use Rattle.ost_walk.specs.Ends.{Outside}
+use Rattle.dep_states.specs.Sound.{Opens}
+use Rattle.dep_open.specs.Open.{Opened, NoName, IsOpened, StaysUnread}
+use Rattle.dep_open.specs.declared.open_end.OpenEnd.{OpenEnd}
+use Rattle.dep_open.specs.declared.open_end.OpenEnd.TheVariants as open_ends
+use Rattle.fl_change.specs.World.{World}
+use Rattle.fl_change.specs.Answer.{Answer}
+use Rattle.fl_change.specs.Ends.{end_of_open}
+use Rattle.fl_change.specs.Performs.{PerformsOver, PerformedOver, ChangesFrom, Acts}
+use Rattle.fl_change.specs.declared.end.RunEnd.{RunEnd}
+use Rattle.fl_change.specs.declared.end.RunEnd.TheVariants as run
+use Rattle.fl_change.proofs.Both.{goes_both}
+use Rattle.fl_change.proofs.Working.{is_err}
+use Rattle.fl_top.specs.Asked.{AreToldFor}
+use Rattle.fl_top.specs.Runs.{IsReady}
+use Rattle.fl_top.specs.RunsOver.{RunsOver, EndedOver}
+use Rattle.fl_top.proofs.Starting.{Keeping, kept, IsLate, Begun, Working, begun_over, ready_sound, runs_over, done_over, failed_over, ended_open}
+
+-- it was looked at, and perhaps synced
+abbrev Looked : (View → View → Type 0) → View → View → Type 0
+Looked Q u w = IsTree u × Keeping u w × Q u w
+
+opening : {a b : Option Moments} {Q : View → View → Type 0} (holds : Option Holdings) (May : Op → Type 0) (f : Holdings → World → Answer) → IsLate f → IsTold a → Frame Nothing NoName NoPath a b → Goes a b StaysUnread StaysUnread → AtEnd Q a b → Goes a b (RunsOver holds May f) (Looked Q)
+opening holds May f late known frame unread tells = begins known (goes_known (goes_both (keeping known frame) unread) tells) (λ u w t r. begun_over holds May f late r.0 r.1) (λ u w t r q. (t, q.0.0, q.1))
+  where
+    keeping : {a b : Option Moments} → IsTold a → Frame Nothing NoName NoPath a b → Goes a b Keeping Keeping
+    keeping known frame = begins known frame.goes (λ u w t r. kept r) (λ u w t r q. kept q)
+
+pub goes_not_opened : {a b : Option Moments} (holds : Option Holdings) (May : Op → Type 0) (f : Holdings → World → Answer) (e : OpenEnd) (r : Result (Unit {0}) RunEnd) → IsLate f → IsTold a → Frame Nothing NoName NoPath a b → Goes a b StaysUnread StaysUnread → AtEnd (Opened (Err e)) a b → IsErrAnd r (λ end. end ≡ end_of_open e) → Goes a b (RunsOver holds May f) (EndedOver holds f r)
+goes_not_opened {a = a} {b = b} holds May f e r late known frame unread tells is =
+    subst (λ (x : Result (Unit {0}) RunEnd). Goes a b (RunsOver holds May f) (EndedOver holds f x)) (sym (is_err r (end_of_open e) is))
+    (begins known (opening holds May f late known frame unread tells) (λ u w t p. p) (λ u w t p q. ended_open holds f e q.1 q.2))
+
+begun : {s : State} {u v : View} → Looked (IsOpened s) u v → Begun s u v
+begun looked = record { before = looked.0; keeping = looked.1; opened = looked.2 }
+
+-- ---- what is known at each moment under a condition
+
+each_where : (P S : View → Type 0) (F : Type 0) (vs : List View) → AllByRecursion P vs → (F → AllByRecursion S vs) → AllByRecursion (λ v. P v × (F → S v)) vs
+each_where P S F [] one two = tt
+each_where P S F (v ∷ vs) one two = ((one.0, λ f. (two f).0), each_where P S F vs one.1 (λ f. (two f).1))
+
+since_where : {m n : Moments} {P S : View → Type 0} (F : Type 0) → Since m n P → (F → Since m n S) → Since m n (λ v. P v × (F → S v))
+since_where {m = m} {P = P} {S = S} F one two = record {
+  more = one.more;
+  grew = one.grew;
+  each = each_where P S F one.more one.each (λ f. let other = two f in subst (AllByRecursion S) (append_cancel_right other.more one.more (views m) (sym other.grew ∙ one.grew)) other.each);
+  last = (one.last, λ f. (two f).last);
+}
+
+goes_where : {a b : Option Moments} {R Q S : View → View → Type 0} (F : Type 0) → Goes a b R Q → (F → Always S a b) → Goes a b (λ u w. R u w × (F → S u w)) (λ u w. Q u w × (F → S u w))
+goes_where {S = S} F one two = record {
+  untold = one.untold;
+  told = λ m is.
+      let first = one.told m is in (
+        first.0,
+        first.1,
+        since_where F first.2 (λ f.
+            let second = (two f).told m is in
+            let same : second.0 ≡ first.0 = cc (first.1, second.1) in
+            subst (λ (n : Moments). Since m n (S m.now)) same second.2),
+        (
+          first.3,
+          λ f.
+              let second = (two f).told m is in
+              let same : second.0 ≡ first.0 = cc (first.1, second.1) in
+              subst (λ (n : Moments). S m.now n.now) same second.3,
+        ),
+      );
+}
+
+-- ---- work on what was opened
+
+module _ (May : Op → Type 0) (f : Holdings → World → Answer) (s : State) {r : Result State RunEnd} {u w : Outside} (works : Acts (Opens s) May f s r u w) where
+  abbrev Ended : View → View → Type 0
+  Ended x y = PerformedOver (Opens s) u.holdings f s r x y × (AreToldFor May u.holdings → ChangesFrom May s x y)
+
+  worked : Goes u.told w.told (Working u.holdings May f s) Ended
+  worked = record {
+    untold = both.untold;
+    told = λ m is.
+        let one = both.told m is in
+        (one.0, one.1, record { more = one.2.more; grew = one.2.grew; each = each_as m.now one.2.more one.2.each; last = record { performs = one.2.last.0; changes = one.2.last.1 } }, one.3);
+  }
+    where
+      both : Goes u.told w.told (λ x y. PerformsOver (Opens s) u.holdings f s x y × (AreToldFor May u.holdings → ChangesFrom May s x y)) Ended
+      both = goes_where (AreToldFor May u.holdings) works.goes works.changes
+
+      each_as : (x : View) (vs : List View) → AllByRecursion (λ y. PerformsOver (Opens s) u.holdings f s x y × (AreToldFor May u.holdings → ChangesFrom May s x y)) vs → AllByRecursion (Working u.holdings May f s x) vs
+      each_as x [] all = tt
+      each_as x (v ∷ vs) all = (record { performs = all.0.0; changes = all.0.1 }, each_as x vs all.1)
+
+pub goes_failed : {a : Option Moments} (May : Op → Type 0) (f : Holdings → World → Answer) (s : State) (e : RunEnd) (r : Result (Unit {0}) RunEnd) {u w : Outside} → IsLate f → IsTold a → IsTold u.told → Frame Nothing NoName NoPath a u.told → Goes a u.told StaysUnread StaysUnread → AtEnd (IsOpened s) a u.told
+    → Acts (Opens s) May f s (Err e) u w → IsErrAnd r (λ end. end ≡ e) → Goes a w.told (RunsOver u.holdings May f) (EndedOver u.holdings f r)
+goes_failed {a = a} May f s e r {u = u} {w = w} late known known_b frame unread tells works is =
+    subst (λ (x : Result (Unit {0}) RunEnd). Goes a w.told (RunsOver u.holdings May f) (EndedOver u.holdings f x)) (sym (is_err r e is))
+    (goes_on known_b (opening u.holdings May f late known frame unread tells) (worked May f s works) (λ x y z t p q step. runs_over u.holdings May f s late (begun q) t step) (λ x y z t p q step last. failed_over u.holdings f s e z (begun q) t last.0))
+
+pub goes_opened : {a : Option Moments} (May : Op → Type 0) (f : Holdings → World → Answer) (s t : State) {u w : Outside} → IsLate f → IsTold a → IsTold u.told → Frame Nothing NoName NoPath a u.told → Goes a u.told StaysUnread StaysUnread → AtEnd (IsOpened s) a u.told
+    → Acts (Opens s) May f s (Ok t) u w → Goes a w.told (RunsOver u.holdings May f) (EndedOver u.holdings f (Ok tt))
+goes_opened May f s t {u = u} late known known_b frame unread tells works =
+    goes_on known_b (opening u.holdings May f late known frame unread tells) (worked May f s works) (λ x y z tree p q step. runs_over u.holdings May f s late (begun q) tree step) (λ x y z tree p q step last. done_over u.holdings f s t z (begun q) tree last.0)
+
+-- ---- the cause of a fault
+
+-- it wasn't opened
+pub caused_open : {a : Option Moments} {F G : Type 0} {before now : ℕ} → IsCaused F a (λ v. Unit {0}) before now → (G → F) → IsCaused G a IsReady before now
+caused_open cause passes = record { later = cause.later; fault = λ is m told ready. cause.fault (passes is) m told tt }
+
+-- it was opened
+pub caused_work : {a : Option Moments} (May : Op → Type 0) (f : Holdings → World → Answer) (s : State) {r : Result State RunEnd} {u w : Outside} {G : Type 0} (before : ℕ) → before ≤ u.host_faults → AtEnd (IsOpened s) a u.told
+    → Acts (Opens s) May f s r u w → (G → AreToldFor May u.holdings × IsErrOf r run.Fault) → IsCaused G a IsReady before w.host_faults
+caused_work May f s {u = u} {w = w} before later tells works passes = record {
+  later = omega (arith, later, works.host.later);
+  fault = λ is m told ready.
+      let opened = tells.goes.told m told in
+      Rose-later before u.host_faults w.host_faults later (works.host.fault (passes is) opened.0 opened.1 (opened.3.opens (ready_sound opened.3.shown ready)));
+}
+
+-- the fault of what isn't opened is that of the opening
+pub open_fault : {A : Type 0} (o : Result A OpenEnd) (r : Result (Unit {0}) RunEnd) (e : OpenEnd) → o ≡ Err e → IsErrAnd r (λ end. end ≡ end_of_open e) → IsErrOf r run.Fault → IsErrOf o open_ends.Fault
+open_fault o r e was is fault = was ∙ ap (λ (x : OpenEnd). Err x) (of_open e (let both : Err (end_of_open e) ≡ Err run.Fault = sym (is_err r (end_of_open e) is) ∙ fault in cc both))
+  where
+    of_open : (e : OpenEnd) → end_of_open e ≡ run.Fault → e ≡ open_ends.Fault
+    of_open (open_ends.Damaged path) same = absurd (cc same)
+    of_open open_ends.Fault same = refl
+    of_open open_ends.NoMemory same = absurd (cc same)
+
+-- and it is none of the remotes
+pub open_remote : (r : Result (Unit {0}) RunEnd) (e : OpenEnd) → IsErrAnd r (λ end. end ≡ end_of_open e) → IsErrOf r run.RemoteFault → ⊥
+open_remote r e is fault = of_open e (let both : Err (end_of_open e) ≡ Err run.RemoteFault = sym (is_err r (end_of_open e) is) ∙ fault in cc both)
+  where
+    of_open : (e : OpenEnd) → end_of_open e ≡ run.RemoteFault → ⊥
+    of_open (open_ends.Damaged path) same = cc same
+    of_open open_ends.Fault same = cc same
+    of_open open_ends.NoMemory same = cc same
+
+-- an end that is passed on
+abbrev pub stopped : RunEnd → Result State RunEnd
+stopped e = Err e
+
+pub same_end : (e end : RunEnd) (r : Result (Unit {0}) RunEnd) → IsErrAnd r (λ x. x ≡ e) → IsErrOf r end → IsErrOf (stopped e) end
+same_end e end r is fault = let both : Err e ≡ Err end = sym (is_err r e is) ∙ fault in let same : e ≡ end = cc both in ap (λ (x : RunEnd). Err x) same

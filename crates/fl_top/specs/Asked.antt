@@ -1,0 +1,43 @@
+-- The operations that a command may do, and what it asks of the remotes.
+use Rattle.std.specs.Prelude.{◌≡◌, ◌≤◌, ℕ, List, [], ◌∷◌, Option, Some, None, Ok}
+use Rattle.fp_host.specs.Moments.{Rose}
+use Rattle.fp_host.specs.Remote.{Holdings}
+use Rattle.fp_small.specs.declared.op.Op.{Op}
+use Rattle.op_bring.specs.Bringing.{AreTold}
+use Rattle.fl_words.specs.declared.command.Command.{Command}
+use Rattle.fl_words.specs.declared.command.Command.TheVariants.{Change as Changing, List as Listed, Show as Showing, Batch}
+use Rattle.fl_words.specs.declared.command.Change.{Change}
+use Rattle.fl_words.specs.Batch.{batch_of}
+use Rattle.fl_change.specs.Performs.{AsksBy}
+use Rattle.fl_change.specs.Turns.{MayDo}
+use Rattle.fl_top.specs.Input.{IsWhole}
+
+-- a batch whose lines ask for these changes; where its input is told, that is all that was left
+pub record IsBatch (left : Option (List ℕ)) (changes : List Change) : Type 0 where
+  pub bytes : List ℕ
+  pub whole : IsWhole left bytes
+  pub read : batch_of bytes ≡ Ok changes
+
+-- the operations that a command may do, by what is left of the input
+abbrev pub OpsBy : Command → Option (List ℕ) → Op → Type 0
+OpsBy (Changing change) left op = MayDo (change ∷ []) op
+OpsBy (Listed listing) left op = ⊥
+OpsBy (Showing thing) left op = ⊥
+OpsBy Batch left op = (changes : List Change) × IsBatch left changes × MayDo changes op
+
+-- words that are no command do none
+abbrev pub OpsFor : Option Command → Option (List ℕ) → Op → Type 0
+OpsFor None left op = ⊥
+OpsFor (Some command) left op = OpsBy command left op
+
+-- where one of these operations brings a commit, the remotes tell what they hold
+abbrev pub AreToldFor : (Op → Type 0) → Option Holdings → Type 0
+AreToldFor May holds = AsksBy May → AreTold holds
+
+-- What operations ask of the remotes. These stay as they are; they aren't asked where no commit is brought; and a run fails by
+-- them only where they did.
+pub record AsksRemotes (May : Op → Type 0) (failed : Type 0) (old new : Option Holdings) (before now : ℕ) : Type 0 where
+  pub same : new ≡ old
+  pub later : before ≤ now
+  pub rose : failed → Rose before now
+  pub unasked : (AsksBy May → ⊥) → (now ≡ before) × (failed → ⊥)

@@ -1,0 +1,136 @@
+-- What a command leaves that opens the installation, for each answer that counts.
+use Rattle.std.specs.Prelude.{◌≡◌, ◌≢◌, ℕ, true, false, ◌⊎◌, [], Option, ◌++◌, List, Some, None, Result, Ok, Err}
+use Rattle.fp_host.specs.Paths.{Elements}
+use Rattle.fp_host.specs.Remote.{Holdings}
+use Rattle.fp_host.specs.View.{View}
+use Rattle.fp_host.specs.Outcome.{Disk, Leaves, shows}
+use Rattle.fp_small.specs.declared.state.State.{State}
+use Rattle.dep_states.specs.Shown.{Shows}
+use Rattle.dep_states.specs.Sound.{IsSound}
+use Rattle.dep_states.specs.After.{after_all}
+use Rattle.dep_open.specs.Open.{NotShown}
+use Rattle.dep_states.specs.Settled.{Settled}
+use Rattle.fl_words.specs.declared.command.Command.{Command}
+use Rattle.fl_change.specs.World.{World}
+use Rattle.fl_change.specs.Answer.{Answer, joined, ops_of, set_config}
+use Rattle.fp_small.specs.declared.op.Op.{Op}
+use Rattle.fl_top.specs.Answer.{Given, over, answer_over, IsOver}
+use Rattle.fl_top.specs.Asked.{OpsBy}
+use Rattle.fl_top.specs.Runs.{Runs, Ran, Stands, IsJust, Told, IsGivenTo, IsReady, IsKnown, MayAnswer}
+use Rattle.fl_change.specs.Changes.{Changes, IsUntouched, HasText}
+use Rattle.fl_top.specs.Input.{IsDrained}
+use Rattle.fl_top.specs.Status.{IsAnswered, only_looks, reads_input}
+use Rattle.fl_change.specs.declared.end.RunEnd.{RunEnd}
+use Rattle.fl_change.specs.declared.end.RunEnd.TheVariants.{Refused, Fault, RemoteFault, NoMemory}
+use Rattle.fl_top.specs.declared.command_end.CommandEnd.{CommandEnd}
+use Rattle.fl_top.specs.declared.command_end.CommandEnd.TheVariants as command
+
+-- so it is for each answer that counts, over what the image at the start gives
+abbrev pub OverView : (World → Answer) → View → (Answer → Type 0) → Type 0
+OverView f u Is = (shown : Result World Elements) → IsOver (over f) (shows u) shown → Is (over f shown)
+
+-- and so much changes
+pub record RunsOver (holds : Option Holdings) (May : Op → Type 0) (f : Holdings → World → Answer) (u w : View) : Type 0 where
+  pub runs : IsReady u → (held : Holdings) → holds ≡ Some held → OverView (f held) u (λ a. Runs a u w)
+  pub changes : IsKnown May holds u → Changes May u w
+  pub untouched : NotShown (shows u) → IsUntouched u w
+
+-- and nothing changes
+pub record LooksOver (f : World → Answer) (u w : View) : Type 0 where
+  pub runs : OverView f u (λ a. Runs a u w)
+  pub untouched : IsUntouched u w
+
+-- all that isn't the line of a refusal was printed, and what stands is the state after the operations
+pub record Completes (a : Answer) (u w : View) : Type 0 where
+  pub printed : w.printed ≡ u.printed ++ joined a.pieces
+  pub just : IsSound u → (disk : Disk) → Leaves w disk → IsJust (ops_of a) u disk
+  pub shown : IsSound u → (s : State) → Shows (shows u) s → Shows (shows w) (after_all s (ops_of a))
+  pub tidied : IsSound u → Settled (shows u) ⊎ (ops_of a ≢ []) → Settled (shows w)
+  pub text : set_config (ops_of a) ≡ true → (s : State) → Shows (shows u) s → HasText (after_all s (ops_of a)) w
+
+abbrev pub Ended : Answer → Result (Unit {0}) RunEnd → View → View → Type 0
+Ended a (Ok t) u w = (a.refusal ≡ None) × Completes a u w
+Ended a (Err (Refused refusal)) u w = (a.refusal ≡ Some refusal) × Completes a u w
+Ended a (Err Fault) u w = Unit {0}
+Ended a (Err RemoteFault) u w = Stands a u w
+Ended a (Err NoMemory) u w = Stands a u w
+
+-- the whole answer was given, but for the line of a refusal
+abbrev pub IsGivenBy : Result (Unit {0}) RunEnd → Type 0
+IsGivenBy (Ok t) = Unit {0}
+IsGivenBy (Err (Refused refusal)) = Unit {0}
+IsGivenBy (Err Fault) = ⊥
+IsGivenBy (Err RemoteFault) = ⊥
+IsGivenBy (Err NoMemory) = ⊥
+
+-- there is an answer that counts, where the whole answer was given
+abbrev pub HasOver : (World → Answer) → Result (Unit {0}) RunEnd → View → Type 0
+HasOver f result u = IsGivenBy result → (shown : Result World Elements) × IsOver (over f) (shows u) shown
+
+-- So it ended for each answer that counts.
+pub record EndedOver (holds : Option Holdings) (f : Holdings → World → Answer) (result : Result (Unit {0}) RunEnd) (u w : View) : Type 0 where
+  pub ended : IsReady u → (held : Holdings) → holds ≡ Some held → OverView (f held) u (λ a. Ended a result u w)
+  pub given : (held : Holdings) → HasOver (f held) result u
+
+-- and a command that looks, whatever the installation
+pub record LookedOver (f : World → Answer) (result : Result (Unit {0}) RunEnd) (u w : View) : Type 0 where
+  pub ended : OverView f u (λ a. Ended a result u w)
+  pub given : HasOver f result u
+
+-- ---- the same for a command and what it is given
+
+-- so it is for all that the command is given, and each answer that counts
+abbrev pub OverAll : Command → Told → View → (Answer → Type 0) → Type 0
+OverAll asked t u Is = (given : Given) → IsGivenTo asked t given → (shown : Result World Elements)
+    → IsOver (answer_over asked given) (shows u) shown → MayAnswer (Some asked) u (answer_over asked given shown) → Is (answer_over asked given shown)
+
+-- where this is so, there is an answer that counts for all such
+abbrev pub HasAnswer : Command → Told → View → Type 0 → Type 0
+HasAnswer asked t u Where = (given : Given) → IsGivenTo asked t given → Where
+    → (shown : Result World Elements) × IsOver (answer_over asked given) (shows u) shown
+
+-- Whatever it is given these are the changes, where what it brings is known; and a command that only looks, or sees no state, changes
+-- nothing.
+pub record RunsOn (asked : Command) (t : Told) (u w : View) : Type 0 where
+  pub changes : IsKnown (OpsBy asked t.left) t.holds u → Changes (OpsBy asked t.left) u w
+  pub runs : OverAll asked t u (λ a. Runs a u w)
+  pub untouched : (only_looks asked ≡ true) ⊎ NotShown (shows u) → IsUntouched u w
+
+-- so a command ends; where the input failed, nothing was done
+abbrev pub Closed : Answer → Result (Unit {0}) CommandEnd → View → View → Type 0
+Closed a (Ok t) u w = (a.refusal ≡ None) × Completes a u w
+Closed a (Err (command.Refused refusal)) u w = (a.refusal ≡ Some refusal) × Completes a u w
+Closed a (Err command.Fault) u w = Unit {0}
+Closed a (Err command.RemoteFault) u w = Stands a u w
+Closed a (Err command.InputFault) u w = w ≡ u
+Closed a (Err command.NoMemory) u w = Stands a u w
+
+-- a command that reads the input reads it to its end, unless that was too long, failed, or the run came to no end
+abbrev pub TakenBy : Result (Unit {0}) CommandEnd → Option (List ℕ) → Option (List ℕ) → Type 0
+TakenBy (Ok t) old new = IsDrained old new
+TakenBy (Err (command.Refused refusal)) old new = IsDrained old new
+TakenBy (Err command.Fault) old new = Unit {0}
+TakenBy (Err command.RemoteFault) old new = Unit {0}
+TakenBy (Err command.InputFault) old new = Unit {0}
+TakenBy (Err command.NoMemory) old new = Unit {0}
+
+pub record Takes (asked : Command) (result : Result (Unit {0}) CommandEnd) (old new : Option (List ℕ)) : Type 0 where
+  pub read : reads_input asked ≡ true → TakenBy result old new
+  pub left : reads_input asked ≡ false → new ≡ old
+
+-- the whole answer was given, but for the line of a refusal
+abbrev pub IsClosedBy : Result (Unit {0}) CommandEnd → Type 0
+IsClosedBy (Ok t) = Unit {0}
+IsClosedBy (Err (command.Refused refusal)) = Unit {0}
+IsClosedBy (Err command.Fault) = ⊥
+IsClosedBy (Err command.RemoteFault) = ⊥
+IsClosedBy (Err command.InputFault) = ⊥
+IsClosedBy (Err command.NoMemory) = ⊥
+
+pub record EndedOn (asked : Command) (t : Told) (result : Result (Unit {0}) CommandEnd) (u w : View) : Type 0 where
+  pub ended : OverAll asked t u (λ a. Closed a result u w)
+  pub given : HasAnswer asked t u (IsClosedBy result)
+
+pub record RanOn (asked : Command) (t : Told) (status : ℕ) (u w : View) : Type 0 where
+  pub ran : OverAll asked t u (λ a. Ran a status u w)
+  pub given : HasAnswer asked t u (IsAnswered status)

@@ -1,0 +1,144 @@
+//! What is listed of an installation.
+ghost use Rattle.std.specs.Prelude.{◌≡◌, Option, Some, IfOk, IsErrOf};
+ghost use Rattle.std.specs.List.{find};
+ghost use Rattle.std.specs.Option.{option_copied};
+ghost use Rattle.std.specs.Str.{bytes_eq};
+ghost use Rattle.fp_host.specs.Causes.{IsCounted};
+ghost use Rattle.fp_host.specs.Frame.{Unchanged};
+ghost use Rattle.fp_host.specs.Moments.{Goes};
+ghost use Rattle.fp_small.specs.Places.{repo};
+ghost use Rattle.ost_model.specs.Objects.{Have};
+ghost use Rattle.ost_model.specs.Remotes.{Stores};
+ghost use Rattle.dep_states.specs.After.{row_at};
+ghost use Rattle.dep_states.specs.Shown.{at_name, override_key};
+ghost use Rattle.fl_installed.specs.Described.{info_in as info_of};
+ghost use Rattle.fl_top.specs.Answer.{listed, known_of, told_of, override_text as text_of_override};
+ghost use Rattle.fl_top.specs.Ends.{PrintsOf};
+ghost use Rattle.fl_top.specs.RunsOver.{LooksOver, LookedOver};
+
+use dep_open::read_state;
+use dep_switch::find_ref;
+use fl_change::RunEnd;
+use fl_installed::{Info, info_in};
+use fl_lines::{info_text, pins_text, refs_text, remotes_text};
+use fl_words::Listing;
+use fp_base::Text;
+use fp_host::Host;
+use fp_name::RefName;
+use fp_small::{OverrideRow, RefRow, Refusal, State};
+use std::alloc::{AllocError, Global};
+
+/// Prints what is listed.
+pub(crate) fn list<H: Host>(alloc: Global, host: &mut H, listing: Listing) -> Result<(), RunEnd>
+    ensures any_moment { Goes (H.moments host.old) (H.moments host.new)
+        (LooksOver (listed listing)) (LookedOver (listed listing) result) }
+    ensures fault_has_cause { IsCounted (IsErrOf result RunEnd.Fault)
+        (H.moments host.old) (H.faults host.old) (H.faults host.new) }
+    ensures no_remote_fault { IsErrOf result RunEnd.RemoteFault → ⊥ }
+{
+    let state = read_state(alloc, host)?;
+    let text = listed_text(alloc, host, listing, &state)?;
+    host.say(text.as_str().as_bytes())?;
+    Ok(())
+}
+
+/// What is listed of a state.
+fn listed_text<H: Host>(
+    alloc: Global,
+    host: &mut H,
+    listing: Listing,
+    state: &State,
+) -> Result<Text, RunEnd>
+    ensures unchanged { Unchanged (H.moments host.old) (H.moments host.new) }
+    ensures tells { (have : Have) → Stores repo (H.moments host.old) have
+        → PrintsOf (listed listing (record { state = state.now; have = have })) result }
+    ensures fault_has_cause { IsCounted (IsErrOf result RunEnd.Fault)
+        (H.moments host.old) (H.faults host.old) (H.faults host.new) }
+    ensures no_remote_fault { IsErrOf result RunEnd.RemoteFault → ⊥ }
+{
+    match listing {
+        Listing::Refs => Ok(refs_text(alloc, state.refs.as_slice())?),
+        Listing::Remotes => Ok(remotes_text(alloc, state.remotes.as_slice())?),
+        Listing::Pins => Ok(pins_text(alloc, state.pins.as_slice())?),
+        Listing::Info(name) => known_text(alloc, host, state, &name),
+        Listing::OverrideShow { name } => Ok(override_text(alloc, state, &name)?),
+    }
+}
+
+/// What is known of a deployed ref.
+fn known_text<H: Host>(
+    alloc: Global,
+    host: &mut H,
+    state: &State,
+    name: &RefName,
+) -> Result<Text, RunEnd>
+    ensures unchanged { Unchanged (H.moments host.old) (H.moments host.new) }
+    ensures tells { (have : Have) → Stores repo (H.moments host.old) have
+        → PrintsOf (known_of name.now (record { state = state.now; have = have })) result }
+    ensures fault_has_cause { IsCounted (IsErrOf result RunEnd.Fault)
+        (H.moments host.old) (H.faults host.old) (H.faults host.new) }
+    ensures no_remote_fault { IsErrOf result RunEnd.RemoteFault → ⊥ }
+{
+    match find_ref(state.refs.as_slice(), name) {
+        Some(row) => row_text(alloc, host, name, row),
+        None => Err(RunEnd::Refused(Refusal::NotInstalled { name: name.copy()? })),
+    }
+}
+
+/// What is known of the ref of a row.
+fn row_text<H: Host>(
+    alloc: Global,
+    host: &mut H,
+    name: &RefName,
+    row: &RefRow,
+) -> Result<Text, RunEnd>
+    ensures unchanged { Unchanged (H.moments host.old) (H.moments host.new) }
+    ensures tells { (have : Have) → Stores repo (H.moments host.old) have
+        → PrintsOf (told_of row.now (info_of have name.now row.now.commit)) result }
+    ensures fault_has_cause { IsCounted (IsErrOf result RunEnd.Fault)
+        (H.moments host.old) (H.faults host.old) (H.faults host.new) }
+    ensures no_remote_fault { IsErrOf result RunEnd.RemoteFault → ⊥ }
+{
+    let info = info_in(alloc, host, name, &row.commit)?;
+    told_text(alloc, row, info)
+}
+
+/// What is said of a row and of what was read of its commit.
+fn told_text(alloc: Global, row: &RefRow, info: Result<Info, Refusal>) -> Result<Text, RunEnd>
+    ensures tells { PrintsOf (told_of row.now info) result }
+    ensures no_fault { IsErrOf result RunEnd.Fault → ⊥ }
+{
+    match info {
+        Ok(info) => Ok(info_text(
+            alloc,
+            row,
+            info.runtime.as_ref(),
+            info.extensions.as_slice(),
+        )?),
+        Err(refusal) => Err(RunEnd::Refused(refusal)),
+    }
+}
+
+/// The key file of an override, nothing where there is none.
+fn override_text(alloc: Global, state: &State, name: &Text) -> Result<Text, AllocError>
+    ensures { IfOk result (λ t. t ≡ text_of_override state.now name.now) }
+{
+    match find_override(state.overrides.as_slice(), name) {
+        Some(row) => row.file.write(),
+        None => Text::from_str(alloc, ""),
+    }
+}
+
+/// The override of this name.
+fn find_override<'a>(rows: &'a [OverrideRow], name: &Text) -> Option<&'a OverrideRow>
+    ensures { option_copied result ≡ at_name override_key rows.now name.now }
+{
+    find_text(rows, name.as_str())
+}
+
+/// The first override whose name has this text.
+fn find_text<'a>(rows: &'a [OverrideRow], text: &str) -> Option<&'a OverrideRow>
+    ensures { option_copied result ≡ find (λ row. bytes_eq (override_key row) text.now) rows.now }
+{
+    rows.iter().find(|row| row.name.as_str() == text)
+}
