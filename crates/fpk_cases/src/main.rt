@@ -16,19 +16,24 @@ use wrong::Wrong;
 
 mod capture;
 mod case;
+mod expecting;
 mod fault;
 mod folder;
+mod harm;
 mod memory;
+mod naming;
 mod outcomes;
 mod own_remotes;
 mod parser;
 mod playing;
+mod remote_faults;
 mod replay;
 mod showing;
 mod sign;
 mod stage;
 mod stops;
 mod system;
+mod wares;
 mod words;
 mod wrong;
 

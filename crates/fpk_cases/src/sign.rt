@@ -22,6 +22,16 @@ pub enum Sign {
     Folder,
     /// `@ PATH TEXT`: a symlink with this text stands there.
     Link,
+    /// `& PATH FILE`: the path is a hard link of the file.
+    HardLink,
+    /// `remote URL`: what follows is about the remote at this url.
+    Remote,
+    /// `commit LABEL REF TIME`: a commit of the remote, with what follows, which it offers under the ref.
+    Commit,
+    /// `offer REF LABEL`: the remote offers this commit under the ref.
+    Offer,
+    /// `break LABEL KIND HOW`, `break LABEL file PATH HOW`: an object of the remote is broken.
+    Break,
     /// `$ WORDS`: a command, and the lines that it prints.
     Command,
     /// `< LINE`: a line of its input.
@@ -40,6 +50,12 @@ pub enum Sign {
     Calls,
     /// `= PATH`: a file that stands there now, with just the content that follows.
     File(Form),
+    /// `=/ PATH`: a folder that stands there now.
+    FoundFolder,
+    /// `=@ PATH TEXT`: a symlink with this text that stands there now.
+    FoundLink,
+    /// `=& PATH FILE`: a file that stands there and at the path FILE now.
+    FoundHardLink,
     /// `- PATH`: nothing stands there now.
     Absent,
     /// `stops`: the case again from its start, with a stop or a failure at each call of the host.
@@ -62,7 +78,7 @@ pub struct Line<'a> {
 }
 
 /// The signs that a text follows.
-const BEFORE_TEXT: [(&str, Sign); 22] = [
+const BEFORE_TEXT: [(&str, Sign); 30] = [
     ("  ", Sign::Content),
     ("#", Sign::Blank),
     ("case ", Sign::Case),
@@ -71,6 +87,11 @@ const BEFORE_TEXT: [(&str, Sign); 22] = [
     ("+x ", Sign::Fixture(Form::Hex)),
     ("/ ", Sign::Folder),
     ("@ ", Sign::Link),
+    ("& ", Sign::HardLink),
+    ("remote ", Sign::Remote),
+    ("commit ", Sign::Commit),
+    ("offer ", Sign::Offer),
+    ("break ", Sign::Break),
     ("$ ", Sign::Command),
     ("< ", Sign::Input(Form::Lines)),
     ("<- ", Sign::Input(Form::Open)),
@@ -84,6 +105,9 @@ const BEFORE_TEXT: [(&str, Sign); 22] = [
     ("= ", Sign::File(Form::Lines)),
     ("=- ", Sign::File(Form::Open)),
     ("=x ", Sign::File(Form::Hex)),
+    ("=/ ", Sign::FoundFolder),
+    ("=@ ", Sign::FoundLink),
+    ("=& ", Sign::FoundHardLink),
     ("- ", Sign::Absent),
 ];
 

@@ -2,6 +2,7 @@
 use crate::case::{Command, Fixture, FixtureKind};
 use crate::folder::FolderStage;
 use crate::memory::MemStage;
+use crate::wares::Wares;
 use fp_host::{Host, HostEnd, Path, Stat};
 use std::alloc::{AllocError, Global};
 use std::rt::Files;
@@ -19,9 +20,12 @@ pub struct Ending {
 /// What stands at a path.
 #[derive(Drop)]
 pub enum PathState {
-    File { mode: u32, bytes: Vec<u8> },
+    /// Hard links of one file have one id.
+    File { id: u64, mode: u32, bytes: Vec<u8> },
+    Folder,
+    Link { text: String },
     Nothing,
-    /// A folder or a symlink, or what can't be looked at.
+    /// What can't be looked at.
     Other,
 }
 
@@ -49,16 +53,17 @@ impl<R: Files + AllocGlobal> Stage<'_, '_, R> {
         }
     }
 
-    /// Runs a command. Its input fails at the call with this number, counted from 0.
+    /// Runs a command over these remotes. Its input fails at the call with this number, counted from 0.
     pub fn run<T: Threads + Sync>(
         &mut self,
         rt: &T,
         command: &Command,
         input_fails_at: Option<u64>,
+        wares: &Wares,
     ) -> Result<Ending, AllocError> {
         match self {
-            Stage::Memory(stage) => stage.run(rt, command, input_fails_at),
-            Stage::Folder(stage) => stage.run(rt, command, input_fails_at),
+            Stage::Memory(stage) => stage.run(rt, command, input_fails_at, wares),
+            Stage::Folder(stage) => stage.run(rt, command, input_fails_at, wares),
         }
     }
 
@@ -89,10 +94,11 @@ pub fn give<H: Host>(
 ) -> Result<(), HostEnd> {
     make_folders(alloc, host, &given.path)?;
     let path = Path::parse(alloc, &given.path)?;
-    give_at(host, &path, &given.kind, bytes)
+    give_at(alloc, host, &path, &given.kind, bytes)
 }
 
 fn give_at<H: Host>(
+    alloc: Global,
     host: &mut H,
     path: &Path,
     kind: &FixtureKind,
@@ -102,19 +108,25 @@ fn give_at<H: Host>(
         FixtureKind::File { mode } => give_file(host, path, *mode, bytes)?,
         FixtureKind::Folder => host.make_dir(path)?,
         FixtureKind::Link { text } => host.symlink(text.as_str(), path)?,
+        FixtureKind::HardLink { file } => host.link(&Path::parse(alloc, file)?, path)?,
     }
     host.sync()?;
     Ok(())
 }
 
-fn give_file<H: Host>(host: &mut H, path: &Path, mode: u32, bytes: &[u8]) -> Result<(), HostEnd> {
+pub fn give_file<H: Host>(
+    host: &mut H,
+    path: &Path,
+    mode: u32,
+    bytes: &[u8],
+) -> Result<(), HostEnd> {
     host.create(path, mode)?;
     host.append(path, bytes)?;
     Ok(())
 }
 
 /// Makes the folders above a path.
-fn make_folders<H: Host>(alloc: Global, host: &mut H, path: &str) -> Result<(), HostEnd> {
+pub fn make_folders<H: Host>(alloc: Global, host: &mut H, path: &str) -> Result<(), HostEnd> {
     for (at, byte) in path.as_bytes().iter().enumerate() {
         if *byte == b'/' {
             make_folder(alloc, host, path.get(..at).unwrap_or(""))?;
@@ -138,8 +150,14 @@ pub fn find<H: Host>(alloc: Global, host: &mut H, path: &str) -> Result<PathStat
     let path = Path::parse(alloc, path)?;
     match host.stat(&path)? {
         Stat::Absent => Ok(PathState::Nothing),
-        Stat::File { mode, size, .. } => read_file(alloc, host, &path, mode, size),
-        Stat::Dir | Stat::Link => Ok(PathState::Other),
+        Stat::File { id, mode, size } => {
+            let bytes = read_file(alloc, host, &path, size)?;
+            Ok(PathState::File { id, mode, bytes })
+        }
+        Stat::Dir => Ok(PathState::Folder),
+        Stat::Link => Ok(PathState::Link {
+            text: host.read_link(alloc, &path)?.into_string(),
+        }),
     }
 }
 
@@ -147,11 +165,10 @@ fn read_file<H: Host>(
     alloc: Global,
     host: &mut H,
     path: &Path,
-    mode: u32,
     size: u64,
-) -> Result<PathState, HostEnd> {
+) -> Result<Vec<u8>, HostEnd> {
     let mut bytes = vec![in alloc; 0u8; size as usize]?;
     let count = host.read_at(path, 0, &mut bytes)?;
     bytes.truncate(count);
-    Ok(PathState::File { mode, bytes })
+    Ok(bytes)
 }
