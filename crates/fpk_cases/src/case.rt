@@ -61,6 +61,8 @@ pub enum FixtureKind {
     Folder,
     /// A symlink with this text.
     Link { text: String },
+    /// A hard link of the file at this path.
+    HardLink { file: String },
 }
 
 /// A command. What it is to print is the content of its step.

@@ -66,6 +66,7 @@ impl Parser {
             Sign::Fixture(_)
             | Sign::Folder
             | Sign::Link
+            | Sign::HardLink
             | Sign::Command
             | Sign::File(_)
             | Sign::Absent => self.begin_step(line),
@@ -192,6 +193,7 @@ fn action_of(alloc: Global, line: Line<'_>) -> Result<Action, Fault> {
         Sign::Fixture(_) => give_file_action(alloc, line.text),
         Sign::Folder => give_action(alloc, line.text, FixtureKind::Folder),
         Sign::Link => give_link_action(alloc, line.text),
+        Sign::HardLink => give_hard_link_action(alloc, line.text),
         Sign::Command => run_action(alloc, line.text),
         Sign::File(_) => expect_file_action(alloc, line.text),
         Sign::Absent => expect_nothing_action(alloc, line.text),
@@ -213,6 +215,12 @@ fn give_link_action(alloc: Global, text: &str) -> Result<Action, Fault> {
     let (path, text) = word_and_rest(text)?;
     let text = String::from_str(alloc, text)?;
     give_action(alloc, path, FixtureKind::Link { text })
+}
+
+fn give_hard_link_action(alloc: Global, text: &str) -> Result<Action, Fault> {
+    let (path, file) = word_and_rest(text)?;
+    let file = String::from_str(alloc, file)?;
+    give_action(alloc, path, FixtureKind::HardLink { file })
 }
 
 fn expect_file_action(alloc: Global, text: &str) -> Result<Action, Fault> {

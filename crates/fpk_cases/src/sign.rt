@@ -22,6 +22,8 @@ pub enum Sign {
     Folder,
     /// `@ PATH TEXT`: a symlink with this text stands there.
     Link,
+    /// `& PATH FILE`: the path is a hard link of the file.
+    HardLink,
     /// `$ WORDS`: a command, and the lines that it prints.
     Command,
     /// `< LINE`: a line of its input.
@@ -62,7 +64,7 @@ pub struct Line<'a> {
 }
 
 /// The signs that a text follows.
-const BEFORE_TEXT: [(&str, Sign); 22] = [
+const BEFORE_TEXT: [(&str, Sign); 23] = [
     ("  ", Sign::Content),
     ("#", Sign::Blank),
     ("case ", Sign::Case),
@@ -71,6 +73,7 @@ const BEFORE_TEXT: [(&str, Sign); 22] = [
     ("+x ", Sign::Fixture(Form::Hex)),
     ("/ ", Sign::Folder),
     ("@ ", Sign::Link),
+    ("& ", Sign::HardLink),
     ("$ ", Sign::Command),
     ("< ", Sign::Input(Form::Lines)),
     ("<- ", Sign::Input(Form::Open)),

@@ -89,10 +89,11 @@ pub fn give<H: Host>(
 ) -> Result<(), HostEnd> {
     make_folders(alloc, host, &given.path)?;
     let path = Path::parse(alloc, &given.path)?;
-    give_at(host, &path, &given.kind, bytes)
+    give_at(alloc, host, &path, &given.kind, bytes)
 }
 
 fn give_at<H: Host>(
+    alloc: Global,
     host: &mut H,
     path: &Path,
     kind: &FixtureKind,
@@ -102,6 +103,7 @@ fn give_at<H: Host>(
         FixtureKind::File { mode } => give_file(host, path, *mode, bytes)?,
         FixtureKind::Folder => host.make_dir(path)?,
         FixtureKind::Link { text } => host.symlink(text.as_str(), path)?,
+        FixtureKind::HardLink { file } => host.link(&Path::parse(alloc, file)?, path)?,
     }
     host.sync()?;
     Ok(())
