@@ -18,7 +18,9 @@ mod capture;
 mod case;
 mod fault;
 mod folder;
+mod harm;
 mod memory;
+mod naming;
 mod outcomes;
 mod own_remotes;
 mod parser;
@@ -29,6 +31,7 @@ mod sign;
 mod stage;
 mod stops;
 mod system;
+mod wares;
 mod words;
 mod wrong;
 

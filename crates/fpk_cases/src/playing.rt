@@ -1,6 +1,8 @@
 //! The steps of a case, one after another.
 use crate::case::{Action, Case, Command, Fixture, Step};
+use crate::naming::{text_with_digits, with_digits};
 use crate::stage::{Ending, PathState, Stage};
+use crate::wares::Wares;
 use crate::wrong::{Wrong, difference, message};
 use std::alloc::{AllocError, Global};
 use std::rt::Files;
@@ -13,8 +15,13 @@ pub fn play<T: Threads + Sync, R: Files + AllocGlobal>(
     stage: &mut Stage<'_, '_, R>,
     case: &Case,
 ) -> Result<Option<Wrong>, AllocError> {
-    for step in &case.steps {
-        if let Some(text) = play_step(rt, alloc, stage, step)? {
+    let mut wares = Wares::new(alloc);
+    for (at, step) in case.steps.iter().enumerate() {
+        let after = case.steps.get(at.saturating_add(1)..).unwrap_or(&[]);
+        if let Some(wrong) = wares.take(rt, step, after)? {
+            return Ok(Some(wrong));
+        }
+        if let Some(text) = play_step(rt, alloc, stage, step, &wares)? {
             let line = step.line;
             return Ok(Some(Wrong { line, text }));
         }
@@ -28,15 +35,26 @@ fn play_step<T: Threads + Sync, R: Files + AllocGlobal>(
     alloc: Global,
     stage: &mut Stage<'_, '_, R>,
     step: &Step,
+    wares: &Wares,
 ) -> Result<Option<String>, AllocError> {
     match &step.action {
         Action::Give(given) => play_give(alloc, stage, given, step.bytes()),
-        Action::Run(command) => play_command(rt, alloc, stage, command, step.bytes()),
-        Action::ExpectFile { path, mode } => {
-            let found = stage.find(path.as_str())?;
-            judge_file(alloc, &found, path.as_str(), *mode, step.bytes())
+        Action::BeginRemote { .. }
+        | Action::Commit(_)
+        | Action::Offer { .. }
+        | Action::Break { .. } => Ok(None),
+        Action::Run(command) => {
+            let expected = with_digits(alloc, wares, step.bytes())?;
+            play_command(rt, alloc, stage, command, &expected, wares)
         }
-        Action::ExpectNothing { path } => expect_nothing(alloc, stage, path.as_str()),
+        Action::ExpectFile { path, mode } => {
+            let path = text_with_digits(alloc, wares, path)?;
+            let expected = with_digits(alloc, wares, step.bytes())?;
+            judge_file(alloc, &stage.find(&path)?, &path, *mode, &expected)
+        }
+        Action::ExpectNothing { path } => {
+            expect_nothing(alloc, stage, &text_with_digits(alloc, wares, path)?)
+        }
     }
 }
 
@@ -46,6 +64,9 @@ fn play_give<R: Files + AllocGlobal>(
     given: &Fixture,
     bytes: &[u8],
 ) -> Result<Option<String>, AllocError> {
+    if !given.owner.is_installation() {
+        return Ok(None);
+    }
     match stage.give(given, bytes)? {
         true => Ok(None),
         false => message(alloc, "it can't be put there"),
@@ -90,15 +111,16 @@ fn play_command<T: Threads + Sync, R: Files + AllocGlobal>(
     stage: &mut Stage<'_, '_, R>,
     command: &Command,
     expected: &[u8],
+    wares: &Wares,
 ) -> Result<Option<String>, AllocError> {
     let unreached = command.pieces.map(|pieces| pieces.calls);
     for call in 0..unreached.unwrap_or(0) {
-        let ran = stage.run(rt, command, Some(call))?;
+        let ran = stage.run(rt, command, Some(call), wares)?;
         if ran.status != 5 || !ran.printed.is_empty() {
             return Ok(Some(failed_text(alloc, call, ran.status)?));
         }
     }
-    let ran = stage.run(rt, command, unreached)?;
+    let ran = stage.run(rt, command, unreached, wares)?;
     judge(alloc, command, &ran, expected)
 }
 

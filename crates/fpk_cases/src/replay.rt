@@ -2,6 +2,7 @@
 use crate::case::{Action, Case, Failure};
 use crate::memory::run_in_memory;
 use crate::stage::{give, unless_fault};
+use crate::wares::Wares;
 use fp_memhost::MemHost;
 use std::alloc::{AllocError, Global};
 use std::thread::Threads;
@@ -52,7 +53,9 @@ pub fn replay_case<R: Threads + Sync>(
 fn give_all(alloc: Global, host: &mut MemHost, case: &Case) -> Result<(), AllocError> {
     for step in &case.steps {
         if let Action::Give(given) = &step.action {
-            unless_fault(give(alloc, host, given, step.bytes()))?;
+            if given.owner.is_installation() {
+                unless_fault(give(alloc, host, given, step.bytes()))?;
+            }
         }
     }
     Ok(())
@@ -65,9 +68,12 @@ fn run_all<R: Threads + Sync>(
     host: &mut MemHost,
     case: &Case,
 ) -> Result<Option<u8>, AllocError> {
-    for step in &case.steps {
+    let mut wares = Wares::new(alloc);
+    for (at, step) in case.steps.iter().enumerate() {
+        let after = case.steps.get(at.saturating_add(1)..).unwrap_or(&[]);
+        let _refused = wares.take(rt, step, after)?;
         if let Action::Run(command) = &step.action {
-            let status = run_in_memory(rt, alloc, host, command, None)?;
+            let status = run_in_memory(rt, alloc, host, command, None, &wares)?;
             if status != command.status {
                 return Ok(Some(status));
             }

@@ -2,6 +2,7 @@
 use crate::case::Command;
 use crate::memory::run_in_memory;
 use crate::stage::{PathState, find, unless_fault};
+use crate::wares::Wares;
 use fp_memhost::{Image, MemHost};
 use std::alloc::{AllocError, Global};
 use std::thread::Threads;
@@ -53,7 +54,8 @@ fn is_done<R: Threads + Sync>(
     words: &[&str],
 ) -> Result<bool, AllocError> {
     let command = command_of(alloc, words)?;
-    Ok(run_in_memory(rt, alloc, host, &command, None)? == 0)
+    let wares = Wares::new(alloc);
+    Ok(run_in_memory(rt, alloc, host, &command, None, &wares)? == 0)
 }
 
 /// What a host shows, and nothing where a command that looks at it isn't done.

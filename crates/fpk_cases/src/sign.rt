@@ -24,6 +24,14 @@ pub enum Sign {
     Link,
     /// `& PATH FILE`: the path is a hard link of the file.
     HardLink,
+    /// `remote URL`: what follows is about the remote at this url.
+    Remote,
+    /// `commit LABEL REF TIME`: a commit of the remote, with what follows, which it offers under the ref.
+    Commit,
+    /// `offer REF LABEL`: the remote offers this commit under the ref.
+    Offer,
+    /// `break LABEL KIND HOW`, `break LABEL file PATH HOW`: an object of the remote is broken.
+    Break,
     /// `$ WORDS`: a command, and the lines that it prints.
     Command,
     /// `< LINE`: a line of its input.
@@ -64,7 +72,7 @@ pub struct Line<'a> {
 }
 
 /// The signs that a text follows.
-const BEFORE_TEXT: [(&str, Sign); 23] = [
+const BEFORE_TEXT: [(&str, Sign); 27] = [
     ("  ", Sign::Content),
     ("#", Sign::Blank),
     ("case ", Sign::Case),
@@ -74,6 +82,10 @@ const BEFORE_TEXT: [(&str, Sign); 23] = [
     ("/ ", Sign::Folder),
     ("@ ", Sign::Link),
     ("& ", Sign::HardLink),
+    ("remote ", Sign::Remote),
+    ("commit ", Sign::Commit),
+    ("offer ", Sign::Offer),
+    ("break ", Sign::Break),
     ("$ ", Sign::Command),
     ("< ", Sign::Input(Form::Lines)),
     ("<- ", Sign::Input(Form::Open)),

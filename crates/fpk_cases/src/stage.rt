@@ -2,6 +2,7 @@
 use crate::case::{Command, Fixture, FixtureKind};
 use crate::folder::FolderStage;
 use crate::memory::MemStage;
+use crate::wares::Wares;
 use fp_host::{Host, HostEnd, Path, Stat};
 use std::alloc::{AllocError, Global};
 use std::rt::Files;
@@ -49,16 +50,17 @@ impl<R: Files + AllocGlobal> Stage<'_, '_, R> {
         }
     }
 
-    /// Runs a command. Its input fails at the call with this number, counted from 0.
+    /// Runs a command over these remotes. Its input fails at the call with this number, counted from 0.
     pub fn run<T: Threads + Sync>(
         &mut self,
         rt: &T,
         command: &Command,
         input_fails_at: Option<u64>,
+        wares: &Wares,
     ) -> Result<Ending, AllocError> {
         match self {
-            Stage::Memory(stage) => stage.run(rt, command, input_fails_at),
-            Stage::Folder(stage) => stage.run(rt, command, input_fails_at),
+            Stage::Memory(stage) => stage.run(rt, command, input_fails_at, wares),
+            Stage::Folder(stage) => stage.run(rt, command, input_fails_at, wares),
         }
     }
 
@@ -109,14 +111,19 @@ fn give_at<H: Host>(
     Ok(())
 }
 
-fn give_file<H: Host>(host: &mut H, path: &Path, mode: u32, bytes: &[u8]) -> Result<(), HostEnd> {
+pub fn give_file<H: Host>(
+    host: &mut H,
+    path: &Path,
+    mode: u32,
+    bytes: &[u8],
+) -> Result<(), HostEnd> {
     host.create(path, mode)?;
     host.append(path, bytes)?;
     Ok(())
 }
 
 /// Makes the folders above a path.
-fn make_folders<H: Host>(alloc: Global, host: &mut H, path: &str) -> Result<(), HostEnd> {
+pub fn make_folders<H: Host>(alloc: Global, host: &mut H, path: &str) -> Result<(), HostEnd> {
     for (at, byte) in path.as_bytes().iter().enumerate() {
         if *byte == b'/' {
             make_folder(alloc, host, path.get(..at).unwrap_or(""))?;
