@@ -50,9 +50,27 @@ pub enum Action {
     /// An object of the remote is broken.
     Break { object: ObjectWords, harm: Harm },
     Run(Command),
-    /// A file stands there, with these permission bits.
-    ExpectFile { path: String, mode: u32 },
-    ExpectNothing { path: String },
+    Expect(Expected),
+}
+
+/// What is to stand at a path.
+#[derive(Drop)]
+pub struct Expected {
+    pub path: String,
+    pub what: What,
+}
+
+/// What stands there. What a file has is the content of its step.
+#[derive(Drop)]
+pub enum What {
+    /// A file with these permission bits.
+    File { mode: u32 },
+    Folder,
+    /// A symlink with this text.
+    Link { text: String },
+    /// The file that stands at this path too.
+    HardLink { file: String },
+    Nothing,
 }
 
 /// A commit of a remote, bound to a ref.

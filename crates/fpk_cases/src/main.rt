@@ -16,6 +16,7 @@ use wrong::Wrong;
 
 mod capture;
 mod case;
+mod expecting;
 mod fault;
 mod folder;
 mod harm;

@@ -95,8 +95,7 @@ pub fn text_with_digits(alloc: Global, wares: &Wares, text: &str) -> Result<Stri
 /// Adds what stood after a brace.
 fn push_piece(made: &mut Vec<u8>, wares: &Wares, piece: &str) -> Result<(), AllocError> {
     if let Some((name, rest)) = piece.split_once('}') {
-        if let Some(digits) = wares.digits(name)? {
-            made.extend_from_slice(&digits)?;
+        if push_name(made, wares, name)? {
             made.extend_from_slice(rest.as_bytes())?;
             return Ok(());
         }
@@ -104,4 +103,25 @@ fn push_piece(made: &mut Vec<u8>, wares: &Wares, piece: &str) -> Result<(), Allo
     made.push(b'{')?;
     made.extend_from_slice(piece.as_bytes())?;
     Ok(())
+}
+
+/// Adds what a name stands for: `at` and an object is its path in the installation, another one its digits. Answers whether
+/// there is such an object.
+fn push_name(made: &mut Vec<u8>, wares: &Wares, name: &str) -> Result<bool, AllocError> {
+    if let Some(object) = name.strip_prefix("at ") {
+        return match wares.place(object)? {
+            Some(path) => {
+                made.extend_from_slice(path.text().as_bytes())?;
+                Ok(true)
+            }
+            None => Ok(false),
+        };
+    }
+    match wares.digits(name)? {
+        Some(digits) => {
+            made.extend_from_slice(&digits)?;
+            Ok(true)
+        }
+        None => Ok(false),
+    }
 }

@@ -1,7 +1,7 @@
 //! Lines to cases.
 use crate::case::{
-    Action, Case, Command, CommitLine, Failure, Fixture, FixtureKind, Owner, Pieces, ShownText,
-    Step, Stops,
+    Action, Case, Command, CommitLine, Expected, Failure, Fixture, FixtureKind, Owner, Pieces,
+    ShownText, Step, Stops, What,
 };
 use crate::fault::Fault;
 use crate::naming::{Name, name_of};
@@ -75,6 +75,9 @@ impl Parser {
             | Sign::Break
             | Sign::Command
             | Sign::File(_)
+            | Sign::FoundFolder
+            | Sign::FoundLink
+            | Sign::FoundHardLink
             | Sign::Absent => self.begin_step(line),
             Sign::Input(_)
             | Sign::Zeros
@@ -233,7 +236,10 @@ fn action_of(alloc: Global, line: Line<'_>, owner: Owner) -> Result<Action, Faul
         Sign::Break => break_action(alloc, line.text),
         Sign::Command => run_action(alloc, line.text),
         Sign::File(_) => expect_file_action(alloc, line.text),
-        Sign::Absent => expect_nothing_action(alloc, line.text),
+        Sign::FoundFolder => expect_action(alloc, line.text, What::Folder),
+        Sign::FoundLink => expect_link_action(alloc, line.text),
+        Sign::FoundHardLink => expect_hard_link_action(alloc, line.text),
+        Sign::Absent => expect_action(alloc, line.text, What::Nothing),
         _ => Err(Fault::NoKind),
     }
 }
@@ -300,13 +306,24 @@ fn give_hard_link_action(alloc: Global, text: &str, owner: Owner) -> Result<Acti
 
 fn expect_file_action(alloc: Global, text: &str) -> Result<Action, Fault> {
     let (path, mode) = path_and_mode(text)?;
-    let path = String::from_str(alloc, path)?;
-    Ok(Action::ExpectFile { path, mode })
+    expect_action(alloc, path, What::File { mode })
 }
 
-fn expect_nothing_action(alloc: Global, text: &str) -> Result<Action, Fault> {
-    let path = String::from_str(alloc, text)?;
-    Ok(Action::ExpectNothing { path })
+fn expect_link_action(alloc: Global, text: &str) -> Result<Action, Fault> {
+    let (path, text) = word_and_rest(text)?;
+    let text = String::from_str(alloc, text)?;
+    expect_action(alloc, path, What::Link { text })
+}
+
+fn expect_hard_link_action(alloc: Global, text: &str) -> Result<Action, Fault> {
+    let (path, file) = word_and_rest(text)?;
+    let file = String::from_str(alloc, file)?;
+    expect_action(alloc, path, What::HardLink { file })
+}
+
+fn expect_action(alloc: Global, path: &str, what: What) -> Result<Action, Fault> {
+    let path = String::from_str(alloc, path)?;
+    Ok(Action::Expect(Expected { path, what }))
 }
 
 fn run_action(alloc: Global, text: &str) -> Result<Action, Fault> {

@@ -1,7 +1,8 @@
 //! The steps of a case, one after another.
 use crate::case::{Action, Case, Command, Fixture, Step};
-use crate::naming::{text_with_digits, with_digits};
-use crate::stage::{Ending, PathState, Stage};
+use crate::expecting::expect;
+use crate::naming::with_digits;
+use crate::stage::{Ending, Stage};
 use crate::wares::Wares;
 use crate::wrong::{Wrong, difference, message};
 use std::alloc::{AllocError, Global};
@@ -47,14 +48,7 @@ fn play_step<T: Threads + Sync, R: Files + AllocGlobal>(
             let expected = with_digits(alloc, wares, step.bytes())?;
             play_command(rt, alloc, stage, command, &expected, wares)
         }
-        Action::ExpectFile { path, mode } => {
-            let path = text_with_digits(alloc, wares, path)?;
-            let expected = with_digits(alloc, wares, step.bytes())?;
-            judge_file(alloc, &stage.find(&path)?, &path, *mode, &expected)
-        }
-        Action::ExpectNothing { path } => {
-            expect_nothing(alloc, stage, &text_with_digits(alloc, wares, path)?)
-        }
+        Action::Expect(expected) => expect(alloc, stage, expected, step.bytes(), wares),
     }
 }
 
@@ -70,37 +64,6 @@ fn play_give<R: Files + AllocGlobal>(
     match stage.give(given, bytes)? {
         true => Ok(None),
         false => message(alloc, "it can't be put there"),
-    }
-}
-
-fn expect_nothing<R: Files + AllocGlobal>(
-    alloc: Global,
-    stage: &mut Stage<'_, '_, R>,
-    path: &str,
-) -> Result<Option<String>, AllocError> {
-    match stage.find(path)? {
-        PathState::Nothing => Ok(None),
-        _ => message(alloc, "something stands there"),
-    }
-}
-
-fn judge_file(
-    alloc: Global,
-    found: &PathState,
-    path: &str,
-    mode: u32,
-    expected: &[u8],
-) -> Result<Option<String>, AllocError> {
-    match found {
-        PathState::File { mode: came, .. } if *came != mode => Ok(Some(format!(in alloc;
-            "{path}: expected mode {mode:o}, but {came:o} came"
-        )?)),
-        PathState::File { bytes, .. } if bytes.as_slice() != expected => {
-            Ok(Some(difference(alloc, path, expected, bytes)?))
-        }
-        PathState::File { .. } => Ok(None),
-        PathState::Nothing => message(alloc, "nothing stands there"),
-        PathState::Other => message(alloc, "what stands there is no file"),
     }
 }
 

@@ -50,6 +50,12 @@ pub enum Sign {
     Calls,
     /// `= PATH`: a file that stands there now, with just the content that follows.
     File(Form),
+    /// `=/ PATH`: a folder that stands there now.
+    FoundFolder,
+    /// `=@ PATH TEXT`: a symlink with this text that stands there now.
+    FoundLink,
+    /// `=& PATH FILE`: a file that stands there and at the path FILE now.
+    FoundHardLink,
     /// `- PATH`: nothing stands there now.
     Absent,
     /// `stops`: the case again from its start, with a stop or a failure at each call of the host.
@@ -72,7 +78,7 @@ pub struct Line<'a> {
 }
 
 /// The signs that a text follows.
-const BEFORE_TEXT: [(&str, Sign); 27] = [
+const BEFORE_TEXT: [(&str, Sign); 30] = [
     ("  ", Sign::Content),
     ("#", Sign::Blank),
     ("case ", Sign::Case),
@@ -99,6 +105,9 @@ const BEFORE_TEXT: [(&str, Sign); 27] = [
     ("= ", Sign::File(Form::Lines)),
     ("=- ", Sign::File(Form::Open)),
     ("=x ", Sign::File(Form::Hex)),
+    ("=/ ", Sign::FoundFolder),
+    ("=@ ", Sign::FoundLink),
+    ("=& ", Sign::FoundHardLink),
     ("- ", Sign::Absent),
 ];
 

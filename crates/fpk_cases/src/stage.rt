@@ -20,9 +20,12 @@ pub struct Ending {
 /// What stands at a path.
 #[derive(Drop)]
 pub enum PathState {
-    File { mode: u32, bytes: Vec<u8> },
+    /// Hard links of one file have one id.
+    File { id: u64, mode: u32, bytes: Vec<u8> },
+    Folder,
+    Link { text: String },
     Nothing,
-    /// A folder or a symlink, or what can't be looked at.
+    /// What can't be looked at.
     Other,
 }
 
@@ -147,8 +150,14 @@ pub fn find<H: Host>(alloc: Global, host: &mut H, path: &str) -> Result<PathStat
     let path = Path::parse(alloc, path)?;
     match host.stat(&path)? {
         Stat::Absent => Ok(PathState::Nothing),
-        Stat::File { mode, size, .. } => read_file(alloc, host, &path, mode, size),
-        Stat::Dir | Stat::Link => Ok(PathState::Other),
+        Stat::File { id, mode, size } => {
+            let bytes = read_file(alloc, host, &path, size)?;
+            Ok(PathState::File { id, mode, bytes })
+        }
+        Stat::Dir => Ok(PathState::Folder),
+        Stat::Link => Ok(PathState::Link {
+            text: host.read_link(alloc, &path)?.into_string(),
+        }),
     }
 }
 
@@ -156,11 +165,10 @@ fn read_file<H: Host>(
     alloc: Global,
     host: &mut H,
     path: &Path,
-    mode: u32,
     size: u64,
-) -> Result<PathState, HostEnd> {
+) -> Result<Vec<u8>, HostEnd> {
     let mut bytes = vec![in alloc; 0u8; size as usize]?;
     let count = host.read_at(path, 0, &mut bytes)?;
     bytes.truncate(count);
-    Ok(PathState::File { mode, bytes })
+    Ok(bytes)
 }

@@ -2,6 +2,7 @@
 use crate::case::{Action, CommitLine, Fixture, FixtureKind, Harm, ObjectWords, Owner, Step};
 use crate::fault::Fault;
 use crate::harm::{harmed, harmed_digest};
+use crate::naming::{Name, name_of};
 use crate::wrong::{Wrong, message};
 use fp_base::{Blob, ObjKind, Text};
 use fp_host::{Path, is_link_text};
@@ -234,15 +235,26 @@ impl Wares {
 
     /// The digits that stand for a name in braces; none where it names nothing.
     pub fn digits(&self, name: &str) -> Result<Option<[u8; 64]>, AllocError> {
-        match crate::naming::name_of(self.alloc, name) {
-            Ok(name) => self.digits_of(&name),
-            Err(Fault::NoMemory) => Err(AllocError),
-            Err(_) => Ok(None),
+        match read_name(self.alloc, name)? {
+            Some(name) => self.digits_of(&name),
+            None => Ok(None),
         }
     }
 
-    /// The same where the name is read.
-    fn digits_of(&self, name: &crate::naming::Name) -> Result<Option<[u8; 64]>, AllocError> {
+    /// The path of an object in the installation; none where the name names nothing.
+    pub fn place(&self, name: &str) -> Result<Option<Path>, AllocError> {
+        let Some(name) = read_name(self.alloc, name)? else {
+            return Ok(None);
+        };
+        let Some(object) = self.object(&name.object) else {
+            return Ok(None);
+        };
+        let store = Path::root(self.alloc).child("repo")?;
+        Ok(Some(path_of(self.alloc, &store, &object.digest, object.kind)?))
+    }
+
+    /// The digits of a name.
+    fn digits_of(&self, name: &Name) -> Result<Option<[u8; 64]>, AllocError> {
         let Some(object) = self.object(&name.object) else {
             return Ok(None);
         };
@@ -251,6 +263,15 @@ impl Wares {
             None => Some(object.digest),
         };
         Ok(digest.map(|digest| digest.digits()))
+    }
+}
+
+/// Reads a name, where it is one.
+fn read_name(alloc: Global, name: &str) -> Result<Option<Name>, AllocError> {
+    match name_of(alloc, name) {
+        Ok(name) => Ok(Some(name)),
+        Err(Fault::NoMemory) => Err(AllocError),
+        Err(_) => Ok(None),
     }
 }
 
