@@ -180,6 +180,25 @@ pub struct Failure {
     pub is_done: bool,
 }
 
+/// The calls that fail while a command runs, each counted from 0.
+#[derive(Clone, Copy)]
+pub struct Failing {
+    /// That of its input.
+    pub input: Option<u64>,
+    /// That of the remotes.
+    pub remotes: Option<u64>,
+}
+
+impl Failing {
+    /// None fails.
+    pub fn none() -> Self {
+        Failing {
+            input: None,
+            remotes: None,
+        }
+    }
+}
+
 /// What is expected where a case is stopped.
 #[derive(Drop)]
 pub struct Stops {

@@ -26,6 +26,7 @@ mod outcomes;
 mod own_remotes;
 mod parser;
 mod playing;
+mod remote_faults;
 mod replay;
 mod showing;
 mod sign;

@@ -1,5 +1,5 @@
 //! A case over the host in memory.
-use crate::case::{Case, Command, Failure, Fixture};
+use crate::case::{Case, Command, Failing, Failure, Fixture};
 use crate::playing::play;
 use crate::stage::{Ending, PathState, Stage, find, give, unless_fault};
 use crate::system::System;
@@ -103,11 +103,14 @@ pub fn run_in_memory<R: Threads + Sync>(
     alloc: Global,
     host: &mut MemHost,
     command: &Command,
-    input_fails_at: Option<u64>,
+    failing: Failing,
     wares: &Wares,
 ) -> Result<u8, AllocError> {
-    let mut input = input_of(alloc, command, input_fails_at)?;
+    let mut input = input_of(alloc, command, failing.input)?;
     let mut remotes = remotes_of(alloc, wares)?;
+    if let Some(call) = failing.remotes {
+        remotes.fail_calls(&[call])?;
+    }
     Ok(run(rt, alloc, &command.words, &mut input, host, &mut remotes))
 }
 
@@ -146,7 +149,11 @@ impl MemStage {
         let calls = self.host.calls();
         let_fail(&mut self.host, command.failure)?;
         let host = &mut self.host;
-        let status = run_in_memory(rt, self.alloc, host, command, input_fails_at, wares)?;
+        let failing = Failing {
+            input: input_fails_at,
+            remotes: None,
+        };
+        let status = run_in_memory(rt, self.alloc, host, command, failing, wares)?;
         self.host.fail_calls(&[])?;
         ran_since(self.alloc, &self.host, status, start, calls)
     }

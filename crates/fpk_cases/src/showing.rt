@@ -1,5 +1,5 @@
 //! What an installation shows when it is opened again.
-use crate::case::Command;
+use crate::case::{Command, Failing};
 use crate::memory::run_in_memory;
 use crate::stage::{PathState, find, unless_fault};
 use crate::wares::Wares;
@@ -55,7 +55,7 @@ fn is_done<R: Threads + Sync>(
 ) -> Result<bool, AllocError> {
     let command = command_of(alloc, words)?;
     let wares = Wares::new(alloc);
-    Ok(run_in_memory(rt, alloc, host, &command, None, &wares)? == 0)
+    Ok(run_in_memory(rt, alloc, host, &command, Failing::none(), &wares)? == 0)
 }
 
 /// What a host shows, and nothing where a command that looks at it isn't done.

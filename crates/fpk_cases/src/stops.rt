@@ -1,8 +1,11 @@
 //! A case with a stop, and with a failure, at each call of the host.
 use crate::case::{Case, Failure, ShownText, Stops};
+use crate::naming::with_digits;
 use crate::outcomes::{last_open, oldest_image, open_names, outcomes, present_image};
-use crate::replay::{Replay, replay_case};
+use crate::remote_faults::fail_remotes;
+use crate::replay::{Replay, Trouble, replay_case, wares_of};
 use crate::showing::{State, reopen};
+use crate::wares::Wares;
 use crate::wrong::{Wrong, bytes_text, difference, message};
 use fp_memhost::{Image, MemHost};
 use std::alloc::{AllocError, Global};
@@ -25,9 +28,10 @@ pub fn play_stops<R: Threads + Sync>(
     case: &Case,
     stops: &Stops,
 ) -> Result<Option<Wrong>, AllocError> {
-    let plain = replay_case(rt, alloc, case, None)?;
+    let plain = replay_case(rt, alloc, case, Trouble::Nothing)?;
     let course = course_of(rt, alloc, case, &plain)?;
-    match judge_shown(alloc, &stops.shown, &course.states)? {
+    let wares = wares_of(rt, alloc, case)?;
+    match judge_shown(alloc, &wares, &stops.shown, &course.states)? {
         Some(wrong) => Ok(Some(wrong)),
         None => judge_course(rt, alloc, case, stops, &plain, &course),
     }
@@ -48,7 +52,10 @@ fn judge_course<R: Threads + Sync>(
     if let Some(text) = stop_everywhere(rt, alloc, plain, course)? {
         return Ok(Some(wrong_at(stops, text)));
     }
-    match fail_everywhere(rt, alloc, case, plain, &course.states)? {
+    if let Some(text) = fail_everywhere(rt, alloc, case, plain, &course.states)? {
+        return Ok(Some(wrong_at(stops, text)));
+    }
+    match fail_remotes(rt, alloc, case, &course.states)? {
         Some(text) => Ok(Some(wrong_at(stops, text))),
         None => Ok(None),
     }
@@ -96,7 +103,7 @@ fn lines_before<R: Threads + Sync>(
         call,
         is_done: false,
     };
-    Ok(replay_case(rt, alloc, case, Some(failure))?.lines())
+    Ok(replay_case(rt, alloc, case, Trouble::Host(failure))?.lines())
 }
 
 /// Adds what is shown now, up to the state after so many lines. A list has several lines in one call, and changes nothing.
@@ -122,13 +129,15 @@ fn add_states<R: Threads + Sync>(
 /// Compares what is shown after each line with what the case says, where it says so.
 fn judge_shown(
     alloc: Global,
+    wares: &Wares,
     expected: &[ShownText],
     states: &[State],
 ) -> Result<Option<Wrong>, AllocError> {
     for (shown, state) in expected.iter().zip(states) {
-        if shown.text.as_slice() != state.text.as_slice() {
+        let text = with_digits(alloc, wares, &shown.text)?;
+        if text.as_slice() != state.text.as_slice() {
             let line = shown.line;
-            let text = difference(alloc, "shown", &shown.text, &state.text)?;
+            let text = difference(alloc, "shown", &text, &state.text)?;
             return Ok(Some(Wrong { line, text }));
         }
     }
@@ -232,7 +241,8 @@ fn fail_everywhere<R: Threads + Sync>(
 ) -> Result<Option<String>, AllocError> {
     for call in plain.first..plain.host.calls() {
         for is_done in [false, true] {
-            let failed = replay_case(rt, alloc, case, Some(Failure { call, is_done }))?;
+            let trouble = Trouble::Host(Failure { call, is_done });
+            let failed = replay_case(rt, alloc, case, trouble)?;
             if let Some(text) = judge_failure(rt, alloc, &failed, states)? {
                 let number = call.saturating_sub(plain.first);
                 return Ok(Some(failure_text(alloc, number, is_done, &text)?));

@@ -83,6 +83,20 @@ impl Wares {
         Ok(at_line(step.line, text))
     }
 
+    /// Does what the step at this place says of remotes, where it can be done.
+    pub fn take_next<T: Threads + Sync>(
+        &mut self,
+        rt: &T,
+        steps: &[Step],
+        at: usize,
+    ) -> Result<(), AllocError> {
+        if let Some(step) = steps.get(at) {
+            let after = steps.get(at.saturating_add(1)..).unwrap_or(&[]);
+            let _refused = self.take(rt, step, after)?;
+        }
+        Ok(())
+    }
+
     /// The same of a step that needs none after it.
     fn take_alone(&mut self, step: &Step) -> Result<Option<String>, AllocError> {
         match &step.action {
