@@ -22,7 +22,10 @@ pub fn expect<R: Files + AllocGlobal>(
             let bytes = with_digits(alloc, wares, bytes)?;
             judge_file(alloc, &found, &path, *mode, &bytes)
         }
-        What::Link { text } => judge_link(alloc, &found, &path, text),
+        What::Link { text } => {
+            let text = text_with_digits(alloc, wares, text)?;
+            judge_link(alloc, &found, &path, &text)
+        }
         What::HardLink { file } => {
             let file = text_with_digits(alloc, wares, file)?;
             judge_hard_link(alloc, &found, &stage.find(&file)?)
