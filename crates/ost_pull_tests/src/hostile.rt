@@ -11,9 +11,11 @@ use fp_base::{Blob, Items, ObjKind, Text};
 use fp_host::{Host, Path, Remotes, Stat};
 use fp_memhost::{MemHost, MemNode, MemRemotes};
 use fp_name::Digest;
-use ost_content::meta_digest;
+use ost_content::{file_digest, meta_digest};
 use ost_head::{PullEnd, find};
-use ost_object::{Commit, DirEntry, DirMeta, DirTree, write_commit, write_dirmeta, write_dirtree};
+use ost_object::{
+    Commit, DirEntry, DirMeta, DirTree, FileEntry, write_commit, write_dirmeta, write_dirtree,
+};
 use ost_store::path_of;
 use std::alloc::Global;
 use std::test::Fail;
@@ -109,10 +111,39 @@ fn levels_text(alloc: Global, names: &[&str], levels: usize) -> Result<Text, Fai
     order_there(alloc, &mut remotes, &commit)
 }
 
-/// 22 objects make a commit whose order has more than two million places. `rt try` is too slow for it.
+/// A directory of 999 files, each the empty one.
+fn give_files(alloc: Global, remotes: &mut MemRemotes) -> Result<Digest, Fail> {
+    let digest = file_digest(0o644, &[]);
+    let path = path_of(alloc, &Path::root(alloc), &digest, ObjKind::File)?;
+    give_file(remotes, &path, 0o644, Blob::from_slice(alloc, &[])?)?;
+    let mut files = Items::new(alloc);
+    for number in 1000u64..1999 {
+        let name = Text::from_string(format!(in alloc; "{number}")?);
+        files.push(FileEntry { name, digest })?;
+    }
+    let dirs = Items::new(alloc);
+    let bytes = write_dirtree(alloc, &DirTree { files, dirs })?;
+    give_meta(alloc, remotes, ObjKind::DirTree, bytes)
+}
+
+/// A commit of these directories, nine levels below the root with two of each in the one above.
+fn give_many_files(alloc: Global, remotes: &mut MemRemotes) -> Result<Digest, Fail> {
+    let meta = write_dirmeta(alloc, &DirMeta { mode: 0o40755 })?;
+    let meta = give_meta(alloc, remotes, ObjKind::DirMeta, meta)?;
+    let mut tree = give_files(alloc, remotes)?;
+    for _ in 0..9 {
+        tree = give_folder(alloc, remotes, &["a", "b"], tree, meta)?;
+    }
+    give_root(alloc, remotes, tree, meta)
+}
+
+/// 13 objects make a commit whose order has more than 500,000 places.
 #[test]
 fn a_walk_ends_at_the_most_objects(rt: HostRuntime) -> Result<(), Fail> {
-    let text = levels_text(rt.alloc(), &["a", "b"], 19)?;
+    let alloc = rt.alloc();
+    let mut remotes = MemRemotes::new(alloc)?;
+    let commit = give_many_files(alloc, &mut remotes)?;
+    let text = order_there(alloc, &mut remotes, &commit)?;
     assert!(rt; text.as_str() == "error: limit objects 200001\n");
     Ok(())
 }
