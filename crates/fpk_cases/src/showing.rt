@@ -8,7 +8,7 @@ use std::alloc::{AllocError, Global};
 use std::thread::Threads;
 
 /// The commands whose lines say what an installation has.
-const LISTS: [[&str; 2]; 2] = [["list", "--pins"], ["list", "--remotes"]];
+const LISTS: [&[&str]; 3] = [&["list"], &["list", "--pins"], &["list", "--remotes"]];
 
 /// The command that has to work on whatever a stop left.
 const NEXT: [&str; 2] = ["pin", "app/org.x.Next/*/*"];
