@@ -3,15 +3,15 @@ ghost use Rattle.std.specs.Prelude.{◌≡◌, ◌↔◌, ◌≤◌, None, IfOk,
 ghost use Rattle.fp_host.specs.Remote.{HasNodeBits};
 ghost use Rattle.fp_realhost.specs.Counts.{RemoteCounts};
 
+use crate::cause::Cause;
 use crate::fault::{Call, Faults, SystemError};
-use crate::files::{read_from, read_link};
+use crate::files::read_link;
 use crate::folders::Folders;
 use crate::found::{Kind, look};
-use fp_base::Text;
+use crate::gate::join;
+use crate::kept::Kept;
 use fp_host::{Node, Path, RemoteError, Remotes};
 use std::alloc::Global;
-use std::io;
-use std::io::ErrorKind;
 use std::marker::Model;
 use std::rt::Files;
 
@@ -24,15 +24,31 @@ use std::rt::Files;
 /// The folder that a url names may be a symlink or stand below one. Below it no symlink is followed: a call fails where one
 /// stands in the place of a folder above its path. Each folder is looked at once: a symlink that another program puts in
 /// its place later is followed.
-#[derive(Drop)]
-pub struct DirRemotes<'a, R> {
+pub struct DirRemotes<'a, R: Files> {
     rt: &'a R,
     alloc: Global,
     folders: Folders,
+    // The path of a call for the system.
+    at: String,
+    // The file that was read last.
+    reader: Kept<R::File>,
     faults: Faults,
 }
 
-impl<'a, R> Model for DirRemotes<'a, R> {
+impl<R: Files> Drop for DirRemotes<'_, R> {
+    fn drop(self) {
+        let DirRemotes {
+            rt: _,
+            alloc: _,
+            folders: _,
+            at: _,
+            reader: _,
+            faults: _,
+        } = self;
+    }
+}
+
+impl<'a, R: Files> Model for DirRemotes<'a, R> {
     ghost use Rattle.std.specs.Prelude.{ℕ};
 
     ghost Value = { ℕ };
@@ -50,12 +66,14 @@ impl<'a, R: Files + AllocGlobal> DirRemotes<'a, R> {
             rt,
             alloc,
             folders: Folders::none(alloc),
+            at: String::new(alloc),
+            reader: Kept::nothing(alloc),
             faults: Faults::none(),
         }
     }
 }
 
-impl<'a, R> DirRemotes<'a, R> {
+impl<'a, R: Files> DirRemotes<'a, R> {
     /// How often a call has failed; the count stands still at 2^64 - 1.
     pub fn faults(&self) -> u64
         ensures { result ≡ self.now }
@@ -76,7 +94,7 @@ impl<'a, R> DirRemotes<'a, R> {
         call: Call,
         url: &str,
         path: &Path,
-        done: io::Result<T>,
+        done: Result<T, Cause>,
     ) -> Result<T, RemoteError>
         ensures counts { RemoteCounts self.old self.new result }
         ensures needs_no_memory { IsErrOf result RemoteError.NoMemory → ⊥ }
@@ -84,18 +102,19 @@ impl<'a, R> DirRemotes<'a, R> {
     {
         match done {
             Ok(answer) => Ok(answer),
-            Err(error) => {
-                let refusal = match system_path(self.alloc, url, path) {
-                    Ok(at) => SystemError {
-                        call,
-                        path: Some(Text::from_string(at)),
-                        error,
-                    },
-                    Err(_) => SystemError::on(self.alloc, Call::Locate, url, error),
-                };
+            Err(cause) => {
+                let refusal = self.refusal(call, url, path, cause);
                 self.faults.note(refusal);
                 Err(RemoteError::Failed)
             }
+        }
+    }
+
+    fn refusal(&self, call: Call, url: &str, path: &Path, cause: Cause) -> SystemError {
+        let mut at = String::new(self.alloc);
+        match write_path(url, path, &mut at) {
+            Ok(()) => SystemError::with_path(call, at, cause),
+            Err(_) => SystemError::on(self.alloc, Call::Locate, url, cause),
         }
     }
 }
@@ -112,7 +131,7 @@ impl<R: Files + AllocGlobal> Remotes for DirRemotes<'_, R> {
         ensures bits { IfOk result HasNodeBits }
     {
         match self.find_node(alloc, url, path) {
-            Err(e) if e.kind() == ErrorKind::OutOfMemory => Err(RemoteError::NoMemory),
+            Err(Cause::NoMemory) => Err(RemoteError::NoMemory),
             done => self.answer(Call::Stat, url, path, done),
         }
     }
@@ -134,24 +153,21 @@ impl<R: Files + AllocGlobal> Remotes for DirRemotes<'_, R> {
 }
 
 impl<R: Files + AllocGlobal> DirRemotes<'_, R> {
-    // The path for the system. No symlink stands above it, below the folder of the url.
-    fn reach(&mut self, url: &str, path: &Path) -> io::Result<String>
+    // Finds the path for the system. No symlink stands above it, below the folder of the url.
+    fn reach(&mut self, url: &str, path: &Path) -> Result<(), Cause>
         ensures same { self.new ≡ self.old }
     {
-        let at = system_path(self.alloc, url, path)?;
+        write_path(url, path, &mut self.at)?;
         let below = folder_of_url(url).len().saturating_add(1);
-        match self.folders.look_above(self.rt, &at, below) {
-            Ok(()) => Ok(at),
-            Err(e) => Err(e),
-        }
+        self.folders.look_above(self.rt, &self.at, below)
     }
 
-    fn find_node(&mut self, alloc: Global, url: &str, path: &Path) -> io::Result<Node>
+    fn find_node(&mut self, alloc: Global, url: &str, path: &Path) -> Result<Node, Cause>
         ensures bits { IfOk result HasNodeBits }
         ensures same { self.new ≡ self.old }
     {
-        let at = self.reach(url, path)?;
-        node_at(self.rt, alloc, &at)
+        self.reach(url, path)?;
+        node_at(self.rt, alloc, &self.at)
     }
 
     fn read_piece(
@@ -160,12 +176,23 @@ impl<R: Files + AllocGlobal> DirRemotes<'_, R> {
         path: &Path,
         from: u64,
         into: &mut [u8],
-    ) -> io::Result<usize>
+    ) -> Result<usize, Cause>
         ensures bound { IfOk result (λ n. n ≤ length into.old) }
         ensures same { self.new ≡ self.old }
     {
-        let at = self.reach(url, path)?;
-        read_at(self.rt, &at, from, into)
+        self.reach(url, path)?;
+        if self.reader.begins(&self.at, from) && !self.is_file()? {
+            return Ok(0);
+        }
+        self.reader.read(self.rt, &self.at, from, into)
+    }
+
+    // What is no file has no bytes.
+    fn is_file(&self) -> Result<bool, Cause> {
+        match look(self.rt, &self.at)? {
+            Some(found) => Ok(found.kind == Kind::File),
+            None => Ok(false),
+        }
     }
 }
 
@@ -174,34 +201,34 @@ fn folder_of_url(url: &str) -> &str {
     url.strip_prefix("file://").unwrap_or("")
 }
 
-// The path for the system: the folder of the url, a slash and the elements.
-fn system_path(alloc: Global, url: &str, path: &Path) -> io::Result<String> {
+// Writes the path for the system: the folder of the url, a slash and the elements.
+fn write_path(url: &str, path: &Path, into: &mut String) -> Result<(), Cause> {
     let folder = folder_of_url(url);
     if !folder.starts_with('/') {
-        return Err(io::Error::other("a url is file:// and an absolute path"));
+        return Err(Cause::BadUrl);
     }
-    let below = path.text();
-    Ok(format!(in alloc; "{folder}/{below}")?)
+    into.clear();
+    match join(folder, path.text(), into) {
+        Ok(()) => Ok(()),
+        Err(_) => Err(Cause::NoMemory),
+    }
 }
 
-fn node_at<R: Files>(rt: &R, alloc: Global, at: &str) -> io::Result<Node>
+fn node_at<R: Files>(rt: &R, alloc: Global, at: &str) -> Result<Node, Cause>
     ensures { IfOk result HasNodeBits }
 {
     match look(rt, at)? {
         None => Ok(Node::Absent),
-        Some(found) if found.kind == Kind::Link => Ok(Node::Link(read_link(rt, alloc, at)?)),
+        Some(found) if found.kind == Kind::Link => link_at(rt, alloc, at),
         Some(found) => found.node(),
     }
 }
 
-// What is no file has no bytes.
-fn read_at<R: Files>(rt: &R, at: &str, from: u64, into: &mut [u8]) -> io::Result<usize>
-    ensures { IfOk result (λ n. n ≤ length into.old) }
+fn link_at<R: Files>(rt: &R, alloc: Global, at: &str) -> Result<Node, Cause>
+    ensures { IfOk result HasNodeBits }
 {
-    match look(rt, at)? {
-        Some(found) if found.kind == Kind::File && from < found.size => {
-            read_from(rt, at, from, into)
-        }
-        _ => Ok(0),
+    match read_link(rt, alloc, at) {
+        Ok(text) => Ok(Node::Link(text)),
+        Err(e) => Err(e),
     }
 }

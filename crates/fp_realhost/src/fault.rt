@@ -2,13 +2,14 @@
 ghost use Rattle.std.specs.Prelude.{◌≡◌, ◌↔◌, ◌≤◌, None};
 ghost use Rattle.fp_realhost.specs.Counts.{one_more};
 
+use crate::cause::Cause;
 use fp_base::Text;
 use std::alloc::Global;
+use std::fmt;
 use std::marker::Model;
-use std::{fmt, io};
 
 /// What an adapter asked of the system.
-#[derive(Clone, Copy, Debug, PartialEq, Eq)]
+#[derive(Clone, Copy, PartialEq, Eq)]
 pub enum Call {
     Stat,
     List,
@@ -60,21 +61,37 @@ impl fmt::Display for Call {
 }
 
 /// What the system refused, as in `cannot sync installation/config: No space left on device (os error 28)`.
-#[derive(Debug, Drop)]
+#[derive(Drop)]
 pub struct SystemError {
     pub call: Call,
     /// The path, where the call has one and there was memory to keep it.
     pub path: Option<Text>,
-    pub error: io::Error,
+    pub cause: Cause,
 }
 
 impl SystemError {
     // On a path, which is kept where there is memory.
-    pub(crate) fn on(alloc: Global, call: Call, at: &str, error: io::Error) -> Self {
+    pub(crate) fn on(alloc: Global, call: Call, at: &str, cause: Cause) -> Self {
         SystemError {
             call,
             path: at.to_string(alloc).ok().map(Text::from_string),
-            error,
+            cause,
+        }
+    }
+
+    pub(crate) fn with_path(call: Call, at: String, cause: Cause) -> Self {
+        SystemError {
+            call,
+            path: Some(Text::from_string(at)),
+            cause,
+        }
+    }
+
+    pub(crate) fn without_path(call: Call, cause: Cause) -> Self {
+        SystemError {
+            call,
+            path: None,
+            cause,
         }
     }
 }
@@ -82,13 +99,13 @@ impl SystemError {
 impl fmt::Display for SystemError {
     fn fmt<W: fmt::Write>(&self, f: &mut fmt::Formatter<W>) -> fmt::Result {
         let call = self.call;
-        let error = self.error;
+        let cause = self.cause;
         match &self.path {
             Some(path) => {
                 let path = path.as_str().escape_debug();
-                write!(f, "cannot {call} {path}: {error}")
+                write!(f, "cannot {call} {path}: {cause}")
             }
-            None => write!(f, "cannot {call}: {error}"),
+            None => write!(f, "cannot {call}: {cause}"),
         }
     }
 }

@@ -1,39 +1,22 @@
 // What is done with files of the system by their paths.
 ghost use Rattle.std.specs.Prelude.{◌≤◌, length, IfOk};
 
-use crate::found::find_file;
+use crate::cause::{Cause, known};
+use crate::found::{find_file, find_leaf};
 use fp_base::Text;
 use std::alloc::Global;
+use std::fs;
 use std::fs::{DirBuilder, OpenOptions, Permissions};
-use std::io::{ErrorKind, Read, Seek, SeekFrom, Write};
+use std::io::{ErrorKind, Read};
+use std::os::unix;
 use std::os::unix::fs::{DirBuilderExt, OpenOptionsExt, PermissionsExt};
 use std::rt::Files;
-use std::{fs, io};
 
-// Reads the file at the path from a place on, until the buffer is full or the file ends.
-pub fn read_at<R: Files>(rt: &R, at: &str, from: u64, into: &mut [u8]) -> io::Result<usize>
-    ensures { IfOk result (λ n. n ≤ length into.old) }
-{
-    let found = find_file(rt, at)?;
-    if from < found.size {
-        read_from(rt, at, from, into)
-    } else {
-        Ok(0)
-    }
-}
+// The permission bits of a folder.
+const FOLDER_BITS: u32 = 0o755;
 
-// The same where the file goes on after that place.
-pub fn read_from<R: Files>(rt: &R, at: &str, from: u64, into: &mut [u8]) -> io::Result<usize>
-    ensures { IfOk result (λ n. n ≤ length into.old) }
-{
-    let mut file = fs::open(rt, at)?;
-    match file.seek(SeekFrom::Start(from)) {
-        Ok(_) => fill(&mut file, into),
-        Err(e) => Err(e),
-    }
-}
-
-fn fill<F: Read>(file: &mut F, into: &mut [u8]) -> io::Result<usize>
+// Reads until the buffer is full or the file ends.
+pub fn fill<F: Read>(file: &mut F, into: &mut [u8]) -> Result<usize, Cause>
     ensures { IfOk result (λ n. n ≤ length into.old) }
 {
     let mut filled = 0;
@@ -48,60 +31,99 @@ fn fill<F: Read>(file: &mut F, into: &mut [u8]) -> io::Result<usize>
 }
 
 // Reads once, and again where a signal interrupted it.
-pub fn read_some<F: Read>(file: &mut F, into: &mut [u8]) -> io::Result<usize>
+pub fn read_some<F: Read>(file: &mut F, into: &mut [u8]) -> Result<usize, Cause>
     ensures { IfOk result (λ n. n ≤ length into.old) }
 {
     for _ in 0..u64::MAX {
-        match file.read(into) {
-            Err(e) if e.kind() == ErrorKind::Interrupted => {}
+        match known(file.read(into)) {
+            Err(e) if e.is(ErrorKind::Interrupted) => {}
             done => return done,
         }
     }
-    Err(io::Error::from(ErrorKind::Interrupted))
+    Err(Cause::Kind(ErrorKind::Interrupted))
 }
 
-pub fn read_link<R: Files>(rt: &R, alloc: Global, at: &str) -> io::Result<Text> {
-    let text = rt.read_link(alloc, at)?;
-    Ok(Text::from_string(text.into_string()))
+pub fn read_link<R: Files>(rt: &R, alloc: Global, at: &str) -> Result<Text, Cause> {
+    match known(rt.read_link(alloc, at)) {
+        Ok(text) => Ok(Text::from_string(text.into_string())),
+        Err(e) => Err(e),
+    }
 }
 
 // Opens a file of ours, also where its own permission bits are in the way: they are widened while it is opened.
-pub fn open_own<R: Files>(rt: &R, how: &OpenOptions, at: &str) -> io::Result<R::File> {
-    match how.open(rt, at) {
-        Err(e) if e.kind() == ErrorKind::PermissionDenied => open_widened(rt, how, at),
+pub fn open_own<R: Files>(rt: &R, how: &OpenOptions, at: &str) -> Result<R::File, Cause> {
+    match known(how.open(rt, at)) {
+        Err(e) if e.is(ErrorKind::PermissionDenied) => open_widened(rt, how, at),
         opened => opened,
     }
 }
 
-fn open_widened<R: Files>(rt: &R, how: &OpenOptions, at: &str) -> io::Result<R::File> {
+fn open_widened<R: Files>(rt: &R, how: &OpenOptions, at: &str) -> Result<R::File, Cause> {
     let bits = find_file(rt, at)?.permission_bits();
     set_bits(rt, at, bits | 0o600)?;
-    let opened = how.open(rt, at);
+    let opened = known(how.open(rt, at));
     match set_bits(rt, at, bits) {
         Ok(()) => opened,
         Err(e) => Err(e),
     }
 }
 
-fn set_bits<R: Files>(rt: &R, at: &str, bits: u32) -> io::Result<()> {
-    fs::set_permissions(rt, at, Permissions::from_mode(bits))
+pub fn set_bits<R: Files>(rt: &R, at: &str, bits: u32) -> Result<(), Cause> {
+    known(fs::set_permissions(rt, at, Permissions::from_mode(bits)))
 }
 
-// Makes a new file. The umask may take some of its permission bits.
-pub fn create_new<R: Files>(rt: &R, at: &str, mode: u32) -> io::Result<R::File> {
-    OpenOptions::new()
-        .write(true)
+// Makes a new file that is written at its end. The umask may take some of its permission bits.
+pub fn create_new<R: Files>(rt: &R, at: &str, mode: u32) -> Result<R::File, Cause> {
+    let created = OpenOptions::new()
+        .append(true)
         .create_new(true)
         .mode(mode)
-        .open(rt, at)
+        .open(rt, at);
+    known(created)
 }
 
-// Writes at the end of a file of ours.
-pub fn append<R: Files>(rt: &R, at: &str, bytes: &[u8]) -> io::Result<()> {
-    open_own(rt, OpenOptions::new().append(true), at)?.write_all(bytes)
+// Opens a file of ours that is written at its end.
+pub fn open_to_append<R: Files>(rt: &R, at: &str) -> Result<R::File, Cause> {
+    open_own(rt, OpenOptions::new().append(true), at)
 }
 
-// Makes a folder that all may read and its owner may change, as far as the umask lets them.
-pub fn make_folder<R: Files>(rt: &R, at: &str) -> io::Result<()> {
-    DirBuilder::new().mode(0o755).create(rt, at)
+// Opens a file or folder of ours.
+pub fn open_to_read<R: Files>(rt: &R, at: &str) -> Result<R::File, Cause> {
+    open_own(rt, OpenOptions::new().read(true), at)
+}
+
+// Makes a folder that all may read and its owner may change, whatever the umask.
+pub fn make_folder<R: Files>(rt: &R, at: &str) -> Result<(), Cause> {
+    match known(DirBuilder::new().mode(FOLDER_BITS).create(rt, at)) {
+        Ok(()) => set_bits(rt, at, FOLDER_BITS),
+        Err(e) => Err(e),
+    }
+}
+
+// Gives a file a second name.
+pub fn link<R: Files>(rt: &R, from: &str, to: &str) -> Result<(), Cause> {
+    match find_file(rt, from) {
+        Ok(_) => known(fs::hard_link(rt, from, to)),
+        Err(e) => Err(e),
+    }
+}
+
+pub fn symlink<R: Files>(rt: &R, text: &str, at: &str) -> Result<(), Cause> {
+    known(unix::fs::symlink(rt, text, at))
+}
+
+pub fn rename<R: Files>(rt: &R, from: &str, to: &str) -> Result<(), Cause> {
+    known(fs::rename(rt, from, to))
+}
+
+// Takes a file or symlink away.
+pub fn unlink<R: Files>(rt: &R, at: &str) -> Result<(), Cause> {
+    match find_leaf(rt, at) {
+        Ok(_) => known(fs::remove_file(rt, at)),
+        Err(e) => Err(e),
+    }
+}
+
+pub fn remove_folder<R: Files>(rt: &R, at: &str) -> Result<(), Cause> {
+    known(fs::remove_dir(rt, at))
 }

@@ -1,8 +1,9 @@
 // The folders above a path, none of which may be a symlink.
+use crate::cause::Cause;
 use crate::found::{Kind, look};
-use std::alloc::{AllocError, Global};
+use crate::touched::note;
+use std::alloc::Global;
 use std::collections::BTreeSet;
-use std::io;
 use std::rt::Files;
 
 // The folders that were looked at, by their paths. Each is looked at once, and remembered until it is removed: what
@@ -22,7 +23,7 @@ impl Folders {
     }
 
     // Looks at each folder above the path, from a place in its text on, up to one that isn't there. A symlink is an error.
-    pub fn look_above<R: Files>(&mut self, rt: &R, at: &str, from: usize) -> io::Result<()> {
+    pub fn look_above<R: Files>(&mut self, rt: &R, at: &str, from: usize) -> Result<(), Cause> {
         for end in from..at.len() {
             if !self.goes_on(rt, at, end)? {
                 break;
@@ -32,7 +33,7 @@ impl Folders {
     }
 
     // Whether there is a folder up to this place of the text, where it has a slash.
-    fn goes_on<R: Files>(&mut self, rt: &R, at: &str, end: usize) -> io::Result<bool> {
+    fn goes_on<R: Files>(&mut self, rt: &R, at: &str, end: usize) -> Result<bool, Cause> {
         match at.split_at_checked(end) {
             Some((above, rest)) if rest.starts_with('/') => self.is_folder(rt, above),
             _ => Ok(true),
@@ -40,19 +41,22 @@ impl Folders {
     }
 
     // Whether a folder is there. A symlink is an error.
-    pub fn is_folder<R: Files>(&mut self, rt: &R, at: &str) -> io::Result<bool> {
+    pub fn is_folder<R: Files>(&mut self, rt: &R, at: &str) -> Result<bool, Cause> {
         if self.known.contains(at) {
             return Ok(true);
         }
-        match look(rt, at)?.map(|found| found.kind) {
-            Some(Kind::Dir) => Ok(self.add(at)?),
-            Some(Kind::Link) => Err(io::Error::other("a symlink is in the place of a folder")),
+        match look(rt, at)? {
+            Some(found) if found.kind == Kind::Dir => self.add(at),
+            Some(found) if found.kind == Kind::Link => Err(Cause::IsSymlink),
             _ => Ok(false),
         }
     }
 
-    fn add(&mut self, at: &str) -> Result<bool, AllocError> {
-        Ok(self.known.insert(at.to_string(self.alloc)?)?)
+    fn add(&mut self, at: &str) -> Result<bool, Cause> {
+        match note(self.alloc, &mut self.known, at) {
+            Ok(()) => Ok(true),
+            Err(_) => Err(Cause::NoMemory),
+        }
     }
 
     // The folder is removed.

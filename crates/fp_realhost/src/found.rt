@@ -3,12 +3,13 @@ ghost use Rattle.std.specs.Prelude.{◌≤◌, IfOk};
 ghost use Rattle.fp_host.specs.Reads.{HasBits};
 ghost use Rattle.fp_host.specs.Remote.{HasNodeBits};
 
+use crate::cause::{Cause, known};
 use fp_host::{Node, Stat};
+use std::fs;
 use std::fs::Metadata;
 use std::io::ErrorKind;
 use std::os::unix::fs::MetadataExt;
 use std::rt::Files;
-use std::{fs, io};
 
 const PERMISSION_BITS: u32 = 0o7777;
 
@@ -57,7 +58,7 @@ impl Found {
         self.mode & PERMISSION_BITS
     }
 
-    pub fn stat(&self) -> io::Result<Stat>
+    pub fn stat(&self) -> Result<Stat, Cause>
         ensures { IfOk result HasBits }
     {
         match self.kind {
@@ -68,12 +69,12 @@ impl Found {
                 mode: self.permission_bits(),
                 size: self.size,
             }),
-            Kind::Other => Err(is_other()),
+            Kind::Other => Err(Cause::IsOther),
         }
     }
 
     // The same of what is no symlink.
-    pub fn node(&self) -> io::Result<Node>
+    pub fn node(&self) -> Result<Node, Cause>
         ensures { IfOk result HasNodeBits }
     {
         match self.kind {
@@ -82,7 +83,7 @@ impl Found {
                 mode: self.permission_bits(),
                 size: self.size,
             }),
-            Kind::Link | Kind::Other => Err(is_other()),
+            Kind::Link | Kind::Other => Err(Cause::IsOther),
         }
     }
 }
@@ -99,69 +100,59 @@ fn kind_of(found: &Metadata) -> Kind {
     }
 }
 
-fn is_other() -> io::Error {
-    io::Error::other("it is no file, folder or symlink")
-}
-
 // What stands at the path, and none where nothing does: the name is missing, or stands below a file.
-pub fn look<R: Files>(rt: &R, at: &str) -> io::Result<Option<Found>> {
-    match fs::symlink_metadata(rt, at) {
-        Ok(found) => Ok(Some(Found::of(&found))),
-        Err(e) if is_absence(e.kind()) => Ok(None),
+pub fn look<R: Files>(rt: &R, at: &str) -> Result<Option<Found>, Cause> {
+    match find(rt, at) {
+        Ok(found) => Ok(Some(found)),
+        Err(e) if e.is_absence() => Ok(None),
         Err(e) => Err(e),
     }
 }
 
-pub fn is_absence(kind: ErrorKind) -> bool {
-    matches!(kind, ErrorKind::NotFound | ErrorKind::NotADirectory)
-}
-
 // The same where something has to stand.
-fn find<R: Files>(rt: &R, at: &str) -> io::Result<Found> {
-    Ok(Found::of(&fs::symlink_metadata(rt, at)?))
+fn find<R: Files>(rt: &R, at: &str) -> Result<Found, Cause> {
+    match known(fs::symlink_metadata(rt, at)) {
+        Ok(found) => Ok(Found::of(&found)),
+        Err(e) => Err(e),
+    }
 }
 
 // The file at the path.
-pub fn find_file<R: Files>(rt: &R, at: &str) -> io::Result<Found> {
+pub fn find_file<R: Files>(rt: &R, at: &str) -> Result<Found, Cause> {
     let found = find(rt, at)?;
     if found.kind == Kind::File {
         Ok(found)
     } else {
-        Err(io::Error::other("it is no regular file"))
+        Err(Cause::NoFile)
     }
 }
 
 // The file or symlink at the path.
-pub fn find_leaf<R: Files>(rt: &R, at: &str) -> io::Result<Found> {
+pub fn find_leaf<R: Files>(rt: &R, at: &str) -> Result<Found, Cause> {
     let found = find(rt, at)?;
     if found.is_leaf() {
         Ok(found)
     } else {
-        Err(io::Error::other("it is neither a regular file nor a symlink"))
+        Err(Cause::NoLeaf)
     }
 }
 
 // Whether a folder is there, or a symlink to one. What is no folder is an error.
-pub fn has_folder<R: Files>(rt: &R, at: &str) -> io::Result<bool> {
-    match fs::metadata(rt, at) {
+pub fn has_folder<R: Files>(rt: &R, at: &str) -> Result<bool, Cause> {
+    match known(fs::metadata(rt, at)) {
         Ok(found) if found.is_dir() => Ok(true),
-        Ok(_) => Err(io::Error::from(ErrorKind::NotADirectory)),
-        Err(e) if e.kind() == ErrorKind::NotFound => Ok(false),
+        Ok(_) => Err(Cause::Kind(ErrorKind::NotADirectory)),
+        Err(e) if e.is(ErrorKind::NotFound) => Ok(false),
         Err(e) => Err(e),
     }
 }
 
-// Whether the first may be moved to the second: a file or symlink, to nothing or in the place of another one.
-pub fn check_rename<R: Files>(rt: &R, from: &str, to: &str) -> io::Result<()> {
+// What the first is, which may be moved to the second: a file or symlink, to nothing or in the place of another one.
+pub fn check_rename<R: Files>(rt: &R, from: &str, to: &str) -> Result<Kind, Cause> {
     let moved = find_leaf(rt, from)?;
-    let Some(there) = look(rt, to)? else {
-        return Ok(());
-    };
-    if !there.is_leaf() {
-        return Err(io::Error::other("what stands there is no file or symlink"));
+    match look(rt, to)? {
+        Some(there) if !there.is_leaf() => Err(Cause::InTheWay),
+        Some(there) if moved.is_one_with(&there) => Err(Cause::OneFile),
+        _ => Ok(moved.kind),
     }
-    if moved.is_one_with(&there) {
-        return Err(io::Error::other("both names are of one file"));
-    }
-    Ok(())
 }

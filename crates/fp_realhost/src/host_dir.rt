@@ -5,42 +5,48 @@ ghost use Rattle.fp_host.specs.Reads.{AreNames, HasBits};
 ghost use Rattle.fp_host.specs.declared.host.HostError.TheVariants.{Failed};
 ghost use Rattle.fp_realhost.specs.Counts.{Counts, one_more, many_more};
 
+use crate::cause::Cause;
 use crate::fault::{Call, Faults, SystemError};
 use crate::output::Output;
+use crate::system::{Access, System};
 use crate::tree::Tree;
 use fp_base::{Items, Text};
 use fp_host::{Host, HostError, Path, Stat};
 use std::alloc::{AllocError, Global};
-use std::io;
-use std::io::ErrorKind;
 use std::marker::Model;
 use std::rt::Files;
 
-/// A folder of the system as a host, whose output is the standard output.
+/// A folder of the system as a host, and where it prints.
 ///
 /// It tells nothing of its content. Whatever the system refuses, and whatever breaks a call's condition, is counted and
 /// answered `Failed`, and so is want of memory in a call that may not answer `NoMemory`; no call answers `Clash`.
 ///
-/// The root folder and those above it are made by the first call that changes something, where they are absent. A call that
-/// only reads makes nothing: an absent root reads as an empty folder. A folder gets the permission bits 0755 less the
-/// umask, a file exactly those that were asked for. Ids are the numbers of inodes.
+/// It is opened to look or to change. At its first call, but for `say`, it takes the advisory lock (`flock`) of the file
+/// `.lock` at the top of the root, shared to look and alone to change, and keeps it as long as it is there. Where another
+/// holds it, that it waits is said once on standard error. A host that looks makes nothing: where there is no lock file it takes
+/// none, an absent root reads as an empty folder, and every change fails. A host that changes makes the root, the folders above
+/// it and the lock file at its first call, where they are absent. The list of the root's names leaves the lock file out.
+///
+/// A folder gets the permission bits 0755 and a file exactly those that were asked for, whatever the umask. What is moved
+/// into `repo/objects` gets the modification time 0, as OSTree's objects have. Ids are the numbers of inodes.
 ///
 /// The root may be a symlink or stand below one. Below the root no symlink is followed: a call fails where one stands in the
 /// place of a folder above its path. Each folder is looked at once, and remembered until it is removed: a symlink that
 /// another program puts in its place later is followed.
 ///
-/// A `sync` makes last each file and each folder that was changed since the last one. The first one also makes last what an
-/// earlier run may have left that was stopped before its own: the root folder and those above it, the files and folders at
-/// its top, and `repo/tmp`, where new files are staged. After a sync of a file or folder that failed no later one succeeds.
+/// A `sync` makes last each file and each folder that was changed since the last one. While changes wait for it, the lock file
+/// holds the text that Linux gives this start of the machine. Where an earlier run of the same start left that, or the root was
+/// there without a lock file, the first `sync` makes last every file and folder that may be opened. After a sync of a file or
+/// folder that failed no later one succeeds, nor after a change that there was no memory to note.
 ///
 /// Contracts see how often it failed, whether nothing waits for a sync, and how many bytes were printed.
-pub struct HostDir<'a, R> {
+pub struct HostDir<'a, R: Files, O> {
     tree: Tree<'a, R>,
-    output: Output<'a, R>,
+    output: Output<'a, O>,
     faults: Faults,
 }
 
-impl<'a, R> Model for HostDir<'a, R> {
+impl<'a, R: Files, O> Model for HostDir<'a, R, O> {
     ghost use Rattle.fp_realhost.specs.Seen.{Seen};
 
     ghost Value = { Seen };
@@ -48,7 +54,7 @@ impl<'a, R> Model for HostDir<'a, R> {
     ghost view = { λ h. record { faults = h.faults; is_settled = h.tree; printed = h.output } };
 }
 
-impl<R> Drop for HostDir<'_, R> {
+impl<R: Files, O> Drop for HostDir<'_, R, O> {
     fn drop(self) {
         let HostDir {
             tree: _,
@@ -58,21 +64,28 @@ impl<R> Drop for HostDir<'_, R> {
     }
 }
 
-impl<'a, R: Files + Print + AllocGlobal> HostDir<'a, R> {
-    /// The host over the folder of this name; the empty name is the current folder. It asks nothing of the system yet.
-    pub fn new(rt: &'a R, alloc: Global, root: &str) -> Result<Self, AllocError>
-        ensures untold { IfOk result (λ h. ⟦<HostDir<'a, R> as Host>⟧.moments h ≡ None) }
-        ensures faults { IfOk result (λ h. ⟦<HostDir<'a, R> as Host>⟧.faults h ≡ 0) }
+impl<'a, R: System, O: Print> HostDir<'a, R, O> {
+    /// The host over the folder of this name, which prints to this output; the empty name is the current folder. It asks
+    /// nothing of the system yet.
+    pub fn new(
+        rt: &'a R,
+        out: &'a O,
+        alloc: Global,
+        root: &str,
+        access: Access,
+    ) -> Result<Self, AllocError>
+        ensures untold { IfOk result (λ h. ⟦<HostDir<'a, R, O> as Host>⟧.moments h ≡ None) }
+        ensures faults { IfOk result (λ h. ⟦<HostDir<'a, R, O> as Host>⟧.faults h ≡ 0) }
     {
         Ok(HostDir {
-            tree: Tree::new(rt, alloc, root)?,
-            output: Output::new(rt),
+            tree: Tree::new(rt, alloc, root, access)?,
+            output: Output::new(out),
             faults: Faults::none(),
         })
     }
 }
 
-impl<'a, R> HostDir<'a, R> {
+impl<'a, R: Files, O> HostDir<'a, R, O> {
     /// How often a call has failed; the count stands still at 2^64 - 1.
     pub fn faults(&self) -> u64
         ensures { result ≡ self.now.faults }
@@ -98,7 +111,7 @@ impl<'a, R> HostDir<'a, R> {
     }
 
     // The answer of a call on a path. Each error is a fault.
-    fn answer<T>(&mut self, call: Call, path: &Path, done: io::Result<T>) -> Result<T, HostError>
+    fn answer<T>(&mut self, call: Call, path: &Path, done: Result<T, Cause>) -> Result<T, HostError>
         ensures counts { Counts self.old.faults self.new.faults result }
         ensures needs_no_memory { NeedsNoMemory result }
         ensures same { IfOk result (λ t. done ≡ Ok t) }
@@ -117,20 +130,20 @@ impl<'a, R> HostDir<'a, R> {
         &mut self,
         call: Call,
         path: &Path,
-        done: io::Result<T>,
+        done: Result<T, Cause>,
     ) -> Result<T, HostError>
         ensures counts { Counts self.old.faults self.new.faults result }
         ensures same { IfOk result (λ t. done ≡ Ok t) }
     {
         match done {
             Ok(answer) => Ok(answer),
-            Err(e) if e.kind() == ErrorKind::OutOfMemory => Err(HostError::NoMemory),
+            Err(Cause::NoMemory) => Err(HostError::NoMemory),
             Err(e) => self.answer(call, path, Err(e)),
         }
     }
 }
 
-impl<R: Files + Print + AllocGlobal> Host for HostDir<'_, R> {
+impl<R: System, O: Print> Host for HostDir<'_, R, O> {
     ghost use Rattle.std.specs.Prelude.{None};
     ghost use Rattle.std.proofs.lemmas.Option.{none-some};
 
@@ -244,7 +257,10 @@ impl<R: Files + Print + AllocGlobal> Host for HostDir<'_, R> {
     {
         match self.tree.sync() {
             Ok(()) => Ok(()),
-            Err(refusal) => Err(self.fail(refusal)),
+            Err(unsynced) => {
+                let refusal = self.tree.unsynced(unsynced);
+                Err(self.fail(refusal))
+            }
         }
     }
 
@@ -256,11 +272,7 @@ impl<R: Files + Print + AllocGlobal> Host for HostDir<'_, R> {
     {
         match self.output.print(piece) {
             Ok(()) => Ok(()),
-            Err(error) => Err(self.fail(SystemError {
-                call: Call::Say,
-                path: None,
-                error,
-            })),
+            Err(cause) => Err(self.fail(SystemError::without_path(Call::Say, cause))),
         }
     }
 

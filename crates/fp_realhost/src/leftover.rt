@@ -1,75 +1,127 @@
 // What an earlier run may have left that was stopped before its own sync.
+use crate::cause::Cause;
 use crate::found::{Kind, look};
 use crate::names::read_names;
 use crate::roots::{above_root, folder_at};
 use crate::touched::Touched;
-use std::alloc::Global;
+use fp_base::Text;
+use std::alloc::{AllocError, Global};
 use std::rt::Files;
-use std::{fs, io};
 
-// The root folder, those above it, what stands at its top, and `repo/tmp`, where new files are staged.
-pub fn left_below<R: Files + AllocGlobal>(
+// Notes the root folder and those above it.
+pub fn add_above(root: &str, touched: &mut Touched) {
+    touched.add_left(above_root(root));
+    for end in 1..root.len() {
+        if let Some(above) = folder_at(root, end) {
+            touched.add_left(above);
+        }
+    }
+    touched.add_left(root);
+}
+
+// Notes each file and folder below the root.
+pub fn add_below<R: Files + AllocGlobal>(
     rt: &R,
     alloc: Global,
     root: &str,
-) -> io::Result<Touched> {
-    let mut left = Touched::nothing(alloc);
-    match add_left(rt, alloc, root, &mut left) {
-        Ok(()) => Ok(left),
+    touched: &mut Touched,
+) -> Result<(), Cause> {
+    let mut folders = Vec::new(alloc);
+    match push_path(alloc, root, "", &mut folders) {
+        Ok(()) => add_folders(rt, alloc, &mut folders, touched),
+        Err(_) => Err(Cause::NoMemory),
+    }
+}
+
+fn push_path(
+    alloc: Global,
+    folder: &str,
+    below: &str,
+    folders: &mut Vec<String>,
+) -> Result<(), AllocError> {
+    folders.push(format!(in alloc; "{folder}{below}")?)?;
+    Ok(())
+}
+
+// Goes through the folders, and those that are found in them.
+fn add_folders<R: Files + AllocGlobal>(
+    rt: &R,
+    alloc: Global,
+    folders: &mut Vec<String>,
+    touched: &mut Touched,
+) -> Result<(), Cause> {
+    for _ in 0..u64::MAX {
+        match folders.pop() {
+            Some(folder) => add_in(rt, alloc, &folder, folders, touched)?,
+            None => break,
+        }
+    }
+    Ok(())
+}
+
+fn add_in<R: Files + AllocGlobal>(
+    rt: &R,
+    alloc: Global,
+    folder: &str,
+    folders: &mut Vec<String>,
+    touched: &mut Touched,
+) -> Result<(), Cause> {
+    match read_names(rt, alloc, folder) {
+        Ok(names) => add_named(rt, alloc, folder, &names, folders, touched),
         Err(e) => Err(e),
     }
 }
 
-fn add_left<R: Files + AllocGlobal>(
+fn add_named<R: Files>(
     rt: &R,
     alloc: Global,
-    root: &str,
-    left: &mut Touched,
-) -> io::Result<()> {
-    add_above(rt, root, left)?;
-    add_top(rt, alloc, root, left)?;
-    add_below(rt, alloc, root, "repo/tmp", left)
-}
-
-fn add_above<R: Files>(rt: &R, root: &str, left: &mut Touched) -> io::Result<()> {
-    add_found(rt, above_root(root), left)?;
-    for end in 1..root.len() {
-        if let Some(above) = folder_at(root, end) {
-            add_found(rt, above, left)?;
+    folder: &str,
+    names: &[Text],
+    folders: &mut Vec<String>,
+    touched: &mut Touched,
+) -> Result<(), Cause> {
+    for name in names {
+        let name = name.as_str();
+        match format!(in alloc; "{folder}/{name}") {
+            Ok(at) => add_found(rt, at, folders, touched)?,
+            Err(_) => return Err(Cause::NoMemory),
         }
     }
-    left.add_folder(root)?;
     Ok(())
 }
 
-fn add_top<R: Files + AllocGlobal>(
+// Notes the file or folder that stands there.
+fn add_found<R: Files>(
     rt: &R,
-    alloc: Global,
-    root: &str,
-    left: &mut Touched,
-) -> io::Result<()> {
-    for name in &read_names(rt, alloc, root)? {
-        add_below(rt, alloc, root, name.as_str(), left)?;
+    at: String,
+    folders: &mut Vec<String>,
+    touched: &mut Touched,
+) -> Result<(), Cause> {
+    match kind_at(rt, &at) {
+        Ok(Some(Kind::Dir)) => {
+            touched.add_left(&at);
+            push_folder(at, folders)
+        }
+        Ok(Some(Kind::File)) => {
+            touched.add_left(&at);
+            Ok(())
+        }
+        Ok(_) => Ok(()),
+        Err(e) => Err(e),
     }
-    Ok(())
 }
 
-fn add_below<R: Files>(
-    rt: &R,
-    alloc: Global,
-    root: &str,
-    below: &str,
-    left: &mut Touched,
-) -> io::Result<()> {
-    let at = format!(in alloc; "{root}/{below}")?;
-    add_found(rt, &at, left)
+fn kind_at<R: Files>(rt: &R, at: &str) -> Result<Option<Kind>, Cause> {
+    match look(rt, at) {
+        Ok(Some(found)) => Ok(Some(found.kind)),
+        Ok(None) => Ok(None),
+        Err(e) => Err(e),
+    }
 }
 
-// Adds the file or folder that stands there. One that may not be opened is not ours, and shows nothing.
-fn add_found<R: Files>(rt: &R, at: &str, left: &mut Touched) -> io::Result<()> {
-    match look(rt, at)?.map(|found| found.kind) {
-        Some(Kind::Dir) if fs::open(rt, at).is_ok() => Ok(left.add_folder(at)?),
-        Some(Kind::File) if fs::open(rt, at).is_ok() => Ok(left.add_file(at)?),
-        _ => Ok(()),
+fn push_folder(at: String, folders: &mut Vec<String>) -> Result<(), Cause> {
+    match folders.push(at) {
+        Ok(()) => Ok(()),
+        Err(_) => Err(Cause::NoMemory),
     }
 }

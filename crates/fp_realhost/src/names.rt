@@ -6,6 +6,7 @@ ghost use Rattle.std.specs.Cmp.Lexicographic.{slice_cmp};
 ghost use Rattle.fp_host.specs.Paths.{is_element};
 ghost use Rattle.fp_host.specs.Reads.{AreNames, is_ascending};
 
+use crate::cause::{Cause, known};
 use fp_base::{Items, Text};
 use fp_host::is_element;
 use std::alloc::Global;
@@ -13,20 +14,30 @@ use std::fs::DirEntry;
 use std::rt::Files;
 use std::{fs, io};
 
-// The names in the folder, ascending by their bytes. A name that no path may have is an error.
+// The names in the folder but the hidden one, ascending by their bytes. A name that no path may have is an error.
 pub fn list_names<R: Files + AllocGlobal>(
     rt: &R,
     alloc: Global,
     at: &str,
-) -> io::Result<Items<Text>>
+    hidden: &str,
+) -> Result<Items<Text>, Cause>
     ensures { IfOk result AreNames }
 {
-    let mut names = read_names(rt, alloc, at)?;
+    match read_names(rt, alloc, at) {
+        Ok(names) => sorted(names, hidden),
+        Err(e) => Err(e),
+    }
+}
+
+fn sorted(mut names: Vec<Text>, hidden: &str) -> Result<Items<Text>, Cause>
+    ensures { IfOk result AreNames }
+{
+    names.retain(|name| name.as_str() != hidden);
     names.sort_unstable_by(|a, b| a.as_str().cmp(b.as_str()));
     if are_names(&names) {
         Ok(Items::from_vec(names))
     } else {
-        Err(io::Error::other("a name in it can stand in no path"))
+        Err(Cause::BadName)
     }
 }
 
@@ -35,9 +46,9 @@ pub fn read_names<R: Files + AllocGlobal>(
     rt: &R,
     alloc: Global,
     at: &str,
-) -> io::Result<Vec<Text>> {
+) -> Result<Vec<Text>, Cause> {
     let mut names = Vec::new(alloc);
-    match add_names(rt, alloc, at, &mut names) {
+    match known(add_names(rt, alloc, at, &mut names)) {
         Ok(()) => Ok(names),
         Err(e) => Err(e),
     }

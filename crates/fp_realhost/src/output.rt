@@ -2,17 +2,22 @@
 ghost use Rattle.std.specs.Prelude.{◌≡◌, length, OnOk};
 ghost use Rattle.fp_realhost.specs.Counts.{many_more};
 
-use std::io;
+use crate::cause::{Cause, known};
 use std::marker::Model;
 
 // The standard output. Contracts see how many bytes were printed; the number stands still at 2^64 - 1.
-#[derive(Drop)]
-pub struct Output<'a, R> {
-    rt: &'a R,
+pub struct Output<'a, O> {
+    out: &'a O,
     printed: u64,
 }
 
-impl<'a, R> Model for Output<'a, R> {
+impl<O> Drop for Output<'_, O> {
+    fn drop(self) {
+        let Output { out: _, printed: _ } = self;
+    }
+}
+
+impl<'a, O> Model for Output<'a, O> {
     ghost use Rattle.std.specs.Prelude.{ℕ};
 
     ghost Value = { ℕ };
@@ -20,17 +25,17 @@ impl<'a, R> Model for Output<'a, R> {
     ghost view = { λ o. o.printed };
 }
 
-impl<'a, R> Output<'a, R> {
-    pub fn new(rt: &'a R) -> Self {
-        Output { rt, printed: 0 }
+impl<'a, O> Output<'a, O> {
+    pub fn new(out: &'a O) -> Self {
+        Output { out, printed: 0 }
     }
 }
 
-impl<R: Print> Output<'_, R> {
-    pub fn print(&mut self, piece: &[u8]) -> io::Result<()>
+impl<O: Print> Output<'_, O> {
+    pub fn print(&mut self, piece: &[u8]) -> Result<(), Cause>
         ensures printed { OnOk result (self.new ≡ many_more self.old (length piece.now)) }
     {
-        self.rt.write_all(piece)?;
+        known(self.out.write_all(piece))?;
         self.printed = self.printed.saturating_add(piece.len() as u64);
         Ok(())
     }

@@ -3,76 +3,68 @@
 ghost use Rattle.std.specs.Prelude.{◌≤◌, length, IfOk};
 ghost use Rattle.fp_host.specs.Reads.{AreNames, HasBits};
 
+use crate::cause::Cause;
 use crate::files;
-use crate::found::look;
+use crate::found::{find_file, look};
+use crate::gate::LOCK_NAME;
 use crate::names::list_names;
+use crate::system::System;
 use crate::tree::Tree;
 use fp_base::{Items, Text};
 use fp_host::{Path, Stat};
 use std::alloc::Global;
-use std::io;
 use std::io::ErrorKind;
-use std::rt::Files;
 
-impl<R: Files + AllocGlobal> Tree<'_, R> {
-    pub fn stat(&mut self, path: &Path) -> io::Result<Stat>
+impl<R: System> Tree<'_, R> {
+    pub fn stat(&mut self, path: &Path) -> Result<Stat, Cause>
         ensures { IfOk result HasBits }
     {
-        let at = self.reach(path)?;
+        self.reach(path)?;
         if path.is_root() {
             return Ok(Stat::Dir);
         }
-        stat_at(self.rt, &at)
-    }
-
-    pub fn list(&mut self, alloc: Global, path: &Path) -> io::Result<Items<Text>>
-        ensures { IfOk result AreNames }
-    {
-        let at = self.reach(path)?;
-        if path.is_root() {
-            return self.list_root(alloc, &at);
+        match look(self.rt, &self.at)? {
+            Some(found) => found.stat(),
+            None => Ok(Stat::Absent),
         }
-        self.list_at(alloc, &at)
     }
 
-    fn list_root(&mut self, alloc: Global, at: &str) -> io::Result<Items<Text>>
+    pub fn list(&mut self, alloc: Global, path: &Path) -> Result<Items<Text>, Cause>
         ensures { IfOk result AreNames }
     {
-        if self.has_root()? {
-            list_names(self.rt, alloc, at)
+        self.reach(path)?;
+        if path.is_root() {
+            return self.list_root(alloc);
+        }
+        match self.folders.is_folder(self.rt, &self.at)? {
+            true => list_names(self.rt, alloc, &self.at, ""),
+            false => Err(Cause::Kind(ErrorKind::NotADirectory)),
+        }
+    }
+
+    // All but the file that is locked.
+    fn list_root(&mut self, alloc: Global) -> Result<Items<Text>, Cause>
+        ensures { IfOk result AreNames }
+    {
+        if self.gate.is_there() {
+            list_names(self.rt, alloc, &self.at, LOCK_NAME)
         } else {
             Ok(Items::from_vec(Vec::new(alloc)))
         }
     }
 
-    fn list_at(&mut self, alloc: Global, at: &str) -> io::Result<Items<Text>>
-        ensures { IfOk result AreNames }
-    {
-        if self.folders.is_folder(self.rt, at)? {
-            list_names(self.rt, alloc, at)
-        } else {
-            Err(io::Error::from(ErrorKind::NotADirectory))
-        }
-    }
-
-    pub fn read_at(&mut self, path: &Path, from: u64, into: &mut [u8]) -> io::Result<usize>
+    pub fn read_at(&mut self, path: &Path, from: u64, into: &mut [u8]) -> Result<usize, Cause>
         ensures { IfOk result (λ n. n ≤ length into.old) }
     {
-        let at = self.reach(path)?;
-        files::read_at(self.rt, &at, from, into)
+        self.reach(path)?;
+        if self.handles.reader.begins(&self.at, from) {
+            find_file(self.rt, &self.at)?;
+        }
+        self.handles.reader.read(self.rt, &self.at, from, into)
     }
 
-    pub fn read_link(&mut self, alloc: Global, path: &Path) -> io::Result<Text> {
-        let at = self.reach(path)?;
-        files::read_link(self.rt, alloc, &at)
-    }
-}
-
-fn stat_at<R: Files>(rt: &R, at: &str) -> io::Result<Stat>
-    ensures { IfOk result HasBits }
-{
-    match look(rt, at)? {
-        Some(found) => found.stat(),
-        None => Ok(Stat::Absent),
+    pub fn read_link(&mut self, alloc: Global, path: &Path) -> Result<Text, Cause> {
+        self.reach(path)?;
+        files::read_link(self.rt, alloc, &self.at)
     }
 }

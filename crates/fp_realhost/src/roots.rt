@@ -1,23 +1,18 @@
 // The root folder of a host and those above it.
+use crate::cause::Cause;
 use crate::files::make_folder;
 use crate::found::has_folder;
 use crate::touched::Touched;
-use std::io;
 use std::rt::Files;
 
 // Makes the folder and those above it where they are absent.
-pub fn make_root<R: Files>(rt: &R, touched: &mut Touched, root: &str) -> io::Result<()> {
+pub fn make_root<R: Files>(rt: &R, touched: &mut Touched, root: &str) -> Result<(), Cause> {
     for end in 1..root.len() {
-        make_above(rt, touched, root, end)?;
+        if let Some(above) = folder_at(root, end) {
+            make_missing(rt, touched, above)?;
+        }
     }
     make_missing(rt, touched, root)
-}
-
-fn make_above<R: Files>(rt: &R, touched: &mut Touched, root: &str, end: usize) -> io::Result<()> {
-    match folder_at(root, end) {
-        Some(above) => make_missing(rt, touched, above),
-        None => Ok(()),
-    }
 }
 
 // The folder above the root whose path ends at this place of its text.
@@ -29,20 +24,17 @@ pub fn folder_at(root: &str, end: usize) -> Option<&str> {
 }
 
 // Makes a folder that is absent. Another process may come before.
-fn make_missing<R: Files>(rt: &R, touched: &mut Touched, at: &str) -> io::Result<()> {
+fn make_missing<R: Files>(rt: &R, touched: &mut Touched, at: &str) -> Result<(), Cause> {
     match make_folder(rt, at) {
-        Ok(()) => add_made(touched, at),
-        Err(e) => match has_folder(rt, at) {
-            Ok(true) => Ok(()),
-            Ok(false) => Err(e),
-            Err(other) => Err(other),
+        Ok(()) => {
+            touched.add_made(at);
+            Ok(())
+        }
+        Err(e) => match has_folder(rt, at)? {
+            true => Ok(()),
+            false => Err(e),
         },
     }
-}
-
-fn add_made(touched: &mut Touched, at: &str) -> io::Result<()> {
-    touched.add_folder(at)?;
-    Ok(touched.add_folder(folder_of(at))?)
 }
 
 // The folder that the first one of the root's path stands in.

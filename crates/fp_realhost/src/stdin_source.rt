@@ -128,12 +128,9 @@ impl<R: Input> Source for StdinSource<'_, R> {
                 self.keep(&into[..n]);
                 Taken::Took(n)
             }
-            Err(error) => {
-                self.faults.note(SystemError {
-                    call: Call::Take,
-                    path: None,
-                    error,
-                });
+            Err(cause) => {
+                self.faults
+                    .note(SystemError::without_path(Call::Take, cause));
                 Taken::Failed
             }
         }

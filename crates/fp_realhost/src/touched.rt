@@ -1,21 +1,32 @@
 // What was changed since the last sync.
 ghost use Rattle.std.specs.Prelude.{◌≡◌, Bool, true, OnOk};
 
-use crate::fault::{Call, SystemError};
-use crate::files::open_own;
-use crate::found::is_absence;
+use crate::cause::{Cause, known};
+use crate::fault::Call;
+use crate::files::open_to_read;
+use crate::roots::folder_of;
 use std::alloc::{AllocError, Global};
 use std::collections::BTreeSet;
-use std::fs::{OpenFile, OpenOptions};
-use std::io;
+use std::fs::OpenFile;
+use std::io::ErrorKind;
 use std::marker::Model;
 use std::rt::Files;
 
+// What could not be made to last, and why.
+#[derive(Clone, Copy)]
+pub struct Unsynced {
+    pub call: Call,
+    pub cause: Cause,
+}
+
 // The files that were created or written and the folders whose names changed since the last sync, by their paths. A
-// file stands here under each of its names. Contracts see whether nothing waits for a sync.
+// file stands here under each of its names. Where there is no memory to note a change, no later sync succeeds. Contracts
+// see whether nothing waits for a sync.
 #[derive(Drop)]
 pub struct Touched {
     alloc: Global,
+    // What an earlier run may have left.
+    left: BTreeSet<String>,
     files: BTreeSet<String>,
     folders: BTreeSet<String>,
     is_settled: bool,
@@ -35,6 +46,7 @@ impl Touched {
     pub fn nothing(alloc: Global) -> Self {
         Touched {
             alloc,
+            left: BTreeSet::new(alloc),
             files: BTreeSet::new(alloc),
             folders: BTreeSet::new(alloc),
             is_settled: true,
@@ -42,41 +54,89 @@ impl Touched {
         }
     }
 
+    pub fn is_settled(&self) -> bool {
+        self.is_settled
+    }
+
     pub fn has_file(&self, at: &str) -> bool {
         self.files.contains(at)
     }
 
-    pub fn add_file(&mut self, at: &str) -> Result<(), AllocError> {
-        self.is_settled = false;
+    pub fn add_left(&mut self, at: &str) {
+        let noted = note(self.alloc, &mut self.left, at);
+        self.keep(noted);
+    }
+
+    fn add_file(&mut self, at: &str) {
         let noted = note(self.alloc, &mut self.files, at);
-        self.is_lost |= noted.is_err();
-        noted
+        self.keep(noted);
     }
 
-    pub fn add_folder(&mut self, at: &str) -> Result<(), AllocError> {
-        self.is_settled = false;
+    fn add_folder(&mut self, at: &str) {
         let noted = note(self.alloc, &mut self.folders, at);
+        self.keep(noted);
+    }
+
+    fn keep(&mut self, noted: Result<(), AllocError>) {
+        self.is_settled = false;
         self.is_lost |= noted.is_err();
-        noted
     }
 
-    // Takes a name of a file away, and answers whether it stood here.
-    pub fn remove_file(&mut self, at: &str) -> bool {
-        self.files.remove(at)
+    // A name came into the folder, or went.
+    pub fn add_name(&mut self, at: &str) {
+        self.add_folder(folder_of(at));
     }
 
-    pub fn remove_folder(&mut self, at: &str) {
+    // A folder was made.
+    pub fn add_made(&mut self, at: &str) {
+        self.add_folder(at);
+        self.add_name(at);
+    }
+
+    // A file was created.
+    pub fn add_created(&mut self, at: &str) {
+        self.add_file(at);
+        self.add_name(at);
+    }
+
+    // The second path became another name of the first one's file.
+    pub fn add_linked(&mut self, from: &str, to: &str) {
+        if self.has_file(from) {
+            self.add_file(to);
+        }
+        self.add_name(to);
+    }
+
+    // The file or symlink went to the second path.
+    pub fn add_moved(&mut self, from: &str, to: &str) {
+        self.files.remove(to);
+        if self.files.remove(from) {
+            self.add_file(to);
+        }
+        self.add_name(from);
+        self.add_name(to);
+    }
+
+    // The file or symlink was taken away.
+    pub fn add_gone(&mut self, at: &str) {
+        self.files.remove(at);
+        self.add_name(at);
+    }
+
+    // The folder was taken away.
+    pub fn add_gone_folder(&mut self, at: &str) {
         self.folders.remove(at);
+        self.add_name(at);
     }
 
-    // Makes all of it last, the files before the folders. On an error it stays as it was.
-    pub fn sync<R: Files>(&mut self, rt: &R) -> Result<(), SystemError>
+    // Makes all of it last, the files before the folders. On an error it stays as it was, and the path is in the buffer.
+    pub fn sync<R: Files>(&mut self, rt: &R, at: &mut String) -> Result<(), Unsynced>
         ensures settled { OnOk result (self.new ≡ true) }
     {
         if self.is_settled {
             return Ok(());
         }
-        match self.sync_all(rt) {
+        match self.sync_all(rt, at) {
             Ok(()) => {
                 self.settle();
                 Ok(())
@@ -88,58 +148,94 @@ impl Touched {
         }
     }
 
-    // Makes last what was left before any change. Where a sync of it failed, no later one succeeds.
-    pub fn sync_before<R: Files>(&mut self, rt: &R, left: &mut Touched) -> Result<(), SystemError> {
-        let done = left.sync(rt);
-        self.is_lost |= left.is_lost;
-        done
-    }
-
     fn settle(&mut self)
         ensures { self.new ≡ true }
     {
+        self.left.clear();
         self.files.clear();
         self.folders.clear();
         self.is_settled = true;
     }
 
-    fn sync_all<R: Files>(&self, rt: &R) -> Result<(), SystemError> {
+    fn sync_all<R: Files>(&self, rt: &R, at: &mut String) -> Result<(), Unsynced> {
         if self.is_lost {
-            return Err(SystemError {
+            at.clear();
+            return Err(Unsynced {
                 call: Call::Sync,
-                path: None,
-                error: io::Error::other("an earlier change or sync failed and may be lost"),
+                cause: Cause::MayBeLost,
             });
         }
-        for at in &self.files {
-            sync_at(rt, self.alloc, at.as_str())?;
-        }
-        for at in &self.folders {
-            sync_at(rt, self.alloc, at.as_str())?;
-        }
-        Ok(())
+        sync_left(rt, &self.left, at)?;
+        sync_each(rt, &self.files, at)?;
+        sync_each(rt, &self.folders, at)
     }
 }
 
-fn note(alloc: Global, set: &mut BTreeSet<String>, at: &str) -> Result<(), AllocError> {
+pub fn note(alloc: Global, set: &mut BTreeSet<String>, at: &str) -> Result<(), AllocError> {
     if !set.contains(at) {
         set.insert(at.to_string(alloc)?)?;
     }
     Ok(())
 }
 
+// What an earlier run left. What may not be opened is not ours.
+fn sync_left<R: Files>(
+    rt: &R,
+    paths: &BTreeSet<String>,
+    refused: &mut String,
+) -> Result<(), Unsynced> {
+    for at in paths {
+        match sync_at(rt, at.as_str()) {
+            Err(e) if is_of_others(e) => {}
+            Err(e) => return Err(met_at(at.as_str(), e, refused)),
+            Ok(()) => {}
+        }
+    }
+    Ok(())
+}
+
+fn is_of_others(met: Unsynced) -> bool {
+    met.call == Call::Open && met.cause.is(ErrorKind::PermissionDenied)
+}
+
+fn sync_each<R: Files>(
+    rt: &R,
+    paths: &BTreeSet<String>,
+    refused: &mut String,
+) -> Result<(), Unsynced> {
+    for at in paths {
+        if let Err(e) = sync_at(rt, at.as_str()) {
+            return Err(met_at(at.as_str(), e, refused));
+        }
+    }
+    Ok(())
+}
+
+// Keeps the path where there is memory.
+fn met_at(at: &str, met: Unsynced, refused: &mut String) -> Unsynced {
+    refused.clear();
+    let _kept = refused.push_str(at);
+    met
+}
+
 // Makes the file or folder last. One that is gone was taken away since.
-fn sync_at<R: Files>(rt: &R, alloc: Global, at: &str) -> Result<(), SystemError> {
-    match open_own(rt, OpenOptions::new().read(true), at) {
-        Ok(opened) => sync_opened(&opened, alloc, at),
-        Err(e) if is_absence(e.kind()) => Ok(()),
-        Err(e) => Err(SystemError::on(alloc, Call::Open, at, e)),
+fn sync_at<R: Files>(rt: &R, at: &str) -> Result<(), Unsynced> {
+    match open_to_read(rt, at) {
+        Ok(opened) => sync_opened(&opened),
+        Err(e) if e.is_absence() => Ok(()),
+        Err(cause) => Err(Unsynced {
+            call: Call::Open,
+            cause,
+        }),
     }
 }
 
-fn sync_opened<F: OpenFile>(opened: &F, alloc: Global, at: &str) -> Result<(), SystemError> {
-    match opened.sync_all() {
+fn sync_opened<F: OpenFile>(opened: &F) -> Result<(), Unsynced> {
+    match known(opened.sync_all()) {
         Ok(()) => Ok(()),
-        Err(e) => Err(SystemError::on(alloc, Call::Sync, at, e)),
+        Err(cause) => Err(Unsynced {
+            call: Call::Sync,
+            cause,
+        }),
     }
 }

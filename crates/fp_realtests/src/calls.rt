@@ -1,13 +1,12 @@
 // What each call does to a real folder.
 use crate::fixture::{Step, clear, first_done, first_other, is_message, make_file, path};
 use fp_host::{Host, HostEnd, HostError, Path, Stat};
-use fp_realhost::HostDir;
+use fp_realhost::{Access, HostDir, System};
 use std::alloc::Global;
-use std::rt::Files;
 use std::test::Fail;
 
 // Calls, a path, and what it shows after each.
-const ASKED: [(Step, &str, &str); 22] = [
+const ASKED: [(Step<'static>, &str, &str); 22] = [
     (Step::Sync, "", "dir"),
     (Step::MakeDir("d"), "", "dir d"),
     (Step::MakeDir("d/e"), "d", "dir e"),
@@ -33,8 +32,8 @@ const ASKED: [(Step, &str, &str); 22] = [
 ];
 
 // The first row that shows something else, and the count of faults.
-fn asked<R: Files + Print + AllocGlobal>(rt: &R) -> Result<(Option<usize>, u64), Fail> {
-    let mut host = HostDir::new(rt, rt.alloc(), "asked/root")?;
+fn asked<R: System + Print>(rt: &R) -> Result<(Option<usize>, u64), Fail> {
+    let mut host = HostDir::new(rt, rt, rt.alloc(), "asked/root", Access::Change)?;
     prove_eq!(host.faults(), 0);
     let other = first_other(&mut host, rt.alloc(), &ASKED)?;
     Ok((other, host.faults()))
@@ -48,7 +47,7 @@ fn a_folder_does_what_it_is_asked(rt: HostRuntime) -> Result<(), Fail> {
     Ok(())
 }
 
-const MADE: [(Step, &str, &str); 6] = [
+const MADE: [(Step<'static>, &str, &str); 6] = [
     (Step::MakeDir("folder"), "folder", "dir"),
     (Step::Symlink("old", "link"), "link", "old"),
     (Step::Create("old", 0o644), "old", "644 0 "),
@@ -58,7 +57,7 @@ const MADE: [(Step, &str, &str); 6] = [
 ];
 
 // Calls whose condition doesn't hold there.
-const REFUSED: [Step; 28] = [
+const REFUSED: [Step<'static>; 28] = [
     Step::MakeDir(""),
     Step::MakeDir("link"),
     Step::MakeDir("none/below"),
@@ -90,9 +89,9 @@ const REFUSED: [Step; 28] = [
 ];
 
 // The first row that shows something else, the first call that is no fault, and the count of faults.
-fn refuse<R: Files + Print + AllocGlobal>(
+fn refuse<R: System + Print>(
     rt: &R,
-    host: &mut HostDir<'_, R>,
+    host: &mut HostDir<'_, R, R>,
 ) -> Result<(Option<usize>, Option<usize>, u64), Fail> {
     let other = first_other(host, rt.alloc(), &MADE)?;
     let done = first_done(host, rt.alloc(), &REFUSED);
@@ -102,7 +101,7 @@ fn refuse<R: Files + Print + AllocGlobal>(
 #[test]
 fn what_breaks_a_condition_is_a_fault(rt: HostRuntime) -> Result<(), Fail> {
     clear(&rt, "refused");
-    let mut host = HostDir::new(&rt, rt.alloc(), "refused")?;
+    let mut host = HostDir::new(&rt, &rt, rt.alloc(), "refused", Access::Change)?;
     assert_eq!(rt; refuse(&rt, &mut host)?, (None, None, 28));
     let last = "cannot read the link refused/old: Invalid argument (os error 22)";
     assert!(rt; is_message(rt.alloc(), host.last_error(), last)?);
@@ -114,7 +113,7 @@ fn what_breaks_a_condition_is_a_fault(rt: HostRuntime) -> Result<(), Fail> {
 fn a_file_in_the_place_of_the_root_is_a_fault(rt: HostRuntime) -> Result<(), Fail> {
     clear(&rt, "above");
     make_file(&rt, "above", "above/file", "")?;
-    let mut host = HostDir::new(&rt, rt.alloc(), "above/file/root")?;
+    let mut host = HostDir::new(&rt, &rt, rt.alloc(), "above/file/root", Access::Look)?;
     assert_eq!(rt; host.stat(&Path::root(rt.alloc())), Err(HostError::Failed));
     let last = "cannot use the folder above/file/root: Not a directory (os error 20)";
     assert!(rt; is_message(rt.alloc(), host.last_error(), last)?);
@@ -122,7 +121,7 @@ fn a_file_in_the_place_of_the_root_is_a_fault(rt: HostRuntime) -> Result<(), Fai
     Ok(())
 }
 
-const IDS: [(Step, &str, &str); 3] = [
+const IDS: [(Step<'static>, &str, &str); 3] = [
     (Step::Create("a", 0o644), "a", "644 0 "),
     (Step::Create("b", 0o644), "b", "644 0 "),
     (Step::Link("a", "c"), "c", "644 0 "),
@@ -138,9 +137,9 @@ fn are_same<H: Host>(host: &mut H, alloc: Global, a: &str, b: &str) -> Result<bo
 }
 
 // The first row that shows something else, and whether the linked names and the others are one file.
-fn linked<R: Files + Print + AllocGlobal>(rt: &R) -> Result<(Option<usize>, bool, bool), Fail> {
+fn linked<R: System + Print>(rt: &R) -> Result<(Option<usize>, bool, bool), Fail> {
     let alloc = rt.alloc();
-    let mut host = HostDir::new(rt, alloc, "ids")?;
+    let mut host = HostDir::new(rt, rt, alloc, "ids", Access::Change)?;
     let other = first_other(&mut host, alloc, &IDS)?;
     let linked = are_same(&mut host, alloc, "a", "c")?;
     Ok((other, linked, are_same(&mut host, alloc, "a", "b")?))
@@ -174,8 +173,8 @@ fn first_other_piece<H: Host>(host: &mut H, file: &Path) -> Result<Option<u64>, 
     Ok(None)
 }
 
-fn pieces<R: Files + Print + AllocGlobal>(rt: &R) -> Result<Option<u64>, Fail> {
-    let mut host = HostDir::new(rt, rt.alloc(), "pieces")?;
+fn pieces<R: System + Print>(rt: &R) -> Result<Option<u64>, Fail> {
+    let mut host = HostDir::new(rt, rt, rt.alloc(), "pieces", Access::Look)?;
     let file = path(rt.alloc(), "file")?;
     Ok(first_other_piece(&mut host, &file)?)
 }

@@ -8,21 +8,21 @@ use std::{fs, io};
 
 // A call, on paths of one element or two.
 #[derive(Clone, Copy)]
-pub enum Step {
-    MakeDir(&'static str),
-    Create(&'static str, u32),
-    Append(&'static str, &'static str),
-    Link(&'static str, &'static str),
-    Symlink(&'static str, &'static str),
-    Rename(&'static str, &'static str),
-    Unlink(&'static str),
-    RemoveDir(&'static str),
+pub enum Step<'a> {
+    MakeDir(&'a str),
+    Create(&'a str, u32),
+    Append(&'a str, &'a str),
+    Link(&'a str, &'a str),
+    Symlink(&'a str, &'a str),
+    Rename(&'a str, &'a str),
+    Unlink(&'a str),
+    RemoveDir(&'a str),
     Sync,
-    Say(&'static str),
-    Stat(&'static str),
-    Read(&'static str),
-    ReadLink(&'static str),
-    List(&'static str),
+    Say(&'a str),
+    Stat(&'a str),
+    Read(&'a str),
+    ReadLink(&'a str),
+    List(&'a str),
 }
 
 pub fn path(alloc: Global, text: &str) -> Result<Path, HostEnd> {
@@ -32,7 +32,7 @@ pub fn path(alloc: Global, text: &str) -> Result<Path, HostEnd> {
     Ok(Path::parse(alloc, text)?)
 }
 
-pub fn change<H: Host>(host: &mut H, alloc: Global, step: Step) -> Result<(), HostEnd> {
+pub fn change<H: Host>(host: &mut H, alloc: Global, step: Step<'_>) -> Result<(), HostEnd> {
     match step {
         Step::MakeDir(at) => host.make_dir(&path(alloc, at)?)?,
         Step::Create(at, mode) => host.create(&path(alloc, at)?, mode)?,
@@ -49,7 +49,7 @@ pub fn change<H: Host>(host: &mut H, alloc: Global, step: Step) -> Result<(), Ho
     Ok(())
 }
 
-pub fn read<H: Host>(host: &mut H, alloc: Global, step: Step) -> Result<(), HostEnd> {
+pub fn read<H: Host>(host: &mut H, alloc: Global, step: Step<'_>) -> Result<(), HostEnd> {
     match step {
         Step::Stat(at) => {
             host.stat(&path(alloc, at)?)?;
@@ -106,7 +106,7 @@ pub fn shows<H: Host>(host: &mut H, alloc: Global, at: &str, want: &str) -> Resu
 pub fn first_other<H: Host>(
     host: &mut H,
     alloc: Global,
-    rows: &[(Step, &str, &str)],
+    rows: &[(Step<'_>, &str, &str)],
 ) -> Result<Option<usize>, Fail> {
     for (i, (step, at, want)) in rows.iter().enumerate() {
         change(host, alloc, *step)?;
@@ -118,7 +118,7 @@ pub fn first_other<H: Host>(
 }
 
 // The first call that isn't answered as a fault.
-pub fn first_done<H: Host>(host: &mut H, alloc: Global, steps: &[Step]) -> Option<usize> {
+pub fn first_done<H: Host>(host: &mut H, alloc: Global, steps: &[Step<'_>]) -> Option<usize> {
     for (i, step) in steps.iter().enumerate() {
         if change(host, alloc, *step) != Err(HostEnd::Fault) {
             return Some(i);

@@ -6,6 +6,8 @@ mod calls;
 #[cfg(test)]
 mod fixture;
 #[cfg(test)]
+mod held;
+#[cfg(test)]
 mod links;
 #[cfg(test)]
 mod log;
@@ -13,3 +15,7 @@ mod log;
 mod order;
 #[cfg(test)]
 mod remotes;
+#[cfg(test)]
+mod shown;
+#[cfg(test)]
+mod stored;

@@ -1,7 +1,7 @@
 // Symlinks above a path, which no call follows.
 use crate::fixture::{Step, change, clear, first_done, is_message, make_file, path};
 use fp_host::{Host, HostEnd, Node, RemoteError, Remotes};
-use fp_realhost::{DirRemotes, HostDir};
+use fp_realhost::{Access, DirRemotes, HostDir, System};
 use std::env::Env;
 use std::os::unix::fs::symlink;
 use std::rt::Files;
@@ -18,7 +18,7 @@ fn make_links<R: Files>(rt: &R) -> io::Result<()> {
     symlink(rt, "root", "links/way")
 }
 
-const BELOW: [Step; 14] = [
+const BELOW: [Step<'static>; 14] = [
     Step::Stat("repo/tmp"),
     Step::Stat("repo/tmp/file"),
     Step::List("repo"),
@@ -36,7 +36,7 @@ const BELOW: [Step; 14] = [
 ];
 
 // What a symlink that is put in the place of a folder meanwhile does.
-const SWAPPED: [Step; 6] = [
+const SWAPPED: [Step<'static>; 6] = [
     Step::Create("d/f", 0o644),
     Step::Unlink("d/f"),
     Step::RemoveDir("d"),
@@ -46,8 +46,8 @@ const SWAPPED: [Step; 6] = [
 ];
 
 // The first call that follows the symlink, and the count of faults.
-fn followed<R: Files + Print + AllocGlobal>(rt: &R) -> Result<(Option<usize>, u64), Fail> {
-    let mut host = HostDir::new(rt, rt.alloc(), "links/way")?;
+fn followed<R: System + Print>(rt: &R) -> Result<(Option<usize>, u64), Fail> {
+    let mut host = HostDir::new(rt, rt, rt.alloc(), "links/way", Access::Change)?;
     let done = first_done(&mut host, rt.alloc(), &BELOW);
     let faults = host.faults();
     let last = "cannot remove the folder links/way/repo/tmp: a symlink is in the place of a folder";
@@ -114,7 +114,7 @@ fn no_symlink_of_a_remote_is_followed(rt: HostRuntime) -> Result<(), Fail> {
 // A look at a folder that is not there makes nothing.
 #[test]
 fn reading_makes_nothing(rt: HostRuntime) -> Result<(), Fail> {
-    let mut host = HostDir::new(&rt, rt.alloc(), "unmade/root")?;
+    let mut host = HostDir::new(&rt, &rt, rt.alloc(), "unmade/root", Access::Look)?;
     for step in [
         Step::List(""),
         Step::Stat(""),

@@ -1,18 +1,22 @@
 // A system that notes what it is asked to change, in order, as the lines of a file.
+use fp_realhost::{Access, System};
 use std::alloc::{Alloc, Allocator, Global};
 use std::fmt::Display;
 use std::fs::{FileTimes, Metadata, OpenFile, OpenOptions, Permissions};
-use std::io::{Print, Read, Seek, SeekFrom, Write};
+use std::io::{Eprint, Print, Read, Seek, SeekFrom, Write};
 use std::path::PathBuf;
 use std::rt::Files;
 use std::{fs, io};
 
-// The file, and the line that fails. Nothing of that call is done.
+// The file, and what is other than in the system below it.
 pub struct Log<'a, R> {
-    rt: &'a R,
+    pub rt: &'a R,
     alloc: Global,
-    file: &'static str,
-    fails: &'static str,
+    file: &'a str,
+    // The line that fails. Nothing of that call is done.
+    fails: &'a str,
+    // Whether somebody else holds each lock until it is waited for.
+    is_busy: bool,
 }
 
 impl<R> Drop for Log<'_, R> {
@@ -22,17 +26,29 @@ impl<R> Drop for Log<'_, R> {
             alloc: _,
             file: _,
             fails: _,
+            is_busy: _,
         } = self;
     }
 }
 
 impl<'a, R: Files + AllocGlobal> Log<'a, R> {
-    pub fn new(rt: &'a R, file: &'static str, fails: &'static str) -> Self {
+    pub fn new(rt: &'a R, file: &'a str, fails: &'a str) -> Self {
         Log {
             rt,
             alloc: rt.alloc(),
             file,
             fails,
+            is_busy: false,
+        }
+    }
+
+    pub fn busy(rt: &'a R, file: &'a str) -> Self {
+        Log {
+            rt,
+            alloc: rt.alloc(),
+            file,
+            fails: "",
+            is_busy: true,
         }
     }
 
@@ -203,6 +219,7 @@ impl<R: Files + AllocGlobal> OpenFile for LoggedFile<'_, R> {
     }
 
     fn set_len(&self, size: u64) -> io::Result<()> {
+        self.log.note("cut", &self.at)?;
         self.file.set_len(size)
     }
 
@@ -245,5 +262,35 @@ impl<R: Files + AllocGlobal> Print for Logged<'_, R> {
     fn write_all(&self, bytes: &[u8]) -> io::Result<()> {
         self.log
             .note("print", std::str::from_utf8(bytes).ok().unwrap_or("?"))
+    }
+}
+
+impl<R: Files + AllocGlobal> Eprint for Logged<'_, R> {
+    fn eprint<D: Display + Drop>(&self, value: D) -> io::Result<()> {
+        let text = format!(in self.log.alloc; "{value}")?;
+        self.log.note("complain", &text)
+    }
+
+    fn eprintln<D: Display + Drop>(&self, value: D) -> io::Result<()> {
+        self.eprint(value)
+    }
+}
+
+impl<R: System> System for Logged<'_, R> {
+    fn try_lock(&self, file: &Self::File, access: Access) -> io::Result<bool> {
+        self.log.note("lock", &file.at)?;
+        if self.log.is_busy {
+            return Ok(false);
+        }
+        self.log.rt.try_lock(&file.file, access)
+    }
+
+    fn lock(&self, file: &Self::File, access: Access) -> io::Result<()> {
+        self.log.note("wait for", &file.at)?;
+        self.log.rt.lock(&file.file, access)
+    }
+
+    fn prints_to_terminal(&self) -> bool {
+        false
     }
 }

@@ -2,38 +2,76 @@
 use crate::fixture::{Step, change, clear};
 use crate::log::{Log, Logged};
 use fp_host::{Host, HostEnd};
-use fp_realhost::HostDir;
+use fp_realhost::{Access, HostDir, System};
+use std::fs;
 use std::rt::Files;
 use std::test::Fail;
 
 // Calls, and what the system is asked for each.
-const ASKED: [(Step, &str); 19] = [
-    (Step::List(""), ""),
+const ASKED: [(Step<'static>, &str); 24] = [
+    (
+        Step::List(""),
+        "make order\nmake order/root\nlock order/root/.lock\n",
+    ),
     (Step::Stat("none"), ""),
     (
         Step::MakeDir("d"),
-        "make order\nmake order/root\nmake order/root/d\n",
+        "write order/root/.lock\nmake order/root/d\n",
     ),
     (Step::Create("d/f", 0o644), "create order/root/d/f\n"),
     (Step::Append("d/f", "some"), "write order/root/d/f\n"),
     (
         Step::Sync,
-        "sync .\nsync order\nsync order/root\nsync order/root/d\n\
-         sync order/root/d/f\nsync .\nsync order\nsync order/root\nsync order/root/d\n",
+        "sync .\nsync order\nsync order/root\n\
+         sync order/root/d/f\nsync .\nsync order\nsync order/root\nsync order/root/d\n\
+         cut order/root/.lock\n",
     ),
     (Step::Sync, ""),
-    (Step::Create("new", 0o600), "create order/root/new\n"),
+    (
+        Step::Create("new", 0o600),
+        "write order/root/.lock\ncreate order/root/new\n",
+    ),
     (Step::Append("new", "more"), "write order/root/new\n"),
     (Step::Append("new", "bytes"), "write order/root/new\n"),
-    (Step::Sync, "sync order/root/new\nsync order/root\n"),
-    (Step::Rename("new", "d/f"), "rename to order/root/d/f\n"),
-    (Step::Sync, "sync order/root\nsync order/root/d\n"),
-    (Step::Symlink("text", "d/l"), "link order/root/d/l\n"),
+    (
+        Step::Sync,
+        "sync order/root/new\nsync order/root\ncut order/root/.lock\n",
+    ),
+    (
+        Step::Rename("new", "d/f"),
+        "write order/root/.lock\nrename to order/root/d/f\n",
+    ),
+    (
+        Step::Sync,
+        "sync order/root\nsync order/root/d\ncut order/root/.lock\n",
+    ),
+    (
+        Step::Symlink("text", "d/l"),
+        "write order/root/.lock\nlink order/root/d/l\n",
+    ),
     (Step::Unlink("d/f"), "remove order/root/d/f\n"),
-    (Step::Sync, "sync order/root/d\n"),
+    (Step::Sync, "sync order/root/d\ncut order/root/.lock\n"),
     (Step::Say("words"), "print words\n"),
     (Step::Stat("d"), ""),
     (Step::Sync, ""),
+    (
+        Step::MakeDir("repo"),
+        "write order/root/.lock\nmake order/root/repo\n",
+    ),
+    (
+        Step::MakeDir("repo/objects"),
+        "make order/root/repo/objects\n",
+    ),
+    (Step::Create("x", 0o644), "create order/root/x\n"),
+    (
+        Step::Rename("x", "repo/objects/x"),
+        "date order/root/x\nrename to order/root/repo/objects/x\n",
+    ),
+    (
+        Step::Sync,
+        "sync order/root/repo/objects/x\nsync order/root\nsync order/root/repo\n\
+         sync order/root/repo/objects\ncut order/root/.lock\n",
+    ),
 ];
 
 // Whether just this was noted since the last look.
@@ -46,12 +84,12 @@ fn is_noted<R: Files + AllocGlobal>(log: &Log<'_, R>, want: &str) -> bool {
 
 // The first of the calls that fails, or for which the system is asked something else.
 fn first_call_asked_otherwise<H: Host, R: Files + AllocGlobal>(
-    rt: &R,
+    log: &Log<'_, R>,
     host: &mut H,
+    rows: &[(Step<'_>, &str)],
 ) -> Option<usize> {
-    let log = Log::new(rt, "order.log", "");
-    for (i, (step, want)) in (&ASKED).iter().enumerate() {
-        if change(host, rt.alloc(), *step).is_err() || !is_noted(&log, want) {
+    for (i, (step, want)) in rows.iter().enumerate() {
+        if change(host, log.rt.alloc(), *step).is_err() || !is_noted(log, want) {
             return Some(i);
         }
     }
@@ -59,22 +97,30 @@ fn first_call_asked_otherwise<H: Host, R: Files + AllocGlobal>(
 }
 
 // The same over a folder whose system notes what it is asked.
-fn first_other<R: Files + AllocGlobal>(rt: &R) -> Result<Option<usize>, Fail> {
-    let log = Log::new(rt, "order.log", "");
-    let system = Logged { log: &log };
-    let mut host = HostDir::new(&system, rt.alloc(), "order/root")?;
-    Ok(first_call_asked_otherwise(rt, &mut host))
+fn first_other<R: System>(
+    log: &Log<'_, R>,
+    root: &str,
+    access: Access,
+    rows: &[(Step<'_>, &str)],
+) -> Result<Option<usize>, Fail> {
+    let system = Logged { log };
+    let mut host = HostDir::new(&system, &system, log.rt.alloc(), root, access)?;
+    Ok(first_call_asked_otherwise(log, &mut host, rows))
 }
 
 #[test]
 fn the_system_is_asked_in_order(rt: HostRuntime) -> Result<(), Fail> {
     clear(&rt, "order");
-    assert_eq!(rt; first_other(&rt)?, None);
+    let log = Log::new(&rt, "order.log", "");
+    assert_eq!(rt;
+        first_other(&log, "order/root", Access::Change, &ASKED)?,
+        None
+    );
     clear(&rt, "order");
     Ok(())
 }
 
-const CHANGES: [Step; 5] = [
+const CHANGES: [Step<'static>; 5] = [
     Step::MakeDir("d"),
     Step::Create("d/f", 0o644),
     Step::Append("d/f", "some"),
@@ -83,8 +129,12 @@ const CHANGES: [Step; 5] = [
 ];
 
 // What the system fails at, the call that fails by it, and whether a sync succeeds afterwards.
-const FAILURES: [(&str, usize, bool); 7] = [
-    ("make fails/root", 0, true),
+const FAILURES: [(&str, usize, bool); 11] = [
+    ("make fails/root", 0, false),
+    ("lock fails/root/.lock", 0, false),
+    ("write fails/root/.lock", 0, true),
+    ("cut fails/root/.lock", 3, false),
+    ("make fails/root/d", 0, true),
     ("create fails/root/d/f", 1, true),
     ("write fails/root/d/f", 2, true),
     ("sync fails", 3, false),
@@ -103,19 +153,19 @@ fn first_failure<H: Host, R: AllocGlobal>(rt: &R, host: &mut H) -> Option<usize>
     None
 }
 
-fn is_met<R: Files + AllocGlobal>(rt: &R, row: &(&'static str, usize, bool)) -> Result<bool, Fail> {
+fn is_met<R: System>(rt: &R, row: &(&'static str, usize, bool)) -> Result<bool, Fail> {
     let (fails, at, syncs) = *row;
     clear(rt, "fails");
     let log = Log::new(rt, "fails.log", fails);
     let system = Logged { log: &log };
-    let mut host = HostDir::new(&system, rt.alloc(), "fails/root")?;
+    let mut host = HostDir::new(&system, &system, rt.alloc(), "fails/root", Access::Change)?;
     let failure = first_failure(rt, &mut host);
     let synced = host.sync().is_ok();
     clear(rt, "fails");
     Ok(failure == Some(at) && synced == syncs)
 }
 
-fn first_not_met<R: Files + AllocGlobal>(rt: &R) -> Result<Option<usize>, Fail> {
+fn first_not_met<R: System>(rt: &R) -> Result<Option<usize>, Fail> {
     for (i, row) in (&FAILURES).iter().enumerate() {
         if !is_met(rt, row)? {
             return Ok(Some(i));
@@ -127,5 +177,83 @@ fn first_not_met<R: Files + AllocGlobal>(rt: &R) -> Result<Option<usize>, Fail> 
 #[test]
 fn what_the_system_fails_at_is_not_done(rt: HostRuntime) -> Result<(), Fail> {
     assert_eq!(rt; first_not_met(&rt)?, None);
+    Ok(())
+}
+
+// What a run does that is stopped.
+const UNSYNCED: [(Step<'static>, &str); 3] = [
+    (
+        Step::MakeDir("d"),
+        "make left\nmake left/root\nlock left/root/.lock\n\
+         write left/root/.lock\nmake left/root/d\n",
+    ),
+    (Step::Create("d/f", 0), "create left/root/d/f\n"),
+    (Step::Symlink("f", "d/l"), "link left/root/d/l\n"),
+];
+
+// The next run that syncs makes all of it last, and the one after it nothing.
+const CAUGHT_UP: [(Step<'static>, &str); 3] = [
+    (Step::Stat("d"), "lock left/root/.lock\n"),
+    (
+        Step::Sync,
+        "sync .\nsync left\nsync left/root\nsync left/root/.lock\nsync left/root/d\n\
+         sync left/root/d/f\ncut left/root/.lock\n",
+    ),
+    (Step::Sync, ""),
+];
+
+const IDLE: [(Step<'static>, &str); 2] = [
+    (Step::Stat("d"), "lock left/root/.lock\n"),
+    (Step::Sync, ""),
+];
+
+// The first of these runs in which the system is asked something else, and the call.
+fn first_other_run<R: System>(log: &Log<'_, R>) -> Result<Option<(usize, usize)>, Fail> {
+    let runs: [&[(Step, &str)]; 4] = [&UNSYNCED, &CAUGHT_UP, &IDLE, &IDLE];
+    for (i, rows) in runs.iter().enumerate() {
+        if i == 3 {
+            // The mark of an earlier start of the machine.
+            fs::write(log.rt, "left/root/.lock", "0-0\n")?;
+        }
+        if let Some(call) = first_other(log, "left/root", Access::Change, rows)? {
+            return Ok(Some((i, call)));
+        }
+    }
+    Ok(None)
+}
+
+#[test]
+fn what_a_run_left_is_made_to_last(rt: HostRuntime) -> Result<(), Fail> {
+    clear(&rt, "left");
+    let log = Log::new(&rt, "left.log", "");
+    assert_eq!(rt; first_other_run(&log)?, None);
+    clear(&rt, "left");
+    Ok(())
+}
+
+// A folder that was there without a lock file may hold what was left.
+const UNKNOWN: [(Step<'static>, &str); 2] = [
+    (
+        Step::Stat("f"),
+        "lock old/root/.lock\nwrite old/root/.lock\n",
+    ),
+    (
+        Step::Sync,
+        "sync .\nsync old\nsync old/root\nsync old/root/.lock\nsync old/root/f\n\
+         cut old/root/.lock\n",
+    ),
+];
+
+#[test]
+fn a_folder_without_a_lock_is_synced_once(rt: HostRuntime) -> Result<(), Fail> {
+    clear(&rt, "old");
+    fs::create_dir_all(&rt, "old/root")?;
+    fs::write(&rt, "old/root/f", "")?;
+    let log = Log::new(&rt, "old.log", "");
+    assert_eq!(rt;
+        first_other(&log, "old/root", Access::Change, &UNKNOWN)?,
+        None
+    );
+    clear(&rt, "old");
     Ok(())
 }

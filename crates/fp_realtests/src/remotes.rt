@@ -161,7 +161,7 @@ impl Read for Turn<'_> {
         match turn {
             0 => Err(io::Error::from(ErrorKind::Interrupted)),
             1 => Ok(buf.len().min(2)),
-            2 => Err(io::Error::other("the cable is out")),
+            2 => Err(io::Error::from_raw_os_error(5)),
             _ => Ok(0),
         }
     }
@@ -211,7 +211,7 @@ fn an_input_is_a_source(rt: HostRuntime) -> Result<(), Fail> {
     let taken = [Taken::Took(2), Taken::Failed, Taken::End, Taken::Took(0)];
     assert_eq!(rt; takes(&mut source), taken);
     assert_eq!(rt; source.faults(), 1);
-    let last = "cannot read the standard input: the cable is out";
+    let last = "cannot read the standard input: Input/output error (os error 5)";
     assert!(rt; is_message(rt.alloc(), source.last_error(), last)?);
     Ok(())
 }

@@ -1,0 +1,52 @@
+// What the adapters need of a system beside what std names.
+use std::fs::{File, TryLockError};
+use std::io;
+use std::io::IsTerminal;
+use std::rt::Files;
+
+/// What an installation is opened for.
+#[derive(Clone, Copy, PartialEq, Eq)]
+pub enum Access {
+    /// Reading: others may read at the same time.
+    Look,
+    /// Changing: nobody else may read or change it meanwhile.
+    Change,
+}
+
+/// A system whose open files have advisory locks, as `flock` of Linux gives them: the system takes a lock away when the
+/// process that holds it ends, however it ends.
+pub trait System: Files + Eprint + AllocGlobal {
+    /// Takes the lock of the open file, and answers whether nobody else holds one that is in the way.
+    fn try_lock(&self, file: &Self::File, access: Access) -> io::Result<bool>;
+
+    /// Takes the lock of the open file, and waits while somebody else holds one that is in the way.
+    fn lock(&self, file: &Self::File, access: Access) -> io::Result<()>;
+
+    /// Whether the standard output is a terminal.
+    fn prints_to_terminal(&self) -> bool;
+}
+
+impl System for HostRuntime {
+    fn try_lock(&self, file: &File, access: Access) -> io::Result<bool> {
+        let tried = match access {
+            Access::Look => file.try_lock_shared(),
+            Access::Change => file.try_lock(),
+        };
+        match tried {
+            Ok(()) => Ok(true),
+            Err(TryLockError::WouldBlock) => Ok(false),
+            Err(TryLockError::Error(e)) => Err(e),
+        }
+    }
+
+    fn lock(&self, file: &File, access: Access) -> io::Result<()> {
+        match access {
+            Access::Look => file.lock_shared(),
+            Access::Change => file.lock(),
+        }
+    }
+
+    fn prints_to_terminal(&self) -> bool {
+        self.stdout().is_terminal()
+    }
+}

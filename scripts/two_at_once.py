@@ -1,0 +1,161 @@
+#!/usr/bin/python3
+"""Runs two fpk on one installation, kills some, and counts what the next one syncs.
+
+`two_at_once.py PROGRAM` runs PROGRAM, a built fpk, on a folder of its own, and needs `strace`. It tries that
+
+- a look makes nothing where there is no installation,
+- 60 pins each of two runs side by side are all there afterwards, from a folder on that is not there at first,
+- a batch that waits for its input holds no lock,
+- a run that waits says so once on standard error, and goes on when the lock is free,
+- a run that is killed by SIGKILL while it holds the lock leaves none,
+- after such a run the next one that changes something syncs every file and folder, and the one after it only what it
+  changes,
+- a mark of an earlier start of the machine means nothing.
+
+It prints what it counted; the status is 0 where nothing was amiss.
+"""
+
+import fcntl
+import os
+import re
+import shutil
+import subprocess
+import sys
+import tempfile
+import time
+
+LOCK = ".lock"
+
+
+class Runs:
+    """Runs of the program on one folder."""
+
+    def __init__(self, program, folder):
+        self.program = program
+        self.folder = folder
+        self.environment = {"FPK_INSTALLATION": folder, "PATH": os.environ["PATH"]}
+
+    def start(self, *words, before=()):
+        return subprocess.Popen(
+            [*before, self.program, *words],
+            env=self.environment,
+            stdin=subprocess.PIPE,
+            stdout=subprocess.PIPE,
+            stderr=subprocess.PIPE,
+            text=True,
+        )
+
+    def run(self, *words):
+        return self.start(*words).communicate()
+
+    def pins(self):
+        return self.run("list", "--pins")[0].splitlines()
+
+    def fsyncs(self, *words):
+        """How many files and folders a run syncs."""
+        with tempfile.NamedTemporaryFile("r") as trace:
+            run = self.start(*words, before=["strace", "-f", "-e", "trace=fsync", "-o", trace.name])
+            run.communicate()
+            return len(re.findall(r"fsync\(", trace.read()))
+
+    def lock(self):
+        return open(os.path.join(self.folder, LOCK), "r+")
+
+
+def side_by_side(runs):
+    """Two loops of pins at once."""
+    script = 'for i in $(seq 60); do "$0" pin "app/org.x.A$1_$i/*/*" || exit 1; done'
+    loops = [
+        subprocess.Popen(
+            ["sh", "-c", script, runs.program, str(i)],
+            env=runs.environment,
+            stdout=subprocess.DEVNULL,
+            stderr=subprocess.DEVNULL,
+        )
+        for i in (1, 2)
+    ]
+    assert [loop.wait() for loop in loops] == [0, 0]
+
+
+def waiting_batch(runs):
+    """Whether a pin goes on while a batch waits for its input."""
+    batch = runs.start("batch")
+    time.sleep(0.3)
+    said = runs.run("pin", "app/org.x.Beside/*/*")[1]
+    printed, _ = batch.communicate("pin app/org.x.Batch/*/*\n")
+    return said == "" and printed == "pinned app/org.x.Batch/*/*\n"
+
+
+def waiting(runs):
+    """What a run says that has to wait for half a second, and its status."""
+    with runs.lock() as lock:
+        fcntl.flock(lock, fcntl.LOCK_EX)
+        waiter = runs.start("list", "--pins")
+        time.sleep(0.5)
+        assert waiter.poll() is None
+        fcntl.flock(lock, fcntl.LOCK_UN)
+        _, said = waiter.communicate()
+        return said, waiter.returncode
+
+
+def killed(runs):
+    """Kills a run at its second sync, while it holds the lock. What the lock file holds afterwards."""
+    inject = ["strace", "-f", "-e", "inject=fsync:signal=SIGKILL:when=2", "-o", "/dev/null"]
+    runs.start("pin", "app/org.x.K/*/*", before=inject).communicate()
+    with runs.lock() as lock:
+        fcntl.flock(lock, fcntl.LOCK_EX | fcntl.LOCK_NB)
+        return lock.read()
+
+
+def main():
+    program = os.path.abspath(sys.argv[1])
+    top = tempfile.mkdtemp()
+    wrong = []
+
+    def see(what, value, good):
+        print(f"{what}: {value}")
+        if not good:
+            wrong.append(what)
+
+    try:
+        runs = Runs(program, os.path.join(top, "installation"))
+        runs.pins()
+        made = os.path.exists(runs.folder)
+        see("a look made the folder", made, not made)
+        side_by_side(runs)
+        count = len(runs.pins())
+        see("pins of two runs side by side, of 120", count, count == 120)
+        beside = waiting_batch(runs)
+        see("a pin goes on beside a batch that waits for its input", beside, beside)
+        said, status = waiting(runs)
+        want = f"fpk: waiting for another fpk that works on {runs.folder}\n"
+        see("said by the one that waited", repr(said), said == want and status == 0)
+        for i in range(200):
+            with open(os.path.join(runs.folder, f"file{i}"), "w"):
+                pass
+        idle = runs.fsyncs("pin", "app/org.x.A1_1/*/*")
+        see("syncs of a run that changes nothing", idle, idle < 20)
+        one = runs.fsyncs("pin", "app/org.x.One/*/*")
+        see("syncs of one pin", one, one < 30)
+        mark = killed(runs)
+        see("mark after the kill", repr(mark), mark != "")
+        after = runs.fsyncs("pin", "app/org.x.Two/*/*")
+        see("syncs after the kill", after, after >= 200)
+        again = runs.fsyncs("pin", "app/org.x.Three/*/*")
+        see("syncs of the run after that", again, again < 30)
+        with runs.lock() as lock:
+            lock.write("00000000-0000-0000-0000-000000000000\n")
+        other = runs.fsyncs("pin", "app/org.x.Four/*/*")
+        see("syncs with a mark of an earlier start", other, other < 30)
+        names = [name.split("/")[1] for name in runs.pins()]
+        kept = all(f"org.x.{name}" in names for name in ("Beside", "Batch", "One", "Two", "Three", "Four"))
+        see("all of it is pinned", kept, kept)
+    finally:
+        shutil.rmtree(top)
+    if wrong:
+        print("amiss: " + "; ".join(wrong))
+    return 1 if wrong else 0
+
+
+if __name__ == "__main__":
+    sys.exit(main())
