@@ -1,44 +1,37 @@
 -- Objects that are kept in the work folder, one by one.
-use Rattle.std.proofs.Common.{◌≡◌, ◌⊎◌, ◌<◌, inl, inr, ℕ, suc, List, [], ◌∷◌, ◌++◌, length, true, Option, Some, None, Result, Ok, refl, sym, ◌∙◌, ap, subst, arith, codes, take, drop, Err, Contains}
-use Rattle.std.specs.Prelude.{IsErrOf}
-use Rattle.std.specs.Result.{IsErrAnd}
+use Rattle.std.proofs.Common.{◌≡◌, ◌⊎◌, inl, inr, ℕ, List, [], ◌∷◌, ◌++◌, true, Option, Some, None, Result, Ok, refl, sym, ◌∙◌, ap, subst, arith, Err, Contains}
 use Rattle.fp_host.specs.Paths.{Elements, Slot, absent, dir, file, link, IsAbove}
 use Rattle.fp_host.specs.View.{View, IsTree}
-use Rattle.fp_host.specs.Moments.{Moments, Always, Makes, HasCause}
+use Rattle.fp_host.specs.Moments.{Moments, Always, Makes}
 use Rattle.fp_host.specs.Calls.{syncs, Step}
-use Rattle.fp_host.specs.Causes.{IsCaused}
-use Rattle.fp_host.specs.declared.host.HostEnd.{HostEnd}
-use Rattle.fp_host.specs.declared.host.HostEnd.TheVariants as host_ends
 use Rattle.fp_host.specs.Reads.{StatOf, IsStat}
 use Rattle.fp_host.specs.Remote.{Holdings}
 use Rattle.fp_host.specs.declared.host.HostError.{HostError}
 use Rattle.fp_host.specs.declared.host.HostError.TheVariants as errors
 use Rattle.fp_host.specs.declared.host.Stat.{Stat}
 use Rattle.fp_host.specs.declared.host.Stat.TheVariants as stats
-use Rattle.fp_host.proofs.Cause.{clash_reads}
 use Rattle.fp_host.proofs.Follow.{called}
 use Rattle.fp_host.proofs.Framed.{IsTold, keeps_refl, keeps_on, keeps_to, keeps_call}
 use Rattle.fp_host.specs.Frame.{Keeps, Frame, AtEnd, Unchanged, NoPath}
 use Rattle.fp_host.proofs.Goes.{stays, begins, goes_on, makes_goes}
-use Rattle.fp_host.proofs.Ending.{ends_start, ends_goes, ends_call, ends_to, ends_on, ends_both, call_caused, fault_caused}
+use Rattle.fp_host.proofs.Ending.{ends_goes, ends_call, ends_to, ends_on, ends_both}
 use Rattle.fp_small.specs.Clear.{IsWithin, GoneWithin, AbsentWithin}
-use Rattle.fp_small.specs.Files.{KeepsFiles}
 use Rattle.fp_small.specs.Folders.{ancestors, AreFree}
 use Rattle.fp_small.proofs.Keeping.{files_on, files_kept, files_synced}
 use Rattle.fp_small.proofs.Making.{stat_absent}
 use Rattle.fp_small.proofs.Emptying.{above_longer}
 use Rattle.fp_small.proofs.Replacement.{ancestors_above}
-use Rattle.fp_name.specs.Hex.{is_digest, hex}
+use Rattle.fp_name.specs.Hex.{is_digest}
 use Rattle.fp_base.specs.declared.object.ObjKind.{ObjKind}
 use Rattle.ost_model.specs.declared.object.Object.{Object}
 use Rattle.ost_model.specs.declared.object.Object.TheVariants as objects
-use Rattle.ost_model.specs.Objects.{object_path, kind_text, name_fault}
+use Rattle.ost_model.specs.Objects.{object_path, name_fault}
 use Rattle.ost_model.specs.Order.{In}
 use Rattle.ost_model.proofs.Stores.{one_name}
 use Rattle.ost_store.specs.Stage.{Stages, WasStaged, IsHeld, IsStaged, CanStage}
 use Rattle.ost_store.proofs.Staying.{staged_stays, held_stays}
 use Rattle.ost_head.specs.Found.{RemoteHas}
-use Rattle.ost_pull.specs.Work.{IsObjectName, IsAboveObject, WorksAt, WorksName, Works, IsKept, IsOnce, AreKept, KeepsOne, CanKeep}
+use Rattle.ost_pull.specs.Work.{IsAboveObject, Works, IsKept, IsOnce, AreKept, KeepsOne, CanKeep}
 
 -- ---- work in the folder
 

@@ -1,4 +1,5 @@
 mod Kept
+mod Contents
 mod Ready
 mod Given
 mod Apart

@@ -1,15 +1,13 @@
 -- Objects that come from the work folder to their names.
-use Rattle.std.proofs.Common.{◌≡◌, ◌≢◌, ◌⊎◌, inl, inr, ℕ, List, [], ◌∷◌, ◌++◌, length, true, Option, Some, None, refl, sym, ◌∙◌, ap, subst, arith}
-use Rattle.fp_host.specs.Paths.{Elements, absent, IsAbove}
+use Rattle.std.proofs.Common.{◌≡◌, ◌≢◌, inl, inr, ℕ, List, [], ◌∷◌, ◌++◌, true, Option, refl, sym, ◌∙◌, ap, subst, arith}
+use Rattle.fp_host.specs.Paths.{Elements, absent}
 use Rattle.fp_host.specs.View.{View, IsTree}
 use Rattle.fp_host.specs.Moments.{Moments, Always}
-use Rattle.fp_host.specs.Outcome.{shows}
 use Rattle.fp_host.specs.Frame.{AtEnd}
 use Rattle.fp_host.proofs.Framed.{IsTold, keeps_to}
 use Rattle.fp_host.proofs.Goes.{goes_on, begins}
-use Rattle.fp_host.proofs.Ending.{ends_on, ends_to, ends_both, ends_goes, ends_in_tree, goes_known}
+use Rattle.fp_host.proofs.Ending.{ends_on, ends_both, ends_goes, ends_in_tree, goes_known}
 use Rattle.fp_small.specs.Clear.{IsWithin}
-use Rattle.fp_small.specs.Folders.{ancestors, AreFree}
 use Rattle.fp_small.specs.Unsynced.{MakesNoFile}
 use Rattle.fp_small.proofs.Emptying.{above_longer}
 use Rattle.fp_small.proofs.Keeping.{files_kept}
@@ -24,7 +22,7 @@ use Rattle.ost_store.proofs.Staying.{placed_stays, placed_there, shown_stays, re
 use Rattle.ost_pull.proofs.Given.{named_given}
 use Rattle.ost_pull.specs.Pulls.{IsApart, Pulls}
 use Rattle.ost_pull.specs.Placing.{IsReadyIn, AreReady, AreLacking, CanPlaceAll, CameTo, PlacesAll, PlacesSome, PullsReady}
-use Rattle.ost_pull.specs.Work.{IsOnce, AreOpen}
+use Rattle.ost_pull.specs.Work.{IsOnce}
 use Rattle.ost_pull.proofs.Apart.{off_object, above_on}
 use Rattle.ost_pull.proofs.Kept.{Named, in_push, in_cases, in_last, below_work, above_object}
 use Rattle.ost_pull.proofs.Pulled.{pulls_on, pulls_open}

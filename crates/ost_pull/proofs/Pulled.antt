@@ -1,25 +1,23 @@
 -- What a pull leaves.
-use Rattle.std.proofs.Common.{◌≡◌, ◌≢◌, ◌⊎◌, ◌<◌, ◌≤◌, ◌+◌, inl, inr, ℕ, List, [], ◌∷◌, ◌++◌, length, true, None, Option, Some, refl, sym, ◌∙◌, ap, subst, arith, codes, take, drop, length-append}
-use Rattle.fp_host.specs.Paths.{Elements, Slot, absent, dir, file, IsAbove}
-use Rattle.fp_host.specs.View.{View, Inode, IsTree}
-use Rattle.fp_host.specs.Outcome.{Spot, gone, folder, Disk, Leaves, Follows}
-use Rattle.fp_host.specs.Frame.{Keeps, ComesFrom}
+use Rattle.std.proofs.Common.{◌≡◌, ◌≢◌, ◌≤◌, ◌+◌, inl, inr, ℕ, List, [], ◌∷◌, ◌++◌, length, refl, sym, ◌∙◌, ap, subst, arith, codes, take, drop, length-append}
+use Rattle.fp_host.specs.Paths.{Elements, Slot, absent, IsAbove}
+use Rattle.fp_host.specs.View.{View}
+use Rattle.fp_host.specs.Outcome.{Spot}
 use Rattle.fp_host.proofs.Framed.{keeps_refl, keeps_to}
 use Rattle.fp_small.specs.Clear.{IsWithin, CanClear}
-use Rattle.fp_small.specs.Files.{KeepsFiles}
 use Rattle.fp_small.proofs.Keeping.{files_on, files_stay}
 use Rattle.fp_small.proofs.Emptying.{above_longer}
-use Rattle.fp_name.specs.Hex.{is_digest, hex}
+use Rattle.fp_name.specs.Hex.{hex}
 use Rattle.fp_base.specs.declared.object.ObjKind.{ObjKind}
-use Rattle.ost_model.specs.Objects.{object_path, kind_text, Named}
-use Rattle.ost_model.specs.Stores.{objects_folder, is_prefix, MayBePrefix, MayBeObject, IsObject, IsStore, KeepsStore}
+use Rattle.ost_model.specs.Objects.{object_path, kind_text}
+use Rattle.ost_model.specs.Stores.{objects_folder, is_prefix, MayBePrefix, MayBeObject}
 use Rattle.ost_model.proofs.Stores.{store_goes_on}
 use Rattle.ost_store.specs.Place.{LeavesStore}
 use Rattle.ost_store.proofs.Elements.{prefix_is_one}
 use Rattle.ost_pull.specs.Work.{Works, AreOpen}
 use Rattle.ost_pull.proofs.Apart.{object_within, off_object, off_above, works_off, spot_off, not_both, free_at}
-use Rattle.ost_pull.proofs.Kept.{below_work, above_work}
-use Rattle.ost_pull.specs.Pulls.{IsApart, IsNewObject, IsNewName, PullsAt, PullsName, Pulls}
+use Rattle.ost_pull.proofs.Kept.{below_work}
+use Rattle.ost_pull.specs.Pulls.{IsApart, PullsAt, PullsName, Pulls}
 
 -- ---- lengths
 

@@ -1,8 +1,8 @@
 -- What is asked of a pull can be met, and what it promises.
 use Rattle.std.proofs.Common.{◌≡◌, ◌⊎◌, ◌<◌, inl, inr, ℕ, List, [], ◌∷◌, ◌++◌, length, None, refl, sym, ◌∙◌, ap, subst, arith, codes}
-use Rattle.fp_host.specs.Paths.{Elements, absent, dir, IsAbove}
+use Rattle.fp_host.specs.Paths.{Elements, absent, IsAbove}
 use Rattle.fp_host.specs.View.{View, IsTree}
-use Rattle.fp_host.specs.Outcome.{Disk, Leaves, IsSettled, shows, spot_of}
+use Rattle.fp_host.specs.Outcome.{IsSettled, shows, spot_of}
 use Rattle.fp_host.proofs.Settled.{at_tree, settled_disk}
 use Rattle.fp_small.specs.Clear.{IsWithin}
 use Rattle.fp_small.specs.Folders.{IsFree}

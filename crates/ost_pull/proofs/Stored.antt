@@ -1,27 +1,24 @@
 -- Objects that are kept come to their names between two syncs.
-use Rattle.std.proofs.Common.{◌≡◌, inl, inr, ℕ, List, [], true, Option, Some, None, Result, Ok, refl, sym, ◌∙◌, ap, subst}
-use Rattle.fp_host.specs.Paths.{Elements, absent}
+use Rattle.std.proofs.Common.{ℕ, List, Option, Result, Ok, ◌∙◌, ap}
+use Rattle.fp_host.specs.Paths.{Elements}
 use Rattle.fp_host.specs.View.{View, IsTree}
 use Rattle.fp_host.specs.Calls.{syncs, Step}
 use Rattle.fp_host.specs.Moments.{Moments, Always, Makes}
-use Rattle.fp_host.specs.Outcome.{shows, IsSettled}
 use Rattle.fp_host.specs.Remote.{Holdings}
-use Rattle.fp_host.specs.Frame.{Keeps, Frame, AtEnd, NoPath}
+use Rattle.fp_host.specs.Frame.{Frame, AtEnd, NoPath}
 use Rattle.fp_host.specs.declared.host.HostError.{HostError}
 use Rattle.fp_host.proofs.Framed.{IsTold}
 use Rattle.fp_host.proofs.Goes.{begins, goes_on, makes_goes}
 use Rattle.fp_host.proofs.Ending.{ends_call, ends_on, ends_both, ends_frame}
-use Rattle.fp_small.specs.Clear.{IsWithin, GoneWithin, AbsentWithin, IsCleared, CanClear}
+use Rattle.fp_small.specs.Clear.{GoneWithin, AbsentWithin, IsCleared, CanClear}
 use Rattle.fp_small.proofs.Staging.{synced}
-use Rattle.fp_name.specs.Hex.{is_digest}
 use Rattle.fp_base.specs.declared.object.ObjKind.{ObjKind}
 use Rattle.ost_model.specs.Objects.{object_path}
-use Rattle.ost_model.specs.Order.{In}
 use Rattle.ost_store.specs.Place.{LeavesStore}
 use Rattle.ost_store.specs.Stays.{Stays}
 use Rattle.ost_pull.proofs.Ready.{staged_ready}
 use Rattle.ost_store.proofs.Staying.{shown_stays}
-use Rattle.ost_pull.specs.Pulls.{IsApart, Pulls}
+use Rattle.ost_pull.specs.Pulls.{IsApart}
 use Rattle.ost_pull.specs.Placing.{AreReady, AreLacking, CanPlaceAll, PlacesAll, PullsReady, PullsKept, WasStored, CanStore}
 use Rattle.ost_pull.specs.Takes.{AreTaken}
 use Rattle.ost_pull.specs.Work.{Works, AreOpen}

@@ -1,5 +1,5 @@
 -- Objects that are taken one by one.
-use Rattle.std.proofs.Common.{◌≡◌, ◌≢◌, ◌⊎◌, ◌<◌, ◌≤◌, ◌+◌, inl, inr, ℕ, suc, List, [], ◌∷◌, ◌++◌, map, take, drop, get_or, length, true, Option, Some, None, Result, Ok, Err, refl, sym, ◌∙◌, ap, subst, Contains, arith}
+use Rattle.std.proofs.Common.{◌≡◌, ◌⊎◌, ◌<◌, ◌≤◌, ◌+◌, inl, inr, ℕ, suc, List, [], ◌∷◌, ◌++◌, take, drop, get_or, length, true, Option, Some, None, Result, Ok, Err, refl, sym, ◌∙◌, ap, subst, arith}
 use Rattle.std.specs.Prelude.{IsErrOf, OnOk, option_map}
 use Rattle.std.proofs.Math.Seq.{take-suc, take-length, drop-cons}
 use Rattle.std.proofs.lemmas.List.{take-append-drop}
@@ -15,28 +15,31 @@ use Rattle.fp_host.specs.declared.host.HostEnd.TheVariants as host_ends
 use Rattle.fp_host.proofs.Cause.{passed_on}
 use Rattle.fp_host.proofs.Framed.{IsTold}
 use Rattle.fp_host.proofs.Goes.{knowing}
-use Rattle.fp_host.proofs.Ending.{ends_to, ends_on, ends_both, ends_goes, ends_in_tree}
-use Rattle.fp_small.specs.Clear.{IsWithin, AbsentWithin, GoneWithin, IsCleared}
-use Rattle.fp_small.specs.Folders.{ancestors, AreFree}
+use Rattle.fp_host.proofs.Ending.{ends_on, ends_both, ends_goes, ends_in_tree}
+use Rattle.fp_small.specs.Clear.{AbsentWithin, GoneWithin, IsCleared}
 use Rattle.fp_name.specs.Hex.{is_digest}
 use Rattle.fp_base.specs.declared.object.ObjKind.{ObjKind}
+use Rattle.fp_base.specs.declared.object.ObjKind.TheVariants as kinds
 use Rattle.ost_model.specs.declared.object.Object.{Object}
 use Rattle.ost_model.specs.Objects.{Have, Fault, object_path, object_fault, store, supply, or_else}
-use Rattle.ost_model.specs.Order.{Place, In, order, first_fault}
-use Rattle.ost_model.specs.Remotes.{Supplies, remote}
+use Rattle.ost_model.specs.Order.{Place, In, first_fault}
+use Rattle.ost_model.specs.Remotes.{Supplies, remote, remote_at}
 use Rattle.ost_store.specs.Stage.{IsKeepable}
 use Rattle.ost_walk.specs.declared.ends.WalkFault.{WalkFault}
 use Rattle.ost_walk.specs.declared.ends.WalkEnd.{WalkEnd}
 use Rattle.ost_walk.specs.declared.ends.WalkEnd.TheVariants as ends
 use Rattle.ost_walk.specs.declared.surveys.Survey.{Survey}
 use Rattle.ost_walk.specs.Ends.{RefusesBy, EndsBy, IsFaultOf, IsRemotes, fault_of, of_host}
-use Rattle.ost_walk.specs.Steps.{IsGood, own_fault, place_name}
+use Rattle.ost_walk.specs.Steps.{IsGood, own_fault}
 use Rattle.ost_walk.specs.Surveys.{named_fault, first_named, found_in, first_bad, told_fault, IsSurvey}
-use Rattle.ost_head.specs.Found.{HostHas, RemoteHas}
+use Rattle.ost_copy.specs.Contents.{IsGoodThere}
+use Rattle.ost_head.specs.Found.{HostHas}
+use Rattle.ost_head.specs.Objects.{IsFaultThere}
+use Rattle.ost_copy.specs.Brings.{JudgesRemote}
 use Rattle.ost_pull.specs.Pulls.{IsApart, CanPull}
-use Rattle.ost_pull.specs.Takes.{IsCovered, AreTaken, TakesOne, TakesAll, StaysTaken, AddsAmong, CoversOrder}
-use Rattle.ost_pull.specs.Work.{IsAboveObject, Works, AreKept, KeepsOne, Adds, CanKeep, AreOpen}
-use Rattle.ost_pull.proofs.Apart.{works_object, works_open, above_on}
+use Rattle.ost_pull.specs.Takes.{IsCovered, AreTaken, AreTakenNow, TakesOne, TakesAll, AddsAmong, CoversOrder}
+use Rattle.ost_pull.specs.Work.{Works, KeepsOne, Adds, CanKeep, AreOpen}
+use Rattle.ost_pull.proofs.Apart.{works_object}
 use Rattle.ost_pull.proofs.Kept.{Named, in_push, in_cases, in_last, below_work, above_work, above_object}
 
 -- ---- ends
@@ -83,6 +86,13 @@ no_remotes none le = record { later = le; rose = λ is. absurd (none is) }
 pub ends_to_tree : {a b : Option Moments} {Q : View → View → Type 0} → IsTold b → AtEnd Q a b → AtEnd (λ u w. IsTree w × Q u w) a b
 ends_to_tree told first = ends_in_tree told first (λ u w tree q. (tree, q))
 
+-- what was taken goes on to be so
+pub taken_from : {root t : Elements} {url : List ℕ} {holds : Option Holdings} {kept : List Named} {a b : Option Moments} {Q : View → View → Type 0} → AtEnd Q a b → (m : Moments) → a ≡ Some m → ((w : View) → Q m.now w → AreTaken root t url holds kept w)
+    → AreTakenNow root t url holds kept b
+taken_from {root = root} {t = t} {url = url} {holds = holds} {kept = kept} ends m at step =
+    let one = ends.goes.told m at in
+    record { are = λ n is. let same : n ≡ one.0 = cc (is, one.1) in subst (λ (k : Moments). AreTaken root t url holds kept k.now) (sym same) (step one.0.now one.3) }
+
 -- ---- one object
 
 -- the store has it
@@ -96,6 +106,43 @@ stored_taken {root = root} {t = t} {url = url} {holds = holds} o object kept goo
     );
   });
 }
+
+-- the same of a file or link
+pub content_taken : {root t : Elements} {url : List ℕ} {holds : Option Holdings} {a b : Option Moments} (d : List ℕ) (kept : List Named) → is_digest d ≡ true → Unchanged a b → ((m : Moments) → a ≡ Some m → IsGoodThere d (store root (shows m.now) d kinds.File))
+    → AtEnd (TakesOne root t url holds (d, kinds.File) kept kept) a b
+content_taken {root = root} {t = t} {url = url} {holds = holds} d kept good still has = record {
+  goes = knowing {P = λ u. IsGoodThere d (store root (shows u) d kinds.File)} has still.goes (λ u w there same. tt) (λ u w there same. record {
+    on = λ taken. (
+      subst (AreTaken root t url holds kept) (sym same.0) taken,
+      record { digits = good; there = inl (λ none. absurd (cc (sym none ∙ ap (λ (x : View). store root (shows x) d kinds.File) same.0 ∙ there.is))) },
+    );
+  });
+}
+
+-- ---- what a file or link is judged by
+
+have_is : {root : Elements} {url : List ℕ} {told : Option Moments} {holds : Option Holdings} {have : Have} (d : List ℕ) (s : Supplies root (Some url) told holds have) → have d kinds.File ≡ or_else (store root (shows s.moments.now) d kinds.File) (remote_at s.held url d kinds.File)
+have_is d s = ap (λ (f : Have). f d kinds.File) s.is
+
+module _ {root : Elements} {url : List ℕ} {told : Option Moments} {holds : Option Holdings} {have : Have} (d : List ℕ) (s : Supplies root (Some url) told holds have) where
+  own_is : (object : Object) → store root (shows s.moments.now) d kinds.File ≡ Some object → have d kinds.File ≡ Some object
+  own_is object is = have_is d s ∙ ap (λ (o : Option Object). or_else o (remote_at s.held url d kinds.File)) is
+
+  remote_is : store root (shows s.moments.now) d kinds.File ≡ None → have d kinds.File ≡ remote_at s.held url d kinds.File
+  remote_is none = have_is d s ∙ ap (λ (o : Option Object). or_else o (remote_at s.held url d kinds.File)) none
+
+  pub content_good : IsGoodThere d (store root (shows s.moments.now) d kinds.File) → IsGood have d kinds.File
+  content_good there = record { good = ap (object_fault d kinds.File) (own_is there.object there.is) ∙ there.good }
+
+  pub content_bad : (end : WalkEnd) → RefusesBy (IsFaultThere d kinds.File (store root (shows s.moments.now) d kinds.File)) end → RefusesBy (IsFaultOf d kinds.File (own_fault have d kinds.File)) end
+  content_bad (ends.Refused w) there = subst (λ (o : Option Object). IsFaultOf d kinds.File (object_fault d kinds.File o) w) (sym (own_is there.object there.is)) there.fault
+  content_bad ends.HostFault there = tt
+  content_bad ends.RemoteFault there = tt
+  content_bad ends.NoMemory there = tt
+
+  pub content_judged : (r : Result (Unit {0}) WalkEnd) → store root (shows s.moments.now) d kinds.File ≡ None → JudgesRemote s.held url d r → EndsBy (λ _. IsGood have d kinds.File) (IsFaultOf d kinds.File (own_fault have d kinds.File)) r
+  content_judged (Ok a) none judged = record { good = ap (object_fault d kinds.File) (remote_is none) ∙ judged }
+  content_judged (Err end) none judged = subst (λ (o : Option Object). RefusesBy (IsFaultOf d kinds.File (object_fault d kinds.File o)) end) (sym (remote_is none)) judged
 
 -- it is new
 pub lacked : {root : Elements} {a b : Option Moments} (o : Named) → Unchanged a b → HostHas root a o.0 o.1 None → AtEnd (λ u v. (v ≡ u) × (store root (shows u) o.0 o.1 ≡ None)) a b

@@ -1,20 +1,19 @@
 -- A commit that is pulled.
-use Rattle.std.proofs.Common.{◌≡◌, ◌≢◌, ◌⊎◌, inl, inr, ℕ, List, [], ◌∷◌, map, true, Option, Some, None, Result, Ok, Err, refl, sym, ◌∙◌, ap, subst}
+use Rattle.std.proofs.Common.{◌≡◌, ◌≢◌, inl, inr, ℕ, List, [], ◌∷◌, map, true, Option, Some, None, Err, refl, sym, ◌∙◌, ap}
 use Rattle.std.specs.Prelude.{IsErrOf, option_map, if◌then◌else◌}
-use Rattle.fp_host.specs.Paths.{Elements, Slot, absent, dir, file, link, is_link_text, IsAbove}
+use Rattle.fp_host.specs.Paths.{Elements, file, link}
 use Rattle.fp_host.specs.View.{View, IsTree}
 use Rattle.fp_host.specs.Moments.{Moments, Always}
-use Rattle.fp_host.specs.Outcome.{Disk, Leaves, shows, spot_of, holding, holds, points, IsSettled}
+use Rattle.fp_host.specs.Outcome.{Disk, Leaves, shows, spot_of, holding, holds, points}
 use Rattle.fp_host.specs.Remote.{Holdings}
-use Rattle.fp_host.specs.Causes.{IsCaused}
-use Rattle.fp_host.specs.Frame.{Keeps, Frame, AtEnd, NoPath}
+use Rattle.fp_host.specs.Frame.{Frame, AtEnd, NoPath}
 use Rattle.fp_host.specs.declared.host.HostEnd.{HostEnd}
 use Rattle.fp_host.specs.declared.host.HostEnd.TheVariants as host_ends
 use Rattle.fp_host.proofs.Framed.{IsTold}
 use Rattle.fp_host.proofs.Goes.{begins, goes_on, knowing}
 use Rattle.fp_host.proofs.Settled.{at_tree, settled_disk}
-use Rattle.fp_host.proofs.Ending.{ends_on, ends_to, ends_both, ends_goes, ends_frame, goes_known}
-use Rattle.fp_small.specs.Clear.{IsWithin, GoneWithin, AbsentWithin, IsCleared, CanClear}
+use Rattle.fp_host.proofs.Ending.{ends_on, ends_both, ends_goes, ends_frame, goes_known}
+use Rattle.fp_small.specs.Clear.{GoneWithin, AbsentWithin, IsCleared, CanClear}
 use Rattle.fp_small.specs.declared.refusal.Refusal.{Refusal}
 use Rattle.fp_name.specs.Hex.{is_digest}
 use Rattle.fp_base.specs.declared.object.ObjKind.{ObjKind}
@@ -22,27 +21,25 @@ use Rattle.fp_base.specs.declared.object.ObjKind.TheVariants as kinds
 use Rattle.ost_model.specs.declared.object.Object.{Object}
 use Rattle.ost_model.specs.declared.object.Object.TheVariants as objects
 use Rattle.ost_model.specs.Objects.{Have, Fault, object_path, object_at, store, supply, or_else, name_fault}
-use Rattle.ost_model.specs.Order.{Place, In, Agree, order, first_fault}
+use Rattle.ost_model.specs.Order.{Place, In, order, first_fault}
 use Rattle.ost_model.specs.Remotes.{Supplies, remote, remote_at}
-use Rattle.ost_store.specs.Place.{LeavesStore}
 use Rattle.ost_store.specs.Stage.{IsHeld}
 use Rattle.ost_store.proofs.Staying.{shown_stays}
 use Rattle.ost_walk.specs.declared.ends.WalkFault.{WalkFault}
 use Rattle.ost_walk.specs.declared.ends.WalkEnd.{WalkEnd}
 use Rattle.ost_walk.specs.declared.ends.WalkEnd.TheVariants as walks
-use Rattle.ost_walk.specs.Ends.{EndsBy, fault_of}
+use Rattle.ost_walk.specs.Ends.{fault_of}
 use Rattle.ost_walk.specs.Ends.{RefusesBy as WalkRefuses}
 use Rattle.ost_walk.specs.Steps.{place_name}
 use Rattle.ost_walk.specs.Surveys.{named_fault, first_named, told_fault}
 use Rattle.ost_head.specs.Ends.{RefusesBy, of_host, of_walk}
 use Rattle.ost_head.specs.Refusals.{refusal_of}
-use Rattle.ost_head.specs.declared.ends.PullEnd.{PullEnd}
 use Rattle.ost_head.specs.declared.ends.PullEnd.TheVariants as ends
-use Rattle.ost_pull.specs.Pulls.{IsApart, Pulls, PullsSoundly, HasPulled, WasPulled, WasRefused, IsNoneOf, CanPull, first_refusal, Refuses}
-use Rattle.ost_pull.specs.Placing.{PlacesAll, PullsKept, WasStored, CanStore}
+use Rattle.ost_pull.specs.Pulls.{IsApart, PullsSoundly, WasPulled, WasRefused, CanPull, first_refusal}
+use Rattle.ost_pull.specs.Placing.{PullsKept, WasStored, CanStore}
 use Rattle.ost_pull.specs.Takes.{IsCovered, AreTaken, CoversOrder}
-use Rattle.ost_pull.specs.Work.{Works, IsKept}
-use Rattle.ost_pull.proofs.Apart.{works_stays, works_object, works_store, object_within}
+use Rattle.ost_pull.specs.Work.{Works}
+use Rattle.ost_pull.proofs.Apart.{works_stays, works_object, object_within}
 use Rattle.ost_pull.proofs.Kept.{Named, cleared_works, works_on, above_work, below_work}
 use Rattle.ost_pull.proofs.Placed.{from_tree, to_tree}
 use Rattle.ost_pull.proofs.Pulled.{pulls_on, pulls_work, pulls_store, pulls_open, pulls_clears}

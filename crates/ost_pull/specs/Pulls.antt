@@ -1,5 +1,5 @@
 -- What a pull does to a host, and what it promises.
-use Rattle.std.specs.Prelude.{◌≡◌, ◌≢◌, ◌⊎◌, ⊤, ℕ, List, ◌≤◌, ◌+◌, length, map, true, Option, Some, None, Result, Ok, Err, option_map}
+use Rattle.std.specs.Prelude.{◌≡◌, ◌≢◌, ◌⊎◌, ℕ, List, ◌≤◌, ◌+◌, length, map, true, Option, Some, None, Result, Ok, Err, option_map}
 use Rattle.fp_host.specs.Paths.{Elements, Slot, absent, dir, IsAbove}
 use Rattle.fp_host.specs.View.{View}
 use Rattle.fp_host.specs.Outcome.{Spot, folder, Disk, Leaves, IsSettled, shows}

@@ -1,7 +1,8 @@
 -- The objects of an order that are taken one by one.
-use Rattle.std.specs.Prelude.{◌≡◌, ◌≢◌, ◌⊎◌, ℕ, List, map, true, Option, None}
+use Rattle.std.specs.Prelude.{◌≡◌, ◌≢◌, ◌⊎◌, ℕ, List, map, true, Option, Some, None}
 use Rattle.fp_host.specs.Paths.{Elements}
 use Rattle.fp_host.specs.View.{View}
+use Rattle.fp_host.specs.Moments.{Moments}
 use Rattle.fp_host.specs.Outcome.{shows}
 use Rattle.fp_host.specs.Remote.{Holdings}
 use Rattle.fp_name.specs.Hex.{is_digest}
@@ -20,6 +21,10 @@ pub record IsCovered (root : Elements) (kept : List (List ℕ × ObjKind)) (v : 
 pub record AreTaken (root t : Elements) (url : List ℕ) (holds : Option Holdings) (kept : List (List ℕ × ObjKind)) (v : View) : Type 0 where
   pub are : AreKept t url holds kept v
   pub new : (o : List ℕ × ObjKind) → In kept o → store root (shows v) o.0 o.1 ≡ None
+
+-- so where the host tells what it holds
+pub record AreTakenNow (root t : Elements) (url : List ℕ) (holds : Option Holdings) (kept : List (List ℕ × ObjKind)) (told : Option Moments) : Type 0 where
+  pub are : (m : Moments) → told ≡ Some m → AreTaken root t url holds kept m.now
 
 -- one object more is the store's or kept
 pub record TakesOne (root t : Elements) (url : List ℕ) (holds : Option Holdings) (o : List ℕ × ObjKind) (before after : List (List ℕ × ObjKind)) (u w : View) : Type 0 where

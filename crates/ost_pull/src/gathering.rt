@@ -9,7 +9,7 @@ ghost use Rattle.ost_model.specs.Remotes.{Supplies};
 ghost use Rattle.ost_walk.specs.Ends.{EndsBy, IsRemotes};
 ghost use Rattle.ost_walk.specs.Surveys.{first_bad, first_named, told_fault};
 ghost use Rattle.ost_pull.specs.Pulls.{IsApart, CanPull};
-ghost use Rattle.ost_pull.specs.Takes.{AddsAmong, AreTaken, CoversOrder, StaysTaken, TakesAll};
+ghost use Rattle.ost_pull.specs.Takes.{AddsAmong, AreTaken, AreTakenNow, CoversOrder, StaysTaken, TakesAll};
 ghost use Rattle.ost_pull.specs.Work.{Works, AreOpen};
 
 use crate::taking::{take_all, walk_end};
@@ -52,6 +52,7 @@ fn take_surveyed<H: Host, R: Remotes>(
         (H.moments host.old) (H.moments host.new)) }
     ensures tells { (have : Have) → Supplies root.now (Some url.now) (H.moments host.old)
         (R.holds remotes.old) have
+        → AreTakenNow root.now work.now url.now (R.holds remotes.old) kept.old.items (H.moments host.old)
         → EndsBy (λ _. (first_bad have survey.now.objects ≡ None) × (survey.now.fault ≡ None)) (λ w. or_else (first_bad have survey.now.objects) (option_map told_fault survey.now.fault) ≡ Some (told_fault w)) result }
     ensures fault_has_cause { IsCaused (IsErrOf result WalkEnd.HostFault) (H.moments host.old)
         (AreOpen work.now) (H.faults host.old) (H.faults host.new) }
@@ -99,6 +100,7 @@ fn take_order<H: Host, R: Remotes>(
         (H.moments host.old) (H.moments host.new)) }
     ensures refuses { (have : Have) → Supplies root.now (Some url.now) (H.moments host.old)
         (R.holds remotes.old) have
+        → AreTakenNow root.now work.now url.now (R.holds remotes.old) kept.old.items (H.moments host.old)
         → EndsBy (λ _. first_fault have commit.now ≡ None) (λ w. first_named have commit.now ≡ Some (told_fault w)) result }
     ensures fault_has_cause { IsCaused (IsErrOf result WalkEnd.HostFault) (H.moments host.old)
         (AreOpen work.now) (H.faults host.old) (H.faults host.new) }

@@ -1,18 +1,24 @@
 //! Objects that are kept in the work folder until all of a pull are judged.
-ghost use Rattle.std.specs.Prelude.{◌≡◌, None, Some, Option, ℕ, List, OnOk, IsErrOf};
-ghost use Rattle.fp_host.specs.Causes.{IsCaused};
-ghost use Rattle.fp_host.specs.Frame.{AtEnd};
-ghost use Rattle.fp_host.specs.Moments.{Always};
+ghost use Rattle.std.specs.Prelude.{◌≡◌, None, Some, Option, ℕ, List, [], ◌∷◌, ◌++◌, Ok, IfOk, OnOk, IsErrOf};
+ghost use Rattle.fp_base.specs.declared.object.ObjKind.TheVariants as kinds;
+ghost use Rattle.fp_host.specs.Causes.{IsCaused, IsCounted};
+ghost use Rattle.fp_host.specs.Frame.{AtEnd, Unchanged};
+ghost use Rattle.fp_host.specs.Moments.{Always, Makes, Moments};
+ghost use Rattle.fp_host.specs.Reads.{StatOf};
 ghost use Rattle.fp_host.specs.Remote.{Holdings};
 ghost use Rattle.ost_model.specs.Objects.{name_fault, object_path};
+ghost use Rattle.ost_walk.specs.Ends.{IsRemotes};
 ghost use Rattle.ost_head.specs.Found.{RemoteHas};
-ghost use Rattle.ost_pull.specs.Work.{Works, KeepsOne, Adds, CanKeep};
+ghost use Rattle.ost_copy.specs.Brings.{CanBring, Comes, IsBrought, JudgesRemote};
+ghost use Rattle.ost_pull.specs.Work.{Works, KeepsOne, Adds, AreKept, AreOpen, CanKeep};
 
 use fp_base::ObjKind;
-use fp_host::{Host, HostEnd, Path, Stat};
+use fp_host::{Host, HostEnd, Path, Remotes, Stat};
 use fp_name::Digest;
+use ost_copy::bring;
 use ost_model::Object;
 use ost_store::{path_of, stage};
+use ost_walk::WalkEnd;
 use std::alloc::Global;
 
 /// Keeps an object that was checked in the work folder, as a store would, and notes it, unless it is kept there already.
@@ -46,6 +52,79 @@ pub(crate) fn keep<H: Host>(
                 Err(_) => Err(HostEnd::NoMemory),
             }
         }
+        _ => Ok(()),
+    }
+}
+
+/// What stands at the path.
+fn stat_of<H: Host>(host: &mut H, path: &Path) -> Result<Stat, HostEnd>
+    ensures unchanged { Unchanged (H.moments host.old) (H.moments host.new) }
+    ensures tells { IfOk result (λ s. Makes (StatOf path.now (Ok s)) (H.moments host.old)
+        (H.moments host.new)) }
+    ensures fault_has_cause { IsCounted (IsErrOf result HostEnd.Fault) (H.moments host.old)
+        (H.faults host.old) (H.faults host.new) }
+{
+    Ok(host.stat(path)?)
+}
+
+/// Makes the absent path hold the remote's file or link, checked, and notes it.
+fn keep_new<H: Host, R: Remotes>(
+    alloc: Global,
+    host: &mut H,
+    remotes: &mut R,
+    url: &str,
+    digest: &Digest,
+    to: &Path,
+    kept: &mut Vec<(Digest, ObjKind)>,
+) -> Result<(), WalkEnd>
+    ensures any_moment { Always (Comes to.now) (H.moments host.old) (H.moments host.new) }
+    ensures same { R.holds remotes.new ≡ R.holds remotes.old }
+    ensures on_success { OnOk result (IsBrought to.now url.now (R.holds remotes.old) digest.now
+        (H.moments host.old) (H.moments host.new)) }
+    ensures adds { OnOk result (kept.new.items ≡ kept.old.items ++ (digest.now, kinds.File) ∷ []) }
+    ensures tells { (held : Holdings) → R.holds remotes.old ≡ Some held
+        → JudgesRemote held url.now digest.now result }
+    ensures fault_has_cause { IsCaused (IsErrOf result WalkEnd.HostFault) (H.moments host.old)
+        (CanBring to.now) (H.faults host.old) (H.faults host.new) }
+    ensures remote_fault_has_cause { IsRemotes (IsErrOf result WalkEnd.RemoteFault)
+        (R.faults remotes.old) (R.faults remotes.new) }
+{
+    bring(alloc, host, remotes, url, digest, to)?;
+    kept.push((*digest, ObjKind::File))?;
+    Ok(())
+}
+
+/// Keeps the remote's file or link in the work folder, checked, and notes it, unless it is kept there already. It is refused for
+/// its fault. Nothing is synced.
+pub(crate) fn keep_content<H: Host, R: Remotes>(
+    alloc: Global,
+    host: &mut H,
+    remotes: &mut R,
+    url: &str,
+    work: &Path,
+    digest: &Digest,
+    kept: &mut Vec<(Digest, ObjKind)>,
+) -> Result<(), WalkEnd>
+    ensures any_moment { Always (Works work.now) (H.moments host.old) (H.moments host.new) }
+    ensures same { R.holds remotes.new ≡ R.holds remotes.old }
+    ensures on_success { OnOk result (AtEnd
+        (KeepsOne work.now url.now (R.holds remotes.old) (digest.now, kinds.File) kept.old.items kept.new.items)
+        (H.moments host.old) (H.moments host.new)) }
+    ensures adds { OnOk result (Adds (digest.now, kinds.File) kept.old.items kept.new.items) }
+    // What is kept already was checked, so it isn't read again.
+    ensures tells { (m : Moments) (held : Holdings) → H.moments host.old ≡ Some m
+        → R.holds remotes.old ≡ Some held
+        → AreKept work.now url.now (R.holds remotes.old) kept.old.items m.now
+        → JudgesRemote held url.now digest.now result }
+    ensures fault_has_cause { IsCaused (IsErrOf result WalkEnd.HostFault) (H.moments host.old)
+        (AreOpen work.now) (H.faults host.old) (H.faults host.new) }
+    ensures remote_fault_has_cause { IsRemotes (IsErrOf result WalkEnd.RemoteFault)
+        (R.faults remotes.old) (R.faults remotes.new) }
+{
+    let _bytes = digest.as_bytes();
+    let path = path_of(alloc, work, digest, ObjKind::File)?;
+    match stat_of(host, &path)? {
+        Stat::Absent => keep_new(alloc, host, remotes, url, digest, &path, kept),
         _ => Ok(()),
     }
 }

@@ -1,5 +1,6 @@
 //! Objects of an order that are found, checked, and kept where they are new.
 ghost use Rattle.std.specs.Prelude.{◌≡◌, None, Some, OnOk, IsErrOf};
+ghost use Rattle.fp_base.specs.declared.object.ObjKind.TheVariants as kinds;
 ghost use Rattle.fp_host.specs.Causes.{IsCaused};
 ghost use Rattle.fp_host.specs.Frame.{AtEnd};
 ghost use Rattle.fp_host.specs.Moments.{Always};
@@ -9,13 +10,14 @@ ghost use Rattle.ost_walk.specs.Ends.{EndsBy, IsFaultOf, IsRemotes, of_host};
 ghost use Rattle.ost_walk.specs.Steps.{IsGood, own_fault};
 ghost use Rattle.ost_walk.specs.Surveys.{first_bad, told_fault};
 ghost use Rattle.ost_pull.specs.Pulls.{IsApart};
-ghost use Rattle.ost_pull.specs.Takes.{TakesOne, TakesAll, AddsAmong};
+ghost use Rattle.ost_pull.specs.Takes.{AreTakenNow, TakesOne, TakesAll, AddsAmong};
 ghost use Rattle.ost_pull.specs.Work.{Works, Adds, AreOpen};
 
-use crate::keeping::keep;
+use crate::keeping::{keep, keep_content};
 use fp_base::ObjKind;
 use fp_host::{Host, HostEnd, Path, Remotes};
 use fp_name::Digest;
+use ost_copy::check_stored;
 use ost_head::{Found, find};
 use ost_model::Object;
 use ost_walk::{ObjectFault, WalkEnd, WalkFault};
@@ -31,9 +33,9 @@ pub(crate) fn walk_end(end: HostEnd) -> WalkEnd
     }
 }
 
-/// Takes one object: the store's where it has one, else the remote's, which is kept in the work folder and noted. It is refused
-/// for its fault. It is for a work folder that has nothing to do with the objects of the store.
-fn take<H: Host, R: Remotes>(
+/// Takes one object, which stands whole in memory: the store's where it has one, else the remote's, which is kept in the work
+/// folder and noted. It is refused for its fault. It is for a work folder that has nothing to do with the objects of the store.
+fn take_whole<H: Host, R: Remotes>(
     alloc: Global,
     host: &mut H,
     remotes: &mut R,
@@ -70,7 +72,81 @@ fn take<H: Host, R: Remotes>(
     }
 }
 
-/// Takes these objects one after another. It is refused with the first that has a fault.
+/// Takes a file or link: the store's where it has one, else the remote's, which is kept in the work folder and noted. A file is
+/// read piece by piece. It is refused for its fault. It is for a work folder that has nothing to do with the objects of the store.
+fn take_content<H: Host, R: Remotes>(
+    alloc: Global,
+    host: &mut H,
+    remotes: &mut R,
+    root: &Path,
+    url: &str,
+    work: &Path,
+    digest: &Digest,
+    kept: &mut Vec<(Digest, ObjKind)>,
+) -> Result<(), WalkEnd>
+    requires { IsApart root.now work.now }
+    ensures any_moment { Always (Works work.now) (H.moments host.old) (H.moments host.new) }
+    ensures same { R.holds remotes.new ≡ R.holds remotes.old }
+    ensures adds { OnOk result (Adds (digest.now, kinds.File) kept.old.items kept.new.items) }
+    ensures on_success { OnOk result (AtEnd
+        (TakesOne root.now work.now url.now (R.holds remotes.old) (digest.now, kinds.File) kept.old.items kept.new.items)
+        (H.moments host.old) (H.moments host.new)) }
+    ensures tells { (have : Have) → Supplies root.now (Some url.now) (H.moments host.old)
+        (R.holds remotes.old) have
+        → AreTakenNow root.now work.now url.now (R.holds remotes.old) kept.old.items (H.moments host.old)
+        → EndsBy (λ _. IsGood have digest.now kinds.File) (IsFaultOf digest.now kinds.File (own_fault have digest.now kinds.File)) result }
+    ensures fault_has_cause { IsCaused (IsErrOf result WalkEnd.HostFault) (H.moments host.old)
+        (AreOpen work.now) (H.faults host.old) (H.faults host.new) }
+    ensures remote_fault_has_cause { IsRemotes (IsErrOf result WalkEnd.RemoteFault)
+        (R.faults remotes.old) (R.faults remotes.new) }
+{
+    let _bytes = digest.as_bytes();
+    match check_stored(alloc, host, root, digest) {
+        Ok(true) => Ok(()),
+        Ok(false) => keep_content(alloc, host, remotes, url, work, digest, kept),
+        Err(end) => Err(end),
+    }
+}
+
+/// Takes one object: the store's where it has one, else the remote's, which is kept in the work folder and noted. It is refused
+/// for its fault, where what was noted before is kept. It is for a work folder that has nothing to do with the objects of the store.
+fn take<H: Host, R: Remotes>(
+    alloc: Global,
+    host: &mut H,
+    remotes: &mut R,
+    root: &Path,
+    url: &str,
+    work: &Path,
+    digest: &Digest,
+    kind: ObjKind,
+    kept: &mut Vec<(Digest, ObjKind)>,
+) -> Result<(), WalkEnd>
+    requires { IsApart root.now work.now }
+    ensures any_moment { Always (Works work.now) (H.moments host.old) (H.moments host.new) }
+    ensures same { R.holds remotes.new ≡ R.holds remotes.old }
+    ensures adds { OnOk result (Adds (digest.now, kind) kept.old.items kept.new.items) }
+    ensures on_success { OnOk result (AtEnd
+        (TakesOne root.now work.now url.now (R.holds remotes.old) (digest.now, kind) kept.old.items kept.new.items)
+        (H.moments host.old) (H.moments host.new)) }
+    ensures tells { (have : Have) → Supplies root.now (Some url.now) (H.moments host.old)
+        (R.holds remotes.old) have
+        → AreTakenNow root.now work.now url.now (R.holds remotes.old) kept.old.items (H.moments host.old)
+        → EndsBy (λ _. IsGood have digest.now kind) (IsFaultOf digest.now kind (own_fault have digest.now kind)) result }
+    ensures fault_has_cause { IsCaused (IsErrOf result WalkEnd.HostFault) (H.moments host.old)
+        (AreOpen work.now) (H.faults host.old) (H.faults host.new) }
+    ensures remote_fault_has_cause { IsRemotes (IsErrOf result WalkEnd.RemoteFault)
+        (R.faults remotes.old) (R.faults remotes.new) }
+{
+    match kind {
+        ObjKind::File => take_content(alloc, host, remotes, root, url, work, digest, kept),
+        ObjKind::Commit | ObjKind::DirTree | ObjKind::DirMeta => take_whole(
+            alloc, host, remotes, root, url, work, digest, kind, kept,
+        ),
+    }
+}
+
+/// Takes these objects one after another. It is refused with the first that has a fault, where what was noted before
+/// is kept.
 pub(crate) fn take_all<H: Host, R: Remotes>(
     alloc: Global,
     host: &mut H,
@@ -90,6 +166,7 @@ pub(crate) fn take_all<H: Host, R: Remotes>(
         (H.moments host.old) (H.moments host.new)) }
     ensures tells { (have : Have) → Supplies root.now (Some url.now) (H.moments host.old)
         (R.holds remotes.old) have
+        → AreTakenNow root.now work.now url.now (R.holds remotes.old) kept.old.items (H.moments host.old)
         → EndsBy (λ _. first_bad have objects.now ≡ None) (λ w. first_bad have objects.now ≡ Some (told_fault w)) result }
     ensures fault_has_cause { IsCaused (IsErrOf result WalkEnd.HostFault) (H.moments host.old)
         (AreOpen work.now) (H.faults host.old) (H.faults host.new) }

@@ -1,4 +1,4 @@
-use Rattle.std.proofs.Common.{◌≡◌, Result, Err, Some, [], List, ℕ, refl, sym, subst, arith}
+use Rattle.std.proofs.Common.{◌≡◌, Err, Some, List, ℕ, refl, sym, subst, arith}
 use Rattle.std.specs.Prelude.{IsErrOf}
 use Rattle.std.proofs.lemmas.Result.{on_ok_weaker}
 use Rattle.fp_host.proofs.Ending.{ends_start, ends_on, ends_both, ends_frame}
@@ -14,7 +14,7 @@ use Rattle.ost_pull.specs.Takes.{AreTaken}
 use Rattle.ost_pull.specs.Work.{AreOpen}
 use Rattle.ost_pull.proofs.Apart.{works_supplies}
 use Rattle.ost_pull.proofs.Kept.{works_clear, works_within}
-use Rattle.ost_pull.proofs.Taken.{passed, host_refuses, host_fault, host_remote, no_remotes, nothing_taken, cleared_open}
+use Rattle.ost_pull.proofs.Taken.{passed, host_refuses, host_fault, host_remote, no_remotes, nothing_taken, cleared_open, taken_from}
 use Rattle.ost_pull.proofs.gathering.gather.Goals as goal
 
 pub returns-in-Ok-clause-any_moment : goal.returns-in-Ok-clause-any_moment
@@ -41,7 +41,11 @@ returns-in-Ok-clause-covers g c have s =
 pub returns-in-Ok-clause-refuses : goal.returns-in-Ok-clause-refuses
 returns-in-Ok-clause-refuses g c have s =
     let t = g.met.H.Host.is_tree in
-    c.take_order.ensures.refuses have (works_supplies c.args.root.now c.args.work.now c.requires.apart (t c.args.host.now) (t c.clear.new.host) (works_clear (t c.args.host.now) c.clear.ensures.frame) refl s)
+    let root = c.args.root.now in
+    let work = c.args.work.now in
+    let holds = g.R.Remotes.holds c.args.remotes.now in
+    c.take_order.ensures.refuses have (works_supplies root work c.requires.apart (t c.args.host.now) (t c.clear.new.host) (works_clear (t c.args.host.now) c.clear.ensures.frame) refl s)
+    (taken_from c.in-Ok.ensures.on_success s.moments s.told_is (λ w q. subst (λ (l : List (List ℕ × ObjKind)). AreTaken root work c.args.url.now holds l w) (sym c.requires.empty) (nothing_taken q)))
 
 pub returns-in-Ok-clause-fault_has_cause : goal.returns-in-Ok-clause-fault_has_cause
 returns-in-Ok-clause-fault_has_cause g c =

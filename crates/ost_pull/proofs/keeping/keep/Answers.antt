@@ -1,10 +1,9 @@
-use Rattle.std.proofs.Common.{Ok, inl, inr, refl, arith, subst}
+use Rattle.std.proofs.Common.{Ok, inl, refl, arith, subst}
 use Rattle.fp_host.specs.Moments.{Makes}
 use Rattle.fp_host.proofs.Cause.{same_fault}
 use Rattle.fp_host.proofs.Ending.{ends_start, ends_call, call_caused, fault_caused}
 use Rattle.fp_host.specs.Reads.{StatOf}
 use Rattle.fp_host.specs.declared.host.Stat.{Stat}
-use Rattle.fp_host.specs.declared.host.Stat.TheVariants as stats
 use Rattle.ost_store.specs.Stage.{CanStage}
 use Rattle.ost_pull.specs.Work.{CanKeep}
 use Rattle.ost_pull.proofs.Kept.{can_stage, stat_clash, works_start, works_stat, works_stage, keeps_new, keeps_already}

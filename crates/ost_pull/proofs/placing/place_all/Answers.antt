@@ -1,4 +1,4 @@
-use Rattle.std.proofs.Common.{◌≡◌, ◌-◌, ◌++◌, ◌∷◌, [], List, ℕ, take, sym, ◌∙◌, ap, subst, arith}
+use Rattle.std.proofs.Common.{◌≡◌, ◌-◌, ◌++◌, [], List, ℕ, take, ◌∙◌, ap, subst, arith}
 use Rattle.fp_host.specs.Frame.{AtEnd}
 use Rattle.fp_host.proofs.Cause.{same_fault}
 use Rattle.fp_host.proofs.Goes.{stays}

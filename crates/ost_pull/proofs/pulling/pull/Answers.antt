@@ -1,16 +1,15 @@
-use Rattle.std.proofs.Common.{◌≡◌, ◌∙◌, Result, Err, Ok, Some, refl, sym, subst, arith}
+use Rattle.std.proofs.Common.{◌≡◌, Err, Some, sym, subst, arith}
 use Rattle.std.specs.Prelude.{IsErrOf}
 use Rattle.fp_host.proofs.Ending.{ends_both, ends_goes}
 use Rattle.fp_small.specs.Clear.{CanClear}
 use Rattle.ost_head.specs.Ends.{RefusesBy}
 use Rattle.ost_head.specs.declared.ends.PullEnd.{PullEnd}
 use Rattle.ost_head.specs.declared.ends.PullEnd.TheVariants as ends
-use Rattle.fp_small.specs.declared.refusal.Refusal.{Refusal}
 use Rattle.ost_pull.specs.Placing.{CanStore}
 use Rattle.ost_pull.specs.Pulls.{CanPull, first_refusal}
 use Rattle.ost_pull.proofs.Kept.{works_clear, works_within}
-use Rattle.ost_pull.proofs.Taken.{passed, caused_later, no_fault, no_remotes, remotes_pass}
-use Rattle.ost_pull.proofs.Whole.{soundly_works, soundly_stores, pulled_at, can_store, can_clear, refused_at, walk_refused, host_refused, none_refused, host_no_refusal, host_no_remote, host_is_fault, walk_is_fault, walk_is_remote}
+use Rattle.ost_pull.proofs.Taken.{passed, no_fault}
+use Rattle.ost_pull.proofs.Whole.{soundly_works, soundly_stores, pulled_at, can_store, can_clear, refused_at, walk_refused, host_is_fault}
 use Rattle.ost_pull.proofs.pulling.pull.Goals as goal
 
 pub returns-in-Ok-store_kept-clause-any_moment : goal.returns-in-Ok-store_kept-clause-any_moment

@@ -1,17 +1,15 @@
-use Rattle.std.proofs.Common.{◌≡◌, List, ℕ, Option, Some, refl, sym, ◌∙◌, ap, subst, arith, inl}
+use Rattle.std.proofs.Common.{List, ℕ, Option, refl, sym, ◌∙◌, ap, subst, arith, inl}
 use Rattle.fp_host.specs.Frame.{AtEnd}
 use Rattle.fp_host.specs.Remote.{Holdings}
-use Rattle.fp_host.specs.View.{View}
 use Rattle.fp_host.proofs.Cause.{Rose-later}
 use Rattle.fp_host.proofs.Ending.{ends_start, ends_to, ends_on, ends_both, ends_goes}
 use Rattle.fp_base.specs.declared.object.ObjKind.{ObjKind}
-use Rattle.ost_walk.specs.Ends.{EndsBy}
-use Rattle.ost_walk.specs.Surveys.{first_bad, told_fault}
-use Rattle.ost_pull.specs.Takes.{TakesOne, TakesAll, AddsAmong}
-use Rattle.ost_pull.specs.Work.{Works, AreOpen}
+use Rattle.ost_walk.specs.Surveys.{first_bad}
+use Rattle.ost_pull.specs.Takes.{AreTakenNow, TakesOne, TakesAll, AddsAmong}
+use Rattle.ost_pull.specs.Work.{AreOpen}
 use Rattle.ost_pull.proofs.Apart.{works_supplies, works_open}
 use Rattle.ost_pull.proofs.Kept.{works_start, works_within}
-use Rattle.ost_pull.proofs.Taken.{none_taken, next_taken, next_added, next_good, next_bad, all_is, passed, ends_to_tree}
+use Rattle.ost_pull.proofs.Taken.{none_taken, next_taken, next_added, next_good, next_bad, all_is, passed, ends_to_tree, taken_from}
 use Rattle.ost_pull.proofs.taking.take_all.Goals as goal
 
 pub loop-object-init : goal.loop-object-init
@@ -22,7 +20,7 @@ loop-object-init g c =
       same = refl;
       only = λ o has. inl has;
       taken = ends_to (ends_start (t c.args.host.now)) (λ u w same. none_taken c.args.kept.now.items same);
-      good = λ have s. refl;
+      good = λ have s now. refl;
       later = omega arith;
       remote_later = omega arith;
     }
@@ -45,7 +43,9 @@ loop-object-preserved g c =
           (subst (λ (holds : Option Holdings). AtEnd (TakesOne c.args.root.now c.args.work.now c.args.url.now holds (o.0, o.1) c.loop-object.kept.items c.take.new.kept.items) (g.H.Host.moments c.loop-object.host) (g.H.Host.moments c.take.new.host)) before.same c.in-Ok.ensures.on_success)))
           before.taken (t c.loop-object.host)
           (λ u v w tree q s. next_taken objects i o low is c.args.kept.now.items c.loop-object.kept.items c.take.new.kept.items c.in-Ok.ensures.adds c.requires tree s.0 q s.1.0 s.1.1);
-      good = λ have s. next_good have objects i o low is (before.good have s) (c.in-Ok.ensures.tells have (works_supplies c.args.root.now c.args.work.now c.requires (t c.args.host.now) (t c.loop-object.host) before.works before.same s));
+      good = λ have s now. next_good have objects i o low is (before.good have s now) (c.in-Ok.ensures.tells have (works_supplies c.args.root.now c.args.work.now c.requires (t c.args.host.now) (t c.loop-object.host) before.works before.same s)
+          (subst (λ (holds : Option Holdings). AreTakenNow c.args.root.now c.args.work.now c.args.url.now holds c.loop-object.kept.items (g.H.Host.moments c.loop-object.host)) (sym before.same)
+          (taken_from before.taken s.moments s.told_is (λ w q. q.taken (now.are s.moments s.told_is)))));
       later = omega (arith, before.later, c.take.ensures.fault_has_cause.later);
       remote_later = omega (arith, before.remote_later, c.take.ensures.remote_fault_has_cause.later);
     }
@@ -57,11 +57,13 @@ pub returns-in-Err-clause-same : goal.returns-in-Err-clause-same
 returns-in-Err-clause-same g c = c.take.ensures.same ∙ c.loop-object.invariant.same
 
 pub returns-in-Err-clause-tells : goal.returns-in-Err-clause-tells
-returns-in-Err-clause-tells g c have s =
+returns-in-Err-clause-tells g c have s now =
     let t = g.met.H.Host.is_tree in
     let before = c.loop-object.invariant in
-    next_bad have c.args.objects.now c.loop-object.object-index c.object-item.result c.loop-object-test.true c.object-item.is (before.good have s) c.in-Err.end
-    (c.in-Err.ensures.tells have (works_supplies c.args.root.now c.args.work.now c.requires (t c.args.host.now) (t c.loop-object.host) before.works before.same s))
+    next_bad have c.args.objects.now c.loop-object.object-index c.object-item.result c.loop-object-test.true c.object-item.is (before.good have s now) c.in-Err.end
+    (c.in-Err.ensures.tells have (works_supplies c.args.root.now c.args.work.now c.requires (t c.args.host.now) (t c.loop-object.host) before.works before.same s)
+    (subst (λ (holds : Option Holdings). AreTakenNow c.args.root.now c.args.work.now c.args.url.now holds c.loop-object.kept.items (g.H.Host.moments c.loop-object.host)) (sym before.same)
+    (taken_from before.taken s.moments s.told_is (λ w q. q.taken (now.are s.moments s.told_is)))))
 
 pub returns-in-Err-clause-fault_has_cause : goal.returns-in-Err-clause-fault_has_cause
 returns-in-Err-clause-fault_has_cause g c =
@@ -86,6 +88,6 @@ returns-clause-on_success g c =
     subst (λ (l : List (List ℕ × ObjKind)). AtEnd (TakesAll c.args.root.now c.args.work.now c.args.url.now (g.R.Remotes.holds c.args.remotes.now) l c.args.kept.now.items c.loop-object.kept.items) (g.H.Host.moments c.args.host.now) (g.H.Host.moments c.loop-object.host)) all c.loop-object.invariant.taken
 
 pub returns-clause-tells : goal.returns-clause-tells
-returns-clause-tells g c have s =
+returns-clause-tells g c have s now =
     let all = all_is c.args.objects.now c.loop-object.object-index (omega (arith, c.loop-object-test.false, c.loop-object.auto.object-index-end)) in
-    ap (first_bad have) (sym all) ∙ c.loop-object.invariant.good have s
+    ap (first_bad have) (sym all) ∙ c.loop-object.invariant.good have s now

@@ -1,4 +1,4 @@
-use Rattle.std.proofs.Common.{◌≡◌, List, ℕ, Some, None, Err, refl, sym, ◌∙◌, ap, subst, arith}
+use Rattle.std.proofs.Common.{List, ℕ, Err, subst}
 use Rattle.std.specs.Prelude.{IsErrOf}
 use Rattle.fp_base.specs.declared.object.ObjKind.{ObjKind}
 use Rattle.ost_walk.specs.declared.ends.WalkEnd.{WalkEnd}
@@ -9,7 +9,7 @@ use Rattle.ost_head.specs.Found.{IsFound, IsKeepableIfNew}
 use Rattle.ost_pull.specs.Work.{AreOpen, CanKeep}
 use Rattle.ost_pull.proofs.Kept.{works_looks, works_within}
 use Rattle.ost_pull.proofs.Taken.{host_fault, passed, stored_taken, lacked, new_taken, can_keep}
-use Rattle.ost_pull.proofs.taking.take.Goals as goal
+use Rattle.ost_pull.proofs.taking.take_whole.Goals as goal
 
 pub returns-in-Ok-Stored-clause-any_moment : goal.returns-in-Ok-Stored-clause-any_moment
 returns-in-Ok-Stored-clause-any_moment g c = works_looks (g.met.H.Host.is_tree c.args.host.now) c.find.ensures.looks.still

@@ -1,0 +1,5 @@
+mod Pieces
+mod Checked
+mod Told
+mod Copied
+mod Brought

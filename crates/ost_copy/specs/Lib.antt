@@ -1,0 +1,4 @@
+pub mod Pieces
+pub mod Contents
+pub mod Copies
+pub mod Brings

@@ -1,0 +1,85 @@
+-- Files and links of the remote that are kept in the work folder.
+use Rattle.std.proofs.Common.{◌≡◌, inl, inr, ℕ, List, true, Option, Some, None, Result, Ok, Err, refl, sym, ◌∙◌, ap, subst}
+use Rattle.std.specs.Prelude.{IsErrOf}
+use Rattle.std.specs.Result.{IsErrAnd}
+use Rattle.std.proofs.lemmas.Result.{err_from_is_err_and}
+use Rattle.fp_host.specs.Paths.{Elements}
+use Rattle.fp_host.specs.View.{View}
+use Rattle.fp_host.specs.Moments.{Moments, Always}
+use Rattle.fp_host.specs.Remote.{Holdings}
+use Rattle.fp_host.specs.Reads.{StatOf}
+use Rattle.fp_host.specs.declared.host.HostEnd.{HostEnd}
+use Rattle.fp_host.specs.declared.host.HostEnd.TheVariants as host_ends
+use Rattle.fp_host.specs.declared.host.Stat.TheVariants as stats
+use Rattle.fp_host.proofs.Framed.{IsTold, keeps_to}
+use Rattle.fp_host.proofs.Goes.{goes_on}
+use Rattle.fp_small.specs.Folders.{ancestors, AreFree}
+use Rattle.fp_small.proofs.Making.{stat_absent}
+use Rattle.fp_name.specs.Hex.{is_digest}
+use Rattle.fp_base.specs.declared.object.ObjKind.{ObjKind}
+use Rattle.fp_base.specs.declared.object.ObjKind.TheVariants as kinds
+use Rattle.ost_model.specs.declared.object.Object.{Object}
+use Rattle.ost_model.specs.Objects.{Fault, or_else, object_path, object_fault, name_fault, dir_mode_fault}
+use Rattle.ost_model.specs.Order.{In}
+use Rattle.ost_model.specs.Remotes.{remote_at}
+use Rattle.ost_walk.specs.declared.ends.WalkEnd.{WalkEnd}
+use Rattle.ost_walk.specs.declared.ends.WalkEnd.TheVariants as ends
+use Rattle.ost_walk.specs.Ends.{of_host}
+use Rattle.ost_copy.specs.Brings.{Comes, CanBring}
+use Rattle.ost_pull.specs.Work.{Works, AreOpen, AreKept}
+use Rattle.ost_pull.proofs.Kept.{works_on, below_work, above_object}
+
+-- ---- at each moment
+
+comes_works : (t : Elements) (d : List ℕ) {u w : View} → is_digest d ≡ true → Comes (object_path t d kinds.File) u w → Works t u w
+comes_works t d good s = record {
+  keeps = keeps_to
+      (λ q spot h. elim h [
+        | inl here ↦ inl (record { digest = d; kind = kinds.File; digits = good; at = here })
+        | inr made ↦ inr (inl (above_object t d kinds.File q good made.0, made.1))
+      ])
+      (λ q e h. elim h [
+        | inl here ↦ inl (record { digest = d; kind = kinds.File; digits = good; at = here })
+        | inr made ↦ inr (inl (above_object t d kinds.File q good made.0, made.1))
+      ])
+      (λ q is. below_work t d kinds.File q is)
+      (λ q id within h. elim h [ inl here ↦ here | inr made ↦ absurd (cc made.1) ])
+      s.keeps;
+  files = s.files;
+}
+
+pub works_bring : {a b c : Option Moments} (t p : Elements) (d : List ℕ) → is_digest d ≡ true → p ≡ object_path t d kinds.File → IsTold b → Always (Comes p) b c → Always (Works t) a b → Always (Works t) a c
+works_bring t p d good at told inner so_far =
+    goes_on told so_far inner (λ u v w tree r q s. works_on r (comes_works t d good (here s))) (λ u v w tree r q s e. works_on r (comes_works t d good (here e)))
+  where
+    here : {v w : View} → Comes p v w → Comes (object_path t d kinds.File) v w
+    here {v = v} {w = w} s = subst (λ (q : Elements). Comes q v w) at s
+
+-- ---- what is kept already
+
+pub good_of_named : (d : List ℕ) (object : Object) → name_fault d kinds.File (Some object) ≡ None → object_fault d kinds.File (Some object) ≡ None
+good_of_named d object named = ap (λ (f : Option Fault). or_else f (dir_mode_fault kinds.File (Some object))) named
+
+pub kept_good : {t : Elements} {url : List ℕ} {holds : Option Holdings} {kept : List (List ℕ × ObjKind)} {v : View} (d : List ℕ) (held : Holdings) → holds ≡ Some held → AreKept t url holds kept v → In kept (d, kinds.File)
+    → object_fault d kinds.File (remote_at held url d kinds.File) ≡ None
+kept_good d held is are has =
+    let k = are.each (d, kinds.File) has in
+    ap (object_fault d kinds.File) (k.there.is held is) ∙ good_of_named d k.object k.named
+
+pub can_bring : {t p : Elements} {u v : View} (d : List ℕ) → is_digest d ≡ true → p ≡ object_path t d kinds.File → StatOf p (Ok stats.Absent) u v → AreOpen t u → CanBring p v
+can_bring {t = t} {p = p} {u = u} d good at stat opened = record {
+  free = ap (λ (x : View). x.names p) stat.same ∙ stat_absent stat;
+  folders = subst (AreFree (ancestors p)) (sym stat.same) (subst (λ (q : Elements). AreFree (ancestors q) u) (sym at) (record { free = λ q has. opened.free q (above_object t d kinds.File q good has) }));
+}
+
+-- ---- the end of a `?` that is a host's
+
+host_fault : (e : HostEnd) → of_host e ≡ ends.HostFault → e ≡ host_ends.Fault
+host_fault host_ends.Fault is = refl
+host_fault host_ends.NoMemory is = absurd (cc is)
+
+pub host_end : {T U : Type 0} (r : Result T HostEnd) (s : Result U WalkEnd) (e : HostEnd) → r ≡ Err e → IsErrAnd s (λ end. end ≡ of_host e) → IsErrOf s ends.HostFault → IsErrOf r host_ends.Fault
+host_end r s e is err fault =
+    let p = err_from_is_err_and s err in
+    let q : p.0 ≡ ends.HostFault = cc (p.1, fault) in
+    is ∙ ap (λ (y : HostEnd). Err y) (host_fault e (sym p.2 ∙ q))
