@@ -1,6 +1,6 @@
 -- The lines of a word.
 use denote.Ref.{Bor}
-use Rattle.std.proofs.Common.{◌≡◌, ℕ, Bool, true, false, cond, not, ◌==◌, List, [], length, Option, Some, None, Result, Ok, Err, IfOk, refl, ap, sym, ◌∙◌, inl, inr}
+use Rattle.std.proofs.Common.{◌≡◌, ℕ, false, not, ◌==◌, List, [], length, Option, Some, None, Result, Ok, Err, IfOk, refl, ap, sym, ◌∙◌, inl, inr}
 use Rattle.std.specs.Prelude.{option_and_then, option_map, MatchOption}
 use Rattle.std.specs.Option.{option_map_or}
 use Rattle.std.specs.Str.{is_utf8, IsUtf8}
@@ -8,7 +8,7 @@ use Rattle.std.proofs.lemmas.Bool.{cases_Bool, false_from_ne_true}
 use Rattle.std.proofs.lemmas.Str.{is_utf8-from_IsUtf8, IsUtf8-from_is_utf8}
 use Rattle.fp_keyfile.specs.Lines.{split_at}
 use Rattle.fl_meta.specs.declared.permission.Mention.{Mention}
-use Rattle.fl_options.specs.Options.{are_variable, is_variable, text_mentions, lines_with, lines_of_parts, option_lines, option_layer, is_option, command_in, command_option}
+use Rattle.fl_options.specs.Options.{are_variable, is_variable, text_mentions, lines_with, lines_of_parts, option_lines, option_layer, is_option, command_in, command_option, is_launch_option}
 
 pub cut_is : (text : List ℕ) (r : Option (Bor (List ℕ) × Bor (List ℕ))) → MatchOption r (split_at 61 text ≡ None) (λ x. split_at 61 text ≡ Some (x.0.now, x.1.now)) → option_map (λ x. (x.0.now, x.1.now)) r ≡ split_at 61 text
 cut_is text None h = sym h
@@ -61,3 +61,11 @@ uncut_no_option word h = no_layer word (uncut_layer word h)
 
 pub no_text_no_option : (word : List ℕ) → (IsUtf8 word → ⊥) → is_option word ≡ false
 no_text_no_option word bad = no_layer word (no_lines word (textless word (false_from_ne_true (is_utf8 word) (λ e. bad (IsUtf8-from_is_utf8 word e)))))
+
+textless_command : (word : List ℕ) → is_utf8 word ≡ false → command_option word ≡ None
+unfolding command_option
+textless_command word h = rw h refl
+
+pub no_text_no_launch_option : (word : List ℕ) → (IsUtf8 word → ⊥) → is_launch_option word ≡ false
+no_text_no_launch_option word bad =
+    rw (no_text_no_option word bad, textless_command word (false_from_ne_true (is_utf8 word) (λ e. bad (IsUtf8-from_is_utf8 word e)))) refl

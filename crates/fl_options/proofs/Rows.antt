@@ -1,20 +1,16 @@
 -- Worked options, closed by computing.
-use Rattle.std.proofs.Common.{◌≡◌, ℕ, Bool, true, List, [], ◌∷◌, Option, Some, None, refl, ap, ◌∙◌}
-use Rattle.std.specs.Prelude.{codes, option_and_then, not, ◌==◌, length}
-use Rattle.std.specs.Option.{option_map_or}
-use Rattle.std.specs.List.{list_all}
+use Rattle.std.proofs.Common.{◌≡◌, true, List, [], ◌∷◌, refl, ap}
+use Rattle.std.specs.Prelude.{codes, not, ◌==◌, length}
 use lib.Utf8.{encode}
 use Rattle.std.specs.Str.{is_utf8, chars}
 use Rattle.fp_keyfile.specs.Lines.{line_says}
-use Rattle.std.proofs.lemmas.Str.{is_utf8-from_IsUtf8}
 use Rattle.fp_keyfile.specs.KeyFile.{file_of, with_pair, with_group}
 use Rattle.fl_meta.specs.declared.permission.Mention.{Mention}
 use Rattle.fl_meta.specs.declared.permission.PermList.TheVariants as lists
 use Rattle.fl_meta.specs.declared.permission.Value.TheVariants as values
-use Rattle.fl_meta.specs.Entries.{mention_of, mentions_in, list_mentions, without_endings, access_at}
+use Rattle.fl_meta.specs.Entries.{mention_of, mentions_in, list_mentions}
 use Rattle.fl_meta.specs.Mentions.{file_mentions, group_mentions, pair_mentions}
-use Rattle.fl_meta.specs.Patterns.{is_pattern}
-use Rattle.fl_options.specs.Options.{is_given, is_variable, lines_with, option_lines, option_layer, is_option, text_mentions}
+use Rattle.fl_options.specs.Options.{is_given, lines_with, option_lines, option_layer, is_option}
 
 share_ipc : option_layer (codes "--share=ipc") ≡ mention_of lists.Shared (codes "ipc") values.On ∷ []
 unfolding option_layer option_lines is_utf8 chars encode lines_with is_given file_of line_says with_pair with_group file_mentions group_mentions pair_mentions list_mentions mentions_in

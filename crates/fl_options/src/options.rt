@@ -1,6 +1,6 @@
 //! What options mention.
 
-ghost use Rattle.std.specs.Prelude.{◌≡◌, ◌++◌, IfOk, OnOk, map, string_bytes};
+ghost use Rattle.std.specs.Prelude.{◌≡◌, ◌++◌, IfOk, OnOk};
 ghost use Rattle.std.specs.Option.{option_copied};
 ghost use Rattle.fl_options.specs.Options as spec;
 
@@ -46,8 +46,8 @@ pub fn is_option(alloc: Global, word: &str) -> Result<bool, AllocError>
 }
 
 /// What words mention as options, one after another. A word that is no option mentions nothing.
-pub fn layer_of(alloc: Global, words: &[String]) -> Result<Layer, AllocError>
-    ensures { IfOk result (λ layer. layer ≡ spec.layer_of (map string_bytes words.now)) }
+pub fn layer_of(alloc: Global, words: &[Text]) -> Result<Layer, AllocError>
+    ensures { IfOk result (λ layer. layer ≡ spec.layer_of words.now) }
 {
     let mut layer = Layer::new(alloc);
     for word in words {
@@ -95,8 +95,8 @@ pub fn is_launch_option(alloc: Global, word: &str) -> Result<bool, AllocError>
 }
 
 /// The command that the last `--command=X` of words names, where there is one.
-pub fn last_command(alloc: Global, words: &[String]) -> Result<Option<Text>, AllocError>
-    ensures { IfOk result (λ command. command ≡ spec.last_command (map string_bytes words.now)) }
+pub fn last_command(alloc: Global, words: &[Text]) -> Result<Option<Text>, AllocError>
+    ensures { IfOk result (λ command. command ≡ spec.last_command words.now) }
 {
     match last_named(words) {
         Some(name) => Ok(Some(Text::from_str(alloc, name)?)),
@@ -105,8 +105,8 @@ pub fn last_command(alloc: Global, words: &[String]) -> Result<Option<Text>, All
 }
 
 /// The name of the last command of words.
-fn last_named(words: &[String]) -> Option<&str>
-    ensures { option_copied result ≡ spec.last_command (map string_bytes words.now) }
+fn last_named(words: &[Text]) -> Option<&str>
+    ensures { option_copied result ≡ spec.last_command words.now }
 {
     let mut last = None;
     for word in words {

@@ -31,7 +31,7 @@ fn reads_as(alloc: Global, bytes: &[u8], want: &str) -> Result<bool, AllocError>
 }
 
 /// Batches, and what they read as.
-const BATCHES: [(&[u8], &str); 12] = [
+const BATCHES: [(&[u8], &str); 13] = [
     (b"", ""),
     (b"pin app/*/*/*\n", "Pin app/*/*/*\n"),
     (b"pin app/*/*/*", "Pin app/*/*/*\n"),
@@ -62,10 +62,18 @@ const BATCHES: [(&[u8], &str); 12] = [
         b"override --reset\noverride --reset org.x.App\n",
         "OverrideReset global\nOverrideReset org.x.App\n",
     ),
+    (
+        b"override --share=ipc --unshare=network --env=A=1\noverride --nosocket=x11 org.x.App\n",
+        "OverrideChange global --share=ipc --unshare=network --env=A=1\nOverrideChange org.x.App --nosocket=x11\n",
+    ),
 ];
 
 /// Batches with a bad line, and its number.
-const BAD_LINES: [(&[u8], u64); 25] = [
+const BAD_LINES: [(&[u8], u64); 29] = [
+    (b"override --share=ipc --share\n", 1),
+    (b"override --share=ipc  org.x.App\n", 1),
+    (b"update\nlaunch app/org.x.App/x86_64/stable\n", 2),
+    (b"filter --see=org.x\n", 1),
     (b"update\noverride --show\n", 2),
     (b"info app/org.x.App/x86_64/stable\n", 1),
     (b"\n", 1),

@@ -8,6 +8,8 @@ mod context;
 #[cfg(test)]
 mod extension;
 #[cfg(test)]
+mod launch;
+#[cfg(test)]
 mod lines;
 #[cfg(test)]
 mod meta;

@@ -27,14 +27,20 @@ usage: fpk update REF
 usage: fpk uninstall REF
 usage: fpk uninstall --unused
 usage: fpk rollback REF
+usage: fpk override OPTION [OPTION..]
+usage: fpk override OPTION [OPTION..] ID
 usage: fpk override --reset
 usage: fpk override --reset ID
 usage: fpk list
 usage: fpk list --remotes
 usage: fpk list --pins
 usage: fpk info REF
+usage: fpk launch APP [OPTION..]
 usage: fpk override --show
 usage: fpk override --show ID
+usage: fpk filter [RULE..]
+usage: fpk filter --from=APP
+usage: fpk filter --system --from=APP
 usage: fpk batch
 usage: fpk show commit
 usage: fpk show dirtree
@@ -43,7 +49,45 @@ usage: fpk show value TYPE
 ";
 
 /// Words that are no command, and what is said of them.
-const REASONS: [(&[&str], &str); 15] = [
+const REASONS: [(&[&str], &str); 22] = [
+    (
+        &["override", "--share"],
+        "fpk: '--share' is no option\n\
+        usage: fpk override OPTION [OPTION..]\n\
+        usage: fpk override OPTION [OPTION..] ID\n\
+        usage: fpk override --reset\n\
+        usage: fpk override --reset ID\n\
+        usage: fpk override --show\n\
+        usage: fpk override --show ID\n",
+    ),
+    (
+        &["override", "--share=ipc", "global"],
+        "fpk: 'global' is no option\n\
+        usage: fpk override OPTION [OPTION..]\n\
+        usage: fpk override OPTION [OPTION..] ID\n",
+    ),
+    (
+        &["override", "--share=ipc", "org.x.App", "org.x.App"],
+        "fpk: 'org.x.App' is one word too many\nusage: fpk override OPTION [OPTION..] ID\n",
+    ),
+    (
+        &["filter", "--see=org.x", "--see"],
+        "fpk: '--see' is no rule of the filter\nusage: fpk filter [RULE..]\n",
+    ),
+    (
+        &["filter", "--system", "--see=org.x"],
+        "fpk: '--see=org.x' isn't --from=APP: --from=app/ID/ARCH/BRANCH\n\
+        usage: fpk filter --system --from=APP\n",
+    ),
+    (
+        &["launch", "org.x.App"],
+        "fpk: 'org.x.App' is no ref of an application: app/ID/ARCH/BRANCH\n\
+        usage: fpk launch APP [OPTION..]\n",
+    ),
+    (
+        &["launch", "app/org.x.App/x86_64/stable", "--share=ipc", "x"],
+        "fpk: 'x' is no option of a launch\nusage: fpk launch APP [OPTION..]\n",
+    ),
     (
         &["override", "--show", "global"],
         "fpk: 'global' is no ID of an application\nusage: fpk override --show\nusage: fpk override --show ID\n",
@@ -192,6 +236,8 @@ const LINES: [(&[u8], Option<&str>); 8] = [
             usage: uninstall REF\n\
             usage: uninstall --unused\n\
             usage: rollback REF\n\
+            usage: override OPTION [OPTION..]\n\
+            usage: override OPTION [OPTION..] ID\n\
             usage: override --reset\n\
             usage: override --reset ID\n",
         ),

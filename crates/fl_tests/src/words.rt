@@ -1,6 +1,7 @@
 //! Words of command lines.
 
-use fl_words::{Change, Command, Listing, Shown, WordsError, read_words};
+use fl_words::{Change, Command, Listing, PolicySource, Shown, WordsError, read_words};
+use fp_base::{Items, Text};
 use fp_small::RemoteRow;
 use std::alloc::{AllocError, Global};
 use std::test::Fail;
@@ -23,6 +24,7 @@ fn told_command(alloc: Global, command: &Command) -> Result<String, AllocError> 
         Command::Change(change) => told_change(alloc, change),
         Command::List(listing) => told_listing(alloc, listing),
         Command::Show(thing) => told_shown(alloc, thing),
+        Command::Filter(source) => told_source(alloc, source),
         Command::Batch => "Batch".to_string(alloc),
     }
 }
@@ -43,7 +45,12 @@ pub fn told_change(alloc: Global, change: &Change) -> Result<String, AllocError>
         Change::Uninstall(name) => format!(in alloc; "Uninstall {}", name.as_str()),
         Change::UninstallUnused => "UninstallUnused".to_string(alloc),
         Change::Rollback(name) => format!(in alloc; "Rollback {}", name.as_str()),
-        Change::OverrideReset { name } => format!(in alloc; "OverrideReset {}", name.as_str()),
+        Change::OverrideChange { name, options } => {
+            told_options(alloc, "OverrideChange", name.as_text().as_str(), options)
+        }
+        Change::OverrideReset { name } => {
+            format!(in alloc; "OverrideReset {}", name.as_text().as_str())
+        }
     }
 }
 
@@ -53,8 +60,32 @@ fn told_listing(alloc: Global, listing: &Listing) -> Result<String, AllocError> 
         Listing::Remotes => "ListRemotes".to_string(alloc),
         Listing::Pins => "ListPins".to_string(alloc),
         Listing::Info(name) => format!(in alloc; "Info {}", name.as_str()),
+        Listing::Launch { name, options } => told_options(alloc, "Launch", name.as_str(), options),
         Listing::OverrideShow { name } => format!(in alloc; "OverrideShow {}", name.as_str()),
     }
+}
+
+fn told_source(alloc: Global, source: &PolicySource) -> Result<String, AllocError> {
+    match source {
+        PolicySource::Rules(rules) => told_options(alloc, "Filter", "rules", rules),
+        PolicySource::Session(name) => format!(in alloc; "Filter session {}", name.as_str()),
+        PolicySource::System(name) => format!(in alloc; "Filter system {}", name.as_str()),
+    }
+}
+
+/// What is done with what, and the options of it.
+fn told_options(
+    alloc: Global,
+    what: &str,
+    name: &str,
+    options: &Items<Text>,
+) -> Result<String, AllocError> {
+    let mut text = format!(in alloc; "{what} {name}")?;
+    for option in options.as_slice() {
+        text.push(' ')?;
+        text.push_str(option.as_str())?;
+    }
+    Ok(text)
 }
 
 fn told_shown(alloc: Global, thing: &Shown) -> Result<String, AllocError> {
@@ -262,6 +293,93 @@ const REF_WORDS: [(&[&str], &str); 44] = [
     (&["override", "--show", "--reset"], "bad words at 2"),
 ];
 
+/// Options of overrides and of launches.
+const OPTION_WORDS: [(&[&str], &str); 32] = [
+    (&["filter"], "Filter rules"),
+    (
+        &["filter", "--see=org.x.*", "--call=org.bar=org.bar.I.*@/p/*"],
+        "Filter rules --see=org.x.* --call=org.bar=org.bar.I.*@/p/*",
+    ),
+    (
+        &["filter", "--from=app/org.x.App/x86_64/stable"],
+        "Filter session app/org.x.App/x86_64/stable",
+    ),
+    (
+        &["filter", "--system", "--from=app/org.x.App/x86_64/stable"],
+        "Filter system app/org.x.App/x86_64/stable",
+    ),
+    (&["filter", "--call=org.bar="], "bad words at 1"),
+    (&["filter", "--talk=org.bar", "--own"], "bad words at 2"),
+    (&["filter", "--talk=org.bar", "--system"], "bad words at 2"),
+    (&["filter", "--system", "--talk=org.bar"], "bad words at 2"),
+    (
+        &["filter", "--from=runtime/org.x.App/x86_64/stable"],
+        "bad words at 1",
+    ),
+    (
+        &[
+            "filter",
+            "--from=app/org.x.App/x86_64/stable",
+            "--see=org.x",
+        ],
+        "bad words at 2",
+    ),
+    (&["filter", "--system"], "bad words at 2"),
+    (
+        &["override", "--unshare=network"],
+        "OverrideChange global --unshare=network",
+    ),
+    (
+        &["override", "--env=A=1", "--env=A=2", "org.x.App"],
+        "OverrideChange org.x.App --env=A=1 --env=A=2",
+    ),
+    (
+        &["override", "--filesystem=a b", "--talk-name=org.x.*"],
+        "OverrideChange global --filesystem=a b --talk-name=org.x.*",
+    ),
+    (&["override", "--filesystem=:ro"], "bad words at 1"),
+    (&["override", "--nofilesystem=:ro"], "bad words at 1"),
+    (&["override", "--share="], "bad words at 1"),
+    (&["override", "--share=!network"], "bad words at 1"),
+    (&["override", "--env=1=a"], "bad words at 1"),
+    (&["override", "--talk-name=org"], "bad words at 1"),
+    (&["override", "--command=sh"], "bad words at 1"),
+    (&["override", "org.x.App", "--share=ipc"], "bad words at 1"),
+    (&["override", "--share=ipc", "global"], "bad words at 2"),
+    (&["override", "--share=ipc", "--reset"], "bad words at 2"),
+    (
+        &["override", "--share=ipc", "org.x.App", "--share=ipc"],
+        "bad words at 3",
+    ),
+    (
+        &["launch", "app/org.x.App/x86_64/stable"],
+        "Launch app/org.x.App/x86_64/stable",
+    ),
+    (
+        &[
+            "launch",
+            "app/org.x.App/x86_64/stable",
+            "--command=sh",
+            "--unshare=network",
+        ],
+        "Launch app/org.x.App/x86_64/stable --command=sh --unshare=network",
+    ),
+    (&["launch"], "bad words at 1"),
+    (&["launch", "--command=sh"], "bad words at 1"),
+    (
+        &["launch", "runtime/org.x.App/x86_64/stable"],
+        "bad words at 1",
+    ),
+    (
+        &["launch", "app/org.x.App/x86_64/stable", "x"],
+        "bad words at 2",
+    ),
+    (
+        &["launch", "app/org.x.App/x86_64/stable", "--command="],
+        "bad words at 2",
+    ),
+];
+
 /// The first of the words that are something else.
 fn first_other_words<'a>(
     alloc: Global,
@@ -313,6 +431,24 @@ fn says_no_memory(alloc: Global) -> Result<bool, AllocError> {
 #[test]
 fn words_on_refs(rt: HostRuntime) -> Result<(), Fail> {
     assert_eq!(rt; first_other_words(rt.alloc(), &REF_WORDS)?, None);
+    Ok(())
+}
+
+/// Whether a change of an override by 3,000 options is read.
+fn many_options_are_read(alloc: Global) -> Result<bool, AllocError> {
+    let mut words = Vec::new(alloc);
+    words.push("override")?;
+    for _ in 0..3_000 {
+        words.push("--share=ipc")?;
+    }
+    words.push("org.x.App")?;
+    Ok(told(alloc, &words)?.len() == 24 + 3_000 * 12)
+}
+
+#[test]
+fn words_with_options(rt: HostRuntime) -> Result<(), Fail> {
+    assert_eq!(rt; first_other_words(rt.alloc(), &OPTION_WORDS)?, None);
+    assert!(rt; many_options_are_read(rt.alloc())?);
     Ok(())
 }
 

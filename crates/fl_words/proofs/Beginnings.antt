@@ -1,15 +1,38 @@
 -- Which words can go on to be a command, and where words go wrong.
-use Rattle.std.proofs.Common.{◌≡◌, ℕ, ◌+◌, ◌<◌, ◌≤◌, suc, zero, Bool, true, false, cond, List, [], ◌∷◌, ◌++◌, length, take, drop, map, Option, Some, refl, rules, arith, add-one, inl, inr}
-use Rattle.std.proofs.lemmas.Bool.{cases_lt, leb-true, le-leb}
-use Rattle.std.specs.Prelude.{IsSome, max}
+use Rattle.std.proofs.Common.{◌≡◌, ℕ, ◌+◌, ◌<◌, ◌≤◌, suc, Bool, true, false, cond, List, [], ◌∷◌, ◌++◌, length, take, Option, Some, None, refl, rules, sym, ap, ◌∙◌, arith, add-one, inl, inr}
+use Rattle.std.proofs.lemmas.Bool.{cases_lt, false≢true}
+use Rattle.std.specs.Prelude.{IsSome, max, option_and_then}
 use Rattle.std.specs.List.{find}
-use Rattle.std.specs.Option.{option_map}
+use Rattle.std.specs.Option.{option_map, is_some}
 use Rattle.fl_words.specs.declared.command.Command.{Command}
 use Rattle.fl_words.specs.declared.forms.Form.{Form}
-use Rattle.fl_words.specs.Forms.{Place, forms, slots_of, made, reach, reads, most, bad_index}
+use Rattle.fl_words.specs.Forms.{Place, forms, slots_of, made, left_after, reach, reads, most, bad_index}
 use Rattle.fl_words.specs.Reasons.{begins}
 use Rattle.fl_words.specs.Words.{Begins}
-use Rattle.fl_words.proofs.Reaching.{AllFit, reads_fit, fit_reads, sample, samples_fit, completed, far, reach-within}
+use Rattle.fl_words.proofs.Reaching.{ends, samples, samples_fit, clear_places, clear_left, left_append, reach_left, left_reach, reach-within}
+
+-- ---- the forms that words begin
+
+-- so many words begin the form where others may follow them in it, and only there
+pub on_to_form : (words : List (List ℕ)) (n : ℕ) (form : Form) → begins words n form ≡ true → (more : List (List ℕ)) × (reads (take n words ++ more) form ≡ true)
+on_to_form words n form h = by (left_after (slots_of form) (take n words)) refl h
+  where
+    by : (o : Option (List Place)) → left_after (slots_of form) (take n words) ≡ o → is_some o ≡ true → (more : List (List ℕ)) × (reads (take n words ++ more) form ≡ true)
+    by None at some = absurd (false≢true some)
+    by (Some left) at some = (
+      samples left,
+      ap ends (left_append (slots_of form) (take n words) (samples left) ∙ ap (λ (o : Option (List Place)). option_and_then (λ ps. left_after ps (samples left)) o) at)
+          ∙ samples_fit left (clear_left (slots_of form) (take n words) left at (clear_places form)),
+    )
+
+pub from_form : (words more : List (List ℕ)) (n : ℕ) (form : Form) → reads (take n words ++ more) form ≡ true → begins words n form ≡ true
+from_form words more n form is = by (left_after (slots_of form) (take n words)) (sym (ap ends (left_append (slots_of form) (take n words) more)) ∙ is)
+  where
+    by : (o : Option (List Place)) → ends (option_and_then (λ left. left_after left more) o) ≡ true → is_some o ≡ true
+    by None is = is
+    by (Some left) is = refl
+
+-- ---- the first word that goes wrong
 
 -- the command of words, by these forms alone
 abbrev command_by : List Form → List (List ℕ) → Option Command
@@ -27,8 +50,8 @@ begins_in : (fs : List Form) (words : List (List ℕ)) (i : ℕ) → i < most wo
 begins_in [] words i h = absurd (omega (arith, h))
 begins_in (f ∷ fs) words i h = elim (cases_lt i (reach (slots_of f) words)) [
   | inl here ↦
-      let more = map sample (drop (suc i) (slots_of f)) in
-      (more, first_reads f fs (take (suc i) words ++ more) (fit_reads (take (suc i) words ++ more) f (completed (slots_of f) words i here)))
+      let on = on_to_form words (suc i) f (reach_left (slots_of f) words (suc i) (omega (arith, here))) in
+      (on.0, first_reads f fs (take (suc i) words ++ on.0) on.1)
   | inr beyond ↦
       let on = begins_in fs words i (omega (arith, h, beyond)) in
       (on.0, some_later (reads (take (suc i) words ++ on.0) f) f (find (reads (take (suc i) words ++ on.0)) fs) (take (suc i) words ++ on.0) on.1)
@@ -39,8 +62,8 @@ goes_on_before words i h = rw add-one (let on = begins_in forms words i h in rec
 
 by_form : (b : Bool) (f : Form) (fs : List Form) (words more : List (List ℕ)) (n : ℕ) → n ≤ length words → reads (take n words ++ more) f ≡ b → IsSome (option_map (λ form. made form (take n words ++ more)) (cond b (Some f) (find (reads (take n words ++ more)) fs)))
     → (IsSome (command_by fs (take n words ++ more)) → n ≤ most words fs) → n ≤ max (reach (slots_of f) words) (most words fs)
-by_form true f fs words more n h is some next = omega (arith, far (slots_of f) words more n h (reads_fit (take n words ++ more) f is))
-by_form false f fs words more n h is some next = omega (arith, next some)
+by_form true f fs words more n h is some next = let far = left_reach (slots_of f) words n h (from_form words more n f is) in omega (arith, far)
+by_form false f fs words more n h is some next = let on = next some in omega (arith, on)
 
 reaches : (fs : List Form) (words more : List (List ℕ)) (n : ℕ) → n ≤ length words → IsSome (command_by fs (take n words ++ more)) → n ≤ most words fs
 reaches [] words more n h some = absurd (search rules)
@@ -49,24 +72,9 @@ reaches (f ∷ fs) words more n h some = by_form (reads (take n words ++ more) f
 pub ends_there : (words : List (List ℕ)) → bad_index words < length words → Begins (take (bad_index words + 1) words) → ⊥
 ends_there words h b = let on = reaches forms words b.more (bad_index words + 1) (omega (arith, h)) b.accepted in omega (arith, on)
 
-most-within : (fs : List Form) (words : List (List ℕ)) → most words fs ≤ length words
+pub most-within : (fs : List Form) (words : List (List ℕ)) → most words fs ≤ length words
 most-within [] words = omega arith
 most-within (f ∷ fs) words = omega (arith, reach-within (slots_of f) words, most-within fs words)
 
 pub bad_index-within : (words : List (List ℕ)) → bad_index words ≤ length words
 bad_index-within words = most-within forms words
-
--- ---- the forms that words begin
-
-begun : (places : List Place) (words : List (List ℕ)) (n : ℕ) → n ≤ reach places words → AllFit places (take n words ++ map sample (drop n places))
-begun places words zero h = samples_fit places
-begun places words (suc i) h = completed places words i (omega (arith, h))
-
--- so many words begin the form where others may follow them in it, and only there
-pub on_to_form : (words : List (List ℕ)) (n : ℕ) (form : Form) → begins words n form ≡ true → (more : List (List ℕ)) × (reads (take n words ++ more) form ≡ true)
-on_to_form words n form h =
-    let more = map sample (drop n (slots_of form)) in
-    (more, fit_reads (take n words ++ more) form (begun (slots_of form) words n (leb-true n (reach (slots_of form) words) h)))
-
-pub from_form : (words more : List (List ℕ)) (n : ℕ) (form : Form) → n ≤ length words → reads (take n words ++ more) form ≡ true → begins words n form ≡ true
-from_form words more n form within is = le-leb n (reach (slots_of form) words) (far (slots_of form) words more n within (reads_fit (take n words ++ more) form is))

@@ -1,8 +1,11 @@
 pub mod Batches
 pub mod Beginnings
+pub mod Filters
 pub mod Finding
 pub mod FirstWords
 pub mod LineWords
+pub mod Names
+pub mod Options
 pub mod Reaching
 pub mod ReadBack
 pub mod RefTexts

@@ -1,26 +1,34 @@
 -- Words that are a command are the words of that command.
-use Rattle.std.proofs.Common.{◌≡◌, ℕ, Bool, true, false, cond, ◌&&◌, ◌||◌, List, [], ◌∷◌, Option, Some, None, refl, ap, sym, ◌∙◌, subst}
+use Rattle.std.proofs.Common.{◌≡◌, ℕ, Bool, true, false, cond, ◌&&◌, ◌||◌, List, [], ◌∷◌, ◌++◌, drop, Option, Some, None, refl, ap, sym, ◌∙◌, subst}
 use Rattle.std.specs.Prelude.{codes}
-use Rattle.std.specs.List.{find}
-use Rattle.std.specs.Option.{option_map, is_some}
+use Rattle.std.specs.List.{find, list_all}
+use Rattle.std.specs.Option.{option_map, option_map_or, is_some}
+use Rattle.std.proofs.lemmas.List.{append-nil}
 use Rattle.std.specs.Str.{bytes_eq}
 use Rattle.std.proofs.lemmas.Slice.Eq.{bytes_eq-Decides}
 use Rattle.fp_name.specs.Grammar.{is_remote_name, is_url, is_id}
 use Rattle.fl_words.specs.declared.command.Command.{Command}
 use Rattle.fl_words.specs.declared.command.Command.TheVariants as commands
-use Rattle.fl_words.specs.declared.command.Command.TheVariants.{Change as Changing, List as Listed, Show as Showing}
+use Rattle.fl_words.specs.declared.command.Command.TheVariants.{Change as Changing, List as Listed, Show as Showing, Filter as Filtering}
+use Rattle.fl_words.specs.declared.command.PolicySource.TheVariants as sources
 use Rattle.fl_words.specs.declared.command.Change.TheVariants as changes
 use Rattle.fl_words.specs.declared.command.Listing.TheVariants as listings
 use Rattle.fl_words.specs.declared.command.Shown.TheVariants as things
-use Rattle.std.proofs.lemmas.Bool.{and_parts, false_from_ne_true, false≢true}
+use Rattle.std.proofs.lemmas.Bool.{and_parts, false≢true}
 use Rattle.fl_words.specs.declared.forms.Form.{Form}
-use Rattle.fl_words.specs.declared.forms.Form.TheVariants.{Pin, Unpin, RemoteAdd, RemoteModify, RemoteDelete, Install, UpdateAll, UpdateOne, Uninstall, UninstallUnused, Rollback, OverrideReset, OverrideResetApp, ListRefs, ListRemotes, ListPins, Info, OverrideShow, OverrideShowApp, Batch, ShowCommit, ShowDirTree, ShowDirMeta, ShowValue}
-use Rattle.fl_words.specs.Forms.{literal, pattern, remote, url, ref_name, app_id, type_string, forms, slots_of, made, reads, command_of}
-use Rattle.fl_words.specs.Words.{words_of, is_command, is_override_name, override_word}
+use Rattle.fl_words.specs.declared.forms.Form.TheVariants.{Pin, Unpin, RemoteAdd, RemoteModify, RemoteDelete, Install, UpdateAll, UpdateOne, Uninstall, UninstallUnused, Rollback, Override, OverrideApp, OverrideReset, OverrideResetApp, ListRefs, ListRemotes, ListPins, Info, Launch, OverrideShow, OverrideShowApp, Filter, FilterFrom, FilterSystemFrom, Batch, ShowCommit, ShowDirTree, ShowDirMeta, ShowValue}
+use Rattle.fl_words.specs.Forms.{literal, pattern, remote, url, ref_name, app, app_id, type_string, permission, permissions, launch_options, filter_rules, from_app, fits, is_app, forms, slots_of, made, reads, command_of}
+use Rattle.fl_options.specs.Options.{is_option, is_launch_option}
+use Rattle.fl_options.proofs.Lines.{uncut_no_option}
+use Rattle.fl_words.specs.Words.{words_of, is_command, override_word, are_options}
+use Rattle.fl_words.specs.Names.{is_override_name}
 use Rattle.fp_name.specs.Refs.{Ref, is_ref, ref_text, ref_of, ref_at}
 use Rattle.fp_name.proofs.Refs.{ref_of-ref_text}
-use Rattle.fl_words.proofs.RefTexts.{same_text, is_good, ref_back, unused_is_none}
-use Rattle.fl_words.proofs.Reaching.{AllFit, reads_fit, one, two, three}
+use Rattle.fl_words.proofs.Names.{other_than_global, id_names}
+use Rattle.fl_words.proofs.Filters.{no_from_rule, no_system_rule, from_same, from_good, from_is_app}
+use Rattle.fl_words.proofs.RefTexts.{same_text, is_good, ref_back, app_is_ref, app_at, unused_is_none}
+use Rattle.fl_words.proofs.Reaching.{Fit, next, one, two, three, all_taken, takes_all}
+use Rattle.fl_words.proofs.Options.{WithId, with_id, fits_id, no_more_options, app_made}
 
 -- the words of a form are those of its command
 abbrev Speaks : Form → List (List ℕ) → Type 0
@@ -39,50 +47,67 @@ both_words v w a b h g = after_word v a b h ∙ ap (λ (x : List ℕ). v ∷ x �
 word_and_ref : (w a r : List ℕ) → bytes_eq a w ≡ true → is_some (ref_of r) ≡ true → a ∷ r ∷ [] ≡ w ∷ ref_text (ref_at r) ∷ []
 word_and_ref w a r h g = after_word w a r h ∙ ap (λ (x : List ℕ). w ∷ x ∷ []) (same_text r g)
 
--- no ID is `global`
-global_is_none : is_id (codes "global") ≡ false
-unfolding is_id
-global_is_none = refl
-
-other_than_global : (text : List ℕ) → is_id text ≡ true → bytes_eq text (codes "global") ≡ false
-other_than_global text h = false_from_ne_true (bytes_eq text (codes "global")) (λ e. false≢true (sym global_is_none ∙ ap is_id (sym (is_word text (codes "global") e)) ∙ h))
-
 -- a command on the override of an application
 id_words : (w a b i : List ℕ) → bytes_eq a (codes "override") ≡ true → bytes_eq b w ≡ true → is_id i ≡ true → a ∷ b ∷ i ∷ [] ≡ codes "override" ∷ w ∷ override_word i
 id_words w a b i h g k = rw (other_than_global i k) (ap (λ (x : List ℕ). x ∷ b ∷ i ∷ []) (is_word a (codes "override") h) ∙ ap (λ (x : List ℕ). codes "override" ∷ x ∷ i ∷ []) (is_word b w g))
-
-id_names : (i : List ℕ) → is_id i ≡ true → is_override_name i ≡ true
-id_names i k = rw (other_than_global i k) k
 
 both_true : (a b : Bool) → a ≡ true → b ≡ true → (a && b) ≡ true
 both_true true b h g = g
 both_true false b h g = absurd (cc h)
 
-speaks : (form : Form) (words : List (List ℕ)) → AllFit (slots_of form) words → Speaks form words
-speaks Pin = two (literal (codes "pin")) pattern (Speaks Pin) (λ a p h g. (after_word (codes "pin") a p h, g))
-speaks Unpin = two (literal (codes "unpin")) pattern (Speaks Unpin) (λ a p h g. (after_word (codes "unpin") a p h, g))
-speaks RemoteAdd = three (literal (codes "remote-add")) remote url (Speaks RemoteAdd) (λ a n u h g k. (ap (λ (x : List ℕ). x ∷ n ∷ u ∷ []) (is_word a (codes "remote-add") h), both_true (is_remote_name n) (is_url u) g k))
-speaks RemoteModify = three (literal (codes "remote-modify")) remote url (Speaks RemoteModify) (λ a n u h g k. (ap (λ (x : List ℕ). x ∷ n ∷ u ∷ []) (is_word a (codes "remote-modify") h), both_true (is_remote_name n) (is_url u) g k))
-speaks RemoteDelete = two (literal (codes "remote-delete")) remote (Speaks RemoteDelete) (λ a n h g. (after_word (codes "remote-delete") a n h, g))
-speaks Install = three (literal (codes "install")) remote ref_name (Speaks Install) (λ a n r h g k. (ap (λ (x : List ℕ). x ∷ n ∷ r ∷ []) (is_word a (codes "install") h) ∙ ap (λ (x : List ℕ). codes "install" ∷ n ∷ x ∷ []) (same_text r k), both_true (is_remote_name n) (is_ref (ref_at r)) g (is_good r k)))
-speaks UpdateAll = one (literal (codes "update")) (Speaks UpdateAll) (λ a h. (ap (λ (x : List ℕ). x ∷ []) (is_word a (codes "update") h), refl))
-speaks UpdateOne = two (literal (codes "update")) ref_name (Speaks UpdateOne) (λ a r h g. (word_and_ref (codes "update") a r h g, is_good r g))
-speaks Uninstall = two (literal (codes "uninstall")) ref_name (Speaks Uninstall) (λ a r h g. (word_and_ref (codes "uninstall") a r h g, is_good r g))
-speaks UninstallUnused = two (literal (codes "uninstall")) (literal (codes "--unused")) (Speaks UninstallUnused) (λ a b h g. (both_words (codes "uninstall") (codes "--unused") a b h g, refl))
-speaks Rollback = two (literal (codes "rollback")) ref_name (Speaks Rollback) (λ a r h g. (word_and_ref (codes "rollback") a r h g, is_good r g))
-speaks OverrideReset = two (literal (codes "override")) (literal (codes "--reset")) (Speaks OverrideReset) (λ a b h g. (both_words (codes "override") (codes "--reset") a b h g, refl))
-speaks OverrideResetApp = three (literal (codes "override")) (literal (codes "--reset")) app_id (Speaks OverrideResetApp) (λ a b i h g k. (id_words (codes "--reset") a b i h g k, id_names i k))
-speaks ListRefs = one (literal (codes "list")) (Speaks ListRefs) (λ a h. (ap (λ (x : List ℕ). x ∷ []) (is_word a (codes "list") h), refl))
-speaks Info = two (literal (codes "info")) ref_name (Speaks Info) (λ a r h g. (word_and_ref (codes "info") a r h g, is_good r g))
-speaks OverrideShow = two (literal (codes "override")) (literal (codes "--show")) (Speaks OverrideShow) (λ a b h g. (both_words (codes "override") (codes "--show") a b h g, refl))
-speaks OverrideShowApp = three (literal (codes "override")) (literal (codes "--show")) app_id (Speaks OverrideShowApp) (λ a b i h g k. (id_words (codes "--show") a b i h g k, id_names i k))
-speaks ListRemotes = two (literal (codes "list")) (literal (codes "--remotes")) (Speaks ListRemotes) (λ a b h g. (both_words (codes "list") (codes "--remotes") a b h g, refl))
-speaks ListPins = two (literal (codes "list")) (literal (codes "--pins")) (Speaks ListPins) (λ a b h g. (both_words (codes "list") (codes "--pins") a b h g, refl))
-speaks Batch = one (literal (codes "batch")) (Speaks Batch) (λ a h. (ap (λ (x : List ℕ). x ∷ []) (is_word a (codes "batch") h), refl))
-speaks ShowCommit = two (literal (codes "show")) (literal (codes "commit")) (Speaks ShowCommit) (λ a b h g. (both_words (codes "show") (codes "commit") a b h g, refl))
-speaks ShowDirTree = two (literal (codes "show")) (literal (codes "dirtree")) (Speaks ShowDirTree) (λ a b h g. (both_words (codes "show") (codes "dirtree") a b h g, refl))
-speaks ShowDirMeta = two (literal (codes "show")) (literal (codes "dirmeta")) (Speaks ShowDirMeta) (λ a b h g. (both_words (codes "show") (codes "dirmeta") a b h g, refl))
-speaks ShowValue = three (literal (codes "show")) (literal (codes "value")) type_string (Speaks ShowValue) (λ a b t h g k. (ap (λ (x : List ℕ). x ∷ b ∷ t ∷ []) (is_word a (codes "show") h) ∙ ap (λ (x : List ℕ). codes "show" ∷ x ∷ t ∷ []) (is_word b (codes "value") g), k))
+-- the words of a change of an override by options, of all applications and of one
+all_words : (a o : List ℕ) (ws : List (List ℕ)) → bytes_eq a (codes "override") ≡ true → a ∷ o ∷ ws ≡ codes "override" ∷ o ∷ (ws ++ [])
+all_words a o ws h = ap (λ (x : List ℕ). x ∷ o ∷ ws) (is_word a (codes "override") h) ∙ ap (λ (l : List (List ℕ)). codes "override" ∷ o ∷ l) (sym (append-nil ws))
+
+app_words : (a o : List ℕ) (ws : List (List ℕ)) → bytes_eq a (codes "override") ≡ true → is_option o ≡ true → WithId ws → Speaks OverrideApp (a ∷ o ∷ ws)
+app_words a o ws h is w =
+    let words : List (List ℕ) = a ∷ o ∷ (w.options ++ w.id ∷ []) in
+    let same : words ≡ codes "override" ∷ o ∷ (w.options ++ override_word w.id) = rw (other_than_global w.id w.named) (ap (λ (x : List ℕ). x ∷ o ∷ (w.options ++ w.id ∷ [])) (is_word a (codes "override") h)) in
+    let good = both_true (is_override_name w.id) (is_option o && list_all is_option w.options) (id_names w.id w.named) (both_true (is_option o) (list_all is_option w.options) is w.all) in
+    subst (λ (l : List (List ℕ)). Speaks OverrideApp (a ∷ o ∷ l)) (sym w.is) (subst (λ (x : Command). (words ≡ words_of x) × (is_command x ≡ true)) (sym (app_made a o w.options w.id)) (same, good))
+
+-- and of a launch
+launch_words : (a r : List ℕ) (ws : List (List ℕ)) → bytes_eq a (codes "launch") ≡ true → option_map_or is_app (ref_of r) false ≡ true → list_all is_launch_option ws ≡ true → Speaks Launch (a ∷ r ∷ ws)
+launch_words a r ws h is all =
+    let good = app_is_ref r is in (
+      ap (λ (x : List ℕ). x ∷ r ∷ ws) (is_word a (codes "launch") h) ∙ ap (λ (x : List ℕ). codes "launch" ∷ x ∷ ws) (same_text r good),
+      both_true (is_ref (ref_at r) && is_app (ref_at r)) (list_all is_launch_option ws) (both_true (is_ref (ref_at r)) (is_app (ref_at r)) (is_good r good) (app_at r is)) all,
+    )
+
+from_kept : (r : List ℕ) → fits from_app r ≡ true → (is_ref (ref_at (drop 7 r)) && is_app (ref_at (drop 7 r))) ≡ true
+from_kept r h = both_true (is_ref (ref_at (drop 7 r))) (is_app (ref_at (drop 7 r))) (from_good r h) (from_is_app r h)
+
+speaks : (form : Form) (words : List (List ℕ)) → Fit (slots_of form) words → Speaks form words
+speaks Pin = two (literal (codes "pin")) pattern refl refl (Speaks Pin) (λ a p h g. (after_word (codes "pin") a p h, g))
+speaks Unpin = two (literal (codes "unpin")) pattern refl refl (Speaks Unpin) (λ a p h g. (after_word (codes "unpin") a p h, g))
+speaks RemoteAdd = three (literal (codes "remote-add")) remote url refl refl refl (Speaks RemoteAdd) (λ a n u h g k. (ap (λ (x : List ℕ). x ∷ n ∷ u ∷ []) (is_word a (codes "remote-add") h), both_true (is_remote_name n) (is_url u) g k))
+speaks RemoteModify = three (literal (codes "remote-modify")) remote url refl refl refl (Speaks RemoteModify) (λ a n u h g k. (ap (λ (x : List ℕ). x ∷ n ∷ u ∷ []) (is_word a (codes "remote-modify") h), both_true (is_remote_name n) (is_url u) g k))
+speaks RemoteDelete = two (literal (codes "remote-delete")) remote refl refl (Speaks RemoteDelete) (λ a n h g. (after_word (codes "remote-delete") a n h, g))
+speaks Install = three (literal (codes "install")) remote ref_name refl refl refl (Speaks Install) (λ a n r h g k. (ap (λ (x : List ℕ). x ∷ n ∷ r ∷ []) (is_word a (codes "install") h) ∙ ap (λ (x : List ℕ). codes "install" ∷ n ∷ x ∷ []) (same_text r k), both_true (is_remote_name n) (is_ref (ref_at r)) g (is_good r k)))
+speaks UpdateAll = one (literal (codes "update")) refl (Speaks UpdateAll) (λ a h. (ap (λ (x : List ℕ). x ∷ []) (is_word a (codes "update") h), refl))
+speaks UpdateOne = two (literal (codes "update")) ref_name refl refl (Speaks UpdateOne) (λ a r h g. (word_and_ref (codes "update") a r h g, is_good r g))
+speaks Uninstall = two (literal (codes "uninstall")) ref_name refl refl (Speaks Uninstall) (λ a r h g. (word_and_ref (codes "uninstall") a r h g, is_good r g))
+speaks UninstallUnused = two (literal (codes "uninstall")) (literal (codes "--unused")) refl refl (Speaks UninstallUnused) (λ a b h g. (both_words (codes "uninstall") (codes "--unused") a b h g, refl))
+speaks Rollback = two (literal (codes "rollback")) ref_name refl refl (Speaks Rollback) (λ a r h g. (word_and_ref (codes "rollback") a r h g, is_good r g))
+speaks Override = next (literal (codes "override")) (permission ∷ permissions ∷ []) refl (Speaks Override) (λ a h. next permission (permissions ∷ []) refl (λ (ws : List (List ℕ)). Speaks Override (a ∷ ws)) (λ o is ws fit. (all_words a o ws h, both_true (is_option o) (list_all is_option ws) is (all_taken permissions ws refl fit))))
+speaks OverrideApp = next (literal (codes "override")) (permission ∷ permissions ∷ app_id ∷ []) refl (Speaks OverrideApp) (λ a h. next permission (permissions ∷ app_id ∷ []) refl (λ (ws : List (List ℕ)). Speaks OverrideApp (a ∷ ws)) (λ o is ws fit. app_words a o ws h is (with_id ws fit)))
+speaks OverrideReset = two (literal (codes "override")) (literal (codes "--reset")) refl refl (Speaks OverrideReset) (λ a b h g. (both_words (codes "override") (codes "--reset") a b h g, refl))
+speaks OverrideResetApp = three (literal (codes "override")) (literal (codes "--reset")) app_id refl refl refl (Speaks OverrideResetApp) (λ a b i h g k. (id_words (codes "--reset") a b i h g k, id_names i k))
+speaks ListRefs = one (literal (codes "list")) refl (Speaks ListRefs) (λ a h. (ap (λ (x : List ℕ). x ∷ []) (is_word a (codes "list") h), refl))
+speaks Launch = next (literal (codes "launch")) (app ∷ launch_options ∷ []) refl (Speaks Launch) (λ a h. next app (launch_options ∷ []) refl (λ (ws : List (List ℕ)). Speaks Launch (a ∷ ws)) (λ r is ws fit. launch_words a r ws h is (all_taken launch_options ws refl fit)))
+speaks Info = two (literal (codes "info")) ref_name refl refl (Speaks Info) (λ a r h g. (word_and_ref (codes "info") a r h g, is_good r g))
+speaks OverrideShow = two (literal (codes "override")) (literal (codes "--show")) refl refl (Speaks OverrideShow) (λ a b h g. (both_words (codes "override") (codes "--show") a b h g, refl))
+speaks OverrideShowApp = three (literal (codes "override")) (literal (codes "--show")) app_id refl refl refl (Speaks OverrideShowApp) (λ a b i h g k. (id_words (codes "--show") a b i h g k, id_names i k))
+speaks ListRemotes = two (literal (codes "list")) (literal (codes "--remotes")) refl refl (Speaks ListRemotes) (λ a b h g. (both_words (codes "list") (codes "--remotes") a b h g, refl))
+speaks ListPins = two (literal (codes "list")) (literal (codes "--pins")) refl refl (Speaks ListPins) (λ a b h g. (both_words (codes "list") (codes "--pins") a b h g, refl))
+speaks Filter = next (literal (codes "filter")) (filter_rules ∷ []) refl (Speaks Filter) (λ a h ws fit. (ap (λ (x : List ℕ). x ∷ ws) (is_word a (codes "filter") h), all_taken filter_rules ws refl fit))
+speaks FilterFrom = two (literal (codes "filter")) from_app refl refl (Speaks FilterFrom) (λ a r h g. (after_word (codes "filter") a r h ∙ ap (λ (x : List ℕ). codes "filter" ∷ x ∷ []) (from_same r g), from_kept r g))
+speaks FilterSystemFrom = three (literal (codes "filter")) (literal (codes "--system")) from_app refl refl refl (Speaks FilterSystemFrom) (λ a b r h g k. (ap (λ (x : List ℕ). x ∷ b ∷ r ∷ []) (is_word a (codes "filter") h) ∙ ap (λ (x : List ℕ). codes "filter" ∷ x ∷ r ∷ []) (is_word b (codes "--system") g) ∙ ap (λ (x : List ℕ). codes "filter" ∷ codes "--system" ∷ x ∷ []) (from_same r k), from_kept r k))
+speaks Batch = one (literal (codes "batch")) refl (Speaks Batch) (λ a h. (ap (λ (x : List ℕ). x ∷ []) (is_word a (codes "batch") h), refl))
+speaks ShowCommit = two (literal (codes "show")) (literal (codes "commit")) refl refl (Speaks ShowCommit) (λ a b h g. (both_words (codes "show") (codes "commit") a b h g, refl))
+speaks ShowDirTree = two (literal (codes "show")) (literal (codes "dirtree")) refl refl (Speaks ShowDirTree) (λ a b h g. (both_words (codes "show") (codes "dirtree") a b h g, refl))
+speaks ShowDirMeta = two (literal (codes "show")) (literal (codes "dirmeta")) refl refl (Speaks ShowDirMeta) (λ a b h g. (both_words (codes "show") (codes "dirmeta") a b h g, refl))
+speaks ShowValue = three (literal (codes "show")) (literal (codes "value")) type_string refl refl refl (Speaks ShowValue) (λ a b t h g k. (ap (λ (x : List ℕ). x ∷ b ∷ t ∷ []) (is_word a (codes "show") h) ∙ ap (λ (x : List ℕ). codes "show" ∷ x ∷ t ∷ []) (is_word b (codes "value") g), k))
 
 -- ---- the form that was found
 
@@ -98,20 +123,44 @@ read_by : (words : List (List ℕ)) (o : Option Form) (c : Command) → find (re
 read_by words None c is h = absurd (cc h)
 read_by words (Some form) c is h =
     let same : made form words ≡ c = cc h in
-    subst (λ (x : Command). (words ≡ words_of x) × (is_command x ≡ true)) same (speaks form words (reads_fit words form (found words forms form is)))
+    subst (λ (x : Command). (words ≡ words_of x) × (is_command x ≡ true)) same (speaks form words (found words forms form is))
 
 pub read_back : (words : List (List ℕ)) (c : Command) → command_of words ≡ Some c → (words ≡ words_of c) × (is_command c ≡ true)
 read_back words c h = read_by words (find (reads words) forms) c refl h
 
 -- ---- the words of each command are read as it
 
+reset_no_option : is_option (codes "--reset") ≡ false
+reset_no_option = uncut_no_option (codes "--reset") refl
+
+show_no_option : is_option (codes "--show") ≡ false
+show_no_option = uncut_no_option (codes "--show") refl
+
 reset_by : (name : List ℕ) (b : Bool) → bytes_eq name (codes "global") ≡ b → (b || is_id name) ≡ true → command_of (codes "override" ∷ codes "--reset" ∷ cond b [] (name ∷ [])) ≡ Some (Changing (changes.OverrideReset name))
-reset_by name true is h = ap (λ (n : List ℕ). Some (Changing (changes.OverrideReset n))) (sym (is_word name (codes "global") is))
-reset_by name false is h = rw h refl
+reset_by name true is h = rw reset_no_option (ap (λ (n : List ℕ). Some (Changing (changes.OverrideReset n))) (sym (is_word name (codes "global") is)))
+reset_by name false is h = rw (reset_no_option, h) refl
 
 show_by : (name : List ℕ) (b : Bool) → bytes_eq name (codes "global") ≡ b → (b || is_id name) ≡ true → command_of (codes "override" ∷ codes "--show" ∷ cond b [] (name ∷ [])) ≡ Some (Listed (listings.OverrideShow name))
-show_by name true is h = ap (λ (n : List ℕ). Some (Listed (listings.OverrideShow n))) (sym (is_word name (codes "global") is))
-show_by name false is h = rw h refl
+show_by name true is h = rw show_no_option (ap (λ (n : List ℕ). Some (Listed (listings.OverrideShow n))) (sym (is_word name (codes "global") is)))
+show_by name false is h = rw (show_no_option, h) refl
+
+change_by : (name o : List ℕ) (os : List (List ℕ)) (b : Bool) → bytes_eq name (codes "global") ≡ b → (b || is_id name) ≡ true → is_option o ≡ true → list_all is_option os ≡ true → command_of (codes "override" ∷ o ∷ (os ++ cond b [] (name ∷ []))) ≡ Some (Changing (changes.OverrideChange name (o ∷ os)))
+change_by name o os true is h option all =
+    rw (append-nil os, option, takes_all permissions os refl all) (ap (λ (n : List ℕ). Some (Changing (changes.OverrideChange n (o ∷ os)))) (sym (is_word name (codes "global") is)))
+change_by name o os false is h option all = rw (option, no_more_options os name all h, fits_id os name all h) (ap Some (app_made (codes "override") o os name))
+
+change_written : (name : List ℕ) (options : List (List ℕ)) → (is_override_name name && are_options options) ≡ true → command_of (codes "override" ∷ (options ++ override_word name)) ≡ Some (Changing (changes.OverrideChange name options))
+change_written name [] h = absurd (false≢true (and_parts (is_override_name name) false h).1)
+change_written name (o ∷ os) h =
+    let parts = and_parts (is_override_name name) (is_option o && list_all is_option os) h in
+    let each = and_parts (is_option o) (list_all is_option os) parts.1 in
+    change_by name o os (bytes_eq name (codes "global")) refl parts.0 each.0 each.1
+
+launch_written : (name : Ref) (options : List (List ℕ)) → ((is_ref name && is_app name) && list_all is_launch_option options) ≡ true → command_of (codes "launch" ∷ ref_text name ∷ options) ≡ Some (Listed (listings.Launch name options))
+launch_written name options h =
+    let parts = and_parts (is_ref name && is_app name) (list_all is_launch_option options) h in
+    let good = and_parts (is_ref name) (is_app name) parts.0 in
+    rw (ref_of-ref_text name good.0, good.1, takes_all launch_options options refl parts.1) (ap (λ (r : Ref). Some (Listed (listings.Launch r options))) (ref_back name good.0))
 
 pub written : (c : Command) → is_command c ≡ true → command_of (words_of c) ≡ Some c
 written (Changing (changes.Pin p)) h = rw h refl
@@ -125,9 +174,11 @@ written (Changing (changes.UpdateOne name)) h = rw (ref_of-ref_text name h) (ap 
 written (Changing (changes.Uninstall name)) h = rw (ref_of-ref_text name h) (ap (λ (r : Ref). Some (Changing (changes.Uninstall r))) (ref_back name h))
 written (Changing changes.UninstallUnused) h = rw unused_is_none refl
 written (Changing (changes.Rollback name)) h = rw (ref_of-ref_text name h) (ap (λ (r : Ref). Some (Changing (changes.Rollback r))) (ref_back name h))
+written (Changing (changes.OverrideChange name options)) h = change_written name options h
 written (Changing (changes.OverrideReset name)) h = reset_by name (bytes_eq name (codes "global")) refl h
 written (Listed listings.Refs) h = refl
 written (Listed (listings.Info name)) h = rw (ref_of-ref_text name h) (ap (λ (r : Ref). Some (Listed (listings.Info r))) (ref_back name h))
+written (Listed (listings.Launch name options)) h = launch_written name options h
 written (Listed (listings.OverrideShow name)) h = show_by name (bytes_eq name (codes "global")) refl h
 written (Listed listings.Remotes) h = refl
 written (Listed listings.Pins) h = refl
@@ -135,4 +186,11 @@ written (Showing things.Commit) h = refl
 written (Showing things.DirTree) h = refl
 written (Showing things.DirMeta) h = refl
 written (Showing (things.Value of)) h = rw h refl
+written (Filtering (sources.Rules words)) h = rw (takes_all filter_rules words refl h) refl
+written (Filtering (sources.Session name)) h =
+    let good = and_parts (is_ref name) (is_app name) h in
+    rw (no_from_rule (ref_text name), ref_of-ref_text name good.0, good.1) (ap (λ (r : Ref). Some (Filtering (sources.Session r))) (ref_back name good.0))
+written (Filtering (sources.System name)) h =
+    let good = and_parts (is_ref name) (is_app name) h in
+    rw (no_system_rule, ref_of-ref_text name good.0, good.1) (ap (λ (r : Ref). Some (Filtering (sources.System r))) (ref_back name good.0))
 written commands.Batch h = refl

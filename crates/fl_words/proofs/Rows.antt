@@ -11,10 +11,14 @@ use Rattle.fp_name.specs.Grammar.{is_id, is_arch, is_branch, is_remote_name}
 use Rattle.fp_name.specs.Refs.{Ref, ref_of}
 use Rattle.fp_name.specs.declared.kind.RefKind.TheVariants.{App}
 use Rattle.fp_name.specs.Pins.{is_pin}
-use Rattle.fl_words.specs.declared.command.Command.TheVariants.{Change as Changing, List as Listed, Show as Showing, Batch}
-use Rattle.fl_words.specs.declared.command.Change.TheVariants.{Pin, Unpin, Install, UpdateAll, UpdateOne, Uninstall, UninstallUnused, Rollback}
+use Rattle.fl_words.specs.declared.command.Command.TheVariants.{Change as Changing, List as Listed, Show as Showing, Filter as Filtering, Batch}
+use Rattle.fl_words.specs.declared.command.PolicySource.TheVariants.{Rules, Session, System}
+use Rattle.fl_rules.specs.Rules.{word_rule}
+use Rattle.fl_words.specs.declared.command.Change.TheVariants.{Pin, Unpin, Install, UpdateAll, UpdateOne, Uninstall, UninstallUnused, Rollback, OverrideChange}
 use Rattle.fl_words.specs.declared.command.Listing.TheVariants as listings
 use Rattle.fl_words.specs.declared.command.Shown.TheVariants.{Commit, DirTree, DirMeta, Value}
+use Rattle.fl_options.proofs.Rows.{some_option}
+use Rattle.fl_options.proofs.Lines.{uncut_no_option}
 use Rattle.fl_words.specs.Types.{is_type_text}
 use Rattle.fl_words.specs.Forms.{command_of, bad_index}
 use Rattle.fl_words.specs.Batch.{batch_change, batch_of}
@@ -131,6 +135,53 @@ pub show_more : bad_index (codes "show" ∷ codes "value" ∷ codes "s" ∷ [] �
 unfolding is_type_text
 show_more = refl
 
+-- ---- options
+
+abbrev share : List ℕ
+share = codes "--share=ipc"
+
+pub override_all : command_of (codes "override" ∷ share ∷ share ∷ []) ≡ Some (Changing (OverrideChange (codes "global") (share ∷ share ∷ [])))
+override_all = rw (some_option, some_option) refl
+
+pub override_one : command_of (codes "override" ∷ share ∷ codes "org.x.App" ∷ []) ≡ Some (Changing (OverrideChange (codes "org.x.App") (share ∷ [])))
+unfolding is_id
+override_one = rw (some_option, uncut_no_option (codes "org.x.App") refl) refl
+
+pub override_none : bad_index (codes "override" ∷ []) ≡ 1
+override_none = refl
+
+pub override_no_option : bad_index (codes "override" ∷ codes "network" ∷ []) ≡ 1
+override_no_option = rw (uncut_no_option (codes "network") refl) refl
+
+pub launch_alone : command_of (codes "launch" ∷ codes "app/org.x.App/x86_64/stable" ∷ []) ≡ Some (Listed (listings.Launch name []))
+unfolding ref_of is_id is_arch is_branch
+launch_alone = refl
+
+pub launch_with : command_of (codes "launch" ∷ codes "app/org.x.App/x86_64/stable" ∷ share ∷ []) ≡ Some (Listed (listings.Launch name (share ∷ [])))
+unfolding ref_of is_id is_arch is_branch
+launch_with = rw some_option refl
+
+pub launch_runtime : bad_index (codes "launch" ∷ codes "runtime/org.x.App/x86_64/stable" ∷ []) ≡ 1
+unfolding ref_of is_id is_arch is_branch
+launch_runtime = refl
+
+-- ---- the filter
+
+pub filter_all : command_of (codes "filter" ∷ []) ≡ Some (Filtering (Rules []))
+filter_all = refl
+
+pub filter_from : command_of (codes "filter" ∷ codes "--from=app/org.x.App/x86_64/stable" ∷ []) ≡ Some (Filtering (Session name))
+unfolding ref_of is_id is_arch is_branch word_rule
+filter_from = refl
+
+pub filter_system : command_of (codes "filter" ∷ codes "--system" ∷ codes "--from=app/org.x.App/x86_64/stable" ∷ []) ≡ Some (Filtering (System name))
+unfolding ref_of is_id is_arch is_branch word_rule
+filter_system = refl
+
+pub filter_runtime : bad_index (codes "filter" ∷ codes "--from=runtime/org.x.App/x86_64/stable" ∷ []) ≡ 1
+unfolding ref_of is_id is_arch is_branch word_rule
+filter_runtime = refl
+
 -- ---- batches
 
 pub no_lines : batch_of [] ≡ Ok []
@@ -167,9 +218,8 @@ pub bad_pattern : reason_text (codes "pin" ∷ codes "app/*/*" ∷ []) ≡ codes
 unfolding is_pin
 bad_pattern = refl
 
-pub none_shown : reason_text (codes "override" ∷ codes "--reset" ∷ codes "x" ∷ []) ≡ codes "fpk: 'x' is no ID of an application\nusage: fpk override --reset\nusage: fpk override --reset ID\n"
-unfolding is_id
-none_shown = refl
+pub list_shown : reason_text (codes "list" ∷ codes "x" ∷ []) ≡ codes "fpk: 'x' isn't known here\nusage: fpk list\nusage: fpk list --remotes\nusage: fpk list --pins\n"
+list_shown = refl
 
 pub one_more_word : reason_text (codes "batch" ∷ codes "x" ∷ []) ≡ codes "fpk: 'x' is one word too many\nusage: fpk batch\n"
 one_more_word = refl

@@ -50,11 +50,6 @@ abbrev pub IsNoRecord : List ℕ → WordsError → Type 0
 IsNoRecord line (BadWords index) = batch_change line ≡ None
 IsNoRecord line WordsNoMemory = Unit {0}
 
--- the words of the line are no command
-abbrev pub IsNoWords : List ℕ → WordsError → Type 0
-IsNoWords line (BadWords index) = command_of (words_in line) ≡ None
-IsNoWords line WordsNoMemory = Unit {0}
-
 -- the word is no text
 abbrev pub IsNoText : List ℕ → WordsError → Type 0
 IsNoText word (BadWords index) = IsUtf8 word → ⊥

@@ -1,35 +1,46 @@
 -- The forms of words. A row says what stands at each place of a command line; P is the pattern of a pin, N the name of a remote
--- and U its URL, R a ref, I the ID of an application, and T the type string of a type of GVariant.
-use Rattle.std.specs.Prelude.{ℕ, ◌+◌, ◌==◌, ◌&&◌, List, [], ◌∷◌, length, max, slice_index_or, Bool, Option, codes, if◌then◌else◌}
-use Rattle.std.specs.List.{find}
-use Rattle.std.specs.Option.{option_map, is_some}
+-- and U its URL, R a ref, A a ref of an application, I the ID of one, T the type string of a type of GVariant, O an option that
+-- changes permissions, L an option of a launch, and F a rule of the filter. At some places any number of words may stand.
+use Rattle.std.specs.Prelude.{ℕ, ◌+◌, ◌-◌, ◌&&◌, List, [], ◌∷◌, length, max, take, drop, slice_index_or, Bool, true, false, Option, Some, None, option_and_then, codes, if◌then◌else◌}
+use Rattle.std.specs.List.{find, list_all}
+use Rattle.std.specs.Option.{option_map, option_map_or, is_some}
 use Rattle.std.specs.Str.{bytes_eq}
 use Rattle.fp_name.specs.Grammar.{is_remote_name, is_url, is_id}
-use Rattle.fp_name.specs.Pins.{is_pin}
-use Rattle.fp_name.specs.Refs.{ref_of, ref_at}
+use Rattle.fp_name.specs.Pins.{is_pin, same_kind}
+use Rattle.fp_name.specs.Refs.{Ref, ref_of, ref_at}
+use Rattle.fp_name.specs.declared.kind.RefKind.TheVariants.{App}
 use Rattle.fp_small.specs.declared.state.RemoteRow.{RemoteRow}
+use Rattle.fl_options.specs.Options.{is_option, is_launch_option}
+use Rattle.fl_rules.specs.Rules.{is_rule}
 use Rattle.fl_words.specs.declared.command.Command.{Command}
-use Rattle.fl_words.specs.declared.command.Command.TheVariants.{Change as Changing, List as Listed, Show as Showing, Batch as Batched}
+use Rattle.fl_words.specs.declared.command.Command.TheVariants.{Change as Changing, List as Listed, Show as Showing, Filter as Filtering, Batch as Batched}
+use Rattle.fl_words.specs.declared.command.PolicySource.TheVariants as sources
 use Rattle.fl_words.specs.declared.command.Change.TheVariants as changes
 use Rattle.fl_words.specs.declared.command.Listing.TheVariants as listings
 use Rattle.fl_words.specs.declared.command.Shown.TheVariants as things
 use Rattle.fl_words.specs.declared.forms.Slot.{Slot}
 use Rattle.fl_words.specs.declared.forms.Slot.TheVariants as slots
 use Rattle.fl_words.specs.declared.forms.Form.{Form}
-use Rattle.fl_words.specs.declared.forms.Form.TheVariants.{Pin, Unpin, RemoteAdd, RemoteModify, RemoteDelete, Install, UpdateAll, UpdateOne, Uninstall, UninstallUnused, Rollback, OverrideReset, OverrideResetApp, ListRefs, ListRemotes, ListPins, Info, OverrideShow, OverrideShowApp, Batch, ShowCommit, ShowDirTree, ShowDirMeta, ShowValue}
+use Rattle.fl_words.specs.declared.forms.Form.TheVariants.{Pin, Unpin, RemoteAdd, RemoteModify, RemoteDelete, Install, UpdateAll, UpdateOne, Uninstall, UninstallUnused, Rollback, Override, OverrideApp, OverrideReset, OverrideResetApp, ListRefs, ListRemotes, ListPins, Info, Launch, OverrideShow, OverrideShowApp, Filter, FilterFrom, FilterSystemFrom, Batch, ShowCommit, ShowDirTree, ShowDirMeta, ShowValue}
 use Rattle.fl_words.specs.Types.{is_type_text}
 
 -- ---- places
 
--- what may stand at a place: this word alone, P, N, U, R, I or T
+-- what may stand at a place: this word alone, P, N, U, R, A, I, T or O, any number of O, of L or of F, or `--from=` and A
 pub data Place : Type 0 where
   literal : List ℕ → Place
   pattern : Place
   remote : Place
   url : Place
   ref_name : Place
+  app : Place
   app_id : Place
   type_string : Place
+  permission : Place
+  permissions : Place
+  launch_options : Place
+  filter_rules : Place
+  from_app : Place
 
 abbrev pub place_of : Slot → Place
 place_of (slots.Word text) = literal text.now
@@ -37,8 +48,22 @@ place_of slots.Pattern = pattern
 place_of slots.Remote = remote
 place_of slots.Url = url
 place_of slots.Ref = ref_name
+place_of slots.App = app
 place_of slots.Id = app_id
 place_of slots.Type = type_string
+place_of slots.Permission = permission
+place_of slots.Permissions = permissions
+place_of slots.LaunchOptions = launch_options
+place_of slots.Rules = filter_rules
+place_of slots.FromApp = from_app
+
+-- a ref of an application
+abbrev pub is_app : Ref → Bool
+is_app name = same_kind App name.kind
+
+-- the text of a ref of one
+abbrev pub is_app_text : List ℕ → Bool
+is_app_text text = option_map_or is_app (ref_of text) false
 
 -- a text may stand there
 abbrev pub fits : Place → List ℕ → Bool
@@ -47,16 +72,31 @@ fits pattern text = is_pin text
 fits remote text = is_remote_name text
 fits url text = is_url text
 fits ref_name text = is_some (ref_of text)
+fits app text = is_app_text text
 fits app_id text = is_id text
 fits type_string text = is_type_text text
+fits permission text = is_option text
+fits permissions text = is_option text
+fits launch_options text = is_launch_option text
+fits filter_rules text = is_rule text
+fits from_app text = bytes_eq (take 7 text) (codes "--from=") && is_app_text (drop 7 text)
+
+-- any number of words may stand there
+abbrev pub repeats : Place → Bool
+repeats permissions = true
+repeats launch_options = true
+repeats filter_rules = true
+repeats _ = false
 
 -- ---- the table
 
 abbrev pub forms : List Form
 forms =
     Pin ∷ Unpin ∷ RemoteAdd ∷ RemoteModify ∷ RemoteDelete
-    ∷ Install ∷ UpdateAll ∷ UpdateOne ∷ Uninstall ∷ UninstallUnused ∷ Rollback ∷ OverrideReset ∷ OverrideResetApp
-    ∷ ListRefs ∷ ListRemotes ∷ ListPins ∷ Info ∷ OverrideShow ∷ OverrideShowApp ∷ Batch
+    ∷ Install ∷ UpdateAll ∷ UpdateOne ∷ Uninstall ∷ UninstallUnused ∷ Rollback
+    ∷ Override ∷ OverrideApp ∷ OverrideReset ∷ OverrideResetApp
+    ∷ ListRefs ∷ ListRemotes ∷ ListPins ∷ Info ∷ Launch ∷ OverrideShow ∷ OverrideShowApp
+    ∷ Filter ∷ FilterFrom ∷ FilterSystemFrom ∷ Batch
     ∷ ShowCommit ∷ ShowDirTree ∷ ShowDirMeta ∷ ShowValue ∷ []
 
 abbrev pub slots_of : Form → List Place
@@ -71,14 +111,20 @@ slots_of UpdateOne = literal (codes "update") ∷ ref_name ∷ []
 slots_of Uninstall = literal (codes "uninstall") ∷ ref_name ∷ []
 slots_of UninstallUnused = literal (codes "uninstall") ∷ literal (codes "--unused") ∷ []
 slots_of Rollback = literal (codes "rollback") ∷ ref_name ∷ []
+slots_of Override = literal (codes "override") ∷ permission ∷ permissions ∷ []
+slots_of OverrideApp = literal (codes "override") ∷ permission ∷ permissions ∷ app_id ∷ []
 slots_of OverrideReset = literal (codes "override") ∷ literal (codes "--reset") ∷ []
 slots_of OverrideResetApp = literal (codes "override") ∷ literal (codes "--reset") ∷ app_id ∷ []
 slots_of ListRefs = literal (codes "list") ∷ []
 slots_of ListRemotes = literal (codes "list") ∷ literal (codes "--remotes") ∷ []
 slots_of ListPins = literal (codes "list") ∷ literal (codes "--pins") ∷ []
 slots_of Info = literal (codes "info") ∷ ref_name ∷ []
+slots_of Launch = literal (codes "launch") ∷ app ∷ launch_options ∷ []
 slots_of OverrideShow = literal (codes "override") ∷ literal (codes "--show") ∷ []
 slots_of OverrideShowApp = literal (codes "override") ∷ literal (codes "--show") ∷ app_id ∷ []
+slots_of Filter = literal (codes "filter") ∷ filter_rules ∷ []
+slots_of FilterFrom = literal (codes "filter") ∷ from_app ∷ []
+slots_of FilterSystemFrom = literal (codes "filter") ∷ literal (codes "--system") ∷ from_app ∷ []
 slots_of Batch = literal (codes "batch") ∷ []
 slots_of ShowCommit = literal (codes "show") ∷ literal (codes "commit") ∷ []
 slots_of ShowDirTree = literal (codes "show") ∷ literal (codes "dirtree") ∷ []
@@ -91,6 +137,10 @@ word_at i words = slice_index_or words i []
 -- the remote N U after the first word
 abbrev pub remote_in : List (List ℕ) → RemoteRow
 remote_in words = record { name = word_at 1 words; url = word_at 2 words }
+
+-- the place of the last word
+abbrev pub last_place : List (List ℕ) → ℕ
+last_place words = length words - 1
 
 -- the command of words of a form
 abbrev pub made : Form → List (List ℕ) → Command
@@ -105,14 +155,20 @@ made UpdateOne words = Changing (changes.UpdateOne (ref_at (word_at 1 words)))
 made Uninstall words = Changing (changes.Uninstall (ref_at (word_at 1 words)))
 made UninstallUnused words = Changing changes.UninstallUnused
 made Rollback words = Changing (changes.Rollback (ref_at (word_at 1 words)))
+made Override words = Changing (changes.OverrideChange (codes "global") (drop 1 words))
+made OverrideApp words = Changing (changes.OverrideChange (word_at (last_place words) words) (drop 1 (take (last_place words) words)))
 made OverrideReset words = Changing (changes.OverrideReset (codes "global"))
 made OverrideResetApp words = Changing (changes.OverrideReset (word_at 2 words))
 made ListRefs words = Listed listings.Refs
 made ListRemotes words = Listed listings.Remotes
 made ListPins words = Listed listings.Pins
 made Info words = Listed (listings.Info (ref_at (word_at 1 words)))
+made Launch words = Listed (listings.Launch (ref_at (word_at 1 words)) (drop 2 words))
 made OverrideShow words = Listed (listings.OverrideShow (codes "global"))
 made OverrideShowApp words = Listed (listings.OverrideShow (word_at 2 words))
+made Filter words = Filtering (sources.Rules (drop 1 words))
+made FilterFrom words = Filtering (sources.Session (ref_at (drop 7 (word_at 1 words))))
+made FilterSystemFrom words = Filtering (sources.System (ref_at (drop 7 (word_at 2 words))))
 made Batch words = Batched
 made ShowCommit words = Showing things.Commit
 made ShowDirTree words = Showing things.DirTree
@@ -121,21 +177,33 @@ made ShowValue words = Showing (things.Value (word_at 2 words))
 
 -- ---- words in a form
 
--- how many words, from the first on, may stand at their places
-abbrev pub reach : List Place → List (List ℕ) → ℕ
-reach [] words = 0
-reach (place ∷ places) [] = 0
-reach (place ∷ places) (text ∷ words) = if fits place text then reach places words + 1 else 0
+-- The places that are left once a word has one. It takes the first place where it may stand; a place of any number of words is
+-- passed over by a word that may not stand there, and stays where one may.
+abbrev pub after : List Place → List ℕ → Option (List Place)
+after [] text = None
+after (place ∷ places) text =
+    if fits place text then Some (if repeats place then place ∷ places else places)
+    else (if repeats place then after places text else None)
 
--- each place has its word, and each word its place
+-- the places that are left once each of the words has one
+abbrev pub left_after : List Place → List (List ℕ) → Option (List Place)
+left_after places [] = Some places
+left_after places (text ∷ words) = option_and_then (λ left. left_after left words) (after places text)
+
+-- each word has its place, and no place is left that needs one
 abbrev pub reads : List (List ℕ) → Form → Bool
-reads words form = (length (slots_of form) == length words) && (reach (slots_of form) words == length words)
+reads words form = option_map_or (list_all repeats) (left_after (slots_of form) words) false
 
 -- the command of the words of a command line, where they are one
 abbrev pub command_of : List (List ℕ) → Option Command
 command_of words = option_map (λ form. made form words) (find (reads words) forms)
 
 -- ---- where words go wrong
+
+-- how many words, from the first on, have places
+abbrev pub reach : List Place → List (List ℕ) → ℕ
+reach places [] = 0
+reach places (text ∷ words) = option_map_or (λ left. reach left words + 1) (after places text) 0
 
 abbrev pub most : List (List ℕ) → List Form → ℕ
 most words [] = 0

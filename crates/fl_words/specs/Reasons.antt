@@ -1,13 +1,12 @@
 -- What is said of words that are of none of some forms: what is wrong with them, and how the forms are written that they begin.
-use Rattle.std.specs.Prelude.{ℕ, ◌+◌, ◌-◌, nat_le, List, [], ◌∷◌, ◌++◌, take, map, slice_get, slice_index_or, Bool, Option, Some, None, Result, Ok, Err, codes, decimal, flat_map, if◌then◌else◌}
-use Rattle.std.specs.Option.{option_or}
+use Rattle.std.specs.Prelude.{ℕ, ◌-◌, List, [], ◌∷◌, ◌++◌, take, map, slice_get, slice_index_or, Bool, Option, Some, None, Result, Ok, Err, codes, decimal, flat_map, option_and_then, if◌then◌else◌}
+use Rattle.std.specs.Option.{option_or, is_some}
 use Rattle.std.specs.Str.Lossy.{utf8_lossy}
 use Rattle.fp_keyfile.specs.Lines.{lines_of}
-use Rattle.fl_words.specs.declared.batch.TheConstants.{MOST_WORDS}
 use Rattle.fl_words.specs.declared.command.Change.{Change}
 use Rattle.fl_words.specs.declared.forms.Form.{Form}
-use Rattle.fl_words.specs.declared.forms.Form.TheVariants.{Pin, Unpin, RemoteAdd, RemoteModify, RemoteDelete, Install, UpdateAll, UpdateOne, Uninstall, UninstallUnused, Rollback, OverrideReset, OverrideResetApp}
-use Rattle.fl_words.specs.Forms.{Place, literal, pattern, remote, url, ref_name, app_id, type_string, forms, slots_of, reach, most}
+use Rattle.fl_words.specs.declared.forms.Form.TheVariants.{Pin, Unpin, RemoteAdd, RemoteModify, RemoteDelete, Install, UpdateAll, UpdateOne, Uninstall, UninstallUnused, Rollback, Override, OverrideApp, OverrideReset, OverrideResetApp}
+use Rattle.fl_words.specs.Forms.{Place, literal, pattern, remote, url, ref_name, app, app_id, type_string, permission, permissions, launch_options, filter_rules, from_app, forms, slots_of, left_after, most}
 use Rattle.fl_words.specs.Batch.{words_in, batch_of}
 use Rattle.fl_lines.specs.Lines.{line, escaped}
 
@@ -20,8 +19,14 @@ place_name pattern = codes "PATTERN"
 place_name remote = codes "NAME"
 place_name url = codes "URL"
 place_name ref_name = codes "REF"
+place_name app = codes "APP"
 place_name app_id = codes "ID"
 place_name type_string = codes "TYPE"
+place_name permission = codes "OPTION"
+place_name permissions = codes "[OPTION..]"
+place_name launch_options = codes "[OPTION..]"
+place_name filter_rules = codes "[RULE..]"
+place_name from_app = codes "--from=APP"
 
 abbrev pub named_place : Place → List ℕ
 named_place place = 32 ∷ place_name place
@@ -30,9 +35,13 @@ named_place place = 32 ∷ place_name place
 abbrev pub usage : List ℕ → Form → List ℕ
 usage program form = line (codes "usage:" ++ (program ++ flat_map named_place (slots_of form)))
 
--- so many of the words, from the first on, may stand at their places of the form
+-- the places of the form that are left once each of so many words, from the first on, has one
+abbrev pub places_left : List (List ℕ) → ℕ → Form → Option (List Place)
+places_left words count form = left_after (slots_of form) (take count words)
+
+-- each of so many of the words has a place of the form
 abbrev pub begins : List (List ℕ) → ℕ → Form → Bool
-begins words count form = nat_le count (reach (slots_of form) words)
+begins words count form = is_some (places_left words count form)
 
 abbrev pub usage_begun : List ℕ → List (List ℕ) → ℕ → Form → List ℕ
 usage_begun program words count form = if begins words count form then usage program form else []
@@ -43,9 +52,9 @@ usages program words count fs = flat_map (usage_begun program words count) fs
 
 -- ---- what is wrong
 
--- the place of a form at an index, where the words before it begin the form
+-- the first place of a form that is left for the word at an index, where the words before it begin the form
 abbrev pub place_begun : List (List ℕ) → ℕ → Form → Option Place
-place_begun words index form = if begins words index form then slice_get (slots_of form) index else None
+place_begun words index form = option_and_then (λ left. slice_get left 0) (places_left words index form)
 
 -- the first such place of some forms
 abbrev pub place_wanted : List (List ℕ) → ℕ → List Form → Option Place
@@ -60,8 +69,14 @@ fault_at (Some pattern) = codes "is no pattern: KIND/ID/ARCH/BRANCH"
 fault_at (Some remote) = codes "is no name of a remote"
 fault_at (Some url) = codes "is no URL of a remote: file:///PATH"
 fault_at (Some ref_name) = codes "is no ref: KIND/ID/ARCH/BRANCH"
+fault_at (Some app) = codes "is no ref of an application: app/ID/ARCH/BRANCH"
 fault_at (Some app_id) = codes "is no ID of an application"
 fault_at (Some type_string) = codes "is no type of GVariant"
+fault_at (Some permission) = codes "is no option"
+fault_at (Some permissions) = codes "is no option"
+fault_at (Some launch_options) = codes "is no option of a launch"
+fault_at (Some filter_rules) = codes "is no rule of the filter"
+fault_at (Some from_app) = codes "isn't --from=APP: --from=app/ID/ARCH/BRANCH"
 
 -- the word there, and what is wrong with it, or that there is none
 abbrev pub fault_text : Option (List ℕ) → Option Place → List ℕ
@@ -86,11 +101,12 @@ reason_text words = codes "fpk: " ++ why (codes " fpk") forms words
 abbrev pub change_forms : List Form
 change_forms =
     Pin ∷ Unpin ∷ RemoteAdd ∷ RemoteModify ∷ RemoteDelete
-    ∷ Install ∷ UpdateAll ∷ UpdateOne ∷ Uninstall ∷ UninstallUnused ∷ Rollback ∷ OverrideReset ∷ OverrideResetApp ∷ []
+    ∷ Install ∷ UpdateAll ∷ UpdateOne ∷ Uninstall ∷ UninstallUnused ∷ Rollback
+    ∷ Override ∷ OverrideApp ∷ OverrideReset ∷ OverrideResetApp ∷ []
 
--- The first words of a line, one more than a change has at most. What is no UTF-8 in them is replaced.
+-- The words of a line. What is no UTF-8 in them is replaced.
 abbrev pub words_shown : List ℕ → List (List ℕ)
-words_shown line = map utf8_lossy (take (MOST_WORDS + 1) (words_in line))
+words_shown line = map utf8_lossy (words_in line)
 
 abbrev pub line_reason : ℕ → List ℕ → List ℕ
 line_reason number line = codes "fpk: line " ++ (decimal number ++ (codes ": " ++ why [] change_forms (words_shown line)))

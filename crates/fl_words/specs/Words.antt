@@ -1,27 +1,33 @@
 -- The words of commands.
-use Rattle.std.specs.Prelude.{ℕ, List, [], ◌∷◌, ◌++◌, ◌&&◌, Bool, true, false, ◌||◌, IsSome, codes, if◌then◌else◌}
+use Rattle.std.specs.Prelude.{ℕ, List, [], ◌∷◌, ◌++◌, ◌&&◌, Bool, true, false, IsSome, codes, if◌then◌else◌}
+use Rattle.std.specs.List.{list_all}
 use Rattle.std.specs.Str.{bytes_eq}
-use Rattle.fp_name.specs.Grammar.{is_remote_name, is_url, is_id}
+use Rattle.fp_name.specs.Grammar.{is_remote_name, is_url}
 use Rattle.fp_name.specs.Pins.{is_pin}
-use Rattle.fp_name.specs.Refs.{is_ref, ref_text}
+use Rattle.fp_name.specs.Refs.{Ref, is_ref, ref_text}
 use Rattle.fl_words.specs.declared.command.Command.{Command}
-use Rattle.fl_words.specs.declared.command.Command.TheVariants.{Change as Changing, List as Listed, Show as Showing, Batch}
+use Rattle.fl_words.specs.declared.command.Command.TheVariants.{Change as Changing, List as Listed, Show as Showing, Filter, Batch}
 use Rattle.fl_words.specs.declared.command.Change.{Change}
-use Rattle.fl_words.specs.declared.command.Change.TheVariants.{Pin, Unpin, RemoteAdd, RemoteModify, RemoteDelete, Install, UpdateAll, UpdateOne, Uninstall, UninstallUnused, Rollback, OverrideReset}
+use Rattle.fl_words.specs.declared.command.Change.TheVariants.{Pin, Unpin, RemoteAdd, RemoteModify, RemoteDelete, Install, UpdateAll, UpdateOne, Uninstall, UninstallUnused, Rollback, OverrideChange, OverrideReset}
 use Rattle.fl_words.specs.declared.command.Listing.{Listing}
-use Rattle.fl_words.specs.declared.command.Listing.TheVariants.{Refs, Remotes, Pins, Info, OverrideShow}
+use Rattle.fl_words.specs.declared.command.Listing.TheVariants.{Refs, Remotes, Pins, Info, Launch, OverrideShow}
+use Rattle.fl_words.specs.declared.command.PolicySource.{PolicySource}
+use Rattle.fl_words.specs.declared.command.PolicySource.TheVariants.{Rules, Session, System}
 use Rattle.fl_words.specs.declared.command.Shown.{Shown}
 use Rattle.fl_words.specs.declared.command.Shown.TheVariants.{Commit, DirTree, DirMeta, Value}
-use Rattle.fl_words.specs.Forms.{command_of}
+use Rattle.fl_options.specs.Options.{is_option, is_launch_option}
+use Rattle.fl_rules.specs.Rules.{is_rule}
+use Rattle.fl_words.specs.Forms.{is_app, command_of}
+use Rattle.fl_words.specs.Names.{is_override_name}
 use Rattle.fl_words.specs.Types.{is_type_text}
-
--- the name of an override: `global`, or the ID of an application
-abbrev pub is_override_name : List ℕ → Bool
-is_override_name name = bytes_eq name (codes "global") || is_id name
 
 -- the word for it, which is left out for the global one
 abbrev pub override_word : List ℕ → List (List ℕ)
 override_word name = if bytes_eq name (codes "global") then [] else name ∷ []
+
+-- the word for the policy of an application
+abbrev pub from_word : Ref → List ℕ
+from_word name = codes "--from=" ++ ref_text name
 
 -- the words of each command
 abbrev pub words_of : Command → List (List ℕ)
@@ -36,12 +42,17 @@ words_of (Changing (UpdateOne name)) = codes "update" ∷ ref_text name ∷ []
 words_of (Changing (Uninstall name)) = codes "uninstall" ∷ ref_text name ∷ []
 words_of (Changing UninstallUnused) = codes "uninstall" ∷ codes "--unused" ∷ []
 words_of (Changing (Rollback name)) = codes "rollback" ∷ ref_text name ∷ []
+words_of (Changing (OverrideChange name options)) = codes "override" ∷ (options ++ override_word name)
 words_of (Changing (OverrideReset name)) = codes "override" ∷ codes "--reset" ∷ override_word name
 words_of (Listed Refs) = codes "list" ∷ []
 words_of (Listed Remotes) = codes "list" ∷ codes "--remotes" ∷ []
 words_of (Listed Pins) = codes "list" ∷ codes "--pins" ∷ []
 words_of (Listed (Info name)) = codes "info" ∷ ref_text name ∷ []
+words_of (Listed (Launch name options)) = codes "launch" ∷ ref_text name ∷ options
 words_of (Listed (OverrideShow name)) = codes "override" ∷ codes "--show" ∷ override_word name
+words_of (Filter (Rules rules)) = codes "filter" ∷ rules
+words_of (Filter (Session name)) = codes "filter" ∷ from_word name ∷ []
+words_of (Filter (System name)) = codes "filter" ∷ codes "--system" ∷ from_word name ∷ []
 words_of Batch = codes "batch" ∷ []
 words_of (Showing Commit) = codes "show" ∷ codes "commit" ∷ []
 words_of (Showing DirTree) = codes "show" ∷ codes "dirtree" ∷ []
@@ -53,9 +64,15 @@ abbrev pub may_change : Command → Bool
 may_change (Changing change) = true
 may_change (Listed listing) = false
 may_change (Showing thing) = false
+may_change (Filter source) = false
 may_change Batch = true
 
--- its patterns, names, refs and URLs are such, as they are in each value of the code
+-- one option or more that change permissions
+abbrev pub are_options : List (List ℕ) → Bool
+are_options [] = false
+are_options words = list_all is_option words
+
+-- its patterns, names, refs, URLs and options are such, as they are in each value of the code
 abbrev pub is_change : Change → Bool
 is_change (Pin p) = is_pin p
 is_change (Unpin p) = is_pin p
@@ -68,6 +85,7 @@ is_change (UpdateOne name) = is_ref name
 is_change (Uninstall name) = is_ref name
 is_change UninstallUnused = true
 is_change (Rollback name) = is_ref name
+is_change (OverrideChange name options) = is_override_name name && are_options options
 is_change (OverrideReset name) = is_override_name name
 
 abbrev pub is_listing : Listing → Bool
@@ -75,7 +93,13 @@ is_listing Refs = true
 is_listing Remotes = true
 is_listing Pins = true
 is_listing (Info name) = is_ref name
+is_listing (Launch name options) = (is_ref name && is_app name) && list_all is_launch_option options
 is_listing (OverrideShow name) = is_override_name name
+
+abbrev pub is_source : PolicySource → Bool
+is_source (Rules rules) = list_all is_rule rules
+is_source (Session name) = is_ref name && is_app name
+is_source (System name) = is_ref name && is_app name
 
 abbrev pub is_shown : Shown → Bool
 is_shown Commit = true
@@ -87,6 +111,7 @@ abbrev pub is_command : Command → Bool
 is_command (Changing change) = is_change change
 is_command (Listed listing) = is_listing listing
 is_command (Showing thing) = is_shown thing
+is_command (Filter source) = is_source source
 is_command Batch = true
 
 -- the words are a command, or are one with more words after them

@@ -1,7 +1,7 @@
 //! Reading a batch.
 ghost use Rattle.std.specs.Prelude.{◌≡◌, ◌<◌, ◌∷◌, ◌==◌, Ok, Some, None, IfOk, IfErr, IfSome, OnOk, position, ◌++◌, [], map, length, string_bytes};
 ghost use Rattle.fl_words.specs.Forms.{command_of};
-ghost use Rattle.fl_words.specs.Batch.{words_in, words_left, change_of, batch_change, IsNoRecord, IsNoWords, IsNoText, batch_of, IsBadBatch};
+ghost use Rattle.fl_words.specs.Batch.{words_in, words_left, change_of, batch_change, IsNoRecord, IsNoText, batch_of, IsBadBatch};
 ghost use Rattle.fl_words.specs.declared.batch.BatchError.TheVariants.{NoMemory};
 
 use crate::command::{Change, Command, WordsError};
@@ -39,9 +39,6 @@ impl From<AllocError> for BatchError {
     }
 }
 
-/// The most words that a change has.
-pub(crate) const MOST_WORDS: usize = 3;
-
 /// The changes that a batch asks for, one by each line. `BadRecord` comes exactly where a line asks for none.
 pub fn read_batch(alloc: Global, bytes: &[u8]) -> Result<Items<Change>, BatchError>
     ensures ok { IfOk result (λ changes. batch_of bytes.now ≡ Ok changes) }
@@ -74,7 +71,7 @@ fn add_change(changes: &mut Vec<Change>, change: Change) -> Result<(), AllocErro
 }
 
 /// The change that a line asks for.
-#[tactic(auto, using(crate::proofs::LineWords::no_record, crate::proofs::LineWords::no_command, crate::proofs::LineWords::is_record))]
+#[tactic(auto, using(crate::proofs::LineWords::no_command, crate::proofs::LineWords::is_record))]
 fn read_record(alloc: Global, line: &[u8]) -> Result<Change, WordsError>
     ensures ok { IfOk result (λ change. batch_change line.now ≡ Some change) }
     ensures bad { IfErr result (IsNoRecord line.now) }
@@ -92,22 +89,19 @@ fn change_of(command: Command) -> Option<Change>
 {
     match command {
         Command::Change(change) => Some(change),
-        Command::List(_) | Command::Show(_) | Command::Batch => None,
+        Command::List(_) | Command::Show(_) | Command::Filter(_) | Command::Batch => None,
     }
 }
 
-/// The words of a line, where they may be a command.
+/// The words of a line, where they may be a change.
 #[tactic(auto, using(crate::proofs::LineWords::bad_word))]
 fn read_line(alloc: Global, line: &[u8]) -> Result<Vec<String>, WordsError>
     ensures ok { IfOk result (λ words. map string_bytes words.items ≡ words_in line.now) }
-    ensures bad { IfErr result (IsNoWords line.now) }
+    ensures bad { IfErr result (IsNoRecord line.now) }
 {
     let mut words = Vec::new(alloc);
     let mut rest = Some(line);
     while let Some(text) = rest {
-        if words.len() == MOST_WORDS {
-            return Err(WordsError::BadWords { index: 0 });
-        }
         let (word, after) = first_word(text);
         add_word(alloc, &mut words, word)?;
         rest = after;

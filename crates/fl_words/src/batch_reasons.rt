@@ -4,7 +4,7 @@ ghost use Rattle.std.specs.Str.Lossy.{utf8_lossy};
 ghost use Rattle.fp_keyfile.specs.Lines.{lines_of};
 ghost use Rattle.fl_words.specs.Reasons.{words_shown, line_reason, batch_reason_text};
 
-use crate::batch::{BatchError, MOST_WORDS, first_word, read_batch};
+use crate::batch::{BatchError, first_word, read_batch};
 use crate::forms::Form;
 use crate::reasons::push_reason;
 use fp_base::Text;
@@ -52,16 +52,13 @@ fn line_reason(alloc: Global, number: u64, line: &[u8]) -> Result<Text, AllocErr
     Ok(Text::from_string(text))
 }
 
-/// The first words of a line, one more than a change has at most. What is no UTF-8 in them is replaced.
+/// The words of a line. What is no UTF-8 in them is replaced.
 fn words_shown(alloc: Global, line: &[u8]) -> Result<Vec<String>, AllocError>
     ensures { IfOk result (λ words. map string_bytes words.items ≡ words_shown line.now) }
 {
     let mut words = Vec::new(alloc);
     let mut rest = Some(line);
     while let Some(text) = rest {
-        if words.len() > MOST_WORDS {
-            return Ok(words);
-        }
         let (word, after) = first_word(text);
         show_word(alloc, &mut words, word)?;
         rest = after;

@@ -3,8 +3,9 @@ ghost use Rattle.std.specs.Prelude.{◌≡◌};
 ghost use Rattle.fl_words.specs.Words.{may_change};
 ghost use Rattle.fl_words.specs.declared.command.WordsError.TheVariants.{NoMemory};
 
+use crate::override_name::OverrideName;
 use crate::value_type::ValueType;
-use fp_base::Text;
+use fp_base::{Items, Text};
 use fp_name::{PinPattern, RefName, RemoteName};
 use fp_small::RemoteRow;
 use std::alloc::AllocError;
@@ -20,6 +21,8 @@ pub enum Command {
     List(Listing),
     /// Prints what the input says.
     Show(Shown),
+    /// `filter`: forwards the messages of a bus, between the input and what is printed, that a policy lets through.
+    Filter(PolicySource),
     /// `batch`: does the changes that the lines of the input ask for.
     Batch,
 }
@@ -47,7 +50,10 @@ pub enum Change {
     /// `remote-delete N`: takes the remote away.
     RemoteDelete(RemoteName),
     /// `install N REF`: installs a ref from a remote.
-    Install { remote: RemoteName, name: RefName },
+    Install {
+        remote: RemoteName,
+        name: RefName,
+    },
     /// `update`: updates all that is installed.
     UpdateAll,
     /// `update REF`: updates one ref.
@@ -58,8 +64,15 @@ pub enum Change {
     UninstallUnused,
     /// `rollback REF`: puts a ref back to the commit that it was at before.
     Rollback(RefName),
-    /// `override --reset` or `override --reset ID`: takes an override away. The name is `global` or the ID.
-    OverrideReset { name: Text },
+    /// `override OPTION..` or `override OPTION.. ID`: changes an override by options, which are as the words were.
+    OverrideChange {
+        name: OverrideName,
+        options: Items<Text>,
+    },
+    /// `override --reset` or `override --reset ID`: takes an override away.
+    OverrideReset {
+        name: OverrideName,
+    },
 }
 
 /// What is printed of the installation.
@@ -73,6 +86,8 @@ pub enum Listing {
     Pins,
     /// `info REF`: what is known of a deployed ref.
     Info(RefName),
+    /// `launch APP LAUNCHOPTION..`: what an application is launched with, by options, which are as the words were.
+    Launch { name: RefName, options: Items<Text> },
     /// `override --show` or `override --show ID`: an override. The name is `global` or the ID.
     OverrideShow { name: Text },
 }
@@ -88,6 +103,17 @@ pub enum Shown {
     DirMeta,
     /// `show value T`: whether it is the normal form of a value of a type, and its size.
     Value(ValueType),
+}
+
+/// What the policy of the filter comes from.
+#[derive(Drop)]
+pub enum PolicySource {
+    /// `filter RULE..`: from rules, which are as the words were.
+    Rules(Items<Text>),
+    /// `filter --from=APP`: from what an application is granted on the session bus.
+    Session(RefName),
+    /// `filter --system --from=APP`: from what an application is granted on the system bus.
+    System(RefName),
 }
 
 /// Why words weren't read as a command.

@@ -1,11 +1,15 @@
 //! The forms of words: what stands at each place of a command line, and the command that it asks for.
 ghost use Rattle.std.specs.Prelude.{◌≡◌, IfOk, IfErr, map, string_bytes};
-ghost use Rattle.fl_words.specs.Forms.{place_of, forms, slots_of, made};
+ghost use Rattle.fl_words.specs.Forms.{place_of, repeats as may_repeat, forms, slots_of, made};
 ghost use Rattle.fl_words.specs.Reading.{IsMisfit};
 ghost use Rattle.fl_words.specs.Reasons.{change_forms};
 
-use crate::command::{Change, Command, Listing, Shown, WordsError};
-use crate::values::{global_name, id_at, name_at, pattern_at, ref_at, remote_in, type_at};
+use crate::command::{Change, Command, Listing, PolicySource, Shown, WordsError};
+use crate::override_name::OverrideName;
+use crate::values::{
+    app_override, from_at, global_name, id_at, name_at, override_at, pattern_at, ref_at, remote_in,
+    texts_from, type_at,
+};
 use std::alloc::Global;
 
 /// What may stand at a place of a form.
@@ -21,10 +25,31 @@ pub enum Slot {
     Url,
     /// A ref.
     Ref,
+    /// A ref of an application.
+    App,
     /// The ID of an application.
     Id,
     /// The type string of a type of GVariant.
     Type,
+    /// An option that changes permissions.
+    Permission,
+    /// Any number of such options.
+    Permissions,
+    /// Any number of options of a launch.
+    LaunchOptions,
+    /// Any number of rules of the filter.
+    Rules,
+    /// `--from=` and a ref of an application.
+    FromApp,
+}
+
+impl Slot {
+    /// Whether any number of words may stand there.
+    pub fn repeats(&self) -> bool
+        ensures { result ≡ may_repeat (place_of self.now) }
+    {
+        matches!(self, Slot::Permissions | Slot::LaunchOptions | Slot::Rules)
+    }
 }
 
 /// A form of words.
@@ -41,14 +66,20 @@ pub enum Form {
     Uninstall,
     UninstallUnused,
     Rollback,
+    Override,
+    OverrideApp,
     OverrideReset,
     OverrideResetApp,
     ListRefs,
     ListRemotes,
     ListPins,
     Info,
+    Launch,
     OverrideShow,
     OverrideShowApp,
+    Filter,
+    FilterFrom,
+    FilterSystemFrom,
     Batch,
     ShowCommit,
     ShowDirTree,
@@ -73,14 +104,20 @@ impl Form {
             Form::Uninstall,
             Form::UninstallUnused,
             Form::Rollback,
+            Form::Override,
+            Form::OverrideApp,
             Form::OverrideReset,
             Form::OverrideResetApp,
             Form::ListRefs,
             Form::ListRemotes,
             Form::ListPins,
             Form::Info,
+            Form::Launch,
             Form::OverrideShow,
             Form::OverrideShowApp,
+            Form::Filter,
+            Form::FilterFrom,
+            Form::FilterSystemFrom,
             Form::Batch,
             Form::ShowCommit,
             Form::ShowDirTree,
@@ -105,6 +142,8 @@ impl Form {
             Form::Uninstall,
             Form::UninstallUnused,
             Form::Rollback,
+            Form::Override,
+            Form::OverrideApp,
             Form::OverrideReset,
             Form::OverrideResetApp,
         ]
@@ -126,14 +165,29 @@ impl Form {
             Form::Uninstall => &[Slot::Word("uninstall"), Slot::Ref],
             Form::UninstallUnused => &[Slot::Word("uninstall"), Slot::Word("--unused")],
             Form::Rollback => &[Slot::Word("rollback"), Slot::Ref],
+            Form::Override => &[Slot::Word("override"), Slot::Permission, Slot::Permissions],
+            Form::OverrideApp => &[
+                Slot::Word("override"),
+                Slot::Permission,
+                Slot::Permissions,
+                Slot::Id,
+            ],
             Form::OverrideReset => &[Slot::Word("override"), Slot::Word("--reset")],
             Form::OverrideResetApp => &[Slot::Word("override"), Slot::Word("--reset"), Slot::Id],
             Form::ListRefs => &[Slot::Word("list")],
             Form::ListRemotes => &[Slot::Word("list"), Slot::Word("--remotes")],
             Form::ListPins => &[Slot::Word("list"), Slot::Word("--pins")],
             Form::Info => &[Slot::Word("info"), Slot::Ref],
+            Form::Launch => &[Slot::Word("launch"), Slot::App, Slot::LaunchOptions],
             Form::OverrideShow => &[Slot::Word("override"), Slot::Word("--show")],
             Form::OverrideShowApp => &[Slot::Word("override"), Slot::Word("--show"), Slot::Id],
+            Form::Filter => &[Slot::Word("filter"), Slot::Rules],
+            Form::FilterFrom => &[Slot::Word("filter"), Slot::FromApp],
+            Form::FilterSystemFrom => &[
+                Slot::Word("filter"),
+                Slot::Word("--system"),
+                Slot::FromApp,
+            ],
             Form::Batch => &[Slot::Word("batch")],
             Form::ShowCommit => &[Slot::Word("show"), Slot::Word("commit")],
             Form::ShowDirTree => &[Slot::Word("show"), Slot::Word("dirtree")],
@@ -162,22 +216,36 @@ impl Form {
             Form::Uninstall => Command::Change(Change::Uninstall(ref_at(alloc, words, 1)?)),
             Form::UninstallUnused => Command::Change(Change::UninstallUnused),
             Form::Rollback => Command::Change(Change::Rollback(ref_at(alloc, words, 1)?)),
+            Form::Override => Command::Change(Change::OverrideChange {
+                name: OverrideName::global(alloc)?,
+                options: texts_from(alloc, words, 1)?,
+            }),
+            Form::OverrideApp => Command::Change(app_override(alloc, words)?),
             Form::OverrideReset => Command::Change(Change::OverrideReset {
-                name: global_name(alloc)?,
+                name: OverrideName::global(alloc)?,
             }),
             Form::OverrideResetApp => Command::Change(Change::OverrideReset {
-                name: id_at(alloc, words, 2)?,
+                name: override_at(alloc, words, 2)?,
             }),
             Form::ListRefs => Command::List(Listing::Refs),
             Form::ListRemotes => Command::List(Listing::Remotes),
             Form::ListPins => Command::List(Listing::Pins),
             Form::Info => Command::List(Listing::Info(ref_at(alloc, words, 1)?)),
+            Form::Launch => Command::List(Listing::Launch {
+                name: ref_at(alloc, words, 1)?,
+                options: texts_from(alloc, words, 2)?,
+            }),
             Form::OverrideShow => Command::List(Listing::OverrideShow {
                 name: global_name(alloc)?,
             }),
             Form::OverrideShowApp => Command::List(Listing::OverrideShow {
                 name: id_at(alloc, words, 2)?,
             }),
+            Form::Filter => { Command::Filter(PolicySource::Rules(texts_from(alloc, words, 1)?)) }
+            Form::FilterFrom => Command::Filter(PolicySource::Session(from_at(alloc, words, 1)?)),
+            Form::FilterSystemFrom => {
+                Command::Filter(PolicySource::System(from_at(alloc, words, 2)?))
+            }
             Form::Batch => Command::Batch,
             Form::ShowCommit => Command::Show(Shown::Commit),
             Form::ShowDirTree => Command::Show(Shown::DirTree),

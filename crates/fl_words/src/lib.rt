@@ -6,6 +6,7 @@ mod batch_reasons;
 mod command;
 mod forms;
 mod laws;
+mod override_name;
 mod reading;
 mod reasons;
 mod value_type;
@@ -13,11 +14,12 @@ mod values;
 
 pub use batch::{BatchError, read_batch};
 pub use batch_reasons::batch_reason;
-pub use command::{Change, Command, Listing, Shown, WordsError};
+pub use command::{Change, Command, Listing, PolicySource, Shown, WordsError};
 pub use forms::{Form, Slot};
 pub use laws::{
     bad_index_is_least, batches_hold_changes, usage_is_of_forms_begun, words_read_back,
 };
+pub use override_name::OverrideName;
 pub use reading::read_words;
 pub use reasons::reason;
 pub use value_type::ValueType;

@@ -1,7 +1,7 @@
 //! Reading the words of a command line.
-ghost use Rattle.std.specs.Prelude.{◌≡◌, Some, IfOk, IfErr, map, string_bytes};
-ghost use Rattle.std.specs.List.{find};
-ghost use Rattle.fl_words.specs.Forms.{place_of, command_of, most, reach as reach_of, reads as are_read};
+ghost use Rattle.std.specs.Prelude.{◌≡◌, Some, IfOk, IfErr, map, option_map, string_bytes};
+ghost use Rattle.std.specs.List.{find, list_all};
+ghost use Rattle.fl_words.specs.Forms.{place_of, repeats as may_repeat, command_of, most, after as after_of, left_after as left_of, reach as reach_of, reads as are_read};
 ghost use Rattle.fl_words.specs.Reading.{IsNoCommand};
 
 use crate::command::{Command, WordsError};
@@ -34,12 +34,26 @@ fn form_of(alloc: Global, forms: &[Form], words: &[String]) -> Result<Option<For
     Ok(None)
 }
 
-/// Whether each word has its place in a form, and each place its word.
+/// Whether each word has its place in a form, and no place is left that needs one.
 fn reads(alloc: Global, form: Form, words: &[String]) -> Result<bool, AllocError>
     ensures { IfOk result (λ good. good ≡ are_read (map string_bytes words.now) form) }
 {
-    let slots = form.slots();
-    Ok(slots.len() == words.len() && reach(alloc, slots, words)? == words.len())
+    match left_after(alloc, form.slots(), words)? {
+        Some(left) => Ok(all_repeat(left)),
+        None => Ok(false),
+    }
+}
+
+/// Whether no place needs a word.
+fn all_repeat(slots: &[Slot]) -> bool
+    ensures { result ≡ list_all may_repeat (map place_of slots.now) }
+{
+    for slot in slots {
+        if !slot.repeats() {
+            return false;
+        }
+    }
+    true
 }
 
 /// The most words that begin one of the forms.
@@ -56,17 +70,56 @@ pub(crate) fn furthest(alloc: Global, forms: &[Form], words: &[String]) -> Resul
     Ok(furthest)
 }
 
-/// How many words, from the first on, may stand at their places.
-pub(crate) fn reach(alloc: Global, slots: &[Slot], words: &[String]) -> Result<usize, AllocError>
+/// How many words, from the first on, have places.
+fn reach(alloc: Global, slots: &[Slot], words: &[String]) -> Result<usize, AllocError>
     ensures { IfOk result (λ count. count ≡ reach_of (map place_of slots.now)
         (map string_bytes words.now)) }
 {
+    let mut left = slots;
     let mut count = 0;
-    while count < slots.len() && count < words.len() {
-        if !fits(alloc, &slots[count], words[count].as_str())? {
-            return Ok(count);
+    for word in words {
+        match after(alloc, left, word.as_str())? {
+            Some(rest) => left = rest,
+            None => return Ok(count),
         }
         count += 1;
     }
     Ok(count)
+}
+
+/// The places that are left once each of the words has one.
+pub(crate) fn left_after<'a>(
+    alloc: Global,
+    slots: &'a [Slot],
+    words: &[String],
+) -> Result<Option<&'a [Slot]>, AllocError>
+    ensures { IfOk result (λ left. option_map (λ s. map place_of s.now) left ≡ left_of
+        (map place_of slots.now) (map string_bytes words.now)) }
+{
+    let mut left = slots;
+    for word in words {
+        match after(alloc, left, word.as_str())? {
+            Some(rest) => left = rest,
+            None => return Ok(None),
+        }
+    }
+    Ok(Some(left))
+}
+
+/// The places that are left once a word has one.
+fn after<'a>(alloc: Global, slots: &'a [Slot], word: &str) -> Result<Option<&'a [Slot]>, AllocError>
+    ensures { IfOk result (λ left. option_map (λ s. map place_of s.now) left ≡ after_of
+        (map place_of slots.now) word.now) }
+{
+    let mut left = slots;
+    while let [slot, rest @ ..] = left {
+        if fits(alloc, slot, word)? {
+            return Ok(Some(if slot.repeats() { left } else { rest }));
+        }
+        if !slot.repeats() {
+            return Ok(None);
+        }
+        left = rest;
+    }
+    Ok(None)
 }

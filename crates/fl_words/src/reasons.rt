@@ -1,11 +1,11 @@
 //! Why words are of none of some forms, for a reader.
-ghost use Rattle.std.specs.Prelude.{◌≡◌, ◌++◌, ◌∷◌, nat_le, IfOk, OnOk, Some, None, map, option_map, flat_map, string_bytes, slice_get, codes};
+ghost use Rattle.std.specs.Prelude.{◌≡◌, ◌≤◌, ◌++◌, ◌∷◌, length, IfOk, OnOk, Some, None, map, option_map, flat_map, string_bytes, slice_get, codes};
 ghost use Rattle.fl_words.specs.Forms.{place_of, slots_of, most};
 ghost use Rattle.fl_lines.specs.Lines.{line, escaped};
-ghost use Rattle.fl_words.specs.Reasons.{place_name, named_place, usage as usage_text, begins as does_begin, usage_begun, usages, place_begun, place_wanted, fault_at, fault_text, why, reason_text};
+ghost use Rattle.fl_words.specs.Reasons.{place_name, named_place, usage as usage_text, places_left as left_of, begins as does_begin, usage_begun, usages, place_begun, place_wanted, fault_at, fault_text, why, reason_text};
 
 use crate::forms::{Form, Slot};
-use crate::reading::{furthest, reach};
+use crate::reading::{furthest, left_after};
 use fl_lines::escape;
 use fp_base::Text;
 use std::alloc::{AllocError, Global};
@@ -44,6 +44,7 @@ fn push_fault(
     words: &[String],
     index: usize,
 ) -> Result<(), AllocError>
+    requires { index ≤ length words.now }
     ensures { OnOk result (string_bytes text.new ≡ string_bytes text.old
         ++ line (fault_text (slice_get (map string_bytes words.now) index)
         (place_wanted (map string_bytes words.now) index forms.now))) }
@@ -73,6 +74,7 @@ fn fault_in(
     words: &[String],
     index: usize,
 ) -> Result<&'static str, AllocError>
+    requires { index ≤ length words.now }
     ensures { IfOk result (λ t. t.now
         ≡ fault_at (place_wanted (map string_bytes words.now) index forms.now)) }
 {
@@ -84,28 +86,43 @@ fn fault_in(
     Ok("is one word too many")
 }
 
-/// What stands at an index of a form, where the words before it begin the form.
+/// What stands first of the places of a form that are left for the word at an index, where the words before it begin the form.
 fn slot_begun(
     alloc: Global,
     form: Form,
     words: &[String],
     index: usize,
 ) -> Result<Option<&'static Slot>, AllocError>
+    requires { index ≤ length words.now }
     ensures { IfOk result (λ slot. option_map (λ s. place_of s.now) slot
         ≡ place_begun (map string_bytes words.now) index form) }
 {
-    if begins(alloc, form, words, index)? {
-        Ok(form.slots().get(index))
-    } else {
-        Ok(None)
+    match places_left(alloc, form, words, index)? {
+        Some(left) => Ok(left.first()),
+        None => Ok(None),
     }
 }
 
-/// Whether so many of the words, from the first on, may stand at their places of a form.
+/// The places of a form that are left once each of so many words, from the first on, has one.
+fn places_left(
+    alloc: Global,
+    form: Form,
+    words: &[String],
+    count: usize,
+) -> Result<Option<&'static [Slot]>, AllocError>
+    requires { count ≤ length words.now }
+    ensures { IfOk result (λ left. option_map (λ s. map place_of s.now) left ≡ left_of
+        (map string_bytes words.now) count form) }
+{
+    left_after(alloc, form.slots(), &words[..count])
+}
+
+/// Whether each of so many of the words, from the first on, has a place of a form.
 fn begins(alloc: Global, form: Form, words: &[String], count: usize) -> Result<bool, AllocError>
+    requires { count ≤ length words.now }
     ensures { IfOk result (λ b. b ≡ does_begin (map string_bytes words.now) count form) }
 {
-    Ok(count <= reach(alloc, form.slots(), words)?)
+    Ok(places_left(alloc, form, words, count)?.is_some())
 }
 
 /// What a word is that may not stand at a place.
@@ -118,8 +135,13 @@ fn fault_of(slot: &Slot) -> &'static str
         Slot::Remote => "is no name of a remote",
         Slot::Url => "is no URL of a remote: file:///PATH",
         Slot::Ref => "is no ref: KIND/ID/ARCH/BRANCH",
+        Slot::App => "is no ref of an application: app/ID/ARCH/BRANCH",
         Slot::Id => "is no ID of an application",
         Slot::Type => "is no type of GVariant",
+        Slot::Permission | Slot::Permissions => "is no option",
+        Slot::LaunchOptions => "is no option of a launch",
+        Slot::Rules => "is no rule of the filter",
+        Slot::FromApp => "isn't --from=APP: --from=app/ID/ARCH/BRANCH",
     }
 }
 
@@ -132,6 +154,7 @@ fn push_usages(
     words: &[String],
     count: usize,
 ) -> Result<(), AllocError>
+    requires { count ≤ length words.now }
     ensures { OnOk result (string_bytes text.new ≡ string_bytes text.old
         ++ usages program.now (map string_bytes words.now) count forms.now) }
 {
@@ -150,6 +173,7 @@ fn push_if_begun(
     words: &[String],
     count: usize,
 ) -> Result<(), AllocError>
+    requires { count ≤ length words.now }
     ensures { OnOk result (string_bytes text.new ≡ string_bytes text.old
         ++ usage_begun program.now (map string_bytes words.now) count form) }
 {
@@ -193,7 +217,12 @@ fn name_of(slot: &Slot) -> &str
         Slot::Remote => "NAME",
         Slot::Url => "URL",
         Slot::Ref => "REF",
+        Slot::App => "APP",
         Slot::Id => "ID",
         Slot::Type => "TYPE",
+        Slot::Permission => "OPTION",
+        Slot::Permissions | Slot::LaunchOptions => "[OPTION..]",
+        Slot::Rules => "[RULE..]",
+        Slot::FromApp => "--from=APP",
     }
 }

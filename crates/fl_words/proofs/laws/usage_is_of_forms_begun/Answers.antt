@@ -5,4 +5,4 @@ pub returns-clause-told : goal.returns-clause-told
 returns-clause-told c = on_to_form
 
 pub returns-clause-only : goal.returns-clause-only
-returns-clause-only c = from_form
+returns-clause-only c words more n form within is = from_form words more n form is

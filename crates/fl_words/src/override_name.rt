@@ -1,0 +1,52 @@
+//! The name of an override.
+ghost use Rattle.std.specs.Prelude.{◌≡◌, true, IfOk, codes};
+ghost use Rattle.fl_words.specs.Names.{is_override_name};
+
+use fp_base::Text;
+use fp_name::AppId;
+use std::alloc::{AllocError, Global};
+use std::marker::Model;
+
+/// The name of an override, which contracts see as its bytes: `global`, or the ID of an application.
+#[derive(Drop)]
+pub struct OverrideName {
+    text: Text,
+}
+
+impl Model for OverrideName {
+    ghost use Rattle.std.specs.Prelude.{◌≡◌, List, ℕ, true};
+    ghost use Rattle.fl_words.specs.Names.{is_override_name};
+
+    ghost Value = { List ℕ };
+
+    ghost view = { λ n. n.text };
+
+    ghost invariant = { λ n. is_override_name n.text ≡ true };
+}
+
+impl OverrideName {
+    /// The name of the override for all applications.
+    pub fn global(alloc: Global) -> Result<OverrideName, AllocError>
+        ensures { IfOk result (λ name. name ≡ codes "global") }
+    {
+        Ok(OverrideName {
+            text: Text::from_str(alloc, "global")?,
+        })
+    }
+
+    /// The name of an application's override.
+    #[tactic(auto, using(crate::proofs::Names::id_names))]
+    pub fn of_app(id: &AppId) -> Result<OverrideName, AllocError>
+        ensures { IfOk result (λ name. name ≡ id.now) }
+    {
+        Ok(OverrideName { text: id.write()? })
+    }
+
+    /// The name as a text.
+    pub fn as_text(&self) -> &Text
+        ensures text { result.now ≡ self.now }
+        ensures good { is_override_name self.now ≡ true }
+    {
+        &self.text
+    }
+}
