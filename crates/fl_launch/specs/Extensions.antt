@@ -1,0 +1,57 @@
+-- The extensions that a launch names: of each extension point, the candidate that is found.
+use Rattle.std.specs.Prelude.{ℕ, List, [], ◌∷◌, ◌++◌, fold, Option, option_and_then, codes, slice_get}
+use Rattle.std.specs.List.{find, flat_map}
+use Rattle.std.specs.Option.{option_map_or}
+use Rattle.std.specs.BTreeSet.{insert_key}
+use Rattle.std.specs.Cmp.Lexicographic.{slice_cmp}
+use Rattle.std.specs.Ordering.{nat_cmp}
+use Rattle.std.specs.Str.{bytes_eq}
+use Rattle.fp_name.specs.Hex.{hex}
+use Rattle.fp_name.specs.Refs.{Ref, ref_text}
+use Rattle.fp_small.specs.declared.state.RefRow.{RefRow}
+use Rattle.fp_small.specs.declared.state.State.{State}
+use Rattle.fl_extension.specs.declared.point.Point.{Point}
+use Rattle.fl_extension.specs.Found.{found}
+
+-- the row of a ref, and the text of its commit
+abbrev pub row_of : State → Ref → Option RefRow
+row_of state r = find (λ row. bytes_eq (ref_text row.name) (ref_text r)) state.refs
+
+abbrev pub commit_of : State → Ref → List ℕ
+commit_of state r = option_map_or (λ row. hex row.commit) (row_of state r) []
+
+-- the ref that is found for a point
+abbrev pub found_ref : State → Point → Option Ref
+found_ref state point = option_and_then (slice_get point.candidates) (found point state)
+
+-- `NAME=COMMIT;`, where one is found
+abbrev pub extension_with : State → List ℕ → Ref → List ℕ
+extension_with state name r = name ++ (61 ∷ (commit_of state r ++ 59 ∷ []))
+
+abbrev pub extension_of : State → Point → List ℕ
+extension_of state point = option_map_or (extension_with state point.name) (found_ref state point) []
+
+unfoldable pub extensions_of : State → List Point → List ℕ
+extensions_of state points = flat_map (extension_of state) points
+
+-- ---- where they are mounted
+
+-- `/app/DIRECTORY=REF` for one of the application, `/usr/DIRECTORY=REF` for one of the runtime, where one is found
+abbrev pub mount_with : List ℕ → List ℕ → Ref → List ℕ
+mount_with front directory r = front ++ (directory ++ (61 ∷ ref_text r))
+
+abbrev pub mount_of : List ℕ → State → Point → List (List ℕ)
+mount_of front state point = option_map_or (λ r. mount_with front point.directory r ∷ []) (found_ref state point) []
+
+abbrev pub mounts_of : List ℕ → State → List Point → List (List ℕ)
+mounts_of front state points = flat_map (mount_of front state) points
+
+-- lines in the order of their bytes, each of them once
+abbrev pub with_line : List (List ℕ) → List ℕ → List (List ℕ)
+with_line = insert_key (slice_cmp nat_cmp)
+
+unfoldable pub with_lines : List (List ℕ) → List (List ℕ) → List (List ℕ)
+with_lines lines more = fold with_line lines more
+
+unfoldable pub mount_lines : State → List Point → List Point → List (List ℕ)
+mount_lines state app_points runtime_points = with_lines (with_lines [] (mounts_of (codes "/app/") state app_points)) (mounts_of (codes "/usr/") state runtime_points)

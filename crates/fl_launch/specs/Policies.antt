@@ -1,0 +1,66 @@
+-- What a launched application may do on the buses: the rules of the policies.
+use Rattle.std.specs.Prelude.{◌≡◌, ℕ, Bool, true, false, not, ◌&&◌, ◌||◌, ◌==◌, List, [], ◌∷◌, ◌++◌, codes, if◌then◌else◌}
+use Rattle.std.specs.List.{list_all, flat_map}
+use Rattle.fl_meta.specs.declared.permission.PermList.{PermList}
+use Rattle.fl_meta.specs.declared.permission.PermList.TheVariants as lists
+use Rattle.fl_meta.specs.declared.permission.Value.{Value}
+use Rattle.fl_meta.specs.declared.permission.Value.TheVariants as values
+use Rattle.fl_meta.specs.declared.permission.Mention.{Mention}
+use Rattle.fl_meta.specs.Order.{place_of}
+use Rattle.fl_meta.specs.Patterns.{is_pattern}
+use Rattle.fl_context.specs.Grants.{is_granted}
+use Rattle.fl_override.specs.Written.{is_in}
+use Rattle.bus_policy.specs.declared.level.Level.{Level}
+use Rattle.bus_policy.specs.declared.level.Level.TheVariants as levels
+use Rattle.bus_policy.specs.declared.policy.Grant.TheVariants as grants
+use Rattle.bus_policy.specs.declared.policy.PolicyRule.{PolicyRule}
+
+abbrev pub is_level : Value → Bool
+is_level values.NoBus = true
+is_level values.See = true
+is_level values.Talk = true
+is_level values.Own = true
+is_level value = false
+
+abbrev pub level_of : Value → Level
+level_of values.See = levels.See
+level_of values.Talk = levels.Talk
+level_of values.Own = levels.Own
+level_of value = levels.None
+
+-- the permissions of a bus have patterns for names and levels for values
+abbrev pub is_rule : PermList → Mention → Bool
+is_rule bus m = not (is_in bus m) || (is_pattern m.permission.name && is_level m.value)
+
+abbrev pub AreRules : PermList → List Mention → Type 0
+AreRules bus mentions = list_all (is_rule bus) mentions ≡ true
+
+-- the list of one of the buses
+abbrev pub IsBus : PermList → Type 0
+IsBus list = (place_of list == 7 || place_of list == 8) ≡ true
+
+-- ---- the policies
+
+abbrev pub rule : List ℕ → Level → PolicyRule
+rule pattern level = record { pattern = pattern; grant = grants.Level level }
+
+-- Each granted pattern of a bus at its level. (What files and options mention on a bus are patterns with levels, so nothing that is
+-- granted is left out: `grants_are_rules`.)
+abbrev pub is_on_bus : PermList → Mention → Bool
+is_on_bus bus m = is_in bus m && (is_granted m.value && is_pattern m.permission.name)
+
+abbrev pub rule_of : PermList → Mention → List PolicyRule
+rule_of bus m = if is_on_bus bus m then rule m.permission.name (level_of m.value) ∷ [] else []
+
+abbrev pub rules_of : PermList → List Mention → List PolicyRule
+rules_of bus mentions = flat_map (rule_of bus) mentions
+
+-- on the session bus, besides, the application's own names and the portals
+abbrev pub own_pattern : List ℕ → List ℕ
+own_pattern id = id ++ codes ".*"
+
+unfoldable pub session_rules : List ℕ → List Mention → List PolicyRule
+session_rules id mentions = rule (own_pattern id) levels.Own ∷ rule (codes "org.freedesktop.portal.*") levels.Talk ∷ rules_of lists.SessionBus mentions
+
+abbrev pub system_rules : List Mention → List PolicyRule
+system_rules mentions = rules_of lists.SystemBus mentions

@@ -1,0 +1,73 @@
+//! The extensions that a launch names.
+
+ghost use Rattle.std.specs.Prelude.{◌≡◌, ◌++◌, IfOk, OnOk, string_bytes};
+ghost use Rattle.std.specs.Option.{option_copied};
+ghost use Rattle.fl_launch.specs.Extensions as spec;
+
+use fl_extension::{Point, found};
+use fp_base::Text;
+use fp_name::RefName;
+use fp_small::{RefRow, State};
+use std::alloc::{AllocError, Global};
+
+/// The row of a ref, where the state has it.
+pub fn row_of<'a>(state: &'a State, name: &RefName) -> Option<&'a RefRow>
+    ensures { option_copied result ≡ spec.row_of state.now name.now }
+{
+    let mut rows = state.refs.as_slice().iter();
+    rows.find(|row| row.name == *name)
+}
+
+/// The text of a ref's commit.
+pub(crate) fn commit_of(alloc: Global, state: &State, name: &RefName) -> Result<Text, AllocError>
+    ensures { IfOk result (λ text. text ≡ spec.commit_of state.now name.now) }
+{
+    match row_of(state, name) {
+        Some(row) => row.commit.write(alloc),
+        None => Text::from_str(alloc, ""),
+    }
+}
+
+/// The ref that is found for a point.
+pub(crate) fn found_ref<'a>(state: &State, point: &'a Point) -> Option<&'a RefName>
+    ensures { option_copied result ≡ spec.found_ref state.now point.now }
+{
+    let place = found(point, state)?;
+    point.candidates.as_slice().get(place)
+}
+
+/// Adds the extension of a point, where one is found.
+fn push_extension(
+    alloc: Global,
+    out: &mut String,
+    state: &State,
+    point: &Point,
+) -> Result<(), AllocError>
+    ensures { OnOk result (string_bytes out.new ≡ string_bytes out.old ++ spec.extension_of
+        state.now point.now) }
+{
+    let Some(name) = found_ref(state, point) else {
+        return Ok(());
+    };
+    let commit = commit_of(alloc, state, name)?;
+    out.push_str(point.name.as_str())?;
+    out.push('=')?;
+    out.push_str(commit.as_str())?;
+    out.push(';')
+}
+
+/// The extensions of points, `NAME=COMMIT;` for each that is found.
+#[tactic(auto, unfolding(crate::specs::Extensions::extensions_of))]
+pub(crate) fn extensions_of(
+    alloc: Global,
+    state: &State,
+    points: &[Point],
+) -> Result<String, AllocError>
+    ensures { IfOk result (λ text. string_bytes text ≡ spec.extensions_of state.now points.now) }
+{
+    let mut out = String::new(alloc);
+    for point in points {
+        push_extension(alloc, &mut out, state, point)?;
+    }
+    Ok(out)
+}

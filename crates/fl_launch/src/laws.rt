@@ -1,0 +1,61 @@
+//! Laws of the words that the contracts use, for crates that build on them. Each is the contract of a function that
+//! does nothing.
+
+ghost use Rattle.std.specs.Prelude.{◌≡◌, ◌++◌, ℕ, true, codes, List};
+ghost use Rattle.std.specs.List.{list_any};
+ghost use Rattle.std.specs.Str.{bytes_eq};
+ghost use Rattle.fp_host.specs.Reads.{is_ascending};
+ghost use Rattle.fp_keyfile.specs.declared.group.Group.{Group};
+ghost use Rattle.fl_meta.specs.declared.mentions.Source.{Source as TheSource};
+ghost use Rattle.fl_meta.specs.declared.permission.PermList.{PermList as TheList};
+ghost use Rattle.fl_meta.specs.declared.permission.Permission.{Permission};
+ghost use Rattle.fl_meta.specs.declared.permission.Mention.{Mention};
+ghost use Rattle.fl_meta.specs.Mentions.{file_mentions};
+ghost use Rattle.fl_context.specs.Grants.{IsAscending, last_mention, value_in};
+ghost use Rattle.fl_launch.specs.Layers.{granted_by};
+ghost use Rattle.fl_override.specs.Overrides.{AllCanWrite};
+ghost use Rattle.fp_small.specs.declared.state.State.{State as TheState};
+ghost use Rattle.fl_extension.specs.declared.point.Point.{Point as ThePoint};
+ghost use Rattle.fl_launch.specs.Extensions.{mounts_of, mount_lines};
+ghost use Rattle.fl_launch.specs.Groups.{TextIsOfGroups, GroupsReadBack};
+ghost use Rattle.fl_launch.specs.Policies.{AreRules, IsBus};
+
+/// What files mention on a bus are patterns with levels, and so is what can be written, both together, and what they grant.
+pub fn grants_are_rules()
+    ensures files { (bus : TheList) (source : TheSource) (file : List Group) → IsBus bus → AreRules
+        bus (file_mentions source file) }
+    ensures words { (bus : TheList) (mentions : List Mention) → IsBus bus → AllCanWrite mentions →
+        AreRules bus mentions }
+    ensures joined { (bus : TheList) (one other : List Mention) → AreRules bus one → AreRules bus
+        other → AreRules bus (one ++ other) }
+    ensures grants { (bus : TheList) (all grants : List Mention) → AreRules bus all → IsAscending
+        grants → ((p : Permission) → value_in grants p ≡ last_mention all p) → AreRules bus grants }
+{}
+
+/// What layers grant: the last mention of each permission, the permissions ascending. No other list is so.
+pub fn grants_are_the_last_mentions()
+    ensures last { (mentions : List Mention) (p : Permission) → value_in (granted_by mentions) p ≡
+        last_mention mentions p }
+    ensures ascending { (mentions : List Mention) → IsAscending (granted_by mentions) }
+    ensures alone { (mentions grants : List Mention) → IsAscending grants
+        → ((p : Permission) → value_in grants p ≡ last_mention mentions p)
+        → grants ≡ granted_by mentions }
+{}
+
+/// The text of a launch is that of the groups of a key file, with the mounts after it. Where names, commits and the command can be
+/// values of a key file, and what is granted can be written, these groups read back as they are: no value is read as another line.
+pub fn texts_are_of_groups()
+    ensures text { TextIsOfGroups }
+    ensures back { GroupsReadBack }
+{}
+
+/// The lines of the mounts ascend by their bytes, so each stands once. They are those of the points of the application
+/// and of the runtime, and no others.
+pub fn mounts_ascend()
+    ensures ascending { (state : TheState) (app_points runtime_points : List ThePoint) →
+        is_ascending (mount_lines state app_points runtime_points) ≡ true }
+    ensures each { (state : TheState) (app_points runtime_points : List ThePoint) (line : List ℕ) →
+        list_any (bytes_eq line) (mount_lines state app_points runtime_points)
+        ≡ list_any (bytes_eq line) (mounts_of (codes "/app/") state app_points ++ mounts_of (codes
+        "/usr/") state runtime_points) }
+{}

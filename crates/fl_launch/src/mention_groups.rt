@@ -1,0 +1,223 @@
+//! Mentions as the groups of a key file, as an override is written.
+
+ghost use Rattle.std.specs.Prelude.{◌≡◌, ◌++◌, ◌∷◌, [], OnOk, IfOk, string_bytes};
+ghost use Rattle.std.specs.List.{flat_map};
+ghost use Rattle.fl_override.specs.Written as written;
+
+use fl_meta::{Mention, PermList, Value};
+use fp_base::{Items, Text};
+use fp_keyfile::{Group, Pair};
+use std::alloc::{AllocError, Global};
+
+/// The lists of the group `Context`, in the order in which they are written.
+const CONTEXT_LISTS: [PermList; 12] = [
+    PermList::Shared,
+    PermList::Sockets,
+    PermList::Devices,
+    PermList::Features,
+    PermList::Filesystems,
+    PermList::Persistent,
+    PermList::UnknownShared,
+    PermList::UnknownSockets,
+    PermList::UnknownDevices,
+    PermList::UnknownFeatures,
+    PermList::UnknownSessionBus,
+    PermList::UnknownSystemBus,
+];
+
+/// The key of a list in the group `Context`. The other lists have groups of their own.
+fn key_of(list: PermList) -> &'static str
+    ensures { result.now ≡ written.key_of list }
+{
+    match list {
+        PermList::Shared => "shared",
+        PermList::Sockets => "sockets",
+        PermList::Devices => "devices",
+        PermList::Features => "features",
+        PermList::Filesystems => "filesystems",
+        PermList::Persistent => "persistent",
+        PermList::UnknownShared => "unknown-shared",
+        PermList::UnknownSockets => "unknown-sockets",
+        PermList::UnknownDevices => "unknown-devices",
+        PermList::UnknownFeatures => "unknown-features",
+        PermList::UnknownSessionBus => "unknown-session-bus",
+        PermList::UnknownSystemBus => "unknown-system-bus",
+        PermList::Environment | PermList::SessionBus | PermList::SystemBus => "",
+    }
+}
+
+/// Adds an entry of a list, without its end.
+fn push_open_entry(out: &mut String, mention: &Mention) -> Result<(), AllocError>
+    ensures { OnOk result (string_bytes out.new ≡ string_bytes out.old ++ written.entry_text
+        mention.now) }
+{
+    let name = mention.permission.name.as_str();
+    match &mention.value {
+        Value::Off => {
+            out.push('!')?;
+            out.push_str(name)
+        }
+        Value::Ro => {
+            out.push_str(name)?;
+            out.push_str(":ro")
+        }
+        Value::Create => {
+            out.push_str(name)?;
+            out.push_str(":create")
+        }
+        _ => out.push_str(name),
+    }
+}
+
+/// Whether a mention belongs to the list.
+fn is_in(list: PermList, mention: &Mention) -> bool
+    ensures { result ≡ written.is_in list mention.now }
+{
+    mention.permission.list.place() == list.place()
+}
+
+/// Adds an entry, where it belongs to the list.
+fn push_entry(out: &mut String, list: PermList, mention: &Mention) -> Result<(), AllocError>
+    ensures { OnOk result (string_bytes out.new ≡ string_bytes out.old ++ written.entry_in list
+        mention.now) }
+{
+    if !is_in(list, mention) {
+        return Ok(());
+    }
+    push_open_entry(out, mention)?;
+    out.push(';')
+}
+
+/// The entries of a list, each followed by `;`.
+#[tactic(auto, unfolding(fl_override::specs::Written::list_text))]
+pub(crate) fn list_text(
+    alloc: Global,
+    list: PermList,
+    mentions: &[Mention],
+) -> Result<String, AllocError>
+    ensures { IfOk result (λ t. string_bytes t ≡ written.list_text list mentions.now) }
+{
+    let mut out = String::new(alloc);
+    for mention in mentions {
+        push_entry(&mut out, list, mention)?;
+    }
+    Ok(out)
+}
+
+/// Adds the pair of a list, where it has entries.
+fn push_list(
+    pairs: &mut Items<Pair>,
+    list: PermList,
+    mentions: &[Mention],
+) -> Result<(), AllocError>
+    ensures { OnOk result (pairs.new ≡ pairs.old ++ written.list_pair mentions.now list) }
+{
+    let text = list_text(pairs.allocator(), list, mentions)?;
+    if text.is_empty() {
+        return Ok(());
+    }
+    let key = Text::from_str(pairs.allocator(), key_of(list))?;
+    pairs.push(Pair {
+        key,
+        value: Text::from_string(text),
+    })
+}
+
+/// Adds the pairs of lists, where these have entries.
+fn push_lists(
+    pairs: &mut Items<Pair>,
+    lists: &[PermList],
+    mentions: &[Mention],
+) -> Result<(), AllocError>
+    ensures { OnOk result (pairs.new ≡ pairs.old ++ flat_map (written.list_pair mentions.now)
+        lists.now) }
+{
+    for list in lists {
+        push_list(pairs, *list, mentions)?;
+    }
+    Ok(())
+}
+
+/// The pairs of the group `Context`.
+#[tactic(auto, unfolding(fl_override::specs::Written::context_pairs))]
+fn context_pairs(alloc: Global, mentions: &[Mention]) -> Result<Items<Pair>, AllocError>
+    ensures { IfOk result (λ pairs. pairs ≡ written.context_pairs mentions.now) }
+{
+    let mut pairs = Items::new(alloc);
+    push_lists(&mut pairs, &CONTEXT_LISTS, mentions)?;
+    Ok(pairs)
+}
+
+/// The text of a variable, or the word of a level.
+fn word_of(value: &Value) -> &str
+    ensures { result.now ≡ written.word_of value.now }
+{
+    match value {
+        Value::Text(text) => text.as_str(),
+        Value::NoBus => "none",
+        Value::See => "see",
+        Value::Talk => "talk",
+        Value::Own => "own",
+        _ => "",
+    }
+}
+
+/// Adds a pair of a group whose keys are names, where it belongs to the list.
+fn push_named(pairs: &mut Items<Pair>, list: PermList, mention: &Mention) -> Result<(), AllocError>
+    ensures { OnOk result (pairs.new ≡ pairs.old ++ written.named_in list mention.now) }
+{
+    if !is_in(list, mention) {
+        return Ok(());
+    }
+    let name = mention.permission.name.as_str();
+    let pair = Pair::new(pairs.allocator(), name, word_of(&mention.value))?;
+    pairs.push(pair)
+}
+
+/// The pairs of a group whose keys are names.
+#[tactic(auto, unfolding(fl_override::specs::Written::named_pairs))]
+fn named_pairs(
+    alloc: Global,
+    list: PermList,
+    mentions: &[Mention],
+) -> Result<Items<Pair>, AllocError>
+    ensures { IfOk result (λ pairs. pairs ≡ written.named_pairs list mentions.now) }
+{
+    let mut pairs = Items::new(alloc);
+    for mention in mentions {
+        push_named(&mut pairs, list, mention)?;
+    }
+    Ok(pairs)
+}
+
+/// Adds a group, where it has pairs.
+pub(crate) fn push_group(
+    groups: &mut Items<Group>,
+    name: &str,
+    pairs: Items<Pair>,
+) -> Result<(), AllocError>
+    ensures { OnOk result (groups.new ≡ groups.old ++ written.group_if name.now pairs) }
+{
+    if pairs.is_empty() {
+        return Ok(());
+    }
+    let name = Text::from_str(groups.allocator(), name)?;
+    groups.push(Group { name, pairs })
+}
+
+/// The groups of a file with these mentions.
+#[tactic(auto, unfolding(fl_override::specs::Written::file_with))]
+pub(crate) fn groups_of(alloc: Global, mentions: &[Mention]) -> Result<Items<Group>, AllocError>
+    ensures { IfOk result (λ groups. groups ≡ written.file_with mentions.now) }
+{
+    let mut groups = Items::new(alloc);
+    let context = context_pairs(alloc, mentions)?;
+    push_group(&mut groups, "Context", context)?;
+    let variables = named_pairs(alloc, PermList::Environment, mentions)?;
+    push_group(&mut groups, "Environment", variables)?;
+    let session = named_pairs(alloc, PermList::SessionBus, mentions)?;
+    push_group(&mut groups, "Session Bus Policy", session)?;
+    let system = named_pairs(alloc, PermList::SystemBus, mentions)?;
+    push_group(&mut groups, "System Bus Policy", system)?;
+    Ok(groups)
+}

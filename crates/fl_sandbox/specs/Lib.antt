@@ -1,0 +1,4 @@
+pub mod Parts
+pub mod Launching
+pub mod Local
+pub mod Refusals
