@@ -1,0 +1,280 @@
+#!/usr/bin/python3
+"""Compares what `fpk filter` forwards with what the real xdg-dbus-proxy does.
+
+usage: real_proxy.py PROGRAM..        as: real_proxy.py crates/fpk/out/fpk
+
+A private dbus-daemon, services on it, and a client behind `xdg-dbus-proxy --filter`. What both sides of the proxy send is recorded, and
+given to `PROGRAM filter RULES` as a recording. A message counts as the same where its type, serials, names, members and body are. It needs
+Debian's packages dbus, xdg-dbus-proxy and python3-gi. The last line is `all the same` or the number of differences that aren't known."""
+import os, socket, struct, subprocess, sys, tempfile, threading, time
+import gi
+gi.require_version("Gio", "2.0")
+from gi.repository import Gio, GLib
+
+RULES = ["--see=org.t.See", "--talk=org.t.Talk", "--own=org.t.Own", "--own=org.t.mine.*", "--talk=org.t.sub.*",
+         "--call=org.t.Call=org.t.I.M@/a/*", "--broadcast=org.t.Cast=org.t.I.*@/a"]
+SERVICES = ["org.t.See", "org.t.Talk", "org.t.Own", "org.t.Call", "org.t.Cast", "org.t.Hidden", "org.t.sub.A"]
+INTERFACES = """<node><interface name='org.t.I'><method name='M'><arg type='s' direction='in'/><arg type='s' direction='out'/></method>
+<method name='N'/><method name='Fail'/><signal name='S'><arg type='s'/></signal></interface>
+<interface name='org.t.J'><method name='M'><arg type='s' direction='in'/><arg type='s' direction='out'/></method></interface></node>"""
+lock = threading.Lock()
+record = []  # (tap, direction, bytes), in the order in which they came
+
+
+def serve(path, to, tap):
+    """Takes one connection at a path, joins it to another path and keeps what goes either way."""
+    listener = socket.socket(socket.AF_UNIX)
+    listener.bind(path)
+    listener.listen(1)
+
+    def run():
+        near, _ = listener.accept()
+        far = socket.socket(socket.AF_UNIX)
+        far.connect(to)
+
+        def copy(a, b, direction):
+            while True:
+                data = a.recv(65536)
+                if not data:
+                    b.shutdown(socket.SHUT_WR)
+                    return
+                with lock:
+                    record.append((tap, direction, data))
+                b.sendall(data)
+        threading.Thread(target=copy, args=(near, far, "up"), daemon=True).start()
+        threading.Thread(target=copy, args=(far, near, "down"), daemon=True).start()
+    threading.Thread(target=run, daemon=True).start()
+
+
+def connect(address):
+    flags = Gio.DBusConnectionFlags.AUTHENTICATION_CLIENT | Gio.DBusConnectionFlags.MESSAGE_BUS_CONNECTION
+    return Gio.DBusConnection.new_for_address_sync(address, flags, None, None)
+
+
+def answer(connection, sender, path, interface, method, arguments, invocation):
+    if method == "Fail":
+        invocation.return_dbus_error("org.t.Error.Asked", "as asked")
+    elif method == "M":
+        invocation.return_value(GLib.Variant("(s)", (arguments.unpack()[0] + "!",)))
+    else:
+        invocation.return_value(None)
+
+
+def export(connection):
+    for interface in Gio.DBusNodeInfo.new_for_xml(INTERFACES).interfaces:
+        for path in ("/a", "/a/b", "/z"):
+            connection.register_object(path, interface, answer, None, None)
+
+
+def call(connection, name, path, interface, method, arguments=None):
+    """A call that may be refused; its answer comes back through the connection either way."""
+    try:
+        return connection.call_sync(name, path, interface, method, arguments, None, Gio.DBusCallFlags.NO_AUTO_START, 1500, None)
+    except GLib.Error:
+        return None
+
+
+def traffic(client, services, control):
+    bus = ("org.freedesktop.DBus", "/org/freedesktop/DBus", "org.freedesktop.DBus")
+    text = lambda s: GLib.Variant("(s)", (s,))
+    for name in SERVICES + ["org.t.Absent", "org.freedesktop.DBus"]:
+        for method in ("NameHasOwner", "GetNameOwner", "GetConnectionUnixProcessID"):
+            call(client, *bus, method, text(name))
+    call(client, *bus, "ListNames")
+    call(client, *bus, "ListActivatableNames")
+    call(client, *bus, "GetId")
+    for name in ("org.t.mine.X", "org.t.mine", "org.t.other"):
+        call(client, *bus, "RequestName", GLib.Variant("(su)", (name, 0)))
+        call(client, *bus, "ListQueuedOwners", text(name))
+        call(client, *bus, "ReleaseName", text(name))
+    for name in ("org.t.Talk", "org.t.See"):
+        call(client, *bus, "StartServiceByName", GLib.Variant("(su)", (name, 0)))
+    call(client, *bus, "AddMatch", text("type='signal'"))
+    call(client, *bus, "AddMatch", text("type='signal',eavesdrop='true'"))
+    call(client, *bus, "UpdateActivationEnvironment", GLib.Variant("(a{ss})", ({},)))
+    call(client, bus[0], bus[1], "org.freedesktop.DBus.Peer", "Ping")
+    call(client, bus[0], bus[1], "org.freedesktop.DBus.Introspectable", "Introspect")
+    for name in SERVICES:
+        call(client, name, "/a/b", "org.t.I", "M", text(name))
+    for path, interface, method in (("/z", "org.t.I", "M"), ("/a", "org.t.J", "M"), ("/a", "org.t.I", "M")):
+        call(client, "org.t.Call", path, interface, method, text("x"))
+    call(client, "org.t.Talk", "/a", "org.t.I", "Fail")
+    call(client, "org.t.sub.A", "/a", "org.t.I", "N")
+    for name in ("org.t.Talk", "org.t.Hidden"):
+        call(client, services[name].get_unique_name(), "/a", "org.t.I", "M", text("by its unique name"))
+    for name in SERVICES:
+        for path, interface in (("/a", "org.t.I"), ("/z", "org.t.I"), ("/a", "org.t.J")):
+            services[name].emit_signal(None, path, interface, "S", text(name))
+        services[name].flush_sync(None)
+        time.sleep(0.05)
+    for name in ("org.t.Hidden", "org.t.Talk"):
+        services[name].emit_signal(client.get_unique_name(), "/a", "org.t.I", "S", text("to you"))
+        services[name].flush_sync(None)
+        call(services[name], client.get_unique_name(), "/a", "org.t.I", "M", text("from a service"))
+        call(services[name], client.get_unique_name(), "/a", "org.t.I", "Fail")
+    call(client, services["org.t.Hidden"].get_unique_name(), "/a", "org.t.I", "M", text("after it wrote"))
+    client.emit_signal(None, "/a", "org.t.I", "S", text("to everybody"))
+    for name in ("org.t.Talk", "org.t.Hidden"):
+        client.emit_signal(name, "/a", "org.t.I", "S", text("to " + name))
+    client.flush_sync(None)
+    for name in ("org.t.Talk", "org.t.Hidden"):
+        call(control, *bus, "GetId")
+        call(services[name], *bus, "ReleaseName", text(name))
+        time.sleep(0.1)
+    services["org.t.Talk"].emit_signal(None, "/a", "org.t.I", "S", text("without its name"))
+    services["org.t.Talk"].flush_sync(None)
+    time.sleep(0.3)
+
+
+def binary(pieces, lines_up):
+    """Pieces of a stream without the lines of the handshake before it."""
+    kept, rest, lines = [], b"", lines_up
+    for data in pieces:
+        if lines:
+            rest += data
+            while lines and b"\r\n" in rest:
+                rest, lines = rest[rest.index(b"\r\n") + 2:], lines - 1
+            data, rest = (b"", rest) if lines else (rest, b"")
+        kept.append(data)
+    return kept
+
+
+def messages(data):
+    at, found = 0, []
+    while at + 16 <= len(data):
+        order = "<" if data[at:at + 1] == b"l" else ">"
+        body, _, fields = struct.unpack(order + "III", data[at + 4:at + 16])
+        end = at + 16 + (fields + 7) // 8 * 8 + body
+        found.append(data[at:end])
+        at = end
+    return found
+
+
+def number(data, at):
+    return struct.unpack_from("<I" if data[:1] == b"l" else ">I", data, at)[0]
+
+
+def with_number(data, at, value):
+    return data[:at] + struct.pack("<I" if data[:1] == b"l" else ">I", value) + data[at + 4:]
+
+
+def reply_at(data):
+    """Where the reply serial of a message stands; the field is a byte 5 and the signature `u`, at a multiple of 8."""
+    end = 16 + number(data, 12)
+    return next((at + 4 for at in range(16, end, 8) if data[at:at + 4] == b"\x05\x01u\x00"), None)
+
+
+def serials_back(sent, passed):
+    """The proxy gives the client's calls serials of its own: those that it passed on are told by all their other bytes."""
+    waiting, back, found = list(sent), {}, []
+    for m in passed:
+        was = next((w for w in waiting if with_number(w, 8, 0) == with_number(m, 8, 0)), None)
+        if was is not None:
+            waiting.remove(was)
+            back[number(m, 8)] = number(was, 8)
+            found.append(was)
+    return back, found
+
+
+def with_replies(data, back):
+    """A message of the bus with the client's serials; none where it answers a call of the proxy's own."""
+    at = reply_at(data)
+    if at is None:
+        return data
+    return with_number(data, at, back[number(data, at)]) if number(data, at) in back else b""
+
+
+def seen(data):
+    """What a message says, in the order of nothing."""
+    m = Gio.DBusMessage.new_from_blob(data, Gio.DBusCapabilityFlags.NONE)
+    body = m.get_body()
+    return (m.get_message_type().value_nick, m.get_reply_serial(), m.get_error_name(), m.get_path(), m.get_interface(), m.get_member(),
+            None if m.get_error_name() and "freedesktop" in m.get_error_name() else body.print_(False) if body else None)
+
+
+def main():
+    folder = tempfile.mkdtemp()
+    paths = {name: f"{folder}/{name}" for name in ("bus", "near", "far", "proxy")}
+    with open(f"{folder}/conf", "w") as it:
+        it.write(f"<busconfig><type>session</type><listen>unix:path={paths['bus']}</listen><policy context='default'><allow send_destination='*' "
+                 "eavesdrop='true'/><allow eavesdrop='true'/><allow own='*'/></policy></busconfig>")
+    daemon = subprocess.Popen(["dbus-daemon", f"--config-file={folder}/conf", "--nofork", "--print-address=1"], stdout=subprocess.PIPE)
+    daemon.stdout.readline()
+    threading.Thread(target=GLib.MainLoop().run, daemon=True).start()
+    proxy = None
+    try:
+        control = connect(f"unix:path={paths['bus']}")
+        services = {}
+        for name in SERVICES:
+            services[name] = connect(f"unix:path={paths['bus']}")
+            export(services[name])
+            call(services[name], "org.freedesktop.DBus", "/org/freedesktop/DBus", "org.freedesktop.DBus", "RequestName", GLib.Variant("(su)", (name, 0)))
+        serve(paths["far"], paths["bus"], "far")
+        proxy = subprocess.Popen(["xdg-dbus-proxy", f"unix:path={paths['far']}", paths["proxy"], "--filter"] + RULES)
+        while not os.path.exists(paths["proxy"]):
+            time.sleep(0.02)
+        serve(paths["near"], paths["proxy"], "near")
+        client = connect(f"unix:path={paths['near']}")
+        export(client)
+        traffic(client, services, control)
+        name = client.get_unique_name()
+        owners = [(n, services[n].get_unique_name()) for n in SERVICES]
+    finally:
+        if proxy:
+            proxy.kill()
+        daemon.kill()
+    with lock:
+        taken = list(record)
+    hello = b"".join(d for tap, way, d in taken if (tap, way) == ("near", "up"))
+    lines = hello[:hello.index(b"BEGIN\r\n") + 7].count(b"\r\n")
+    streams = {}
+    for tap, way, count in (("near", "up", lines), ("near", "down", lines - 1), ("far", "up", lines), ("far", "down", lines - 1)):
+        streams[tap, way] = iter(binary([d for t, w, d in taken if (t, w) == (tap, way)], count))
+    lists = {key: [] for key in streams}
+    for tap, way, _ in taken:
+        lists[tap, way].append(next(streams[tap, way]))
+    whole = {key: messages(b"".join(data)) for key, data in lists.items()}
+    back, to_bus = serials_back(whole["near", "up"], whole["far", "up"])
+    real = {"bus": to_bus, "client": whole["near", "down"]}
+    recording = [f"client {name}"] + [f"owner {n} {u}" for n, u in owners]
+    at, rest = {key: 0 for key in lists}, b""
+    for tap, way, _ in taken:
+        data = lists[tap, way][at[tap, way]]
+        at[tap, way] += 1
+        if (tap, way) == ("near", "up") and data:
+            recording.append("c " + data.hex())
+        elif (tap, way) == ("far", "down"):
+            rest += data
+            ready = messages(rest)
+            rest = rest[sum(map(len, ready)):]
+            recording += ["b " + d.hex() for d in (with_replies(m, back) for m in ready) if d]
+    with open(f"{folder}/recording", "w") as it:
+        it.write("\n".join(recording) + "\n")
+    print(f"recorded {len(recording)} lines in {folder}/recording: {len(real['bus'])} messages to the bus, {len(real['client'])} to the client")
+    done = subprocess.run(sys.argv[1:] + ["filter"] + RULES, stdin=open(f"{folder}/recording"), capture_output=True, text=True)
+    ours = {"bus": [], "client": []}
+    for line in done.stdout.splitlines():
+        side, _, digits = line.partition(" ")
+        if side in ours:
+            ours[side].append(bytes.fromhex(digits))
+        else:
+            print("fpk:", line)
+    differences = 0
+    for side in ours:
+        a, b = [seen(m) for m in real[side]], [seen(m) for m in ours[side]]
+        print(f"{side}: {len(a)} by the proxy, {len(b)} by fpk; same order and text: {a == b}; same bytes: {real[side] == ours[side]}")
+        for it in a:
+            if it in b:
+                b.remove(it)
+            else:
+                differences += 1
+                print("  only by the proxy:", it)
+        for it in b:
+            differences += 1
+            print("  only by fpk:      ", it)
+    print("all the same" if not differences else f"{differences} differences")
+    return 1 if differences else 0
+
+
+if __name__ == "__main__":
+    sys.exit(main())
