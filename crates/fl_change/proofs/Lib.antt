@@ -16,6 +16,8 @@ pub mod Tidying
 pub mod Asking
 pub mod Skipping
 pub mod Looking
+pub mod Overrides
+pub mod OverrideRows
 pub mod Targets
 pub mod Commands
 pub mod Trying

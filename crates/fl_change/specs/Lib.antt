@@ -1,6 +1,7 @@
 pub mod World
 pub mod Answer
 pub mod Settings
+pub mod Overrides
 pub mod Refs
 pub mod Turns
 pub mod Changes

@@ -1,6 +1,7 @@
 -- What changes answer over a world, one after another.
 use Rattle.std.specs.Prelude.{◌≡◌, ◌⊎◌, ℕ, List, [], ◌∷◌}
 use Rattle.fp_host.specs.Remote.{Holdings}
+use Rattle.fp_keyfile.specs.declared.group.Group.{Group}
 use Rattle.fp_name.specs.Refs.{Ref}
 use Rattle.fp_small.specs.declared.state.Layout.{Layout}
 use Rattle.fp_small.specs.declared.state.Layout.TheVariants.{One, Two}
@@ -8,10 +9,11 @@ use Rattle.fp_small.specs.declared.op.Op.{Op}
 use Rattle.fp_small.specs.declared.op.Op.TheVariants as ops
 use Rattle.op_change.specs.Applied.{Brings}
 use Rattle.fl_words.specs.declared.command.Change.{Change}
-use Rattle.fl_words.specs.declared.command.Change.TheVariants.{Pin, Unpin, RemoteAdd, RemoteModify, RemoteDelete, Install, UpdateAll, UpdateOne, Uninstall, UninstallUnused, Rollback, OverrideReset}
+use Rattle.fl_words.specs.declared.command.Change.TheVariants.{Pin, Unpin, RemoteAdd, RemoteModify, RemoteDelete, Install, UpdateAll, UpdateOne, Uninstall, UninstallUnused, Rollback, OverrideChange, OverrideReset}
 use Rattle.fl_change.specs.World.{World}
 use Rattle.fl_change.specs.Answer.{Answer, nothing, op_answer, unless, then_over, each_over}
 use Rattle.fl_change.specs.Settings.{add_pin_refusal, drop_pin_refusal, add_remote_refusal, remote_refusal, drop_remote_refusal}
+use Rattle.fl_change.specs.Overrides.{changed_row, long_refusal}
 use Rattle.fl_change.specs.Refs.{install_over, update_over, update_all_over, uninstall_over, unused_over, rollback_over, reset_over}
 
 -- each change, with its refusals in their order
@@ -27,6 +29,7 @@ change_over (UpdateOne name) held x = update_over name held x
 change_over (Uninstall name) held x = uninstall_over name held x
 change_over UninstallUnused held x = unused_over held x
 change_over (Rollback name) held x = rollback_over name held x
+change_over (OverrideChange name options) held x = unless (long_refusal (changed_row x.state.overrides name options)) (op_answer (ops.SetOverride (changed_row x.state.overrides name options)))
 change_over (OverrideReset name) held x = reset_over name held x
 
 -- changes one after another, up to the first refusal
@@ -52,6 +55,9 @@ IsUninstall op = (name : Ref) × (op ≡ ops.Uninstall name)
 abbrev pub IsRollback : Ref → Op → Type 0
 IsRollback name op = (commit : List ℕ) × (op ≡ ops.Rollback name commit)
 
+abbrev pub IsOverride : List ℕ → Op → Type 0
+IsOverride name op = (file : List Group) × (op ≡ ops.SetOverride (record { name = name; file = file }))
+
 abbrev pub OpsOf : Change → Op → Type 0
 OpsOf (Pin pin) op = op ≡ ops.AddPin pin
 OpsOf (Unpin pin) op = op ≡ ops.DropPin pin
@@ -64,6 +70,7 @@ OpsOf (UpdateOne name) op = Brings op
 OpsOf (Uninstall name) op = op ≡ ops.Uninstall name
 OpsOf UninstallUnused op = IsUninstall op
 OpsOf (Rollback name) op = IsRollback name op
+OpsOf (OverrideChange name options) op = IsOverride name op
 OpsOf (OverrideReset name) op = op ≡ ops.DropOverride name
 
 abbrev pub OpsOfAny : List Change → Op → Type 0

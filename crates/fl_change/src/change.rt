@@ -16,7 +16,7 @@ use crate::end::RunEnd;
 use crate::going_back::roll_back;
 use crate::installing::install;
 use crate::operation::do_op;
-use crate::overriding::reset;
+use crate::overriding::{change_override, reset};
 use crate::removing::{uninstall, uninstall_unused};
 use crate::settings::{add_pin, add_remote, drop_pin, drop_remote, modify_remote};
 use crate::updating::{update_all, update_one};
@@ -112,7 +112,7 @@ fn do_change<H: Host, R: Remotes>(
         Change::Uninstall(name) => uninstall(alloc, host, remotes, opened, name),
         Change::UninstallUnused => uninstall_unused(alloc, host, remotes, opened),
         Change::Rollback(name) => roll_back(alloc, host, remotes, opened, name),
-        Change::OverrideReset { name } => reset(alloc, host, remotes, opened, name),
+        Change::OverrideReset { name } => reset(alloc, host, remotes, opened, name.as_text()),
         Change::Pin(pin) => {
             let asked = add_pin(opened.state(), pin);
             do_asked(alloc, host, remotes, opened, asked)
@@ -127,6 +127,10 @@ fn do_change<H: Host, R: Remotes>(
         }
         Change::RemoteModify(row) => {
             let asked = modify_remote(opened.state(), row);
+            do_asked(alloc, host, remotes, opened, asked)
+        }
+        Change::OverrideChange { name, options } => {
+            let asked = change_override(alloc, opened.state(), name, options);
             do_asked(alloc, host, remotes, opened, asked)
         }
         Change::RemoteDelete(name) => {

@@ -7,6 +7,7 @@ mod finding;
 mod going_back;
 mod installing;
 pub mod laws;
+pub mod laws_of_overrides;
 pub mod laws_of_refs;
 mod operation;
 mod overriding;

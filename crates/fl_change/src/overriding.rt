@@ -1,5 +1,5 @@
 //! Overrides.
-ghost use Rattle.std.specs.Prelude.{◌≡◌, IfOk};
+ghost use Rattle.std.specs.Prelude.{◌≡◌, true, length, IfOk};
 ghost use Rattle.fp_small.specs.declared.state.Layout.TheVariants.{Two};
 ghost use Rattle.ost_walk.specs.Ends.{outside};
 ghost use Rattle.dep_states.specs.After.{IsGood};
@@ -9,15 +9,29 @@ ghost use Rattle.std.specs.List.{find};
 ghost use Rattle.std.specs.Str.{bytes_eq};
 ghost use Rattle.std.specs.Option.{option_copied};
 ghost use Rattle.fl_change.specs.Performs.{Acts, Rests, Just};
+ghost use Rattle.fp_keyfile.specs.KeyFile.{is_good, text_of};
+ghost use Rattle.fl_meta.specs.declared.mentions.Source.TheVariants as sources;
+ghost use Rattle.fl_meta.specs.declared.permission.Permission.{Permission};
+ghost use Rattle.fl_meta.specs.Mentions.{file_mentions};
+ghost use Rattle.fl_context.specs.Grants.{last_mention, value_in};
+ghost use Rattle.fl_change.specs.Ends.{IsAsked, IsPlain};
+ghost use Rattle.fl_change.specs.Overrides.{file_named, changed_file as changed, changed_row as row_changed, long_refusal};
 ghost use Rattle.fl_change.specs.Refs.{reset_over};
 
 use crate::end::RunEnd;
 use crate::operation::do_op;
 use dep_states::Opened;
-use fp_base::Text;
+use fl_options::layer_of;
+use fl_override::OverrideSet;
+use fl_words::OverrideName;
+use fp_base::{Items, Text, What};
 use fp_host::{Host, Remotes};
-use fp_small::{Op, OverrideRow};
-use std::alloc::Global;
+use fp_keyfile::KeyFile;
+use fp_small::{Op, OverrideRow, Refusal, State};
+use std::alloc::{AllocError, Global};
+
+/// The most bytes of the text of an override.
+const OVERRIDE_MOST: usize = 1024 * 1024;
 
 /// The first override whose name has this text.
 fn find_text<'a>(rows: &'a [OverrideRow], text: &str) -> Option<&'a OverrideRow>
@@ -31,6 +45,82 @@ fn find_override<'a>(rows: &'a [OverrideRow], name: &Text) -> Option<&'a Overrid
     ensures { option_copied result ≡ at_name override_key rows.now name.now }
 {
     find_text(rows, name.as_str())
+}
+
+/// What an override mentions, of each permission the last: nothing, where there is none.
+fn mentioned_in(alloc: Global, rows: &[OverrideRow], name: &Text) -> Result<OverrideSet, AllocError>
+    ensures { IfOk result (λ set. (p : Permission) → value_in set p ≡ last_mention
+        (file_mentions sources.Override (file_named rows.now name.now)) p) }
+{
+    match find_override(rows, name) {
+        Some(row) => OverrideSet::from_keyfile(alloc, &row.file),
+        None => OverrideSet::from_keyfile(alloc, &KeyFile::new(alloc)),
+    }
+}
+
+/// The file of an override, changed by options.
+fn changed_file(
+    alloc: Global,
+    rows: &[OverrideRow],
+    name: &Text,
+    options: &[Text],
+) -> Result<KeyFile, AllocError>
+    ensures { IfOk result (λ file. file ≡ changed (file_named rows.now name.now) options.now) }
+{
+    let mut set = mentioned_in(alloc, rows, name)?;
+    let _before = set.as_layer();
+    let options = layer_of(alloc, options)?;
+    set.change(alloc, &options)?;
+    let _after = set.as_layer();
+    set.to_keyfile(alloc)
+}
+
+/// An override, changed by options.
+fn changed_row(
+    alloc: Global,
+    rows: &[OverrideRow],
+    name: &Text,
+    options: &[Text],
+) -> Result<OverrideRow, AllocError>
+    ensures { IfOk result (λ row. row ≡ row_changed rows.now name.now options.now) }
+{
+    let file = changed_file(alloc, rows, name, options)?;
+    Ok(OverrideRow {
+        name: name.copy()?,
+        file,
+    })
+}
+
+/// The size of the text of an override.
+fn text_size(row: &OverrideRow) -> Result<usize, AllocError>
+    ensures size { IfOk result (λ n. n ≡ length (text_of row.now.file)) }
+    ensures good { is_good row.now.file ≡ true }
+{
+    let _groups = row.file.groups();
+    Ok(row.file.write()?.as_str().len())
+}
+
+/// An override is changed by options, where its text isn't too long then.
+pub(crate) fn change_override(
+    alloc: Global,
+    state: &State,
+    name: &OverrideName,
+    options: &Items<Text>,
+) -> Result<Op, RunEnd>
+    ensures asked { IsAsked (long_refusal (row_changed state.now.overrides name.now options.now))
+        (ops.SetOverride (row_changed state.now.overrides name.now options.now)) result }
+    ensures plain { IfOk result (IsPlain state.now) }
+{
+    let rows = state.overrides.as_slice();
+    let row = changed_row(alloc, rows, name.as_text(), options.as_slice())?;
+    let size = text_size(&row)?;
+    if size > OVERRIDE_MOST {
+        return Err(RunEnd::Refused(Refusal::Limit {
+            what: What::Override,
+            number: size as u64,
+        }));
+    }
+    Ok(Op::SetOverride(row))
 }
 
 /// Takes an override away, where there is one.

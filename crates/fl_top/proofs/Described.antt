@@ -24,12 +24,16 @@ use Rattle.dep_states.specs.After.{row_at}
 use Rattle.dep_tidy.specs.Kept.{kept_by, kept_of}
 use Rattle.fl_installed.specs.Files.{unless_faulty, metadata_digest, short_content, metadata_file}
 use Rattle.fl_installed.specs.Described.{by_file, described, as_info, info_in}
+use Rattle.fl_launch.specs.Extensions.{row_of}
+use Rattle.fl_sandbox.specs.Launching.{launch_in}
+use Rattle.fl_sandbox.proofs.Local.{launch_is_local}
+use Rattle.dep_switch.proofs.Named.{at_name-find}
 use Rattle.fl_words.specs.declared.command.Listing.{Listing}
 use Rattle.fl_words.specs.declared.command.Listing.TheVariants as listings
 use Rattle.fl_change.specs.Answer.{Answer, refusal_answer}
 use Rattle.fl_change.specs.World.{world_in, used_of}
 use Rattle.fl_change.proofs.Worlds.{used_kept}
-use Rattle.fl_top.specs.Answer.{told_of, listed}
+use Rattle.fl_top.specs.Answer.{told_of, launched_of, listed}
 
 -- ---- lists that are searched
 
@@ -149,7 +153,7 @@ module _ (i j : Have) (commit : List ℕ) (agree : Agree i j (order i commit)) w
   unfolding metadata_digest
   by_digest = content_same (look_fault i commit metadata_name) (look i commit metadata_name) (alike _)
 
-  file_same : metadata_file j commit ≡ metadata_file i commit
+  pub file_same : metadata_file j commit ≡ metadata_file i commit
   unfolding metadata_file
   file_same = ap (option_and_then (λ d. short_content (j d kinds.File))) digest_same ∙ by_digest
 
@@ -177,10 +181,21 @@ module _ (s : State) (have : Have) (name : Ref) where
   by_row None is = refl
   by_row (Some row) is = ap (told_of row) (info_same have (used_of s have) row.commit (λ p h. used_kept s have row.commit (row_kept s.refs (ref_text name) row is) p h) name)
 
+-- ---- a launch
+
+row_of_kept : (s : State) (name : Ref) (row : RefRow) → row_of s name ≡ Some row → In (kept_of s.refs) row.commit
+row_of_kept s name row is = row_kept s.refs (ref_text name) row (sym (at_name-find ref_key s.refs (ref_text name)) ∙ is)
+
+-- the launch over the world of an image is the one over its store
+pub launch_world : (name : Ref) (options : List (List ℕ)) (s : State) (have : Have) → launch_in (used_of s have) s name options ≡ launch_in have s name options
+launch_world name options s have =
+    launch_is_local have (used_of s have) s name options (λ other row is. file_same have (used_of s have) row.commit (λ p h. used_kept s have row.commit (row_of_kept s other row is) p h))
+
 -- what is listed over the world of an image is what is listed over its store
 pub listed_world : (listing : Listing) (s : State) (disk : Disk) → listed listing (world_in s disk) ≡ listed listing (record { state = s; have = store repo disk })
 listed_world listings.Refs s disk = refl
 listed_world listings.Pins s disk = refl
 listed_world listings.Remotes s disk = refl
 listed_world (listings.Info name) s disk = by_row s (store repo disk) name (row_at s name) refl
+listed_world (listings.Launch name options) s disk = ap launched_of (launch_world name options s (store repo disk))
 listed_world (listings.OverrideShow name) s disk = refl

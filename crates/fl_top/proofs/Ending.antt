@@ -1,5 +1,6 @@
 -- The end of a run: the line of its refusal, and its status.
 use Rattle.std.proofs.Common.{◌≡◌, ◌≤◌, ◌+◌, arith, Result, Err, inl, inr, ℕ, List, [], ◌∷◌, ◌++◌, Bool, true, false, nat_le, length, append_assoc, Option, Some, None, Ok, if◌then◌else◌, refl, sym, ◌∙◌, ap, subst}
+use Rattle.std.specs.Prelude.{option_map, reverse}
 use Rattle.std.proofs.lemmas.List.{append-nil}
 use Rattle.std.proofs.lemmas.List.Elements.{filter_map-append}
 use Rattle.fp_host.specs.Paths.{Elements}
@@ -8,22 +9,34 @@ use Rattle.fp_host.specs.View.{View}
 use Rattle.fp_host.specs.Outcome.{Disk, Leaves, Follows, Nothing}
 use Rattle.fp_small.specs.declared.refusal.Refusal.{Refusal}
 use Rattle.fp_small.specs.declared.refusal.Refusal.TheVariants.{MalformedObject, MalformedValue, Limit, BadRecord, Damaged}
+use Rattle.fp_small.specs.declared.refusal.Refusal.TheVariants as refusals
 use Rattle.fp_base.specs.declared.what.What.TheVariants.{Input}
+use Rattle.fp_name.specs.Refs.{Ref}
 use Rattle.dep_states.specs.Shown.{IsShown}
 use Rattle.dep_states.specs.Sound.{IsSound}
 use Rattle.dep_states.specs.After.{Done, after_all}
 use Rattle.fl_lines.specs.Lines.{refusal_text, refs_text, pins_text, remotes_text}
 use Rattle.fl_words.specs.Batch.{batch_of}
 use Rattle.fl_words.specs.declared.command.Command.{Command}
-use Rattle.fl_words.specs.declared.command.Command.TheVariants.{Change as Changing, List as Listed, Show as Showing, Batch}
+use Rattle.fl_words.specs.declared.command.Command.TheVariants.{Change as Changing, List as Listed, Show as Showing, Filter as Filtering, Batch}
 use Rattle.fl_words.specs.declared.command.Change.{Change}
 use Rattle.fl_words.specs.declared.command.Listing.{Listing}
 use Rattle.fl_words.specs.declared.command.Listing.TheVariants as listings
 use Rattle.fl_words.specs.declared.command.Shown.{Shown}
 use Rattle.fl_words.specs.declared.command.Shown.TheVariants as things
+use Rattle.fl_words.specs.declared.command.PolicySource.{PolicySource}
+use Rattle.fl_words.specs.declared.command.PolicySource.TheVariants as sources
+use Rattle.bus_stream.specs.declared.recording.Recording.{Recording}
+use Rattle.bus_stream.specs.Recordings.{recording_of}
+use Rattle.bus_policy.specs.declared.policy.PolicyRule.{PolicyRule}
+use Rattle.bus_proxy.specs.Arrivals.{End, end_of}
+use Rattle.fl_filter.specs.Filtered.{broken}
+use Rattle.fl_launch.specs.declared.launching.LaunchText.{LaunchText}
+use Rattle.fl_sandbox.specs.Refusals.{MayRefuse}
+use Rattle.fl_sandbox.proofs.Refusing.{launch_refuses}
 use Rattle.fl_change.specs.World.{World}
 use Rattle.fl_change.specs.Answer.{Answer, Piece, lines_of, last_of, joined, ops_in, ops_of, text_answer, refusal_answer}
-use Rattle.fl_top.specs.Answer.{Given, listed, override_text, shown_by, over, of_batch, answer_over, by_read, by_value, by_type, commit_shown, tree_shown, meta_shown, value_shown, over_input}
+use Rattle.fl_top.specs.Answer.{Given, listed, override_text, shown_by, over, of_batch, answer_over, by_read, by_value, by_type, commit_shown, tree_shown, meta_shown, value_shown, over_input, launch_over, of_launch, on_session, on_system, rules_over, by_rules, of_recording, filtered_by, filter_by}
 use Rattle.fl_change.specs.Turns.{changing}
 use Rattle.fl_top.specs.Objects.{commit_lines, tree_lines, meta_lines}
 use Rattle.gv_value.specs.Shape.{Shape}
@@ -47,7 +60,7 @@ use Rattle.fl_change.proofs.Same.{unmoved, same_shown, same_sound, same_settled}
 use Rattle.fl_top.proofs.Starting.{stood, unchanged}
 use Rattle.fl_change.proofs.Changing.{tidied_on, tidied_none, untouched_both, text_on, keeps_files}
 use Rattle.fl_change.proofs.Turning.{joined-append}
-use Rattle.fl_top.proofs.Refusing.{changing_later, known_later}
+use Rattle.fl_top.proofs.Refusing.{changing_later, known_later, launch_later}
 
 -- ---- pieces
 
@@ -266,10 +279,79 @@ listed_plain listings.Refs x = told_plain (refs_text x.state.refs)
 listed_plain listings.Pins x = told_plain (pins_text x.state.pins)
 listed_plain listings.Remotes x = told_plain (remotes_text x.state.remotes)
 listed_plain (listings.Info name) x = λ r is. (known_later name x r is).one
+listed_plain (listings.Launch name options) x = λ r is. (launch_later name options x r is).one
 listed_plain (listings.OverrideShow name) x = told_plain (override_text x.state name)
+
+end_plain : (end : Option End) → IsPlain (record { pieces = []; refusal = option_map broken end })
+end_plain None r is = absurd (cc is)
+end_plain (Some end) r is = one_of_some (broken end) r is refl
+
+-- what speaks against rules
+abbrev IsLaunchPlain : {A : Type 0} → Result A Refusal → Type 0
+IsLaunchPlain read = (r : Refusal) → read ≡ Err r → 1 ≡ status_of r
+
+may_plain : (r : Refusal) → MayRefuse r → 1 ≡ status_of r
+may_plain (refusals.NotInstalled name) may = refl
+may_plain (refusals.RuntimeMissing name) may = refl
+may_plain (refusals.BadMetadata name line rule) may = refl
+may_plain (refusals.BadWords index) may = absurd may
+may_plain (refusals.NoSuchRemote remote) may = absurd may
+may_plain (refusals.RemoteExists remote) may = absurd may
+may_plain (refusals.RemoteInUse remote name) may = absurd may
+may_plain (refusals.WrongMode remote mode) may = absurd may
+may_plain (refusals.NoSuchRef remote name) may = absurd may
+may_plain (refusals.AlreadyInstalled name) may = absurd may
+may_plain (refusals.RuntimeInUse runtime app) may = absurd may
+may_plain (refusals.MissingObject digest kind) may = absurd may
+may_plain (refusals.CorruptObject digest kind got) may = absurd may
+may_plain (refusals.MalformedObject digest kind rule) may = absurd may
+may_plain (refusals.MalformedValue digest) may = absurd may
+may_plain (refusals.ModeRefused digest kind mode) may = absurd may
+may_plain (refusals.ReservedName commit) may = absurd may
+may_plain (refusals.RefBinding name) may = absurd may
+may_plain (refusals.Older name have offered) may = absurd may
+may_plain (refusals.PinExists pin) may = absurd may
+may_plain (refusals.NoSuchPin pin) may = absurd may
+may_plain (refusals.Limit what number) may = absurd may
+may_plain (refusals.BadRecord line) may = absurd may
+may_plain (refusals.BadMessage side index rule) may = absurd may
+may_plain (refusals.Damaged path) may = absurd may
+may_plain (refusals.NoPrevious name) may = absurd may
+
+err_plain : {A : Type 0} (read : Result A Refusal) (q r : Refusal) → 1 ≡ status_of q → read ≡ Err q → read ≡ Err r → 1 ≡ status_of r
+err_plain read q r one first second = let both : Err q ≡ Err r = sym first ∙ second in let same : q ≡ r = cc both in subst (λ (x : Refusal). 1 ≡ status_of x) same one
+
+launch_plain : (name : Ref) (shown : Result World Elements) → IsLaunchPlain (launch_over name shown)
+launch_plain name (Err path) r is = err_plain (launch_over name (Err path)) (Damaged path) r refl refl is
+launch_plain name (Ok x) r is = may_plain r (launch_refuses x.have x.state name [] r is)
+
+of_launch_plain : (rules : LaunchText → List PolicyRule) (launch : Result LaunchText Refusal) → IsLaunchPlain launch → IsLaunchPlain (of_launch rules launch)
+of_launch_plain rules (Err q) plain r is = err_plain (of_launch rules (Err q)) q r (plain q refl) refl is
+of_launch_plain rules (Ok launch) plain r is = absurd (cc is)
+
+rules_plain : (source : PolicySource) (shown : Result World Elements) → IsLaunchPlain (rules_over source shown)
+rules_plain (sources.Rules words) shown r is = absurd (cc is)
+rules_plain (sources.Session name) shown r is = of_launch_plain (on_session name) (launch_over name shown) (launch_plain name shown) r is
+rules_plain (sources.System name) shown r is = of_launch_plain on_system (launch_over name shown) (launch_plain name shown) r is
+
+by_rules_plain : (recording : Recording) (rules : Result (List PolicyRule) Refusal) → IsLaunchPlain rules → IsPlain (by_rules recording rules)
+by_rules_plain recording (Err q) plain r is = one_of_some q r is (plain q refl)
+by_rules_plain recording (Ok rules) plain r is = end_plain (end_of (reverse recording.pieces)) r is
+
+recording_plain : (rules : Result (List PolicyRule) Refusal) (read : Result Recording ℕ) → IsLaunchPlain rules → IsPlain (of_recording rules read)
+recording_plain rules (Err line) plain r is = one_of_some (BadRecord line) r is refl
+recording_plain rules (Ok recording) plain r is = by_rules_plain recording rules plain r is
+
+filtered_plain : (rules : Result (List PolicyRule) Refusal) (bytes : List ℕ) → IsLaunchPlain rules → IsPlain (filtered_by rules bytes)
+unfolding filtered_by
+filtered_plain rules bytes plain = recording_plain rules (recording_of bytes) plain
+
+filter_plain : (source : PolicySource) (shown : Result World Elements) (bytes : List ℕ) → IsPlain (filter_by source shown bytes)
+filter_plain source shown bytes = filtered_plain (rules_over source shown) bytes (rules_plain source shown)
 
 pub command_plain : (command : Command) (given : Given) (shown : Result World Elements) → IsPlain (answer_over command given shown)
 command_plain (Changing change) given shown = over_plain (changing (change ∷ []) given.held) shown (changing_plain (change ∷ []) given.held)
 command_plain (Listed listing) given shown = over_plain (listed listing) shown (listed_plain listing)
 command_plain (Showing thing) given shown = input_plain (shown_by thing) given.input (shown_plain thing given.input)
+command_plain (Filtering source) given shown = input_plain (filter_by source shown) given.input (filter_plain source shown given.input)
 command_plain Batch given shown = input_plain (λ bytes. of_batch (batch_of bytes) given.held shown) given.input (batch_plain (batch_of given.input) given.held shown)

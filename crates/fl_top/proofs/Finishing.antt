@@ -31,7 +31,7 @@ use Rattle.fp_small.specs.declared.op.Op.{Op}
 use Rattle.fl_top.specs.Runs.{Runs, Ran, Told, RunsBy, RanBy, IsGiven, IsGivenTo, Looks, IsReady, Serves, MayAnswer, WasTaken}
 use Rattle.fl_top.specs.RunsOver.{RunsOver, LooksOver, EndedOver, LookedOver, RunsOn, EndedOn, RanOn, Ended, Closed, IsGivenBy, IsClosedBy, Takes, TakenBy}
 use Rattle.fl_change.specs.Says.{Says, Refuses}
-use Rattle.fl_top.specs.Status.{only_looks, reads_input, asks_remotes, IsAnswered}
+use Rattle.fl_top.specs.Status.{only_looks, reads_input, asks_remotes, IsAnswered, IsOfWords}
 use Rattle.fl_change.specs.declared.end.RunEnd.{RunEnd}
 use Rattle.fl_change.specs.declared.end.RunEnd.TheVariants as run
 use Rattle.fl_top.specs.declared.command_end.CommandEnd.{CommandEnd}
@@ -56,13 +56,13 @@ pub is_end : (r : Result (Unit {0}) CommandEnd) (e : CommandEnd) → IsErrAnd r 
 is_end r e is = let p = err_from_is_err_and r is in p.1 ∙ ap (λ (x : CommandEnd). Err x) p.2
 
 -- an end of the work on the installation is one of the command
-closed : (a : Answer) (e : RunEnd) (u w : View) → Ended a (Err e) u w → Closed a (Err (end_of_run e)) u w
+pub closed : (a : Answer) (e : RunEnd) (u w : View) → Ended a (Err e) u w → Closed a (Err (end_of_run e)) u w
 closed a (run.Refused refusal) u w is = is
 closed a run.Fault u w is = tt
 closed a run.RemoteFault u w is = is
 closed a run.NoMemory u w is = is
 
-given_by : (e : RunEnd) → IsClosedBy (Err (end_of_run e)) → IsGivenBy (Err e)
+pub given_by : (e : RunEnd) → IsClosedBy (Err (end_of_run e)) → IsGivenBy (Err e)
 given_by (run.Refused refusal) by = tt
 given_by run.Fault by = absurd by
 given_by run.RemoteFault by = absurd by
@@ -472,3 +472,8 @@ goes_unread words t known = stays known
 pub took_nothing : (o : Option Command) (left : Option (List ℕ)) → WasTaken o 6 left left
 took_nothing None left = refl
 took_nothing (Some command) left = (λ reads answered. absurd (not_answered 6 (omega arith) answered), λ none. refl)
+
+-- it is an end of each command, and of words that are none
+pub starves : (o : Option Command) → IsOfWords o 6
+starves None = inr (inr refl)
+starves (Some command) = inr (inr (inr (inr (inr refl))))

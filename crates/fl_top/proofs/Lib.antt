@@ -9,5 +9,7 @@ pub mod Joining
 pub mod Ending
 pub mod Refusing
 pub mod Reading
+pub mod Forwarding
+pub mod Finding
 pub mod ShowInput
 pub mod Shown

@@ -34,12 +34,12 @@ one_world disk (Ok x) (Err p) first second = let same : Ok x.state ≡ Err p = o
 one_world disk (Err p) (Ok y) first second = let same : Err p ≡ Ok y.state = one_result disk (Err p) (Ok y.state) first second.0 in absurd (cc same)
 one_world disk (Err p) (Err q) first second = let same : Err p ≡ Err q = one_result disk (Err p) (Err q) first second in let paths : p ≡ q = cc same in ap (λ (r : Elements). Err r) paths
 
-gives_world : (disk : Disk) (s : State) → Shows disk s → GivesWorld disk (Ok (world_in s disk))
+pub gives_world : (disk : Disk) (s : State) → Shows disk s → GivesWorld disk (Ok (world_in s disk))
 gives_world disk s is = (is, refl)
 
 -- ---- the answer
 
-over_given : (by : Result World Elements → Answer) (disk : Disk) (shown other : Result World Elements) → GivesWorld disk other → IsOver by disk shown → by shown ≡ by other
+pub over_given : (by : Result World Elements → Answer) (disk : Disk) (shown other : Result World Elements) → GivesWorld disk other → IsOver by disk shown → by shown ≡ by other
 over_given by disk shown other given counts = elim counts [
   | inl is ↦ ap by (one_world disk shown other is given)
   | inr always ↦ sym (always other)

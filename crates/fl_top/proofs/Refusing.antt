@@ -11,7 +11,7 @@ use Rattle.fp_base.specs.declared.meta_rule.MetadataRule.TheVariants as metadata
 use Rattle.fp_base.specs.declared.what.What.TheVariants as whats
 use Rattle.fp_keyfile.specs.declared.group.Group.{Group}
 use Rattle.fp_keyfile.specs.declared.fault.KeyFault.{KeyFault}
-use Rattle.fp_keyfile.specs.KeyFile.{file_of}
+use Rattle.fp_keyfile.specs.KeyFile.{file_of, text_of}
 use Rattle.fp_name.specs.Refs.{Ref}
 use Rattle.fp_small.specs.Config.{name_of}
 use Rattle.fp_small.specs.Order.{has_name}
@@ -32,7 +32,7 @@ use Rattle.ost_head.specs.Refusals.{refusal_of}
 use Rattle.ost_refs.specs.declared.place.RefFile.{RefFile}
 use Rattle.ost_refs.specs.declared.place.RefFile.TheVariants as files
 use Rattle.dep_states.specs.After.{row_at}
-use Rattle.dep_states.specs.Shown.{at_name, override_key}
+use Rattle.dep_states.specs.Shown.{at_name, override_key, small_most}
 use Rattle.op_change.specs.Applied.{op_refusal, done_with}
 use Rattle.fl_meta.specs.declared.meta.Meta.{Meta}
 use Rattle.fl_meta.specs.Metadata.{meta_of}
@@ -50,14 +50,19 @@ use Rattle.fl_plan.specs.Extensions.{is_done, if_any, extension_at, with_points,
 use Rattle.fl_plan.specs.Plans.{number_after, op_of, within, begun, extended, plan_with, planned as target_planned, deployed, is_at, time_of, target_of, planned_at, plan_of}
 use Rattle.fl_plan.specs.Targets.{targets_of}
 use Rattle.fl_words.specs.declared.command.Change.{Change}
-use Rattle.fl_words.specs.declared.command.Change.TheVariants.{Pin, Unpin, RemoteAdd, RemoteModify, RemoteDelete, Install, UpdateAll, UpdateOne, Uninstall, UninstallUnused, Rollback, OverrideReset}
+use Rattle.fl_words.specs.declared.command.Change.TheVariants.{Pin, Unpin, RemoteAdd, RemoteModify, RemoteDelete, Install, UpdateAll, UpdateOne, Uninstall, UninstallUnused, Rollback, OverrideChange, OverrideReset}
 use Rattle.fl_change.specs.World.{World, supplied, worlds_after}
 use Rattle.fl_change.specs.Answer.{Answer, Piece, ops_of, done_answer, op_answer, refusal_answer, continued, each_over, unless, nothing}
 use Rattle.fl_change.specs.Settings.{is_pinned, add_pin_refusal, drop_pin_refusal, add_remote_refusal, remote_refusal, first_from, in_use_refusal, drop_remote_refusal}
+use Rattle.fl_change.specs.Overrides.{changed_row, long_refusal}
 use Rattle.fl_change.specs.Refs.{op_over, ops_over, planned, if_remote, from_remote, installed_refusal, install_over, update_over, skipped, is_no_offer, unless_skipped, updated_from, target_over, used_refusal, uninstall_over, unused_in, drop_over, missing_refusal, back_to, previous_commit, previous_in, going_back, reset_over}
 use Rattle.fl_change.specs.Turns.{change_over, in_turn, by_layout, migrating, changing}
 use Rattle.fl_change.proofs.Pulled.{AllOf, OfHead, of_head, of_op}
-use Rattle.fl_top.specs.Answer.{IsAtOnce, told_of, known_of}
+use Rattle.fl_launch.specs.declared.launching.LaunchText.{LaunchText}
+use Rattle.fl_sandbox.specs.Launching.{launch_in}
+use Rattle.fl_sandbox.specs.Refusals.{MayRefuse}
+use Rattle.fl_sandbox.proofs.Refusing.{launch_refuses}
+use Rattle.fl_top.specs.Answer.{IsAtOnce, told_of, known_of, launched_of}
 use Rattle.fl_top.specs.Status.{status_of}
 
 -- no refusal of the words or of the input, and its status is 1
@@ -363,6 +368,10 @@ change_later (UpdateOne name) held x = update_later held x name
 change_later (Uninstall name) held x = uninstall_later held x name
 change_later UninstallUnused held x = each_later drop_over drop_later (unused_in x) held x
 change_later (Rollback name) held x = going_later held x name (previous_in name (row_at x.state name)) (previous_later held x name (row_at x.state name))
+change_later (OverrideChange name options) held x =
+    let row = changed_row x.state.overrides name options in
+    let size = length (text_of row.file) in
+    unless_later (long_refusal row) (op_answer (ops.SetOverride row)) (refused_if (nat_le size small_most) (refusals.Limit whats.Override size) (record { late = λ none. none; one = refl })) none_later
 change_later (OverrideReset name) held x = reset_later held x name
 
 -- ---- all changes
@@ -391,6 +400,21 @@ pub known_later : (name : Ref) (x : World) → Refuses (known_of name x)
 known_later name x = found_later (λ row. told_of row (info_in x.have name row.commit)) (refusal_answer (refusals.NotInstalled name)) (row_at x.state name)
     (λ row. told_later row (info_in x.have name row.commit) (as_info_later (described x.have name row.commit) (described_later x.have name row.commit)))
     (one_later (refusals.NotInstalled name) (record { late = λ none. none; one = refl }))
+
+-- ---- a launch
+
+may_later : (r : Refusal) → MayRefuse r → IsLater r
+may_later (refusals.NotInstalled name) may = record { late = λ none. none; one = refl }
+may_later (refusals.RuntimeMissing name) may = record { late = λ none. none; one = refl }
+may_later (refusals.BadMetadata name line rule) may = record { late = λ none. none; one = refl }
+may_later r may = absurd may
+
+launched_later : (launch : Result LaunchText Refusal) → ((r : Refusal) → launch ≡ Err r → MayRefuse r) → Refuses (launched_of launch)
+launched_later (Ok launch) may = none_later
+launched_later (Err q) may = one_later q (may_later q (may q refl))
+
+pub launch_later : (name : Ref) (options : List (List ℕ)) (x : World) → Refuses (launched_of (launch_in x.have x.state name options))
+launch_later name options x = launched_later (launch_in x.have x.state name options) (launch_refuses x.have x.state name options)
 
 -- ---- none of them is one of the words or of the input
 

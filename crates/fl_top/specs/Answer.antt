@@ -1,5 +1,5 @@
 -- What a run answers: what it prints, and the operations that this acknowledges.
-use Rattle.std.specs.Prelude.{◌≡◌, ◌⊎◌, ℕ, ◌+◌, List, [], ◌∷◌, ◌++◌, length, nat_le, Option, Some, None, Result, Ok, Err, if◌then◌else◌}
+use Rattle.std.specs.Prelude.{◌≡◌, ◌⊎◌, ℕ, ◌+◌, List, [], ◌∷◌, ◌++◌, map, length, nat_le, Option, Some, None, Result, Ok, Err, if◌then◌else◌}
 use Rattle.std.specs.Option.{option_map_or}
 use Rattle.fp_host.specs.Paths.{Elements}
 use Rattle.fp_host.specs.Outcome.{Disk}
@@ -22,12 +22,22 @@ use Rattle.fp_small.specs.declared.state.RefRow.{RefRow}
 use Rattle.fl_installed.specs.Described.{info_in}
 use Rattle.fl_installed.specs.declared.info.Info.{Info}
 use Rattle.fl_words.specs.declared.command.Command.{Command}
-use Rattle.fl_words.specs.declared.command.Command.TheVariants.{Change as Changing, List as Listed, Show as Showing, Batch}
+use Rattle.fl_words.specs.declared.command.Command.TheVariants.{Change as Changing, List as Listed, Show as Showing, Filter as Filtering, Batch}
 use Rattle.fl_words.specs.declared.command.Change.{Change}
 use Rattle.fl_words.specs.declared.command.Listing.{Listing}
 use Rattle.fl_words.specs.declared.command.Listing.TheVariants as listings
 use Rattle.fl_words.specs.declared.command.Shown.{Shown}
 use Rattle.fl_words.specs.declared.command.Shown.TheVariants as things
+use Rattle.fl_words.specs.declared.command.PolicySource.{PolicySource}
+use Rattle.fl_words.specs.declared.command.PolicySource.TheVariants as sources
+use Rattle.bus_stream.specs.declared.recording.Recording.{Recording}
+use Rattle.bus_stream.specs.Recordings.{recording_of}
+use Rattle.bus_policy.specs.declared.policy.PolicyRule.{PolicyRule}
+use Rattle.fl_rules.specs.Rules.{policy_of}
+use Rattle.fl_filter.specs.Filtered.{Filtered, filtered}
+use Rattle.fl_launch.specs.Policies.{session_rules, system_rules}
+use Rattle.fl_launch.specs.declared.launching.LaunchText.{LaunchText}
+use Rattle.fl_sandbox.specs.Launching.{launch_in}
 use Rattle.fl_words.specs.Forms.{command_of, bad_index}
 use Rattle.fl_words.specs.Batch.{batch_of}
 use Rattle.fl_top.specs.Input.{input_most}
@@ -42,7 +52,7 @@ use Rattle.ost_model.specs.Readers.{commit_read, tree_read, meta_read}
 use Rattle.fl_lines.specs.PrintedWords.{kind_word}
 use Rattle.fl_top.specs.Objects.{head, commit_lines, tree_lines, meta_lines, normal_line}
 use Rattle.fl_change.specs.Turns.{changing}
-use Rattle.fl_change.specs.Answer.{Answer, refusal_answer, text_answer}
+use Rattle.fl_change.specs.Answer.{Answer, Piece, refusal_answer, text_answer}
 
 -- what a run is given beside the installation: its input, and what the remotes hold
 pub record Given : Type 0 where
@@ -65,11 +75,17 @@ told_of row (Err refusal) = refusal_answer refusal
 abbrev pub known_of : Ref → World → Answer
 known_of name x = option_map_or (λ row. told_of row (info_in x.have name row.commit)) (row_at x.state name) (refusal_answer (NotInstalled name))
 
+-- the text of a launch, or the first thing that speaks against it
+abbrev pub launched_of : Result LaunchText Refusal → Answer
+launched_of (Ok launch) = text_answer launch.text
+launched_of (Err refusal) = refusal_answer refusal
+
 abbrev pub listed : Listing → World → Answer
 listed listings.Refs x = text_answer (refs_text x.state.refs)
 listed listings.Pins x = text_answer (pins_text x.state.pins)
 listed listings.Remotes x = text_answer (remotes_text x.state.remotes)
 listed (listings.Info name) x = known_of name x
+listed (listings.Launch name options) x = launched_of (launch_in x.have x.state name options)
 listed (listings.OverrideShow name) x = text_answer (override_text x.state name)
 
 -- ---- what is shown of an input
@@ -107,6 +123,53 @@ shown_by things.DirTree bytes = tree_shown bytes
 shown_by things.DirMeta bytes = meta_shown bytes
 shown_by (things.Value of) bytes = value_shown of bytes
 
+-- ---- what is forwarded of a recording
+
+abbrev pub piece_of : List ℕ → Piece
+piece_of text = record { text = text; op = None }
+
+-- the lines of messages, each a piece
+abbrev pub forwarding : Filtered → Answer
+forwarding f = record { pieces = map piece_of f.lines; refusal = f.refusal }
+
+-- the launch of an application with no options over what the image gives, or what speaks against it
+abbrev pub launch_over : Ref → Result World Elements → Result LaunchText Refusal
+launch_over name (Err path) = Err (Damaged path)
+launch_over name (Ok x) = launch_in x.have x.state name []
+
+abbrev pub of_launch : (LaunchText → List PolicyRule) → Result LaunchText Refusal → Result (List PolicyRule) Refusal
+of_launch rules (Err refusal) = Err refusal
+of_launch rules (Ok launch) = Ok (rules launch)
+
+-- what a launch is granted on each bus
+abbrev pub on_session : Ref → LaunchText → List PolicyRule
+on_session name launch = session_rules name.id launch.grants
+
+abbrev pub on_system : LaunchText → List PolicyRule
+on_system launch = system_rules launch.grants
+
+-- the rules of a source: those of the words, whatever the image; or those of the launch
+abbrev pub rules_over : PolicySource → Result World Elements → Result (List PolicyRule) Refusal
+rules_over (sources.Rules words) shown = Ok (policy_of words)
+rules_over (sources.Session name) shown = of_launch (on_session name) (launch_over name shown)
+rules_over (sources.System name) shown = of_launch on_system (launch_over name shown)
+
+abbrev pub by_rules : Recording → Result (List PolicyRule) Refusal → Answer
+by_rules recording (Err refusal) = refusal_answer refusal
+by_rules recording (Ok rules) = forwarding (filtered rules recording)
+
+-- the first bad line comes before what speaks against the rules
+abbrev pub of_recording : Result (List PolicyRule) Refusal → Result Recording ℕ → Answer
+of_recording rules (Err line) = refusal_answer (BadRecord line)
+of_recording rules (Ok recording) = by_rules recording rules
+
+unfoldable pub filtered_by : Result (List PolicyRule) Refusal → List ℕ → Answer
+filtered_by rules bytes = of_recording rules (recording_of bytes)
+
+-- by where the rules come from
+abbrev pub filter_by : PolicySource → Result World Elements → List ℕ → Answer
+filter_by source shown bytes = filtered_by (rules_over source shown) bytes
+
 -- ---- what words answer over an input and what an image gives
 
 -- a refusal of the words or of the input, whatever the image
@@ -134,6 +197,7 @@ abbrev pub answer_over : Command → Given → Result World Elements → Answer
 answer_over (Changing change) given shown = over (changing (change ∷ []) given.held) shown
 answer_over (Listed listing) given shown = over (listed listing) shown
 answer_over (Showing thing) given shown = over_input (shown_by thing) given.input
+answer_over (Filtering source) given shown = over_input (filter_by source shown) given.input
 answer_over Batch given shown = over_input (λ bytes. of_batch (batch_of bytes) given.held shown) given.input
 
 abbrev pub answer_to : List (List ℕ) → Option Command → Given → Result World Elements → Answer

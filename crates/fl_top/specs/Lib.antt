@@ -7,3 +7,4 @@ pub mod Ends
 pub mod History
 pub mod Input
 pub mod Objects
+pub mod Telling

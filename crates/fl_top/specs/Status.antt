@@ -3,7 +3,7 @@ use Rattle.std.specs.Prelude.{◌≡◌, ◌≤◌, ◌⊎◌, ℕ, Bool, true, 
 use Rattle.fp_small.specs.declared.refusal.Refusal.{Refusal}
 use Rattle.fp_small.specs.declared.refusal.Refusal.TheVariants.{BadWords}
 use Rattle.fl_words.specs.declared.command.Command.{Command}
-use Rattle.fl_words.specs.declared.command.Command.TheVariants.{Change as Changing, List as Listed, Show as Showing, Batch}
+use Rattle.fl_words.specs.declared.command.Command.TheVariants.{Change as Changing, List as Listed, Show as Showing, Filter as Filtering, Batch}
 use Rattle.fl_change.specs.Answer.{Answer}
 
 -- 0 done, 1 refused, 2 no command, 3 a fault of the host, 4 a fault of the remotes, 5 a fault of the input, 6 want of memory
@@ -19,12 +19,14 @@ abbrev pub only_looks : Command → Bool
 only_looks (Changing change) = false
 only_looks (Listed listing) = true
 only_looks (Showing thing) = true
+only_looks (Filtering source) = true
 only_looks Batch = false
 
 abbrev pub reads_input : Command → Bool
 reads_input (Changing change) = false
 reads_input (Listed listing) = false
 reads_input (Showing thing) = true
+reads_input (Filtering source) = true
 reads_input Batch = true
 
 -- what it does may depend on what the remotes hold
@@ -32,6 +34,7 @@ abbrev pub asks_remotes : Command → Bool
 asks_remotes (Changing change) = true
 asks_remotes (Listed listing) = false
 asks_remotes (Showing thing) = false
+asks_remotes (Filtering source) = false
 asks_remotes Batch = true
 
 -- 2 for words that are no command, 1 for every other refusal

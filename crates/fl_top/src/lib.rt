@@ -2,6 +2,7 @@
 #![tactic(auto)]
 
 mod command_end;
+mod filtering;
 mod input;
 pub mod laws;
 mod listing;

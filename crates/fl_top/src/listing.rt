@@ -12,7 +12,8 @@ ghost use Rattle.ost_model.specs.Remotes.{Stores};
 ghost use Rattle.dep_states.specs.After.{row_at};
 ghost use Rattle.dep_states.specs.Shown.{at_name, override_key};
 ghost use Rattle.fl_installed.specs.Described.{info_in as info_of};
-ghost use Rattle.fl_top.specs.Answer.{listed, known_of, told_of, override_text as text_of_override};
+ghost use Rattle.fl_sandbox.specs.Launching.{launch_in as launch_over};
+ghost use Rattle.fl_top.specs.Answer.{listed, known_of, told_of, launched_of, override_text as text_of_override};
 ghost use Rattle.fl_top.specs.Ends.{PrintsOf};
 ghost use Rattle.fl_top.specs.RunsOver.{LooksOver, LookedOver};
 
@@ -20,7 +21,9 @@ use dep_open::read_state;
 use dep_switch::find_ref;
 use fl_change::RunEnd;
 use fl_installed::{Info, info_in};
+use fl_launch::LaunchText;
 use fl_lines::{info_text, pins_text, refs_text, remotes_text};
+use fl_sandbox::launch_in;
 use fl_words::Listing;
 use fp_base::Text;
 use fp_host::Host;
@@ -61,6 +64,9 @@ fn listed_text<H: Host>(
         Listing::Remotes => Ok(remotes_text(alloc, state.remotes.as_slice())?),
         Listing::Pins => Ok(pins_text(alloc, state.pins.as_slice())?),
         Listing::Info(name) => known_text(alloc, host, state, &name),
+        Listing::Launch { name, options } => {
+            launch_text(alloc, host, state, &name, options.as_slice())
+        }
         Listing::OverrideShow { name } => Ok(override_text(alloc, state, &name)?),
     }
 }
@@ -115,6 +121,36 @@ fn told_text(alloc: Global, row: &RefRow, info: Result<Info, Refusal>) -> Result
             info.runtime.as_ref(),
             info.extensions.as_slice(),
         )?),
+        Err(refusal) => Err(RunEnd::Refused(refusal)),
+    }
+}
+
+/// The text of a launch.
+fn launch_text<H: Host>(
+    alloc: Global,
+    host: &mut H,
+    state: &State,
+    name: &RefName,
+    options: &[Text],
+) -> Result<Text, RunEnd>
+    ensures unchanged { Unchanged (H.moments host.old) (H.moments host.new) }
+    ensures tells { (have : Have) → Stores repo (H.moments host.old) have
+        → PrintsOf (launched_of (launch_over have state.now name.now options.now)) result }
+    ensures fault_has_cause { IsCounted (IsErrOf result RunEnd.Fault)
+        (H.moments host.old) (H.faults host.old) (H.faults host.new) }
+    ensures no_remote_fault { IsErrOf result RunEnd.RemoteFault → ⊥ }
+{
+    let launch = launch_in(alloc, host, state, name, options)?;
+    launched_text(launch)
+}
+
+/// The text of a launch that was worked out.
+fn launched_text(launch: Result<LaunchText, Refusal>) -> Result<Text, RunEnd>
+    ensures tells { PrintsOf (launched_of launch) result }
+    ensures no_fault { IsErrOf result RunEnd.Fault → ⊥ }
+{
+    match launch {
+        Ok(LaunchText { text, .. }) => Ok(text),
         Err(refusal) => Err(RunEnd::Refused(refusal)),
     }
 }

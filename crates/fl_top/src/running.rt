@@ -7,7 +7,7 @@ ghost use Rattle.fp_host.specs.Remote.{Holdings};
 ghost use Rattle.fp_small.specs.declared.refusal.Refusal.TheVariants.{BadWords};
 ghost use Rattle.fl_lines.specs.Lines.{refusal_text};
 ghost use Rattle.fl_words.specs.Forms.{command_of};
-ghost use Rattle.fl_words.specs.declared.command.Command.TheVariants.{Show as Showing, Batch};
+ghost use Rattle.fl_words.specs.declared.command.Command.TheVariants.{Show as Showing, Filter as Filtering, Batch};
 ghost use Rattle.fl_change.specs.Says.{Says, SaidBy, Refuses};
 ghost use Rattle.fl_change.specs.Turns.{changing, MayDo};
 ghost use Rattle.fl_top.specs.Asked.{OpsBy, OpsFor, AreToldFor, AsksRemotes};
@@ -16,13 +16,14 @@ ghost use Rattle.fl_top.specs.Runs.{RunsBy, RanBy, told, WasTaken, IsReady, Serv
 ghost use Rattle.fl_top.specs.Status.{IsStatus, IsOfWords, IsOfCommand, only_looks, reads_input};
 
 use crate::command_end::CommandEnd;
+use crate::filtering::filter_bytes;
 use crate::input::read_input;
 use crate::listing::list;
 use crate::showing::shown_text;
 use dep_open::open;
 use fl_change::{RunEnd, change_all};
 use fl_lines::refusal_line;
-use fl_words::{Change, Command, Shown, WordsError, read_batch, read_words};
+use fl_words::{Change, Command, PolicySource, Shown, WordsError, read_batch, read_words};
 use fp_base::Text;
 use fp_host::{Host, HostEnd, Remotes, Source};
 use fp_small::Refusal;
@@ -132,6 +133,7 @@ fn perform<H: Host, R: Remotes, I: Source>(
         Command::Change(change) => Ok(make_changes(alloc, host, remotes, &[change])?),
         Command::List(listing) => Ok(list(alloc, host, listing)?),
         Command::Show(thing) => show(alloc, input, host, &thing),
+        Command::Filter(source) => filter(alloc, input, host, &source),
         Command::Batch => batch(alloc, input, host, remotes),
     }
 }
@@ -158,6 +160,29 @@ fn show<H: Host, I: Source>(
     let given = read_input(alloc, input)?;
     let text = shown_text(alloc, thing, given.as_slice())?;
     Ok(say(host, text.as_str().as_bytes())?)
+}
+
+/// Prints what the rules of a source forward of the recording that the input is.
+fn filter<H: Host, I: Source>(
+    alloc: Global,
+    input: &mut I,
+    host: &mut H,
+    source: &PolicySource,
+) -> Result<(), CommandEnd>
+    ensures any_moment { (holds : Option Holdings) → Goes (H.moments host.old) (H.moments host.new)
+        (RunsOn (Filtering source.now) (told (I.left input.old) holds))
+        (EndedOn (Filtering source.now) (told (I.left input.old) holds) result) }
+    ensures fault_has_cause { IsCounted (IsErrOf result CommandEnd.Fault)
+        (H.moments host.old) (H.faults host.old) (H.faults host.new) }
+    ensures no_remote_fault { IsErrOf result CommandEnd.RemoteFault → ⊥ }
+    ensures input { IsErrOf result CommandEnd.InputFault → Rose
+        (I.faults input.old) (I.faults input.new) × Unchanged
+        (H.moments host.old) (H.moments host.new) }
+    ensures taken { TakenBy result (I.left input.old) (I.left input.new) }
+    ensures later { I.faults input.old ≤ I.faults input.new }
+{
+    let bytes = read_input(alloc, input)?;
+    Ok(filter_bytes(alloc, host, source, bytes.as_slice())?)
 }
 
 /// Reads the changes that the input asks for, and makes them one after another.

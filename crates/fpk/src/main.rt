@@ -4,13 +4,13 @@
 ghost use Rattle.std.specs.Prelude.{◌≡◌};
 
 use fl_top::run;
-use fl_words::{batch_reason, reason};
-use fp_realhost::{DirRemotes, HostDir, StdinSource, SystemError};
-use std::alloc::Global;
+use fl_words::{WordsError, batch_reason, read_words, reason};
+use fp_realhost::{Access, DirRemotes, HostDir, Screen, StdinSource, System, SystemError};
+use std::alloc::{AllocError, Global};
 use std::env::{self, VarError};
 use std::io::{self, ErrorKind, Input};
 use std::process::ExitCode;
-use std::rt::{Env, Files};
+use std::rt::Env;
 use std::thread::Threads;
 
 /// What fpk takes.
@@ -26,15 +26,21 @@ fpk update REF               updates one ref
 fpk uninstall REF            takes a ref away
 fpk uninstall --unused       takes the runtimes away that nothing needs
 fpk rollback REF             puts a ref back to the commit that it was at before
+fpk override OPTION..        changes what all applications are permitted
+fpk override OPTION.. ID     changes what an application is permitted
 fpk override --reset         takes the override for all applications away
 fpk override --reset ID      takes an application's override away
 fpk batch                    does the commands of standard input, one a line
 fpk list                     prints the installed refs, each with its commit and its remote
 fpk info REF                 prints what is known of an installed ref
+fpk launch APP OPTION..      prints the sandbox of an application, with all that it is granted
 fpk override --show          prints the override for all applications
 fpk override --show ID       prints an application's override
 fpk list --pins              prints the patterns that are pinned
 fpk list --remotes           prints the remotes
+fpk filter RULE..            prints what the bus filter forwards of a recording
+fpk filter --from=APP        the same by what an application's launch grants on the session bus
+fpk filter --system --from=APP  the same on the system bus
 fpk show commit              prints what a commit says
 fpk show dirtree             prints the names in a dirtree
 fpk show dirmeta             prints the mode of a dirmeta
@@ -42,8 +48,13 @@ fpk show value TYPE          prints the size of a value of a type
 fpk --help                   prints this
 fpk --version                prints the version
 
-A REF is KIND/ID/ARCH/BRANCH, where KIND is app or runtime. In a PATTERN * may stand for each of the others.
-What show prints is read from standard input: an object of OSTree, or the normal form of a value of GVariant.
+A REF is KIND/ID/ARCH/BRANCH, where KIND is app or runtime; an APP is one of an application. In a PATTERN * may stand for
+each of the others. An OPTION is --share=X, --unshare=X, --socket=X, --nosocket=X, --device=X, --nodevice=X, --allow=X,
+--disallow=X, --filesystem=X, --nofilesystem=X, --persist=X, --env=VAR=VALUE, --talk-name=N, --own-name=N, --no-talk-name=N,
+--system-talk-name=N, --system-own-name=N or --system-no-talk-name=N; launch takes --command=X too. A RULE is --see=N,
+--talk=N, --own=N, --call=N=RULE or --broadcast=N=RULE, where N is a name on the bus, or ends in .* for all below it.
+What show prints is read from standard input: an object of OSTree, or the normal form of a value of GVariant. A recording is
+read from there too.
 The installation is the folder that FPK_INSTALLATION names, else the folder `installation` here.
 ";
 
@@ -52,10 +63,7 @@ fn main(rt: HostRuntime) -> ExitCode {
 }
 
 /// The words after the program's name are run, but for `--help` and `--version`.
-fn start(
-    rt: &(impl Env + Files + Print + Eprint + Input + AllocGlobal + Threads + Sync),
-    alloc: Global,
-) -> u8 {
+fn start(rt: &(impl System + Env + Print + Input + Threads + Sync), alloc: Global) -> u8 {
     let words = match words_of(rt, alloc) {
         Ok(words) => words,
         Err(error) => {
@@ -103,23 +111,33 @@ fn words_of(rt: &(impl Env + AllocGlobal), alloc: Global) -> io::Result<Vec<Stri
 
 /// Runs the words on this folder.
 fn run_on(
-    rt: &(impl Files + Print + Eprint + Input + AllocGlobal + Threads + Sync),
+    rt: &(impl System + Print + Input + Threads + Sync),
     alloc: Global,
     folder: &str,
     words: &[String],
 ) -> u8 {
-    let Ok(mut host) = HostDir::new(rt, alloc, folder) else {
+    let Ok(access) = access_of(alloc, words) else {
         return out_of_memory(rt);
     };
+    let screen = Screen::new(rt, alloc, rt.prints_to_terminal());
+    match HostDir::new(rt, &screen, alloc, folder, access) {
+        Ok(mut host) => run_over(rt, alloc, &mut host, words),
+        Err(_) => out_of_memory(rt),
+    }
+}
+
+/// Runs the words on this host, and says why the status is not 0.
+fn run_over<R: System + Input + Threads + Sync, O: Print>(
+    rt: &R,
+    alloc: Global,
+    host: &mut HostDir<'_, R, O>,
+    words: &[String],
+) -> u8 {
     let mut remotes = DirRemotes::new(rt, alloc);
     let mut input = input_of(rt, alloc, words);
-    let status = run(rt, alloc, words, &mut input, &mut host, &mut remotes);
+    let status = run(rt, alloc, words, &mut input, host, &mut remotes);
     match status {
-        1 => {
-            if let Some(bytes) = input.kept() {
-                explain_batch(rt, alloc, bytes);
-            }
-        }
+        1 => explain_batch(rt, alloc, input.kept()),
         2 => explain(rt, alloc, words),
         3 => say_refused(rt, host.last_error()),
         4 => say_refused(rt, remotes.last_error()),
@@ -128,6 +146,15 @@ fn run_on(
         _ => {}
     }
     status
+}
+
+/// What the words open the installation for: what may change it has it alone. Words that are no command change nothing.
+fn access_of(alloc: Global, words: &[String]) -> Result<Access, AllocError> {
+    match read_words(alloc, words) {
+        Ok(command) if command.changes() => Ok(Access::Change),
+        Ok(_) | Err(WordsError::BadWords { index: _ }) => Ok(Access::Look),
+        Err(WordsError::NoMemory) => Err(AllocError),
+    }
 }
 
 /// The standard input, which is kept where a line of it may have to be explained.
@@ -146,8 +173,11 @@ fn explain(rt: &impl Eprint, alloc: Global, words: &[String]) {
     }
 }
 
-/// Says on standard error why a line of a batch asks for no change, where there is such a line.
-fn explain_batch(rt: &impl Eprint, alloc: Global, bytes: &[u8]) {
+/// Says on standard error why a line of a batch asks for no change, where the batch was kept and there is such a line.
+fn explain_batch(rt: &impl Eprint, alloc: Global, kept: Option<&[u8]>) {
+    let Some(bytes) = kept else {
+        return;
+    };
     match batch_reason(alloc, bytes) {
         Ok(Some(text)) => say(rt, text.as_str()),
         Ok(None) => {}

@@ -1,14 +1,17 @@
-use Rattle.std.proofs.Common.{refl, sym, subst}
+use Rattle.std.proofs.Common.{List, ℕ, refl, sym, subst}
 use Rattle.fp_small.specs.declared.op.Op.TheVariants as ops
 use Rattle.fp_small.specs.declared.state.State.{State}
 use Rattle.fl_words.specs.declared.command.Change.{Change}
 use Rattle.fl_words.specs.declared.command.Change.TheVariants as changes
 use Rattle.ost_walk.specs.Ends.{outside}
 use Rattle.fl_change.specs.Answer.{op_answer, unless}
-use Rattle.fl_change.specs.Performs.{Acts, Rests}
+use Rattle.fl_change.specs.Performs.{Acts, Rests, Just}
 use Rattle.fl_change.specs.Ends.{IsAsked}
 use Rattle.fl_change.specs.Settings.{add_pin_refusal, drop_pin_refusal, add_remote_refusal, remote_refusal, drop_remote_refusal}
+use Rattle.fl_change.specs.Overrides.{changed_row, long_refusal}
+use Rattle.fl_change.specs.Refs.{reset_over}
 use Rattle.fl_change.specs.Turns.{change_over, OpsOf}
+use Rattle.fl_change.proofs.Working.{works_to}
 use Rattle.fl_change.proofs.Acting.{acts_same}
 use Rattle.fl_change.proofs.change.do_change.Goals as goal
 
@@ -31,7 +34,7 @@ pub returns-in-Rollback-clause-acts : goal.returns-in-Rollback-clause-acts
 returns-in-Rollback-clause-acts g c = subst (λ (x : Change). Acts (Rests c.args.opened) (OpsOf x) (change_over x) c.args.opened c.roll_back.result (outside (g.H.Host.moments c.args.host.now) (g.H.Host.faults c.args.host.now) (g.R.Remotes.holds c.args.remotes.now) (g.R.Remotes.faults c.args.remotes.now)) (outside (g.H.Host.moments c.roll_back.new.host) (g.H.Host.faults c.roll_back.new.host) (g.R.Remotes.holds c.roll_back.new.remotes) (g.R.Remotes.faults c.roll_back.new.remotes))) (sym c.in-Rollback.is) c.roll_back.ensures.acts
 
 pub returns-in-OverrideReset-clause-acts : goal.returns-in-OverrideReset-clause-acts
-returns-in-OverrideReset-clause-acts g c = subst (λ (x : Change). Acts (Rests c.args.opened) (OpsOf x) (change_over x) c.args.opened c.reset.result (outside (g.H.Host.moments c.args.host.now) (g.H.Host.faults c.args.host.now) (g.R.Remotes.holds c.args.remotes.now) (g.R.Remotes.faults c.args.remotes.now)) (outside (g.H.Host.moments c.reset.new.host) (g.H.Host.faults c.reset.new.host) (g.R.Remotes.holds c.reset.new.remotes) (g.R.Remotes.faults c.reset.new.remotes))) (sym c.in-OverrideReset.is) c.reset.ensures.acts
+returns-in-OverrideReset-clause-acts g c = subst (λ (x : Change). Acts (Rests c.args.opened) (OpsOf x) (change_over x) c.args.opened c.reset.result (outside (g.H.Host.moments c.args.host.now) (g.H.Host.faults c.args.host.now) (g.R.Remotes.holds c.args.remotes.now) (g.R.Remotes.faults c.args.remotes.now)) (outside (g.H.Host.moments c.reset.new.host) (g.H.Host.faults c.reset.new.host) (g.R.Remotes.holds c.reset.new.remotes) (g.R.Remotes.faults c.reset.new.remotes))) (sym c.in-OverrideReset.is) (subst (λ (n : List ℕ). Acts (Rests c.args.opened) (Just (ops.DropOverride n)) (reset_over n) c.args.opened c.reset.result (outside (g.H.Host.moments c.args.host.now) (g.H.Host.faults c.args.host.now) (g.R.Remotes.holds c.args.remotes.now) (g.R.Remotes.faults c.args.remotes.now)) (outside (g.H.Host.moments c.reset.new.host) (g.H.Host.faults c.reset.new.host) (g.R.Remotes.holds c.reset.new.remotes) (g.R.Remotes.faults c.reset.new.remotes))) c.as_text.ensures.text c.reset.ensures.acts)
 
 pub returns-in-Pin-clause-acts : goal.returns-in-Pin-clause-acts
 returns-in-Pin-clause-acts g c =
@@ -52,6 +55,14 @@ pub returns-in-RemoteModify-clause-acts : goal.returns-in-RemoteModify-clause-ac
 returns-in-RemoteModify-clause-acts g c =
     let asked = subst (λ (s : State). IsAsked (remote_refusal s.remotes c.in-RemoteModify.row.name) (ops.ModifyRemote c.in-RemoteModify.row) c.modify_remote-asked.result) c.state-in-RemoteModify.ensures c.modify_remote-asked.ensures.asked in
     subst (λ (x : Change). Acts (Rests c.args.opened) (OpsOf x) (change_over x) c.args.opened c.do_asked-in-RemoteModify.result (outside (g.H.Host.moments c.args.host.now) (g.H.Host.faults c.args.host.now) (g.R.Remotes.holds c.args.remotes.now) (g.R.Remotes.faults c.args.remotes.now)) (outside (g.H.Host.moments c.do_asked-in-RemoteModify.new.host) (g.H.Host.faults c.do_asked-in-RemoteModify.new.host) (g.R.Remotes.holds c.do_asked-in-RemoteModify.new.remotes) (g.R.Remotes.faults c.do_asked-in-RemoteModify.new.remotes))) (sym c.in-RemoteModify.is) (acts_same (change_over (changes.RemoteModify c.in-RemoteModify.row)) (λ held x. unless (remote_refusal c.args.opened.remotes c.in-RemoteModify.row.name) (op_answer (ops.ModifyRemote c.in-RemoteModify.row))) (λ x first held known rests. refl) (c.do_asked-in-RemoteModify.ensures.acts (remote_refusal c.args.opened.remotes c.in-RemoteModify.row.name) (ops.ModifyRemote c.in-RemoteModify.row) asked))
+
+pub returns-in-OverrideChange-clause-acts : goal.returns-in-OverrideChange-clause-acts
+returns-in-OverrideChange-clause-acts g c =
+    let name = c.in-OverrideChange.name in
+    let options = c.in-OverrideChange.options in
+    let row = changed_row c.args.opened.overrides name options in
+    let asked = subst (λ (s : State). IsAsked (long_refusal (changed_row s.overrides name options)) (ops.SetOverride (changed_row s.overrides name options)) c.change_override-asked.result) c.state-in-OverrideChange.ensures c.change_override-asked.ensures.asked in
+    subst (λ (x : Change). Acts (Rests c.args.opened) (OpsOf x) (change_over x) c.args.opened c.do_asked-in-OverrideChange.result (outside (g.H.Host.moments c.args.host.now) (g.H.Host.faults c.args.host.now) (g.R.Remotes.holds c.args.remotes.now) (g.R.Remotes.faults c.args.remotes.now)) (outside (g.H.Host.moments c.do_asked-in-OverrideChange.new.host) (g.H.Host.faults c.do_asked-in-OverrideChange.new.host) (g.R.Remotes.holds c.do_asked-in-OverrideChange.new.remotes) (g.R.Remotes.faults c.do_asked-in-OverrideChange.new.remotes))) (sym c.in-OverrideChange.is) (works_to (λ op may. (row.file, may)) (acts_same (change_over (changes.OverrideChange name options)) (λ held x. unless (long_refusal row) (op_answer (ops.SetOverride row))) (λ x first held known rests. refl) (c.do_asked-in-OverrideChange.ensures.acts (long_refusal row) (ops.SetOverride row) asked)))
 
 pub returns-in-RemoteDelete-clause-acts : goal.returns-in-RemoteDelete-clause-acts
 returns-in-RemoteDelete-clause-acts g c =

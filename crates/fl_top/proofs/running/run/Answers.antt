@@ -7,7 +7,7 @@ use Rattle.fl_top.specs.Runs.{WasTaken, told, Serves}
 use Rattle.fp_host.specs.Causes.{IsCaused}
 use Rattle.fl_top.specs.Asked.{OpsFor, AreToldFor, AsksRemotes}
 use Rattle.fl_top.proofs.Asked.{not_asked}
-use Rattle.fl_top.proofs.Finishing.{goes_command, goes_no_command, goes_unread, took_nothing}
+use Rattle.fl_top.proofs.Finishing.{goes_command, goes_no_command, goes_unread, took_nothing, starves}
 use Rattle.fl_top.proofs.running.run.Goals as goal
 
 pub returns-in-Ok-clause-any_moment : goal.returns-in-Ok-clause-any_moment
@@ -67,3 +67,6 @@ returns-in-Err-BadWords-clause-remotes g c = not_asked (OpsFor (command_of (map 
 
 pub returns-in-Err-NoMemory-clause-remotes : goal.returns-in-Err-NoMemory-clause-remotes
 returns-in-Err-NoMemory-clause-remotes g c = not_asked (OpsFor (command_of (map string_bytes c.args.words.now)) (g.I.Source.left c.args.input.now)) (6 ≡ 4) (g.R.Remotes.holds c.args.remotes.now) (g.R.Remotes.faults c.args.remotes.now) (λ four. omega (arith, four))
+
+pub returns-in-Err-NoMemory-clause-words : goal.returns-in-Err-NoMemory-clause-words
+returns-in-Err-NoMemory-clause-words g c = starves (command_of (map string_bytes c.args.words.now))

@@ -1,0 +1,47 @@
+//! Laws of what changes of overrides by options answer. Each is the contract of a function that does nothing.
+ghost use Rattle.std.specs.Prelude.{◌≡◌, ◌<◌, ◌≤◌, ℕ, List, [], ◌∷◌, ◌++◌, true, length, codes};
+ghost use Rattle.fp_base.specs.declared.what.What.TheVariants as whats;
+ghost use Rattle.fp_host.specs.Remote.{Holdings};
+ghost use Rattle.fp_keyfile.specs.declared.group.Group.{Group};
+ghost use Rattle.fp_keyfile.specs.KeyFile.{is_good, text_of};
+ghost use Rattle.fp_small.specs.declared.op.Op.TheVariants as ops;
+ghost use Rattle.fp_small.specs.declared.refusal.Refusal.TheVariants as refusals;
+ghost use Rattle.dep_states.specs.Shown.{small_most};
+ghost use Rattle.fl_meta.specs.declared.mentions.Source.TheVariants as sources;
+ghost use Rattle.fl_meta.specs.declared.permission.Permission.{Permission};
+ghost use Rattle.fl_meta.specs.Mentions.{file_mentions};
+ghost use Rattle.fl_context.specs.Grants.{last_mention};
+ghost use Rattle.fl_options.specs.Options.{layer_of};
+ghost use Rattle.fl_words.specs.declared.command.Change.TheVariants as changes;
+ghost use Rattle.fl_change.specs.World.{World};
+ghost use Rattle.fl_change.specs.Answer.{op_answer, refusal_answer};
+ghost use Rattle.fl_change.specs.Overrides.{changed_file, changed_row};
+ghost use Rattle.fl_change.specs.Turns.{change_over};
+
+/// An override is changed by options, unless its text had more than 1 MiB then.
+pub fn changed_overrides_answer()
+    ensures limit { (held : Holdings) (x : World) (name : List ℕ) (options : List (List ℕ))
+        → small_most < length (text_of (changed_row x.state.overrides name options).file)
+        → change_over (changes.OverrideChange name options) held x
+        ≡ refusal_answer (refusals.Limit whats.Override
+        (length (text_of (changed_row x.state.overrides name options).file))) }
+    ensures done { (held : Holdings) (x : World) (name : List ℕ) (options : List (List ℕ))
+        → length (text_of (changed_row x.state.overrides name options).file) ≤ small_most
+        → change_over (changes.OverrideChange name options) held x
+        ≡ op_answer (ops.SetOverride (changed_row x.state.overrides name options)) }
+{}
+
+/// A changed override reads back, of each permission, as the last mention of the old one and the options joined.
+pub fn changed_overrides_have_the_last()
+    ensures { (file : List Group) (options : List (List ℕ)) (p : Permission) → is_good file ≡ true
+        → last_mention (file_mentions sources.Override (changed_file file options)) p
+        ≡ last_mention (file_mentions sources.Override file ++ layer_of options) p }
+{}
+
+/// Options make an override where there is none, and the last one decides.
+pub fn sample_options_make_overrides()
+    ensures denied { text_of (changed_file [] (codes "--unshare=network" ∷ []))
+        ≡ codes "[Context]\nshared=!network;\n" }
+    ensures last { text_of (changed_file [] (codes "--env=A=1" ∷ codes "--env=A=2" ∷ []))
+        ≡ codes "[Environment]\nA=2\n" }
+{}

@@ -1,0 +1,292 @@
+-- A command that forwards what its input records.
+use Rattle.std.proofs.Common.{◌≡◌, inl, inr, ℕ, List, [], ◌∷◌, ◌++◌, map, Option, Result, Ok, Err, refl, sym, ◌∙◌, ap, subst, append_assoc}
+use Rattle.std.specs.List.{concat}
+use Rattle.std.specs.Prelude.{IsErrAnd}
+use Rattle.std.proofs.lemmas.Bool.{false≢true}
+use Rattle.std.proofs.lemmas.List.{map-append}
+use Rattle.fp_host.specs.Paths.{Elements}
+use Rattle.fp_host.specs.Remote.{Holdings}
+use Rattle.fp_host.specs.View.{View}
+use Rattle.fp_host.specs.Frame.{Observes}
+use Rattle.fp_host.specs.Outcome.{Disk, Follows, Nothing, shows}
+use Rattle.fp_host.specs.Moments.{Moments, Goes}
+use Rattle.fp_host.proofs.Follow.{follows_say}
+use Rattle.fp_host.proofs.Framed.{IsTold}
+use Rattle.fp_host.proofs.Goes.{begins, stays, goes_on}
+use Rattle.fp_small.specs.declared.refusal.Refusal.{Refusal}
+use Rattle.dep_states.specs.Shown.{Shows}
+use Rattle.dep_states.specs.After.{Done, after_all}
+use Rattle.bus_stream.specs.declared.recording.Recording.{Recording}
+use Rattle.bus_stream.specs.Recordings.{recording_of}
+use Rattle.bus_policy.specs.declared.policy.PolicyRule.{PolicyRule}
+use Rattle.fl_filter.specs.Filtered.{Filtered, filtered}
+use Rattle.fl_filter.specs.Printed.{with_lines, PrintsFirst, Printed}
+use Rattle.fl_filter.specs.declared.end.FilterEnd.{FilterEnd}
+use Rattle.fl_filter.specs.declared.end.FilterEnd.TheVariants as filter
+use Rattle.fl_words.specs.declared.command.Command.{Command}
+use Rattle.fl_words.specs.declared.command.Command.TheVariants.{Filter as Filtering}
+use Rattle.fl_words.specs.declared.command.PolicySource.{PolicySource}
+use Rattle.fl_change.specs.World.{World}
+use Rattle.fl_change.specs.Answer.{Answer, Piece, joined, ops_in, ops_of, set_config, refusal_answer, last_of}
+use Rattle.fl_change.specs.Changes.{IsUntouched}
+use Rattle.fl_change.specs.Performs.{Printed as SaysPieces}
+use Rattle.fl_change.specs.declared.end.RunEnd.{RunEnd}
+use Rattle.fl_change.specs.declared.end.RunEnd.TheVariants as run
+use Rattle.fl_change.proofs.Changing.{tidied_none, same_untouched, change_untouched}
+use Rattle.fl_change.proofs.Same.{same_shown, same_settled}
+use Rattle.fl_change.proofs.Working.{is_err}
+use Rattle.fl_top.specs.Answer.{Given, piece_of, forwarding, rules_over, by_rules, of_recording, filtered_by, filter_by, answer_over, IsOver}
+use Rattle.fl_top.specs.Ends.{end_of_run}
+use Rattle.fl_top.specs.Input.{IsWhole}
+use Rattle.fl_top.specs.Runs.{IsPrefix, IsJust, Runs, Stands, Told, IsGivenTo}
+use Rattle.fl_top.specs.RunsOver.{Completes, Ended, RunsOn, EndedOn, Closed, IsGivenBy, IsClosedBy}
+use Rattle.fl_top.specs.Telling.{Tells, IsRecording, IsFound, Finds, LooksBy, LookedBy, end_of_filter}
+use Rattle.fl_top.specs.declared.command_end.CommandEnd.{CommandEnd}
+use Rattle.fl_top.proofs.Over.{Counts, counts_constant, over_given, over_same, counts_same}
+use Rattle.fl_top.proofs.Starting.{begun, unchanged, stood, refused_at_once, shows_before}
+use Rattle.fl_top.proofs.Finishing.{is_end, closed, given_by, ByInput, read_is}
+
+-- ---- lines as pieces
+
+ops_none : (lines : List (List ℕ)) → ops_in (map piece_of lines) ≡ []
+ops_none [] = refl
+ops_none (line ∷ lines) = ops_none lines
+
+joined_is : (lines : List (List ℕ)) → concat lines ≡ joined (map piece_of lines)
+joined_is [] = refl
+joined_is (line ∷ lines) = ap (λ (l : List ℕ). line ++ l) (joined_is lines)
+
+-- ---- views with lines printed
+
+untouched_by : (said : List (List ℕ)) {u w : View} → w ≡ with_lines said u → IsUntouched u w
+untouched_by said {u = u} is = subst (IsUntouched u) (sym is) (record { names = λ q. refl; earlier = λ q. refl; files = λ id. refl; dirty = λ id. refl })
+
+follows_by : (said : List (List ℕ)) {u w : View} → w ≡ with_lines said u → Follows Nothing u w
+follows_by said {u = u} is = subst (Follows Nothing u) (sym is) (follows_say u (u.printed ++ concat said))
+
+seen_by : (said : List (List ℕ)) (u w : View) → w ≡ with_lines said u → (q : Elements) → shows w q ≡ shows u q
+seen_by said u w is = subst (λ (x : View). (q : Elements) → shows x q ≡ shows u q) (sym is) (λ q. refl)
+
+printed_by : (said : List (List ℕ)) (u w : View) → w ≡ with_lines said u → w.printed ≡ u.printed ++ joined (map piece_of said)
+printed_by said u w is = ap (λ (x : View). x.printed) is ∙ ap (λ (l : List ℕ). u.printed ++ l) (joined_is said)
+
+-- ---- the answer of lines
+
+module _ (f : Filtered) where
+  abbrev a : Answer
+  a = forwarding f
+
+  so_far : (u w : View) → (p : PrintsFirst f.lines u w) → SaysPieces a (map piece_of p.said) u w
+  so_far u w p = record {
+    left = map piece_of p.left ++ last_of f.refusal;
+    pieces =
+        ap (λ (l : List (List ℕ)). map piece_of l ++ last_of f.refusal) p.first
+        ∙ ap (λ (l : List Piece). l ++ last_of f.refusal) (map-append piece_of p.said p.left)
+        ∙ append_assoc (map piece_of p.said) (map piece_of p.left) (last_of f.refusal);
+    printed = printed_by p.said u w p.is;
+  }
+
+  runs_first : {u w : View} → PrintsFirst f.lines u w → Runs a u w
+  runs_first {u = u} {w = w} p = record {
+    said = map piece_of p.said;
+    so_far = so_far u w p;
+    prefix = λ sound disk left.
+        let just = shows_before (follows_by p.said p.is) sound disk left in
+        subst (λ (ops : List Done). IsPrefix a ops u disk) (sym (ops_none p.said)) (record { done = []; undone = ops_of a; prefix = refl; more = []; holds = refl; shown = just.shown; sound = just.sound });
+    only_tidied = λ none s at. tidied_none (untouched_by p.said p.is).names;
+    untouched = λ why. untouched_by p.said p.is;
+  }
+
+  stands_first : {u w : View} → PrintsFirst f.lines u w → Stands a u w
+  stands_first {u = u} {w = w} p = record {
+    said = map piece_of p.said;
+    so_far = so_far u w p;
+    just = λ sound disk left. subst (λ (ops : List Done). IsJust ops u disk) (sym (ops_none p.said)) (shows_before (follows_by p.said p.is) sound disk left);
+  }
+
+  completes_all : {u w : View} → w ≡ with_lines f.lines u → Completes a u w
+  completes_all {u = u} {w = w} is = record {
+    printed = printed_by f.lines u w is;
+    just = λ sound disk left. subst (λ (ops : List Done). IsJust ops u disk) (sym (ops_none f.lines)) (shows_before (follows_by f.lines is) sound disk left);
+    shown = λ sound s at. subst (λ (ops : List Done). Shows (shows w) (after_all s ops)) (sym (ops_none f.lines)) (same_shown (seen_by f.lines u w is) at);
+    tidied = λ sound why. elim why [ inl settled ↦ same_settled (seen_by f.lines u w is) settled | inr some ↦ absurd (some (ops_none f.lines)) ];
+    text = λ some s at. absurd (false≢true (sym (ap set_config (ops_none f.lines)) ∙ some));
+  }
+
+  -- the end of a filter, as one of a run
+  abbrev pub ended_as : Result (Unit {0}) FilterEnd → Result (Unit {0}) RunEnd
+  ended_as (Ok t) = Ok t
+  ended_as (Err e) = Err (end_of_filter e)
+
+  ended : (r : Result (Unit {0}) FilterEnd) (u w : View) → Printed f r u w → Ended a (ended_as r) u w
+  ended (Ok t) u w p = (p.0, completes_all p.1)
+  ended (Err (filter.Refused refusal)) u w p = (p.0, completes_all p.1)
+  ended (Err filter.Fault) u w p = tt
+  ended (Err filter.NoMemory) u w p = stands_first p
+
+  pub goes_forwarded : {m n : Option Moments} (r : Result (Unit {0}) FilterEnd) → IsTold m → Goes m n (PrintsFirst f.lines) (Printed f r) → Goes m n (Tells a) (Ended a (ended_as r))
+  goes_forwarded r told goes = begins told goes (λ u w t p. record { runs = runs_first p; untouched = untouched_by p.said p.is }) (λ u w t p q. ended r u w q)
+
+-- ---- what is found over the image
+
+-- what a call found, by its clause
+abbrev pub Looking : {A : Type 0} → (Result World Elements → Result A Refusal) → Result A RunEnd → Option Moments → Option Moments → Type 0
+Looking by r a b = Observes (λ v. Finds by r (shows v)) a b
+
+found_is : {A : Type 0} (by : Result World Elements → A) (to : A → Answer) (found : A) (disk : Disk) (shown : Result World Elements) → IsFound by found disk → IsOver (λ x. to (by x)) disk shown → to (by shown) ≡ to found
+found_is by to found disk shown is counts = elim is [
+  | inl at ↦ over_given (λ x. to (by x)) disk shown at.0 at.1 counts ∙ ap to at.2
+  | inr always ↦ ap to (always shown)
+]
+
+found_counts : {A : Type 0} (by : Result World Elements → A) (to : A → Answer) (found : A) (disk : Disk) → IsFound by found disk → Counts (λ x. to (by x)) disk
+found_counts by to found disk is = elim is [
+  | inl at ↦ (at.0, inl at.1)
+  | inr always ↦ counts_constant (λ x. to (by x)) disk (λ shown other. ap to (always other ∙ sym (always shown)))
+]
+
+-- ---- nothing is printed yet
+
+looks_none : (by : Result World Elements → Answer) (u : View) → LooksBy by u u
+looks_none by u = record { runs = λ shown counts. begun (by shown) unchanged (λ why. same_untouched refl); untouched = same_untouched refl }
+
+looks_same : (by : Result World Elements → Answer) {u w : View} → w ≡ u → LooksBy by u w
+looks_same by {u = u} same = subst (LooksBy by u) (sym same) (looks_none by u)
+
+halted : (by : Result World Elements → Answer) (u : View) → LookedBy by (Err run.NoMemory) u u
+halted by u = record { ended = λ shown counts. stood (by shown) unchanged; given = λ why. absurd why }
+
+refused : (by : Result World Elements → Answer) (refusal : Refusal) (u : View) → ((shown : Result World Elements) → IsOver by (shows u) shown → by shown ≡ refusal_answer refusal) → Counts by (shows u) → LookedBy by (Err (run.Refused refusal)) u u
+refused by refusal u is counts = record {
+  ended = λ shown over. subst (λ (x : Answer). Ended x (Err (run.Refused refusal)) u u) (sym (is shown over)) (refl, refused_at_once refusal u);
+  given = λ why. counts;
+}
+
+-- ---- the recording isn't one
+
+abbrev pub answers : PolicySource → List ℕ → Result World Elements → Answer
+answers source bytes shown = filter_by source shown bytes
+
+unread_is : (source : PolicySource) (bytes : List ℕ) (refusal : Refusal) → IsRecording (recording_of bytes) (Err (run.Refused refusal)) → (shown : Result World Elements) → answers source bytes shown ≡ refusal_answer refusal
+unfolding filtered_by
+unread_is source bytes refusal read shown = ap (of_recording (rules_over source shown)) read.1 ∙ ap refusal_answer (sym read.2)
+
+unread : (source : PolicySource) (bytes : List ℕ) (e : RunEnd) → IsRecording (recording_of bytes) (Err e) → (u : View) → LookedBy (answers source bytes) (Err e) u u
+unread source bytes (run.Refused refusal) read u =
+    let all = unread_is source bytes refusal read in
+    refused (answers source bytes) refusal u (λ shown over. all shown) (counts_constant (answers source bytes) (shows u) (λ shown other. all other ∙ sym (all shown)))
+unread source bytes run.Fault read u = absurd read
+unread source bytes run.RemoteFault read u = absurd read
+unread source bytes run.NoMemory read u = halted (answers source bytes) u
+
+pub goes_unread : {m : Option Moments} (source : PolicySource) (bytes : List ℕ) (e : RunEnd) (r : Result (Unit {0}) RunEnd) → IsTold m → IsRecording (recording_of bytes) (Err e) → IsErrAnd r (λ x. x ≡ e)
+    → Goes m m (LooksBy (answers source bytes)) (LookedBy (answers source bytes) r)
+goes_unread {m = m} source bytes e r told read err =
+    subst (λ (x : Result (Unit {0}) RunEnd). Goes m m (LooksBy (answers source bytes)) (LookedBy (answers source bytes) x)) (sym (is_err r e err))
+    (stays told (λ u. looks_none (answers source bytes) u) (λ u t. unread source bytes e read u))
+
+-- ---- it is one
+
+module _ (source : PolicySource) (bytes : List ℕ) (recording : Recording) (read : recording_of bytes ≡ Ok recording) where
+  abbrev by : Result World Elements → Answer
+  by = answers source bytes
+
+  abbrev to : Result (List PolicyRule) Refusal → Answer
+  to rules = filtered_by rules bytes
+
+  to_is : (rules : Result (List PolicyRule) Refusal) → to rules ≡ by_rules recording rules
+  unfolding filtered_by
+  to_is rules = ap (of_recording rules) read
+
+  -- the rules weren't found
+  no_rules : (e : RunEnd) {u w : View} → w ≡ u → Finds (rules_over source) (Err e) (shows u) → LookedBy by (Err e) u w
+  no_rules (run.Refused refusal) {u = u} same found =
+      subst (LookedBy by (Err (run.Refused refusal)) u) (sym same)
+      (refused by refusal u (λ shown over. found_is (rules_over source) to (Err refusal) (shows u) shown found over ∙ to_is (Err refusal)) (found_counts (rules_over source) to (Err refusal) (shows u) found))
+  no_rules run.Fault same found = record { ended = λ shown counts. tt; given = λ why. absurd why }
+  no_rules run.RemoteFault same found = absurd found
+  no_rules run.NoMemory {u = u} same found = subst (LookedBy by (Err run.NoMemory) u) (sym same) (halted by u)
+
+  pub goes_unfound : {a b : Option Moments} (e : RunEnd) (r : Result (Unit {0}) RunEnd) → IsTold a → Looking (rules_over source) (Err e) a b → IsErrAnd r (λ x. x ≡ e) → Goes a b (LooksBy by) (LookedBy by r)
+  goes_unfound {a = a} {b = b} e r told looking err =
+      subst (λ (x : Result (Unit {0}) RunEnd). Goes a b (LooksBy by) (LookedBy by x)) (sym (is_err r e err))
+      (begins told looking.goes (λ u w t same. looks_same by same) (λ u w t same q. no_rules e q.0 q.1))
+
+  -- they were
+  module _ (rules : List PolicyRule) where
+    abbrev given : Answer
+    given = forwarding (filtered rules recording)
+
+    answer_is : (u : View) (shown : Result World Elements) → IsFound (rules_over source) (Ok rules) (shows u) → IsOver by (shows u) shown → by shown ≡ given
+    answer_is u shown found counts = found_is (rules_over source) to (Ok rules) (shows u) shown found counts ∙ to_is (Ok rules)
+
+    looks_on : {u v w : View} → v ≡ u → IsFound (rules_over source) (Ok rules) (shows u) → Tells given v w → LooksBy by u w
+    looks_on {u = u} {w = w} same found told =
+        let from : Tells given u w = subst (λ (x : View). Tells given x w) same told in
+        record {
+          runs = λ shown counts. subst (λ (x : Answer). Runs x u w) (sym (answer_is u shown found counts)) from.runs;
+          untouched = from.untouched;
+        }
+
+    looked_on : (r : Result (Unit {0}) RunEnd) {u v w : View} → v ≡ u → IsFound (rules_over source) (Ok rules) (shows u) → Ended given r v w → LookedBy by r u w
+    looked_on r {u = u} {w = w} same found ended =
+        let from : Ended given r u w = subst (λ (x : View). Ended given r x w) same ended in
+        record {
+          ended = λ shown counts. subst (λ (x : Answer). Ended x r u w) (sym (answer_is u shown found counts)) from;
+          given = λ why. found_counts (rules_over source) to (Ok rules) (shows u) found;
+        }
+
+    pub goes_found : {a b c : Option Moments} (r : Result (Unit {0}) RunEnd) → IsTold a → IsTold b → Looking (rules_over source) (Ok rules) a b → Goes b c (Tells given) (Ended given r) → Goes a c (LooksBy by) (LookedBy by r)
+    goes_found r told told_b looking goes =
+        goes_on told_b (begins told looking.goes (λ u w t same. looks_same by same) (λ u w t same q. q)) goes (λ u v w t p q s. looks_on q.0 q.1 s) (λ u v w t p q s last. looked_on r q.0 q.1 last)
+
+-- reading a recording asks no host and no remotes
+pub read_no_fault : (bytes : List ℕ) (e : RunEnd) → IsRecording (recording_of bytes) (Err e) → e ≡ run.Fault → ⊥
+read_no_fault bytes (run.Refused refusal) read is = cc is
+read_no_fault bytes run.Fault read is = read
+read_no_fault bytes run.RemoteFault read is = read
+read_no_fault bytes run.NoMemory read is = cc is
+
+pub read_no_remote_fault : (bytes : List ℕ) (e : RunEnd) → IsRecording (recording_of bytes) (Err e) → e ≡ run.RemoteFault → ⊥
+read_no_remote_fault bytes (run.Refused refusal) read is = cc is
+read_no_remote_fault bytes run.Fault read is = read
+read_no_remote_fault bytes run.RemoteFault read is = read
+read_no_remote_fault bytes run.NoMemory read is = cc is
+
+-- ---- the command
+
+abbrev pub by_source : PolicySource → Holdings → Result World Elements → List ℕ → Answer
+by_source source held shown bytes = filter_by source shown bytes
+
+pub source_input : (source : PolicySource) → ByInput (Filtering source) (by_source source)
+source_input source = record { reads = refl; is = λ given shown. refl }
+
+-- the answer to it, whose bytes were read
+abbrev pub IsAnswerTo : Command → Told → (Result World Elements → Answer) → Type 0
+IsAnswerTo command t by = (given : Given) → IsGivenTo command t given → (shown : Result World Elements) → by shown ≡ answer_over command given shown
+
+pub source_answer : (source : PolicySource) (t : Told) (bytes : List ℕ) → IsWhole t.left bytes → IsAnswerTo (Filtering source) t (answers source bytes)
+source_answer source t bytes whole given gave shown = read_is (Filtering source) (by_source source) (source_input source) t bytes whole given gave shown
+
+runs_told : (command : Command) (t : Told) (by : Result World Elements → Answer) → IsAnswerTo command t by → (u w : View) → LooksBy by u w → RunsOn command t u w
+runs_told command t by is u w looks = record {
+  runs = λ given gave shown counts may. subst (λ (x : Answer). Runs x u w) (is given gave shown) (looks.runs shown (over_same by (answer_over command given) (shows u) shown (is given gave) counts));
+  changes = λ known. change_untouched looks.untouched;
+  untouched = λ why. looks.untouched;
+}
+
+ended_told : (command : Command) (t : Told) (by : Result World Elements → Answer) (r : Result (Unit {0}) RunEnd) (s : Result (Unit {0}) CommandEnd) → IsAnswerTo command t by → (u w : View)
+    → ((x : Answer) → Ended x r u w → Closed x s u w) → (IsClosedBy s → IsGivenBy r) → LookedBy by r u w → EndedOn command t s u w
+ended_told command t by r s is u w turned give looked = record {
+  ended = λ given gave shown counts may. subst (λ (x : Answer). Closed x s u w) (is given gave shown) (turned (by shown) (looked.ended shown (over_same by (answer_over command given) (shows u) shown (is given gave) counts)));
+  given = λ given gave why. counts_same (answer_over command given) by (shows u) (λ x. sym (is given gave x)) (looked.given (give why));
+}
+
+pub goes_told : {m n : Option Moments} (command : Command) (t : Told) (by : Result World Elements → Answer) → IsTold m → IsAnswerTo command t by → Goes m n (LooksBy by) (LookedBy by (Ok tt)) → Goes m n (RunsOn command t) (EndedOn command t (Ok tt))
+goes_told command t by told is goes = begins told goes (λ u w tree p. runs_told command t by is u w p) (λ u w tree p q. ended_told command t by (Ok tt) (Ok tt) is u w (λ x e. e) (λ why. why) q)
+
+pub goes_not_told : {m n : Option Moments} (command : Command) (t : Told) (by : Result World Elements → Answer) (e : RunEnd) (s : Result (Unit {0}) CommandEnd) → IsTold m → IsAnswerTo command t by → IsErrAnd s (λ end. end ≡ end_of_run e)
+    → Goes m n (LooksBy by) (LookedBy by (Err e)) → Goes m n (RunsOn command t) (EndedOn command t s)
+goes_not_told {m = m} {n = n} command t by e s told is err goes =
+    subst (λ (x : Result (Unit {0}) CommandEnd). Goes m n (RunsOn command t) (EndedOn command t x)) (sym (is_end s (end_of_run e) err))
+    (begins told goes (λ u w tree p. runs_told command t by is u w p) (λ u w tree p q. ended_told command t by (Err e) (Err (end_of_run e)) is u w (λ x k. closed x e u w k) (given_by e) q))
