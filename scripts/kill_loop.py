@@ -1,18 +1,25 @@
-#!/usr/bin/python3
+#!/usr/bin/env python3
 """Kills `fpk batch` at random moments, and looks at what it leaves.
 
-`kill_loop.py PROGRAM ROUNDS SEED` runs PROGRAM, a built fpk, on a folder of its own: each round gives `batch` a random
-list of commands that all can be done, kills the run by SIGKILL after a random time, and then asks for both lists. They
-must read, and show the installation as it is after the commands whose lines were printed, or after one more. One round
-in four begins anew with an installation of layout 1, which the batch migrates. At the end it prints what it counted; the
-status is 0 where nothing was amiss. A killed process loses nothing that it wrote: what a power cut leaves isn't tried
-here.
+usage: kill_loop.py PROGRAM ROUNDS SEED
+
+PROGRAM is a built fpk, which runs on a folder of its own; Debian's package ostree is needed. `ostree commit` makes a repository with a
+runtime and two applications of several commits each. Each round offers random commits of them, gives `batch` a random list of
+commands that all can be done (pins, remotes, installs, updates, rollbacks, uninstalls), kills the run by SIGKILL after a random time,
+and then asks for all three lists. They must read, and show the installation as it is after the commands whose lines were printed, or
+after one more. Then the folder is read without fpk: each path of each shown commit, and of the one before it, is as `ostree checkout`
+lays it out; each of its files is a hard link of its object; all that stands below `repo/objects` has the digest of its name; and
+`ostree fsck` passes once in ten rounds. One round in eight begins anew with an installation of layout 1, which the batch migrates. At
+the end it prints what it counted; the status is 0 where nothing was amiss. A killed process loses nothing that it wrote: what a power
+cut leaves isn't tried here.
 """
 
 import collections
+import hashlib
 import os
 import random
 import shutil
+import struct
 import subprocess
 import sys
 import tempfile
@@ -20,48 +27,260 @@ import time
 
 NAMES = ["art", "lab", "lux", "x_1", "a.b-c"]
 URLS = ["file:///", "file:///lab", "file:///l?%20"]
-PINS = ["app/*/*/*", "runtime/*/*/*", "runtime/org.x.Platform/*/*", "app/org.x.App/x86_64/stable"]
+RUNTIME = "runtime/org.x.Platform/x86_64/1"
+APPS = ["app/org.x.Ape/x86_64/stable", "app/org.x.Bee/x86_64/stable"]
+PINS = ["app/*/*/*", "runtime/*/*/*", RUNTIME, APPS[0]]
+COMMITS = 3
+FILES = 12
 
 
-def command(rng, pins, remotes):
-    """A command that can be done here; the line that it prints; it is done on the lists."""
-    kind = rng.choice(["pin", "unpin", "add", "modify", "delete"])
-    name, url, pin = rng.choice(NAMES), rng.choice(URLS), rng.choice(PINS)
-    if kind in ("pin", "unpin"):
-        if pin in pins:
-            pins.discard(pin)
-            return f"unpin {pin}", f"unpinned {pin}"
-        pins.add(pin)
-        return f"pin {pin}", f"pinned {pin}"
-    if name not in remotes:
-        remotes[name] = url
-        return f"remote-add {name} {url}", f"remote added {name}"
-    if kind == "delete":
-        del remotes[name]
-        return f"remote-delete {name}", f"remote deleted {name}"
-    remotes[name] = url
-    return f"remote-modify {name} {url}", f"remote modified {name}"
+class Remote:
+    """The repository that `ostree` makes, and what each of its commits has."""
+
+    def __init__(self, folder):
+        self.repo = os.path.join(folder, "hub")
+        self.folder = folder
+        tool("ostree", "init", "--mode=bare-user-only", "--repo", self.repo)
+        self.commits = {ref: [self.commit(ref, n) for n in range(COMMITS)] for ref in [RUNTIME] + APPS}
+        self.trees = {c: self.checkout(c) for commits in self.commits.values() for c in commits}
+        self.offered = {}
+
+    def commit(self, ref, number):
+        """Makes a commit: some files are the same in all of them."""
+        tree = os.path.join(self.folder, "tree")
+        shutil.rmtree(tree, ignore_errors=True)
+        os.makedirs(os.path.join(tree, "files/lib"))
+        name = ref.split("/")[1]
+        text = f"[Runtime]\nname={name}\n"
+        if ref.startswith("app/"):
+            text = f"[Application]\nname={name}\nruntime={RUNTIME.removeprefix('runtime/')}\n"
+        write(os.path.join(tree, "metadata"), text)
+        for place in range(FILES):
+            own = place % 3 == 0
+            write(os.path.join(tree, f"files/lib/{place}"), f"{place} {ref if own else ''} {number if own else ''}\n" * 400)
+        os.chmod(os.path.join(tree, "files/lib/1"), 0o755)
+        os.symlink(f"{number}", os.path.join(tree, "files/lib/link"))
+        words = ("-b", ref, "--subject=", "--timestamp=@5", tree)
+        return tool("ostree", "commit", "--repo", self.repo, *words).strip()
+
+    def checkout(self, commit):
+        """What a commit has at each path, by the real `ostree checkout`."""
+        place = os.path.join(self.folder, "checkout", commit)
+        os.makedirs(os.path.dirname(place), exist_ok=True)
+        tool("ostree", "checkout", "-U", "--repo", self.repo, commit, place)
+        return {path: what for path, (what, _) in entries(place).items()}
+
+    def offer(self, rng):
+        """Offers random commits."""
+        for ref, commits in self.commits.items():
+            self.offered[ref] = rng.choice(commits)
+            write(os.path.join(self.repo, "refs/heads", ref), self.offered[ref] + "\n")
 
 
-def shown(pins, remotes):
-    """What both lists print."""
-    lines = sorted(pins) + [f"{name} {remotes[name]}" for name in sorted(remotes)]
-    return "".join(line + "\n" for line in lines)
+class Model:
+    """What an installation shows: pins, remotes, and for each ref its commit and the one before it."""
+
+    def __init__(self, pins=(), remotes=(), refs=()):
+        self.pins, self.remotes, self.refs = set(pins), dict(remotes), dict(refs)
+
+    def copy(self):
+        return Model(self.pins, self.remotes, self.refs)
+
+    def shown(self):
+        """What the three lists print."""
+        lines = [f"{ref} {self.refs[ref][0]} hub" for ref in sorted(self.refs)] + sorted(self.pins)
+        lines += [f"{name} {self.remotes[name]}" for name in sorted(self.remotes)]
+        return "".join(line + "\n" for line in lines)
+
+    # ---- commands: each gives its words and, for each operation, the line and the model after it
+
+    def command(self, rng, remote):
+        """A command that can be done here."""
+        if "hub" not in self.remotes:
+            return self.add("hub", "file://" + remote.repo)
+        kind = rng.choice(["pin", "remote", "install", "install", "update", "update", "rollback", "uninstall"])
+        return {"pin": self.pin, "remote": self.remote}.get(kind, self.ref)(rng, remote, kind)
+
+    def pin(self, rng, *_):
+        after, pin = self.copy(), rng.choice(PINS)
+        if pin in self.pins:
+            after.pins.discard(pin)
+            return f"unpin {pin}", [(f"unpinned {pin}", after)]
+        after.pins.add(pin)
+        return f"pin {pin}", [(f"pinned {pin}", after)]
+
+    def add(self, name, url):
+        after = self.copy()
+        after.remotes[name] = url
+        return f"remote-add {name} {url}", [(f"remote added {name}", after)]
+
+    def remote(self, rng, *_):
+        after, name, url = self.copy(), rng.choice(NAMES), rng.choice(URLS)
+        if name not in self.remotes:
+            return self.add(name, url)
+        if rng.random() < 0.5:
+            del after.remotes[name]
+            return f"remote-delete {name}", [(f"remote deleted {name}", after)]
+        after.remotes[name] = url
+        return f"remote-modify {name} {url}", [(f"remote modified {name}", after)]
+
+    def ref(self, rng, remote, kind):
+        absent = [ref for ref in [RUNTIME] + APPS if ref not in self.refs]
+        if kind == "install" and absent:
+            return self.install(rng.choice(absent), remote)
+        if kind == "rollback":
+            able = sorted(ref for ref in self.refs if self.refs[ref][1])
+            if able:
+                return self.rollback(rng.choice(able))
+        if kind == "uninstall":
+            return self.uninstall(rng)
+        return self.update(rng, remote)
+
+    def set(self, ref, commit, previous):
+        after = self.copy()
+        after.refs[ref] = (commit, previous)
+        return after
+
+    def install(self, ref, remote):
+        done, model = [], self
+        for one in [RUNTIME, ref] if ref != RUNTIME and RUNTIME not in self.refs else [ref]:
+            model = model.set(one, remote.offered[one], None)
+            done.append((f"installed {one} {remote.offered[one]}", model))
+        return f"install hub {ref}", done
+
+    def update(self, rng, remote):
+        named = rng.choice([None] + sorted(self.refs))
+        done, model = [], self
+        for ref in [named] if named else sorted(self.refs, key=lambda it: (it != RUNTIME, it)):
+            commit = model.refs[ref][0]
+            if commit != remote.offered[ref]:
+                model = model.set(ref, remote.offered[ref], commit)
+                done.append((f"updated {ref} {remote.offered[ref]}", model))
+        return f"update {named}" if named else "update", done
+
+    def rollback(self, ref):
+        commit, previous = self.refs[ref]
+        return f"rollback {ref}", [(f"rolled back {ref} {previous}", self.set(ref, previous, commit))]
+
+    def uninstall(self, rng):
+        apps = [ref for ref in APPS if ref in self.refs]
+        after = self.copy()
+        if apps:
+            ref = rng.choice(apps)
+            del after.refs[ref]
+            return f"uninstall {ref}", [(f"uninstalled {ref}", after)]
+        if RUNTIME not in self.refs or {RUNTIME, "runtime/*/*/*"} & self.pins:
+            return "uninstall --unused", []
+        del after.refs[RUNTIME]
+        return "uninstall --unused", [(f"uninstalled {RUNTIME}", after)]
 
 
-def old_layout(folder, pins, remotes):
+# ---- what is read without fpk
+
+
+def tool(*words):
+    """Runs another program, which has to end with status 0."""
+    done = subprocess.run(words, capture_output=True, text=True, check=False)
+    if done.returncode != 0:
+        sys.exit(f"{' '.join(words)}: {done.stdout}{done.stderr}")
+    return done.stdout
+
+
+def write(path, text):
+    os.makedirs(os.path.dirname(path), exist_ok=True)
+    with open(path, "w", encoding="ascii") as out:
+        out.write(text)
+
+
+def read(path):
+    with open(path, "rb") as it:
+        return it.read()
+
+
+def entries(root):
+    """What stands at each path below a folder, and its inode."""
+    found = {}
+    for folder, folders, names in os.walk(root):
+        for name in folders + names:
+            path = os.path.join(folder, name)
+            stat = os.lstat(path)
+            if os.path.islink(path):
+                what = ("link", os.readlink(path))
+            elif os.path.isdir(path):
+                what = ("folder",)
+            else:
+                what = ("file", stat.st_mode & 0o7777, read(path))
+            found[os.path.relpath(path, root)] = (what, stat.st_ino)
+    return found
+
+
+def digest(name, what):
+    """The digest of an object, as ostree computes it: of a file or a link with a header before its content."""
+    if not name.endswith(".file"):
+        return hashlib.sha256(what[2]).hexdigest()
+    mode, target, content = (0o120777, what[1].encode(), b"") if what[0] == "link" else (0o100000 | what[1], b"", what[2])
+    header = struct.pack(">IIII", 0, 0, mode, 0) + target + b"\0"
+    header += bytes([len(header)])
+    return hashlib.sha256(struct.pack(">II", len(header), 0) + header + content).hexdigest()
+
+
+def previous_of(deploy, commits):
+    """The commits that a file `deploy` names."""
+    return [commit for commit in commits if commit.encode() in deploy]
+
+
+def amiss(installation, model, remote):
+    """What isn't whole in the folder of an installation; None where all is."""
+    objects = entries(os.path.join(installation, "repo/objects"))
+    inodes = set()
+    for path, (what, inode) in objects.items():
+        if what[0] != "folder":
+            inodes.add(inode)
+            if digest(path, what) != path.replace("/", "").rpartition(".")[0]:
+                return f"{path} has another digest"
+    for ref, (commit, previous) in model.refs.items():
+        home = os.path.join(installation, ref)
+        if os.readlink(os.path.join(home, "active")) != commit:
+            return f"{ref} isn't at {commit}"
+        named = set(previous_of(read(os.path.join(home, commit, "deploy")), remote.commits[ref]))
+        if named != {commit, previous or commit}:
+            return f"{ref}: deploy names {sorted(named)}"
+        for one in named:
+            text = amiss_commit(os.path.join(home, one), remote.trees[one], inodes)
+            if text:
+                return f"{ref} at {one}: {text}"
+    return None
+
+
+def amiss_commit(folder, tree, inodes):
+    """What isn't as in the commit with these paths."""
+    found = entries(folder)
+    found.pop("deploy", None)
+    if found.keys() != tree.keys():
+        return f"paths {sorted(found.keys() ^ tree.keys())}"
+    for path, (what, inode) in found.items():
+        if what != tree[path]:
+            return f"{path} is another"
+        if what[0] == "file" and inode not in inodes:
+            return f"{path} is no link of the store"
+    return None
+
+
+# ---- rounds
+
+
+def old_layout(folder, model):
     """Makes the folder an installation of layout 1."""
     shutil.rmtree(folder, ignore_errors=True)
     os.mkdir(folder)
-    with open(os.path.join(folder, "remotes.conf"), "w", encoding="ascii") as out:
-        for name in sorted(remotes):
-            out.write(f'[remote "{name}"]\nurl={remotes[name]}\n')
-    with open(os.path.join(folder, "pins"), "w", encoding="ascii") as out:
-        out.writelines(pin + "\n" for pin in sorted(pins))
+    model.refs.clear()
+    remotes = "".join(f'[remote "{name}"]\nurl={model.remotes[name]}\n' for name in sorted(model.remotes))
+    write(os.path.join(folder, "remotes.conf"), remotes)
+    write(os.path.join(folder, "pins"), "".join(pin + "\n" for pin in sorted(model.pins)))
 
 
 def run_killed(program, text, seconds):
-    """What a batch printed up to the moment when it was killed, and whether it had ended by itself."""
+    """What a batch printed up to the moment when it was killed, and its status."""
     with tempfile.TemporaryFile() as source, tempfile.TemporaryFile() as sink:
         source.write(text.encode("ascii"))
         source.seek(0)
@@ -76,81 +295,106 @@ def run_killed(program, text, seconds):
 
 
 def listed(program):
-    """What both lists print, or None where one doesn't end with status 0."""
+    """What the lists print, or None where one doesn't end with status 0."""
     text = ""
-    for word in ("--pins", "--remotes"):
-        done = subprocess.run([program, "list", word], stdout=subprocess.PIPE, check=False)
+    for words in ([], ["--pins"], ["--remotes"]):
+        done = subprocess.run([program, "list", *words], stdout=subprocess.PIPE, check=False)
         if done.returncode != 0:
-            print(f"list {word}: status {done.returncode}, {done.stdout!r}")
+            print(f"list {words}: status {done.returncode}, {done.stdout!r}")
             return None
         text += done.stdout.decode("ascii")
     return text
 
 
-def one_round(program, folder, rng, state, counts):
-    """One batch that is killed. Whether all was as it must be; the state is what is shown now."""
-    pins, remotes = state
-    if rng.random() < 0.25:
-        old_layout(folder, pins, remotes)
+def seconds_each(program, remote, rng):
+    """About how long an install takes."""
+    remote.offer(rng)
+    begun = time.monotonic()
+    run_killed(program, f"remote-add hub file://{remote.repo}\n" + "".join(f"install hub {ref}\n" for ref in APPS), 600)
+    return (time.monotonic() - begun) / 2
+
+
+def batch(model, rng, remote, count):
+    """The lines of a batch, what it prints, and the models at first and after each line."""
+    words, lines, models = [], [], [model]
+    for _ in range(count):
+        word, done = models[-1].command(rng, remote)
+        words.append(word + "\n")
+        lines += [line for line, _ in done]
+        models += [after for _, after in done]
+    return words, lines, models
+
+
+def one_round(program, folder, rng, model, remote, counts):
+    """One batch that is killed. What is shown now, or None where something isn't as it must be."""
+    if rng.random() < 0.125:
+        old_layout(folder, model)
     # an earlier round may have been killed before it migrated
     is_old = os.path.exists(os.path.join(folder, "pins")) and not os.path.exists(os.path.join(folder, "config"))
     counts["of layout 1"] += is_old
-    texts, lines, words = [shown(pins, remotes)], [], []
-    states = [(set(pins), dict(remotes))]
+    remote.offer(rng)
+    words, lines, models = batch(model, rng, remote, rng.randrange(1, 16))
     if is_old:
-        lines.append("migrated layout 2")
-        texts.append(texts[0])
-        states.append(states[0])
-    new_pins, new_remotes = set(pins), dict(remotes)
-    for _ in range(rng.randrange(1, 40)):
-        word, line = command(rng, new_pins, new_remotes)
-        words.append(word + "\n")
-        lines.append(line)
-        texts.append(shown(new_pins, new_remotes))
-        states.append((set(new_pins), dict(new_remotes)))
-    printed, status = run_killed(program, "".join(words), rng.random() * counts["longest"])
+        lines.insert(0, "migrated layout 2")
+        models.insert(0, model)
+    printed, status = run_killed(program, "".join(words), rng.random() * len(words) * counts["seconds"] / 2)
     counts["killed" if status < 0 else "ended"] += 1
     whole = printed.split("\n")[:-1]
     counts["acknowledged"] += len(whole)
-    if whole != lines[:len(whole)] or status not in (0, -9):
+    if whole != lines[: len(whole)] or status not in (0, -9):
         print(f"status {status}, printed {printed!r} for {words!r}")
         return None
     text = listed(program)
     for place in (len(whole), len(whole) + 1):
-        if text is not None and place < len(texts) and texts[place] == text:
+        if text is not None and place < len(models) and models[place].shown() == text:
             counts["with one more"] += place - len(whole)
-            return states[place]
-    print(f"shown {text!r} behind {printed!r} for {words!r}")
+            return checked(folder, models[place], remote, counts, printed, words)
+    print(f"shown {text!r} after {printed!r} for {words!r}")
+    return None
+
+
+def checked(folder, model, remote, counts, printed, words):
+    """The model, where the folder is whole."""
+    counts["rounds"] += 1
+    text = amiss(folder, model, remote)
+    if text is None and counts["rounds"] % 10 == 0 and os.path.exists(os.path.join(folder, "repo/config")):
+        done = subprocess.run(["ostree", "fsck", "--repo", os.path.join(folder, "repo")], capture_output=True, text=True, check=False)
+        text = done.stdout + done.stderr if done.returncode else None
+        counts["looked at by ostree fsck"] += 1
+    if text is None:
+        counts["refs looked at"] += len(model.refs)
+        return model
+    print(f"{text}, after {printed!r} for {words!r}")
     return None
 
 
 def main():
     """Runs the rounds, and prints the counts."""
+    if len(sys.argv) != 4:
+        sys.exit(__doc__)
     program, rounds, seed = os.path.abspath(sys.argv[1]), int(sys.argv[2]), int(sys.argv[3])
+    os.umask(0o022)
     rng = random.Random(seed)
-    home = tempfile.mkdtemp(prefix="kill_loop")
-    folder = os.path.join(home, "installation")
-    os.mkdir(folder)
-    os.environ["FPK_INSTALLATION"] = folder
-    counts = collections.Counter()
-    begun = time.monotonic()
-    run_killed(program, "pin app/*/*/*\nunpin app/*/*/*\n" * 20, 60)
-    counts["longest"] = time.monotonic() - begun
-    state = (set(), {})
-    amiss = 0
-    for _ in range(rounds):
-        after = one_round(program, folder, rng, state, counts)
-        if after is None:
-            amiss += 1
-            shutil.rmtree(folder, ignore_errors=True)
-            os.mkdir(folder)
-            after = (set(), {})
-        state = after
-    shutil.rmtree(home)
-    print(f"rounds {rounds}, amiss {amiss}")
-    for name in ("killed", "ended", "of layout 1", "acknowledged", "with one more"):
+    with tempfile.TemporaryDirectory(prefix="kill_loop") as home:
+        folder = os.path.join(home, "installation")
+        os.mkdir(folder)
+        os.environ["FPK_INSTALLATION"] = folder
+        remote = Remote(home)
+        counts = collections.Counter(seconds=seconds_each(program, remote, rng))
+        shutil.rmtree(folder)
+        os.mkdir(folder)
+        model, faults = Model(), 0
+        for _ in range(rounds):
+            model = one_round(program, folder, rng, model, remote, counts)
+            if model is None:
+                faults += 1
+                shutil.rmtree(folder, ignore_errors=True)
+                os.mkdir(folder)
+                model = Model()
+    print(f"rounds {rounds}, amiss {faults}")
+    for name in ("killed", "ended", "of layout 1", "acknowledged", "with one more", "refs looked at", "looked at by ostree fsck"):
         print(f"{name} {counts[name]}")
-    return 1 if amiss else 0
+    return 1 if faults else 0
 
 
 if __name__ == "__main__":

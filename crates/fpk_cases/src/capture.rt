@@ -1,4 +1,5 @@
-//! A system whose output is kept.
+//! A system whose output is kept, and whose files are never made last.
+use crate::unsynced::Unsynced;
 use std::alloc::{Allocator, Global};
 use std::cell::RefCell;
 use std::fmt::Display;
@@ -75,12 +76,12 @@ impl<R> Print for Capture<'_, R> {
 }
 
 impl<R: Files> Files for Capture<'_, R> {
-    type File = R::File;
+    type File = Unsynced<R::File>;
 
     type Dir = R::Dir;
 
-    fn open_file(&self, how: &OpenOptions, path: &str) -> io::Result<R::File> {
-        self.rt.open_file(how, path)
+    fn open_file(&self, how: &OpenOptions, path: &str) -> io::Result<Unsynced<R::File>> {
+        Ok(Unsynced::new(self.rt.open_file(how, path)?))
     }
 
     fn open_dir(&self, path: &str) -> io::Result<R::Dir> {

@@ -1,5 +1,6 @@
 //! A case: what is given, the commands, and what is expected of them.
 use crate::sign::Form;
+use fp_base::ObjKind;
 
 /// The lines from one `case` to the next.
 #[derive(Drop)]
@@ -40,15 +41,103 @@ impl Step {
 #[derive(Drop)]
 pub enum Action {
     Give(Fixture),
+    /// What follows is about the remote at this url.
+    BeginRemote { url: String },
+    /// A commit of the remote, which offers it. What it has follows.
+    Commit(CommitLine),
+    /// The remote offers the commit that is called so under the ref.
+    Offer { name: String, label: String },
+    /// An object of the remote is broken.
+    Break { object: ObjectWords, harm: Harm },
     Run(Command),
-    /// A file stands there, with these permission bits.
-    ExpectFile { path: String, mode: u32 },
-    ExpectNothing { path: String },
+    /// What was done so far is on the disk: stops and failures are tried from here on.
+    FromHere,
+    Expect(Expected),
 }
 
-/// What is put somewhere before the first command.
+/// What is to stand at a path.
+#[derive(Drop)]
+pub struct Expected {
+    pub path: String,
+    pub what: What,
+}
+
+/// What stands there. What a file has is the content of its step.
+#[derive(Drop)]
+pub enum What {
+    /// A file with these permission bits.
+    File { mode: u32 },
+    Folder,
+    /// A symlink with this text.
+    Link { text: String },
+    /// The file that stands at this path too.
+    HardLink { file: String },
+    Nothing,
+}
+
+/// A commit of a remote, bound to a ref.
+#[derive(Drop)]
+pub struct CommitLine {
+    /// What it is called in the case.
+    pub label: String,
+    pub name: String,
+    /// In seconds since 1970.
+    pub time: u64,
+}
+
+/// An object of a commit.
+#[derive(Drop)]
+pub struct ObjectWords {
+    /// What the commit is called.
+    pub label: String,
+    /// The dirtree and the dirmeta are those of the root.
+    pub kind: ObjKind,
+    /// The path of a file or a link.
+    pub path: String,
+}
+
+/// How an object is broken.
+#[derive(Clone, Copy)]
+pub enum Harm {
+    /// It isn't there.
+    Absent,
+    /// A folder stands there.
+    Folder,
+    /// Its last byte is missing.
+    Cut,
+    /// A zero byte stands after its last one.
+    Longer,
+    /// The lowest bit of its first byte is another.
+    Turned,
+    /// It has these permission bits.
+    Mode(u32),
+}
+
+/// What something is given to.
+#[derive(Clone, Copy)]
+pub enum Owner {
+    /// The installation.
+    Installation,
+    /// The remote itself.
+    Remote,
+    /// The commit above.
+    Commit,
+}
+
+impl Owner {
+    pub fn is_installation(self) -> bool {
+        matches!(self, Owner::Installation)
+    }
+
+    pub fn is_remote(self) -> bool {
+        matches!(self, Owner::Remote)
+    }
+}
+
+/// What is put somewhere.
 #[derive(Drop)]
 pub struct Fixture {
+    pub owner: Owner,
     pub path: String,
     pub kind: FixtureKind,
 }
@@ -91,6 +180,25 @@ pub struct Pieces {
 pub struct Failure {
     pub call: u64,
     pub is_done: bool,
+}
+
+/// The calls that fail while a command runs, each counted from 0.
+#[derive(Clone, Copy)]
+pub struct Failing {
+    /// That of its input.
+    pub input: Option<u64>,
+    /// That of the remotes.
+    pub remotes: Option<u64>,
+}
+
+impl Failing {
+    /// None fails.
+    pub fn none() -> Self {
+        Failing {
+            input: None,
+            remotes: None,
+        }
+    }
 }
 
 /// What is expected where a case is stopped.

@@ -13,6 +13,10 @@ pub enum Fault {
     NoMode,
     NoHex,
     OneWord,
+    NoObject,
+    NoHarm,
+    NoRemote,
+    NotInstallation,
     NoMemory,
 }
 
@@ -29,6 +33,14 @@ impl Fault {
             Fault::NoMode => "behind the path come permission bits in octal digits, or nothing",
             Fault::NoHex => "an even number of hexadecimal digits is expected",
             Fault::OneWord => "two words are expected",
+            Fault::NoObject => {
+                "an object is expected: LABEL, and commit, dirtree, dirmeta, or file and its path"
+            }
+            Fault::NoHarm => {
+                "the last word is absent, folder, cut, longer, turned, or permission bits"
+            }
+            Fault::NoRemote => "this line belongs to a remote, and none is above it",
+            Fault::NotInstallation => "a hard link is given to the installation alone",
             Fault::NoMemory => "out of memory",
         }
     }

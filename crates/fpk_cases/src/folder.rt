@@ -4,11 +4,13 @@ use crate::case::{Action, Case, Command, Fixture};
 use crate::memory::input_of;
 use crate::own_remotes::OwnRemotes;
 use crate::playing::play;
-use crate::stage::{Ending, PathState, Stage, find, give, unless_fault};
+use crate::stage::{Ending, PathState, Stage, find, give, give_file, make_folders, unless_fault};
 use crate::system::System;
+use crate::wares::{RemotePath, Ware, Wares};
 use crate::wrong::Wrong;
 use fl_top::run;
-use fp_realhost::HostDir;
+use fp_host::{Host, HostEnd, Path, Stat};
+use fp_realhost::{Access, HostDir};
 use std::alloc::{AllocError, Global};
 use std::rt::Files;
 use std::thread::Threads;
@@ -64,11 +66,13 @@ fn play_over<R: System>(
 ) -> io::Result<Option<Wrong>> {
     let folder = own_folder(rt, alloc)?;
     let remotes = OwnRemotes::new(rt, alloc, folder);
-    let host = HostDir::new(capture, alloc, INSTALLATION)?;
+    let host = HostDir::new(rt, capture, alloc, INSTALLATION, Access::Change)?;
+    let around = HostDir::new(rt, capture, alloc, FOLDER, Access::Change)?;
     let mut stage = Stage::Folder(FolderStage {
         alloc,
         capture,
         host,
+        around,
         remotes,
     });
     Ok(play(rt, alloc, &mut stage, case)?)
@@ -81,25 +85,28 @@ fn own_folder<R: System>(rt: &R, alloc: Global) -> io::Result<String> {
 }
 
 /// The folder that a case is played on.
-pub struct FolderStage<'a, 'b, R> {
+pub struct FolderStage<'a, 'b, R: Files> {
     alloc: Global,
     capture: &'b Capture<'a, R>,
-    host: HostDir<'b, Capture<'a, R>>,
+    host: HostDir<'b, R, Capture<'a, R>>,
+    /// The folder in which the remotes are.
+    around: HostDir<'b, R, Capture<'a, R>>,
     remotes: OwnRemotes<'a, R>,
 }
 
-impl<R> Drop for FolderStage<'_, '_, R> {
+impl<R: Files> Drop for FolderStage<'_, '_, R> {
     fn drop(self) {
         let FolderStage {
             alloc: _,
             capture: _,
             host: _,
+            around: _,
             remotes: _,
         } = self;
     }
 }
 
-impl<R: Files + AllocGlobal> FolderStage<'_, '_, R> {
+impl<R: System> FolderStage<'_, '_, R> {
     pub fn give(&mut self, given: &Fixture, bytes: &[u8]) -> Result<bool, AllocError> {
         let answer = give(self.alloc, &mut self.host, given, bytes);
         Ok(unless_fault(answer)?.is_some())
@@ -110,7 +117,9 @@ impl<R: Files + AllocGlobal> FolderStage<'_, '_, R> {
         rt: &T,
         command: &Command,
         input_fails_at: Option<u64>,
+        wares: &Wares,
     ) -> Result<Ending, AllocError> {
+        unless_fault(lay(self.alloc, &mut self.around, wares))?;
         let mut input = input_of(self.alloc, command, input_fails_at)?;
         let status = run(
             rt,
@@ -130,5 +139,36 @@ impl<R: Files + AllocGlobal> FolderStage<'_, '_, R> {
     pub fn find(&mut self, path: &str) -> Result<PathState, AllocError> {
         let answer = find(self.alloc, &mut self.host, path);
         Ok(unless_fault(answer)?.unwrap_or(PathState::Other))
+    }
+}
+
+/// Lays the remotes out below a folder.
+fn lay<H: Host>(alloc: Global, host: &mut H, wares: &Wares) -> Result<(), HostEnd> {
+    for row in wares.paths() {
+        lay_path(alloc, host, row)?;
+    }
+    if !wares.paths().is_empty() {
+        host.sync()?;
+    }
+    Ok(())
+}
+
+/// Lays out what stands at a path of a remote whose url begins with `file:///`, in the place of what is there.
+fn lay_path<H: Host>(alloc: Global, host: &mut H, row: &RemotePath) -> Result<(), HostEnd> {
+    let Some(folder) = row.url.strip_prefix("file:///") else {
+        return Ok(());
+    };
+    let text = format!(in alloc; "{folder}/{}", row.path.as_str())?;
+    let path = Path::parse(alloc, &text)?;
+    match host.stat(&path)? {
+        Stat::File { .. } | Stat::Link => host.unlink(&path)?,
+        Stat::Dir => return Ok(()),
+        Stat::Absent => make_folders(alloc, host, &text)?,
+    }
+    match &row.ware {
+        Ware::File { mode, bytes } => give_file(host, &path, *mode, bytes),
+        Ware::Link { text } => Ok(host.symlink(text, &path)?),
+        Ware::Folder => Ok(host.make_dir(&path)?),
+        Ware::Nothing => Ok(()),
     }
 }

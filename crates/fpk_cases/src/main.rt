@@ -16,19 +16,27 @@ use wrong::Wrong;
 
 mod capture;
 mod case;
+mod expecting;
 mod fault;
 mod folder;
+mod harm;
+mod judge;
 mod memory;
+mod naming;
 mod outcomes;
 mod own_remotes;
 mod parser;
 mod playing;
+mod remote_faults;
 mod replay;
 mod showing;
 mod sign;
+mod sound;
 mod stage;
 mod stops;
 mod system;
+mod unsynced;
+mod wares;
 mod words;
 mod wrong;
 

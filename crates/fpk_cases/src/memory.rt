@@ -1,12 +1,14 @@
 //! A case over the host in memory.
-use crate::case::{Case, Command, Failure, Fixture};
+use crate::case::{Case, Command, Failing, Failure, Fixture};
 use crate::playing::play;
 use crate::stage::{Ending, PathState, Stage, find, give, unless_fault};
 use crate::system::System;
+use crate::wares::{Ware, Wares};
 use crate::wrong::Wrong;
 use fl_top::run;
-use fp_base::Blob;
-use fp_memhost::{MemHost, MemRemotes, MemSource};
+use fp_base::{Blob, Text};
+use fp_host::Path;
+use fp_memhost::{MemHost, MemNode, MemRemotes, MemSource};
 use std::alloc::{AllocError, Global};
 use std::thread::Threads;
 
@@ -36,16 +38,79 @@ pub fn input_of(
     Ok(MemSource::new(bytes, size.max(1), fails_at))
 }
 
+/// The remotes in memory.
+fn remotes_of(alloc: Global, wares: &Wares) -> Result<MemRemotes, AllocError> {
+    let mut remotes = MemRemotes::new(alloc)?;
+    for row in wares.paths() {
+        put_ware(alloc, &mut remotes, &row.url, &row.path, &row.ware)?;
+    }
+    Ok(remotes)
+}
+
+/// Puts something at the path of a remote. A folder has a file in it.
+fn put_ware(
+    alloc: Global,
+    remotes: &mut MemRemotes,
+    url: &str,
+    path: &str,
+    ware: &Ware,
+) -> Result<(), AllocError> {
+    match ware {
+        Ware::Nothing => Ok(()),
+        Ware::Folder => {
+            let within = format!(in alloc; "{path}/within")?;
+            let bytes = Blob::from_slice(alloc, &[])?;
+            put_node(
+                alloc,
+                remotes,
+                url,
+                &within,
+                MemNode::File { mode: 0o644, bytes },
+            )
+        }
+        Ware::Link { text } => {
+            let text = Text::from_str(alloc, text)?;
+            put_node(alloc, remotes, url, path, MemNode::Link(text))
+        }
+        Ware::File { mode, bytes } => {
+            let mode = *mode;
+            let bytes = Blob::from_slice(alloc, bytes)?;
+            put_node(alloc, remotes, url, path, MemNode::File { mode, bytes })
+        }
+    }
+}
+
+/// Puts a node at the path of a remote, where it may stand there.
+fn put_node(
+    alloc: Global,
+    remotes: &mut MemRemotes,
+    url: &str,
+    path: &str,
+    node: MemNode,
+) -> Result<(), AllocError> {
+    let Ok(path) = Path::parse(alloc, path) else {
+        return Ok(());
+    };
+    if !remotes.can_put(url, &path, &node) {
+        return Ok(());
+    }
+    remotes.put(url, &path, node)
+}
+
 /// Runs a command over a host in memory, and answers its status.
 pub fn run_in_memory<R: Threads + Sync>(
     rt: &R,
     alloc: Global,
     host: &mut MemHost,
     command: &Command,
-    input_fails_at: Option<u64>,
+    failing: Failing,
+    wares: &Wares,
 ) -> Result<u8, AllocError> {
-    let mut input = input_of(alloc, command, input_fails_at)?;
-    let mut remotes = MemRemotes::new(alloc)?;
+    let mut input = input_of(alloc, command, failing.input)?;
+    let mut remotes = remotes_of(alloc, wares)?;
+    if let Some(call) = failing.remotes {
+        remotes.fail_calls(&[call])?;
+    }
     Ok(run(rt, alloc, &command.words, &mut input, host, &mut remotes))
 }
 
@@ -78,11 +143,17 @@ impl MemStage {
         rt: &T,
         command: &Command,
         input_fails_at: Option<u64>,
+        wares: &Wares,
     ) -> Result<Ending, AllocError> {
         let start = self.host.printed().len();
         let calls = self.host.calls();
         let_fail(&mut self.host, command.failure)?;
-        let status = run_in_memory(rt, self.alloc, &mut self.host, command, input_fails_at)?;
+        let host = &mut self.host;
+        let failing = Failing {
+            input: input_fails_at,
+            remotes: None,
+        };
+        let status = run_in_memory(rt, self.alloc, host, command, failing, wares)?;
         self.host.fail_calls(&[])?;
         ran_since(self.alloc, &self.host, status, start, calls)
     }

@@ -1,6 +1,9 @@
 //! What a stop may leave of a host in memory.
+ghost use Rattle.std.specs.Prelude.{IfOk, IfSome};
+ghost use Rattle.fp_memhost.specs.Images.{IsImage};
+
 use fp_base::{Blob, Items};
-use fp_host::Path;
+use fp_host::{Entry, Path};
 use fp_memhost::{Choice, FileRow, Image, MemHost};
 use std::alloc::{AllocError, Global};
 
@@ -10,7 +13,9 @@ fn image_left(
     calls: u64,
     names: Vec<(Path, u64)>,
     files: Vec<(u64, Blob)>,
-) -> Result<Option<Image>, AllocError> {
+) -> Result<Option<Image>, AllocError>
+    ensures { IfOk result (λ image. IfSome image IsImage) }
+{
     let choice = Choice {
         names: Items::from_vec(names),
         files: Items::from_vec(files),
@@ -19,11 +24,9 @@ fn image_left(
 }
 
 /// What a stop leaves where all is as it is.
-pub fn present_image(
-    alloc: Global,
-    host: &MemHost,
-    calls: u64,
-) -> Result<Option<Image>, AllocError> {
+pub fn present_image(alloc: Global, host: &MemHost, calls: u64) -> Result<Option<Image>, AllocError>
+    ensures { IfOk result (λ image. IfSome image IsImage) }
+{
     image_left(host, calls, Vec::new(alloc), Vec::new(alloc))
 }
 
@@ -128,6 +131,33 @@ fn add_file(
     )?;
     let turned = vec![in alloc; 0xff; row.bytes.len()]?;
     keep(images, with_file(alloc, host, calls, row.id, turned)?)
+}
+
+/// How a moment looks: two moments with one picture leave the same. A call that only reads changes nothing of it.
+pub fn picture(alloc: Global, host: &MemHost, calls: u64) -> Result<String, AllocError> {
+    let mut text = open_names(alloc, host, calls)?;
+    let Some(image) = present_image(alloc, host, calls)? else {
+        return Ok(text);
+    };
+    for (path, entry) in image.names.as_slice() {
+        push_entry(&mut text, path.text(), entry)?;
+    }
+    for row in image.files.as_slice() {
+        let (id, length) = (row.id, row.bytes.len());
+        writeln!(text, "{id} {length}")?;
+    }
+    Ok(text)
+}
+
+fn push_entry(text: &mut String, path: &str, entry: &Entry) -> Result<(), AllocError> {
+    match entry {
+        Entry::Dir => writeln!(text, "{path} folder"),
+        Entry::File(id) => writeln!(text, "{path} file {id}"),
+        Entry::Link(link) => {
+            let link = link.as_str();
+            writeln!(text, "{path} link {link}")
+        }
+    }
 }
 
 /// The last moment at which a stop may bring back something.

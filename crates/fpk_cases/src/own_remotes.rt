@@ -9,14 +9,14 @@ use std::alloc::{AllocError, Global};
 use std::rt::Files;
 
 /// Remotes whose urls are `file://` and a path, which stand below a folder: so a case needs no path of the machine.
-pub struct OwnRemotes<'a, R> {
+pub struct OwnRemotes<'a, R: Files> {
     remotes: DirRemotes<'a, R>,
     alloc: Global,
     /// The absolute path of the folder.
     folder: String,
 }
 
-impl<R> Drop for OwnRemotes<'_, R> {
+impl<R: Files> Drop for OwnRemotes<'_, R> {
     fn drop(self) {
         let OwnRemotes {
             remotes: _,
@@ -37,7 +37,7 @@ impl<'a, R: Files + AllocGlobal> OwnRemotes<'a, R> {
     }
 }
 
-impl<R> OwnRemotes<'_, R> {
+impl<R: Files> OwnRemotes<'_, R> {
     /// The url below the folder. One of another form stays as it is, and so is refused.
     fn own(&self, url: &str) -> Result<String, AllocError> {
         let folder = self.folder.as_str();

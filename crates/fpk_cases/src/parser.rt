@@ -1,8 +1,10 @@
 //! Lines to cases.
 use crate::case::{
-    Action, Case, Command, Failure, Fixture, FixtureKind, Pieces, ShownText, Step, Stops,
+    Action, Case, Command, CommitLine, Expected, Failure, Fixture, FixtureKind, Owner, Pieces,
+    ShownText, Step, Stops, What,
 };
 use crate::fault::Fault;
+use crate::naming::{Name, name_of};
 use crate::sign::{Form, Line, Sign, line_of};
 use crate::words::{
     cut_words, number, path_and_mode, push_hex, push_line, push_text, size, status, word_and_rest,
@@ -67,8 +69,16 @@ impl Parser {
             | Sign::Folder
             | Sign::Link
             | Sign::HardLink
+            | Sign::Remote
+            | Sign::Commit
+            | Sign::Offer
+            | Sign::Break
             | Sign::Command
+            | Sign::FromHere
             | Sign::File(_)
+            | Sign::FoundFolder
+            | Sign::FoundLink
+            | Sign::FoundHardLink
             | Sign::Absent => self.begin_step(line),
             Sign::Input(_)
             | Sign::Zeros
@@ -93,14 +103,17 @@ impl Parser {
     }
 
     fn begin_step(&mut self, line: Line<'_>) -> Result<(), Fault> {
-        let step = Step {
-            line: self.line,
-            action: action_of(self.alloc, line)?,
-            content: Vec::new(self.alloc),
-            form: form_of(line.sign),
-        };
         let Some(case) = self.cases.last_mut() else {
             return Err(Fault::NoCase);
+        };
+        if needs_remote(line.sign) && !has_remote(&case.steps) {
+            return Err(Fault::NoRemote);
+        }
+        let step = Step {
+            line: self.line,
+            action: action_of(self.alloc, line, owner_after(case.steps.last()))?,
+            content: Vec::new(self.alloc),
+            form: form_of(line.sign),
         };
         case.steps.push(step)?;
         Ok(())
@@ -162,6 +175,30 @@ impl Parser {
     }
 }
 
+/// Whether a line of this kind is about a remote that was named above it.
+fn needs_remote(sign: Sign) -> bool {
+    matches!(sign, Sign::Commit | Sign::Offer | Sign::Break)
+}
+
+fn has_remote(steps: &[Step]) -> bool {
+    steps
+        .iter()
+        .any(|step| matches!(&step.action, Action::BeginRemote { .. }))
+}
+
+/// What something is given to that comes after this step.
+fn owner_after(step: Option<&Step>) -> Owner {
+    let Some(step) = step else {
+        return Owner::Installation;
+    };
+    match &step.action {
+        Action::BeginRemote { .. } => Owner::Remote,
+        Action::Commit(_) => Owner::Commit,
+        Action::Give(given) => given.owner,
+        _ => Owner::Installation,
+    }
+}
+
 /// How the content of a step is written.
 fn form_of(sign: Sign) -> Form {
     match sign {
@@ -188,50 +225,107 @@ fn take_of_steps(alloc: Global, steps: &mut Vec<Step>, text: &str) -> Result<(),
 }
 
 /// What a step does or expects.
-fn action_of(alloc: Global, line: Line<'_>) -> Result<Action, Fault> {
+fn action_of(alloc: Global, line: Line<'_>, owner: Owner) -> Result<Action, Fault> {
     match line.sign {
-        Sign::Fixture(_) => give_file_action(alloc, line.text),
-        Sign::Folder => give_action(alloc, line.text, FixtureKind::Folder),
-        Sign::Link => give_link_action(alloc, line.text),
-        Sign::HardLink => give_hard_link_action(alloc, line.text),
+        Sign::Fixture(_) => give_file_action(alloc, line.text, owner),
+        Sign::Folder => give_action(alloc, line.text, FixtureKind::Folder, owner),
+        Sign::Link => give_link_action(alloc, line.text, owner),
+        Sign::HardLink => give_hard_link_action(alloc, line.text, owner),
+        Sign::Remote => remote_action(alloc, line.text),
+        Sign::Commit => commit_action(alloc, line.text),
+        Sign::Offer => offer_action(alloc, line.text),
+        Sign::Break => break_action(alloc, line.text),
         Sign::Command => run_action(alloc, line.text),
+        Sign::FromHere => Ok(Action::FromHere),
         Sign::File(_) => expect_file_action(alloc, line.text),
-        Sign::Absent => expect_nothing_action(alloc, line.text),
+        Sign::FoundFolder => expect_action(alloc, line.text, What::Folder),
+        Sign::FoundLink => expect_link_action(alloc, line.text),
+        Sign::FoundHardLink => expect_hard_link_action(alloc, line.text),
+        Sign::Absent => expect_action(alloc, line.text, What::Nothing),
         _ => Err(Fault::NoKind),
     }
 }
 
-fn give_action(alloc: Global, path: &str, kind: FixtureKind) -> Result<Action, Fault> {
+fn give_action(
+    alloc: Global,
+    path: &str,
+    kind: FixtureKind,
+    owner: Owner,
+) -> Result<Action, Fault> {
     let path = String::from_str(alloc, path)?;
-    Ok(Action::Give(Fixture { path, kind }))
+    Ok(Action::Give(Fixture { owner, path, kind }))
 }
 
-fn give_file_action(alloc: Global, text: &str) -> Result<Action, Fault> {
+fn give_file_action(alloc: Global, text: &str, owner: Owner) -> Result<Action, Fault> {
     let (path, mode) = path_and_mode(text)?;
-    give_action(alloc, path, FixtureKind::File { mode })
+    give_action(alloc, path, FixtureKind::File { mode }, owner)
 }
 
-fn give_link_action(alloc: Global, text: &str) -> Result<Action, Fault> {
+fn give_link_action(alloc: Global, text: &str, owner: Owner) -> Result<Action, Fault> {
     let (path, text) = word_and_rest(text)?;
     let text = String::from_str(alloc, text)?;
-    give_action(alloc, path, FixtureKind::Link { text })
+    give_action(alloc, path, FixtureKind::Link { text }, owner)
 }
 
-fn give_hard_link_action(alloc: Global, text: &str) -> Result<Action, Fault> {
+fn remote_action(alloc: Global, text: &str) -> Result<Action, Fault> {
+    let url = String::from_str(alloc, text)?;
+    Ok(Action::BeginRemote { url })
+}
+
+fn commit_action(alloc: Global, text: &str) -> Result<Action, Fault> {
+    let (label, rest) = word_and_rest(text)?;
+    let (name, time) = word_and_rest(rest)?;
+    let time = number(time)?;
+    let label = String::from_str(alloc, label)?;
+    let name = String::from_str(alloc, name)?;
+    Ok(Action::Commit(CommitLine { label, name, time }))
+}
+
+fn offer_action(alloc: Global, text: &str) -> Result<Action, Fault> {
+    let (name, label) = word_and_rest(text)?;
+    let name = String::from_str(alloc, name)?;
+    let label = String::from_str(alloc, label)?;
+    Ok(Action::Offer { name, label })
+}
+
+fn break_action(alloc: Global, text: &str) -> Result<Action, Fault> {
+    let Name { object, harm } = name_of(alloc, text)?;
+    match harm {
+        Some(harm) => Ok(Action::Break { object, harm }),
+        None => Err(Fault::NoHarm),
+    }
+}
+
+/// A hard link, which neither a remote nor a commit has.
+fn give_hard_link_action(alloc: Global, text: &str, owner: Owner) -> Result<Action, Fault> {
+    if !owner.is_installation() {
+        return Err(Fault::NotInstallation);
+    }
     let (path, file) = word_and_rest(text)?;
     let file = String::from_str(alloc, file)?;
-    give_action(alloc, path, FixtureKind::HardLink { file })
+    give_action(alloc, path, FixtureKind::HardLink { file }, owner)
 }
 
 fn expect_file_action(alloc: Global, text: &str) -> Result<Action, Fault> {
     let (path, mode) = path_and_mode(text)?;
-    let path = String::from_str(alloc, path)?;
-    Ok(Action::ExpectFile { path, mode })
+    expect_action(alloc, path, What::File { mode })
 }
 
-fn expect_nothing_action(alloc: Global, text: &str) -> Result<Action, Fault> {
-    let path = String::from_str(alloc, text)?;
-    Ok(Action::ExpectNothing { path })
+fn expect_link_action(alloc: Global, text: &str) -> Result<Action, Fault> {
+    let (path, text) = word_and_rest(text)?;
+    let text = String::from_str(alloc, text)?;
+    expect_action(alloc, path, What::Link { text })
+}
+
+fn expect_hard_link_action(alloc: Global, text: &str) -> Result<Action, Fault> {
+    let (path, file) = word_and_rest(text)?;
+    let file = String::from_str(alloc, file)?;
+    expect_action(alloc, path, What::HardLink { file })
+}
+
+fn expect_action(alloc: Global, path: &str, what: What) -> Result<Action, Fault> {
+    let path = String::from_str(alloc, path)?;
+    Ok(Action::Expect(Expected { path, what }))
 }
 
 fn run_action(alloc: Global, text: &str) -> Result<Action, Fault> {

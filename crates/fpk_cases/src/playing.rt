@@ -1,20 +1,28 @@
 //! The steps of a case, one after another.
 use crate::case::{Action, Case, Command, Fixture, Step};
-use crate::stage::{Ending, PathState, Stage};
+use crate::expecting::expect;
+use crate::naming::with_digits;
+use crate::stage::{Ending, Stage};
+use crate::system::System;
+use crate::wares::Wares;
 use crate::wrong::{Wrong, difference, message};
 use std::alloc::{AllocError, Global};
-use std::rt::Files;
 use std::thread::Threads;
 
 /// Plays the steps of a case, and answers the first that isn't as it says.
-pub fn play<T: Threads + Sync, R: Files + AllocGlobal>(
+pub fn play<T: Threads + Sync, R: System>(
     rt: &T,
     alloc: Global,
     stage: &mut Stage<'_, '_, R>,
     case: &Case,
 ) -> Result<Option<Wrong>, AllocError> {
-    for step in &case.steps {
-        if let Some(text) = play_step(rt, alloc, stage, step)? {
+    let mut wares = Wares::new(alloc);
+    for (at, step) in case.steps.iter().enumerate() {
+        let after = case.steps.get(at.saturating_add(1)..).unwrap_or(&[]);
+        if let Some(wrong) = wares.take(rt, step, after)? {
+            return Ok(Some(wrong));
+        }
+        if let Some(text) = play_step(rt, alloc, stage, step, &wares)? {
             let line = step.line;
             return Ok(Some(Wrong { line, text }));
         }
@@ -23,82 +31,60 @@ pub fn play<T: Threads + Sync, R: Files + AllocGlobal>(
 }
 
 /// Plays a step, and answers what isn't as it says.
-fn play_step<T: Threads + Sync, R: Files + AllocGlobal>(
+fn play_step<T: Threads + Sync, R: System>(
     rt: &T,
     alloc: Global,
     stage: &mut Stage<'_, '_, R>,
     step: &Step,
+    wares: &Wares,
 ) -> Result<Option<String>, AllocError> {
     match &step.action {
         Action::Give(given) => play_give(alloc, stage, given, step.bytes()),
-        Action::Run(command) => play_command(rt, alloc, stage, command, step.bytes()),
-        Action::ExpectFile { path, mode } => {
-            let found = stage.find(path.as_str())?;
-            judge_file(alloc, &found, path.as_str(), *mode, step.bytes())
+        Action::BeginRemote { .. }
+        | Action::Commit(_)
+        | Action::Offer { .. }
+        | Action::Break { .. }
+        | Action::FromHere => Ok(None),
+        Action::Run(command) => {
+            let expected = with_digits(alloc, wares, step.bytes())?;
+            play_command(rt, alloc, stage, command, &expected, wares)
         }
-        Action::ExpectNothing { path } => expect_nothing(alloc, stage, path.as_str()),
+        Action::Expect(expected) => expect(alloc, stage, expected, step.bytes(), wares),
     }
 }
 
-fn play_give<R: Files + AllocGlobal>(
+fn play_give<R: System>(
     alloc: Global,
     stage: &mut Stage<'_, '_, R>,
     given: &Fixture,
     bytes: &[u8],
 ) -> Result<Option<String>, AllocError> {
+    if !given.owner.is_installation() {
+        return Ok(None);
+    }
     match stage.give(given, bytes)? {
         true => Ok(None),
         false => message(alloc, "it can't be put there"),
     }
 }
 
-fn expect_nothing<R: Files + AllocGlobal>(
-    alloc: Global,
-    stage: &mut Stage<'_, '_, R>,
-    path: &str,
-) -> Result<Option<String>, AllocError> {
-    match stage.find(path)? {
-        PathState::Nothing => Ok(None),
-        _ => message(alloc, "something stands there"),
-    }
-}
-
-fn judge_file(
-    alloc: Global,
-    found: &PathState,
-    path: &str,
-    mode: u32,
-    expected: &[u8],
-) -> Result<Option<String>, AllocError> {
-    match found {
-        PathState::File { mode: came, .. } if *came != mode => Ok(Some(format!(in alloc;
-            "{path}: expected mode {mode:o}, but {came:o} came"
-        )?)),
-        PathState::File { bytes, .. } if bytes.as_slice() != expected => {
-            Ok(Some(difference(alloc, path, expected, bytes)?))
-        }
-        PathState::File { .. } => Ok(None),
-        PathState::Nothing => message(alloc, "nothing stands there"),
-        PathState::Other => message(alloc, "what stands there is no file"),
-    }
-}
-
 /// Runs a command, first with each call of its input failing where that is asked for.
-fn play_command<T: Threads + Sync, R: Files + AllocGlobal>(
+fn play_command<T: Threads + Sync, R: System>(
     rt: &T,
     alloc: Global,
     stage: &mut Stage<'_, '_, R>,
     command: &Command,
     expected: &[u8],
+    wares: &Wares,
 ) -> Result<Option<String>, AllocError> {
     let unreached = command.pieces.map(|pieces| pieces.calls);
     for call in 0..unreached.unwrap_or(0) {
-        let ran = stage.run(rt, command, Some(call))?;
+        let ran = stage.run(rt, command, Some(call), wares)?;
         if ran.status != 5 || !ran.printed.is_empty() {
             return Ok(Some(failed_text(alloc, call, ran.status)?));
         }
     }
-    let ran = stage.run(rt, command, unreached)?;
+    let ran = stage.run(rt, command, unreached, wares)?;
     judge(alloc, command, &ran, expected)
 }
 

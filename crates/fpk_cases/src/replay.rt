@@ -1,17 +1,40 @@
-//! The commands of a case over a new host in memory, with a call that fails.
-use crate::case::{Action, Case, Failure};
+//! The commands of a case over a host in memory, with a call that fails.
+use crate::case::{Action, Case, Failing, Failure};
 use crate::memory::run_in_memory;
+use crate::outcomes::present_image;
 use crate::stage::{give, unless_fault};
+use crate::wares::Wares;
 use fp_memhost::MemHost;
 use std::alloc::{AllocError, Global};
+use std::ops::Range;
 use std::thread::Threads;
 
-/// The commands of a case over a new host, up to the first whose status is another than it says.
+/// What fails while the commands of a case run.
+#[derive(Clone, Copy)]
+pub enum Trouble {
+    Nothing,
+    /// A call of the host, counted from 0 where the stops begin.
+    Host(Failure),
+    /// A call of the remotes, counted from 0 at the command with this number, which is counted from 0 at the first one of
+    /// the case.
+    Remotes { command: usize, call: u64 },
+}
+
+/// Where the stops of a case begin: at its line `from here`, or at its first command.
+#[derive(Drop)]
+pub struct Start<'a> {
+    pub case: &'a Case,
+    /// The place of the step.
+    at: usize,
+    /// What was given and done before.
+    host: MemHost,
+}
+
+/// The commands of a case from the start of its stops on, up to the first whose status is another than it says.
 #[derive(Drop)]
 pub struct Replay {
+    /// Its calls are counted from 0 at the start.
     pub host: MemHost,
-    /// How many calls were made before the first command.
-    pub first: u64,
     /// The status that is another.
     pub other_status: Option<u8>,
 }
@@ -27,51 +50,125 @@ impl Replay {
     }
 }
 
-/// Plays the commands of a case. The failing call is counted from 0 over all calls.
-pub fn replay_case<R: Threads + Sync>(
+/// Does what a case does before its stops begin.
+pub fn start_of<'a, R: Threads + Sync>(
     rt: &R,
     alloc: Global,
-    case: &Case,
-    failure: Option<Failure>,
-) -> Result<Replay, AllocError> {
+    case: &'a Case,
+) -> Result<Start<'a>, AllocError> {
+    let at = case
+        .steps
+        .iter()
+        .position(|step| matches!(&step.action, Action::FromHere))
+        .unwrap_or(0);
     let mut host = MemHost::new(alloc)?;
     give_all(alloc, &mut host, case)?;
-    let first = host.calls();
-    if let Some(Failure { call, is_done }) = failure {
-        host.fail_calls(&[(call, is_done)])?;
+    let _other = run_steps(rt, alloc, &mut host, case, 0..at, Trouble::Nothing)?;
+    Ok(Start { case, at, host })
+}
+
+impl Start<'_> {
+    /// The numbers of the commands that come after the start, counted from 0 at the first one of the case.
+    pub fn commands(&self) -> Range<usize> {
+        let steps = &self.case.steps;
+        let before = steps
+            .iter()
+            .take(self.at)
+            .filter(|step| is_command(&step.action));
+        let all = steps.iter().filter(|step| is_command(&step.action));
+        before.count()..all.count()
     }
-    let other_status = run_all(rt, alloc, &mut host, case)?;
-    Ok(Replay {
-        host,
-        first,
-        other_status,
-    })
+
+    /// Plays the commands.
+    pub fn replay<R: Threads + Sync>(
+        &self,
+        rt: &R,
+        alloc: Global,
+        trouble: Trouble,
+    ) -> Result<Replay, AllocError> {
+        let mut host = self.new_host(alloc)?;
+        if let Trouble::Host(Failure { call, is_done }) = trouble {
+            host.fail_calls(&[(call, is_done)])?;
+        }
+        let steps = self.at..self.case.steps.len();
+        let other_status = run_steps(rt, alloc, &mut host, self.case, steps, trouble)?;
+        Ok(Replay { host, other_status })
+    }
+
+    /// A host on which all was done that comes before.
+    fn new_host(&self, alloc: Global) -> Result<MemHost, AllocError> {
+        match present_image(alloc, &self.host, self.host.calls())? {
+            Some(image) => MemHost::from_image(alloc, image),
+            None => MemHost::new(alloc),
+        }
+    }
+}
+
+fn is_command(action: &Action) -> bool {
+    matches!(action, Action::Run(_))
 }
 
 /// Puts there what is given.
 fn give_all(alloc: Global, host: &mut MemHost, case: &Case) -> Result<(), AllocError> {
     for step in &case.steps {
         if let Action::Give(given) = &step.action {
-            unless_fault(give(alloc, host, given, step.bytes()))?;
+            if given.owner.is_installation() {
+                unless_fault(give(alloc, host, given, step.bytes()))?;
+            }
         }
     }
     Ok(())
 }
 
-/// Runs the commands, and answers the first status that is another than the case says.
-fn run_all<R: Threads + Sync>(
+/// Runs the commands of these steps, and answers the first status that is another than the case says.
+fn run_steps<R: Threads + Sync>(
     rt: &R,
     alloc: Global,
     host: &mut MemHost,
     case: &Case,
+    steps: Range<usize>,
+    trouble: Trouble,
 ) -> Result<Option<u8>, AllocError> {
-    for step in &case.steps {
-        if let Action::Run(command) = &step.action {
-            let status = run_in_memory(rt, alloc, host, command, None)?;
-            if status != command.status {
-                return Ok(Some(status));
-            }
+    let mut wares = Wares::new(alloc);
+    let mut number: usize = 0;
+    for (at, step) in case.steps.iter().enumerate() {
+        wares.take_next(rt, &case.steps, at)?;
+        let Action::Run(command) = &step.action else {
+            continue;
+        };
+        let failing = failing_at(trouble, number);
+        number = number.saturating_add(1);
+        if at < steps.start || at >= steps.end {
+            continue;
+        }
+        let status = run_in_memory(rt, alloc, host, command, failing, &wares)?;
+        if status != command.status {
+            return Ok(Some(status));
         }
     }
     Ok(None)
+}
+
+/// What fails at the command with this number.
+fn failing_at(trouble: Trouble, number: usize) -> Failing {
+    match trouble {
+        Trouble::Remotes { command, call } if command == number => Failing {
+            input: None,
+            remotes: Some(call),
+        },
+        _ => Failing::none(),
+    }
+}
+
+/// The remotes of a case after all its steps.
+pub fn wares_of<R: Threads + Sync>(
+    rt: &R,
+    alloc: Global,
+    case: &Case,
+) -> Result<Wares, AllocError> {
+    let mut wares = Wares::new(alloc);
+    for at in 0..case.steps.len() {
+        wares.take_next(rt, &case.steps, at)?;
+    }
+    Ok(wares)
 }

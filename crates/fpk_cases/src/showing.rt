@@ -1,13 +1,14 @@
 //! What an installation shows when it is opened again.
-use crate::case::Command;
+use crate::case::{Command, Failing};
 use crate::memory::run_in_memory;
 use crate::stage::{PathState, find, unless_fault};
+use crate::wares::Wares;
 use fp_memhost::{Image, MemHost};
 use std::alloc::{AllocError, Global};
 use std::thread::Threads;
 
 /// The commands whose lines say what an installation has.
-const LISTS: [[&str; 2]; 2] = [["list", "--pins"], ["list", "--remotes"]];
+const LISTS: [&[&str]; 3] = [&["list"], &["list", "--pins"], &["list", "--remotes"]];
 
 /// The command that has to work on whatever a stop left.
 const NEXT: [&str; 2] = ["pin", "app/org.x.Next/*/*"];
@@ -53,7 +54,8 @@ fn is_done<R: Threads + Sync>(
     words: &[&str],
 ) -> Result<bool, AllocError> {
     let command = command_of(alloc, words)?;
-    Ok(run_in_memory(rt, alloc, host, &command, None)? == 0)
+    let wares = Wares::new(alloc);
+    Ok(run_in_memory(rt, alloc, host, &command, Failing::none(), &wares)? == 0)
 }
 
 /// What a host shows, and nothing where a command that looks at it isn't done.

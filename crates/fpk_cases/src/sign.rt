@@ -24,6 +24,14 @@ pub enum Sign {
     Link,
     /// `& PATH FILE`: the path is a hard link of the file.
     HardLink,
+    /// `remote URL`: what follows is about the remote at this url.
+    Remote,
+    /// `commit LABEL REF TIME`: a commit of the remote, with what follows, which it offers under the ref.
+    Commit,
+    /// `offer REF LABEL`: the remote offers this commit under the ref.
+    Offer,
+    /// `break LABEL KIND HOW`, `break LABEL file PATH HOW`: an object of the remote is broken.
+    Break,
     /// `$ WORDS`: a command, and the lines that it prints.
     Command,
     /// `< LINE`: a line of its input.
@@ -42,8 +50,16 @@ pub enum Sign {
     Calls,
     /// `= PATH`: a file that stands there now, with just the content that follows.
     File(Form),
+    /// `=/ PATH`: a folder that stands there now.
+    FoundFolder,
+    /// `=@ PATH TEXT`: a symlink with this text that stands there now.
+    FoundLink,
+    /// `=& PATH FILE`: a file that stands there and at the path FILE now.
+    FoundHardLink,
     /// `- PATH`: nothing stands there now.
     Absent,
+    /// `from here`: what was done so far is on the disk, and `stops` begins here.
+    FromHere,
     /// `stops`: the case again from its start, with a stop or a failure at each call of the host.
     Stops,
     /// `shown`: what the installation shows before the first line that was printed, or after the next one.
@@ -64,7 +80,7 @@ pub struct Line<'a> {
 }
 
 /// The signs that a text follows.
-const BEFORE_TEXT: [(&str, Sign); 23] = [
+const BEFORE_TEXT: [(&str, Sign); 30] = [
     ("  ", Sign::Content),
     ("#", Sign::Blank),
     ("case ", Sign::Case),
@@ -74,6 +90,10 @@ const BEFORE_TEXT: [(&str, Sign); 23] = [
     ("/ ", Sign::Folder),
     ("@ ", Sign::Link),
     ("& ", Sign::HardLink),
+    ("remote ", Sign::Remote),
+    ("commit ", Sign::Commit),
+    ("offer ", Sign::Offer),
+    ("break ", Sign::Break),
     ("$ ", Sign::Command),
     ("< ", Sign::Input(Form::Lines)),
     ("<- ", Sign::Input(Form::Open)),
@@ -87,14 +107,18 @@ const BEFORE_TEXT: [(&str, Sign); 23] = [
     ("= ", Sign::File(Form::Lines)),
     ("=- ", Sign::File(Form::Open)),
     ("=x ", Sign::File(Form::Hex)),
+    ("=/ ", Sign::FoundFolder),
+    ("=@ ", Sign::FoundLink),
+    ("=& ", Sign::FoundHardLink),
     ("- ", Sign::Absent),
 ];
 
 /// The signs that stand alone.
-const ALONE: [(&str, Sign); 5] = [
+const ALONE: [(&str, Sign); 6] = [
     ("", Sign::Blank),
     ("$", Sign::Command),
     ("<", Sign::Input(Form::Lines)),
+    ("from here", Sign::FromHere),
     ("stops", Sign::Stops),
     ("shown", Sign::ShownText),
 ];

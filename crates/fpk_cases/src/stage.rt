@@ -2,6 +2,8 @@
 use crate::case::{Command, Fixture, FixtureKind};
 use crate::folder::FolderStage;
 use crate::memory::MemStage;
+use crate::system::System;
+use crate::wares::Wares;
 use fp_host::{Host, HostEnd, Path, Stat};
 use std::alloc::{AllocError, Global};
 use std::rt::Files;
@@ -19,19 +21,22 @@ pub struct Ending {
 /// What stands at a path.
 #[derive(Drop)]
 pub enum PathState {
-    File { mode: u32, bytes: Vec<u8> },
+    /// Hard links of one file have one id.
+    File { id: u64, mode: u32, bytes: Vec<u8> },
+    Folder,
+    Link { text: String },
     Nothing,
-    /// A folder or a symlink, or what can't be looked at.
+    /// What can't be looked at.
     Other,
 }
 
 /// Where a case is played.
-pub enum Stage<'a, 'b, R> {
+pub enum Stage<'a, 'b, R: Files> {
     Memory(MemStage),
     Folder(FolderStage<'a, 'b, R>),
 }
 
-impl<R> Drop for Stage<'_, '_, R> {
+impl<R: Files> Drop for Stage<'_, '_, R> {
     fn drop(self) {
         match self {
             Stage::Memory(_) => {}
@@ -40,7 +45,7 @@ impl<R> Drop for Stage<'_, '_, R> {
     }
 }
 
-impl<R: Files + AllocGlobal> Stage<'_, '_, R> {
+impl<R: System> Stage<'_, '_, R> {
     /// Puts something there, with the folders above it. Answers whether that was done.
     pub fn give(&mut self, fixture: &Fixture, bytes: &[u8]) -> Result<bool, AllocError> {
         match self {
@@ -49,16 +54,17 @@ impl<R: Files + AllocGlobal> Stage<'_, '_, R> {
         }
     }
 
-    /// Runs a command. Its input fails at the call with this number, counted from 0.
+    /// Runs a command over these remotes. Its input fails at the call with this number, counted from 0.
     pub fn run<T: Threads + Sync>(
         &mut self,
         rt: &T,
         command: &Command,
         input_fails_at: Option<u64>,
+        wares: &Wares,
     ) -> Result<Ending, AllocError> {
         match self {
-            Stage::Memory(stage) => stage.run(rt, command, input_fails_at),
-            Stage::Folder(stage) => stage.run(rt, command, input_fails_at),
+            Stage::Memory(stage) => stage.run(rt, command, input_fails_at, wares),
+            Stage::Folder(stage) => stage.run(rt, command, input_fails_at, wares),
         }
     }
 
@@ -109,14 +115,19 @@ fn give_at<H: Host>(
     Ok(())
 }
 
-fn give_file<H: Host>(host: &mut H, path: &Path, mode: u32, bytes: &[u8]) -> Result<(), HostEnd> {
+pub fn give_file<H: Host>(
+    host: &mut H,
+    path: &Path,
+    mode: u32,
+    bytes: &[u8],
+) -> Result<(), HostEnd> {
     host.create(path, mode)?;
     host.append(path, bytes)?;
     Ok(())
 }
 
 /// Makes the folders above a path.
-fn make_folders<H: Host>(alloc: Global, host: &mut H, path: &str) -> Result<(), HostEnd> {
+pub fn make_folders<H: Host>(alloc: Global, host: &mut H, path: &str) -> Result<(), HostEnd> {
     for (at, byte) in path.as_bytes().iter().enumerate() {
         if *byte == b'/' {
             make_folder(alloc, host, path.get(..at).unwrap_or(""))?;
@@ -140,8 +151,14 @@ pub fn find<H: Host>(alloc: Global, host: &mut H, path: &str) -> Result<PathStat
     let path = Path::parse(alloc, path)?;
     match host.stat(&path)? {
         Stat::Absent => Ok(PathState::Nothing),
-        Stat::File { mode, size, .. } => read_file(alloc, host, &path, mode, size),
-        Stat::Dir | Stat::Link => Ok(PathState::Other),
+        Stat::File { id, mode, size } => {
+            let bytes = read_file(alloc, host, &path, size)?;
+            Ok(PathState::File { id, mode, bytes })
+        }
+        Stat::Dir => Ok(PathState::Folder),
+        Stat::Link => Ok(PathState::Link {
+            text: host.read_link(alloc, &path)?.into_string(),
+        }),
     }
 }
 
@@ -149,11 +166,10 @@ fn read_file<H: Host>(
     alloc: Global,
     host: &mut H,
     path: &Path,
-    mode: u32,
     size: u64,
-) -> Result<PathState, HostEnd> {
+) -> Result<Vec<u8>, HostEnd> {
     let mut bytes = vec![in alloc; 0u8; size as usize]?;
     let count = host.read_at(path, 0, &mut bytes)?;
     bytes.truncate(count);
-    Ok(PathState::File { mode, bytes })
+    Ok(bytes)
 }

@@ -1,9 +1,13 @@
 //! A case with a stop, and with a failure, at each call of the host.
 use crate::case::{Case, Failure, ShownText, Stops};
-use crate::outcomes::{last_open, oldest_image, open_names, outcomes, present_image};
-use crate::replay::{Replay, replay_case};
+use crate::judge::{Judge, Lines};
+use crate::naming::with_digits;
+use crate::outcomes::{last_open, oldest_image, open_names, present_image};
+use crate::remote_faults::fail_remotes;
+use crate::replay::{Replay, Start, Trouble, start_of, wares_of};
 use crate::showing::{State, reopen};
-use crate::wrong::{Wrong, bytes_text, difference, message};
+use crate::wares::Wares;
+use crate::wrong::{Wrong, difference, message};
 use fp_memhost::{Image, MemHost};
 use std::alloc::{AllocError, Global};
 use std::thread::Threads;
@@ -11,10 +15,18 @@ use std::thread::Threads;
 /// How a case goes where nothing stops it.
 #[derive(Drop)]
 struct Course {
-    /// Before each call from the first of a command on, and at the end: how many lines were printed.
-    lines: Vec<usize>,
+    plain: Replay,
+    /// For each line that is printed, the first call before which it was.
+    printed_at: Vec<u64>,
     /// What the installation shows after so many lines.
     states: Vec<State>,
+}
+
+impl Course {
+    /// How many lines were printed before this call.
+    fn lines_at(&self, call: u64) -> usize {
+        self.printed_at.iter().filter(|at| **at <= call).count()
+    }
 }
 
 /// Plays a case with a stop and with a failure at each call of the host. Answers the first that shows another state than
@@ -25,11 +37,16 @@ pub fn play_stops<R: Threads + Sync>(
     case: &Case,
     stops: &Stops,
 ) -> Result<Option<Wrong>, AllocError> {
-    let plain = replay_case(rt, alloc, case, None)?;
-    let course = course_of(rt, alloc, case, &plain)?;
-    match judge_shown(alloc, &stops.shown, &course.states)? {
-        Some(wrong) => Ok(Some(wrong)),
-        None => judge_course(rt, alloc, case, stops, &plain, &course),
+    let start = start_of(rt, alloc, case)?;
+    let course = course_of(rt, alloc, &start)?;
+    let wares = wares_of(rt, alloc, case)?;
+    if let Some(wrong) = judge_shown(alloc, &wares, &stops.shown, &course.states)? {
+        return Ok(Some(wrong));
+    }
+    let text = judge_course(rt, alloc, &start, stops, &course, &wares)?;
+    match text {
+        Some(text) => Ok(Some(wrong_at(stops, text))),
+        None => Ok(None),
     }
 }
 
@@ -37,21 +54,23 @@ pub fn play_stops<R: Threads + Sync>(
 fn judge_course<R: Threads + Sync>(
     rt: &R,
     alloc: Global,
-    case: &Case,
+    start: &Start<'_>,
     stops: &Stops,
-    plain: &Replay,
     course: &Course,
-) -> Result<Option<Wrong>, AllocError> {
-    if let Some(text) = judge_open(rt, alloc, &plain.host, &stops.open, &course.states)? {
-        return Ok(Some(wrong_at(stops, text)));
+    wares: &Wares,
+) -> Result<Option<String>, AllocError> {
+    let host = &course.plain.host;
+    if let Some(text) = judge_open(rt, alloc, host, &stops.open, &course.states)? {
+        return Ok(Some(text));
     }
-    if let Some(text) = stop_everywhere(rt, alloc, plain, course)? {
-        return Ok(Some(wrong_at(stops, text)));
+    let mut judge = Judge::new(alloc, wares, &course.states);
+    if let Some(text) = stop_everywhere(rt, alloc, course, &mut judge)? {
+        return Ok(Some(text));
     }
-    match fail_everywhere(rt, alloc, case, plain, &course.states)? {
-        Some(text) => Ok(Some(wrong_at(stops, text))),
-        None => Ok(None),
+    if let Some(text) = fail_everywhere(rt, alloc, start, host.calls(), &mut judge)? {
+        return Ok(Some(text));
     }
+    fail_remotes(rt, alloc, start, &mut judge)
 }
 
 fn wrong_at(stops: &Stops, text: String) -> Wrong {
@@ -63,58 +82,78 @@ fn wrong_at(stops: &Stops, text: String) -> Wrong {
 fn course_of<R: Threads + Sync>(
     rt: &R,
     alloc: Global,
-    case: &Case,
-    plain: &Replay,
+    start: &Start<'_>,
 ) -> Result<Course, AllocError> {
-    let mut course = Course {
-        lines: Vec::new(alloc),
-        states: Vec::new(alloc),
-    };
-    for call in plain.first..=plain.host.calls() {
-        let lines = lines_before(rt, alloc, case, plain, call)?;
-        course.lines.push(lines)?;
-        if course.states.len() <= lines {
-            let image = present_image(alloc, &plain.host, call)?;
-            add_states(rt, alloc, &mut course.states, lines, image)?;
+    let plain = start.replay(rt, alloc, Trouble::Nothing)?;
+    let mut printed_at = Vec::new(alloc);
+    let mut states = Vec::new(alloc);
+    add_state(
+        rt,
+        alloc,
+        &mut states,
+        present_image(alloc, &plain.host, 0)?,
+    )?;
+    for line in 1..=plain.lines() {
+        let call = call_after(rt, alloc, start, &plain, line)?;
+        printed_at.push(call)?;
+        let image = present_image(alloc, &plain.host, call)?;
+        add_state(rt, alloc, &mut states, image)?;
+    }
+    Ok(Course {
+        plain,
+        printed_at,
+        states,
+    })
+}
+
+/// The first call before which so many lines were printed, by halves: a line that was printed stays.
+fn call_after<R: Threads + Sync>(
+    rt: &R,
+    alloc: Global,
+    start: &Start<'_>,
+    plain: &Replay,
+    lines: usize,
+) -> Result<u64, AllocError> {
+    let (mut low, mut high) = (0u64, plain.host.calls());
+    for _ in 0..64 {
+        if low >= high {
+            break;
+        }
+        let middle = low.saturating_add(high.saturating_sub(low) / 2);
+        if lines_before(rt, alloc, start, middle)? < lines {
+            low = middle.saturating_add(1);
+        } else {
+            high = middle;
         }
     }
-    Ok(course)
+    Ok(high)
 }
 
 /// How many lines were printed before this call: those that are printed where it fails.
 fn lines_before<R: Threads + Sync>(
     rt: &R,
     alloc: Global,
-    case: &Case,
-    plain: &Replay,
+    start: &Start<'_>,
     call: u64,
 ) -> Result<usize, AllocError> {
-    if call == plain.host.calls() {
-        return Ok(plain.lines());
-    }
     let failure = Failure {
         call,
         is_done: false,
     };
-    Ok(replay_case(rt, alloc, case, Some(failure))?.lines())
+    Ok(start.replay(rt, alloc, Trouble::Host(failure))?.lines())
 }
 
-/// Adds what is shown now, up to the state after so many lines. A list has several lines in one call, and changes nothing.
-fn add_states<R: Threads + Sync>(
+/// Adds what is shown now. A list has several lines in one call, and changes nothing.
+fn add_state<R: Threads + Sync>(
     rt: &R,
     alloc: Global,
     states: &mut Vec<State>,
-    lines: usize,
     image: Option<Image>,
 ) -> Result<(), AllocError> {
-    let Some(image) = image else {
-        return Ok(());
-    };
-    let Some(state) = reopen(rt, alloc, image)? else {
-        return Ok(());
-    };
-    for _ in states.len()..=lines {
-        states.push(state.copy()?)?;
+    if let Some(image) = image {
+        if let Some(state) = reopen(rt, alloc, image)? {
+            states.push(state)?;
+        }
     }
     Ok(())
 }
@@ -122,13 +161,15 @@ fn add_states<R: Threads + Sync>(
 /// Compares what is shown after each line with what the case says, where it says so.
 fn judge_shown(
     alloc: Global,
+    wares: &Wares,
     expected: &[ShownText],
     states: &[State],
 ) -> Result<Option<Wrong>, AllocError> {
     for (shown, state) in expected.iter().zip(states) {
-        if shown.text.as_slice() != state.text.as_slice() {
+        let text = with_digits(alloc, wares, &shown.text)?;
+        if text.as_slice() != state.text.as_slice() {
             let line = shown.line;
-            let text = difference(alloc, "shown", &shown.text, &state.text)?;
+            let text = difference(alloc, "shown", &text, &state.text)?;
             return Ok(Some(Wrong { line, text }));
         }
     }
@@ -209,13 +250,14 @@ fn shows<R: Threads + Sync>(
 fn stop_everywhere<R: Threads + Sync>(
     rt: &R,
     alloc: Global,
-    plain: &Replay,
     course: &Course,
+    judge: &mut Judge<'_>,
 ) -> Result<Option<String>, AllocError> {
-    for (number, lines) in course.lines.iter().enumerate() {
-        let calls = plain.first.saturating_add(number as u64);
-        if let Some(text) = judge_stop(rt, alloc, &plain.host, calls, &course.states, *lines)? {
-            let text = format!(in alloc; "stopped before call {number}: {text}")?;
+    let host = &course.plain.host;
+    for call in 0..=host.calls() {
+        let lines = Lines::or_next(course.lines_at(call));
+        if let Some(text) = judge.moment(rt, host, call, lines)? {
+            let text = format!(in alloc; "stopped before call {call}: {text}")?;
             return Ok(Some(text));
         }
     }
@@ -226,78 +268,34 @@ fn stop_everywhere<R: Threads + Sync>(
 fn fail_everywhere<R: Threads + Sync>(
     rt: &R,
     alloc: Global,
-    case: &Case,
-    plain: &Replay,
-    states: &[State],
+    start: &Start<'_>,
+    calls: u64,
+    judge: &mut Judge<'_>,
 ) -> Result<Option<String>, AllocError> {
-    for call in plain.first..plain.host.calls() {
+    for call in 0..calls {
         for is_done in [false, true] {
-            let failed = replay_case(rt, alloc, case, Some(Failure { call, is_done }))?;
-            if let Some(text) = judge_failure(rt, alloc, &failed, states)? {
-                let number = call.saturating_sub(plain.first);
-                return Ok(Some(failure_text(alloc, number, is_done, &text)?));
+            let failure = Failure { call, is_done };
+            if let Some(text) = fail_call(rt, alloc, start, failure, judge)? {
+                let sign = if is_done { "!+" } else { "!" };
+                return Ok(Some(format!(in alloc; "{sign} {call}: {text}")?));
             }
         }
     }
     Ok(None)
 }
 
-fn failure_text(
-    alloc: Global,
-    number: u64,
-    is_done: bool,
-    text: &str,
-) -> Result<String, AllocError> {
-    let sign = if is_done { "!+" } else { "!" };
-    format!(in alloc; "{sign} {number}: {text}")
-}
-
-/// Says what isn't as it is to be where a call failed.
-fn judge_failure<R: Threads + Sync>(
+/// Lets a call fail, and says what isn't as it has to be.
+fn fail_call<R: Threads + Sync>(
     rt: &R,
     alloc: Global,
-    failed: &Replay,
-    states: &[State],
+    start: &Start<'_>,
+    failure: Failure,
+    judge: &mut Judge<'_>,
 ) -> Result<Option<String>, AllocError> {
-    match failed.other_status {
-        Some(3) => {}
-        Some(status) => {
-            return Ok(Some(format!(in alloc; "expected status 3, but {status} came")?));
-        }
-        None => return message(alloc, "expected status 3"),
-    }
-    let host = &failed.host;
-    judge_stop(rt, alloc, host, host.calls(), states, failed.lines())
-}
-
-/// Says which outcome after so many calls shows another state than those after so many lines, or one more.
-fn judge_stop<R: Threads + Sync>(
-    rt: &R,
-    alloc: Global,
-    host: &MemHost,
-    calls: u64,
-    states: &[State],
-    lines: usize,
-) -> Result<Option<String>, AllocError> {
-    for image in outcomes(alloc, host, calls)? {
-        let state = reopen(rt, alloc, image)?;
-        if !is_expected(states, lines, state.as_ref()) {
-            return Ok(Some(other_text(alloc, lines, state.as_ref())?));
-        }
-    }
-    Ok(None)
-}
-
-fn is_expected(states: &[State], lines: usize, state: Option<&State>) -> bool {
-    state.is_some() && (state == states.get(lines) || state == states.get(lines.saturating_add(1)))
-}
-
-fn other_text(alloc: Global, lines: usize, state: Option<&State>) -> Result<String, AllocError> {
-    match state {
-        Some(state) => {
-            let shown = bytes_text(alloc, &state.text)?;
-            format!(in alloc; "after {lines} lines this was shown: {shown}")
-        }
-        None => format!(in alloc; "after {lines} lines it can't be opened and changed"),
-    }
+    let failed = start.replay(rt, alloc, Trouble::Host(failure))?;
+    let Some(status) = failed.other_status else {
+        return message(alloc, "expected status 3");
+    };
+    let lines = Lines::or_next(failed.lines());
+    judge.refused(rt, &failed.host, (status, 3), lines)
 }

@@ -1,9 +1,8 @@
 //! What cases ask of the system.
 use std::env::Env;
-use std::rt::Files;
 use std::thread::Threads;
 
-/// What cases ask of the system: files, a place for them, memory, threads and printing.
-pub trait System: Files + Env + Print + AllocGlobal + Threads + Sync + Clone + Drop {}
+/// What cases ask of the system: files with locks, a place for them, memory, threads and printing.
+pub trait System: fp_realhost::System + Env + Print + Threads + Sync + Clone + Drop {}
 
-impl<R: Files + Env + Print + AllocGlobal + Threads + Sync + Clone + Drop> System for R {}
+impl<R: fp_realhost::System + Env + Print + Threads + Sync + Clone + Drop> System for R {}

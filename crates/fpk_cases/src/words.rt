@@ -42,7 +42,7 @@ pub fn status(text: &str) -> Result<u8, Fault> {
 
 /// A path, and the permission bits after it in octal digits, which are 644 where none are said.
 pub fn path_and_mode(text: &str) -> Result<(&str, u32), Fault> {
-    match text.split_once(' ') {
+    match first_word(text) {
         None => Ok((text, 0o644)),
         Some((path, digits)) => match u32::from_str_radix(digits, 8) {
             Ok(mode) => Ok((path, mode)),
@@ -53,7 +53,23 @@ pub fn path_and_mode(text: &str) -> Result<(&str, u32), Fault> {
 
 /// A word, and what stands after the space after it.
 pub fn word_and_rest(text: &str) -> Result<(&str, &str), Fault> {
-    text.split_once(' ').ok_or(Fault::OneWord)
+    first_word(text).ok_or(Fault::OneWord)
+}
+
+/// What stands before the first space outside of braces, and what stands after it.
+fn first_word(text: &str) -> Option<(&str, &str)> {
+    let mut is_within = false;
+    for (at, byte) in text.as_bytes().iter().enumerate() {
+        match *byte {
+            b'{' => is_within = true,
+            b'}' => is_within = false,
+            b' ' if !is_within => {
+                return Some((text.get(..at)?, text.get(at.saturating_add(1)..)?));
+            }
+            _ => {}
+        }
+    }
+    None
 }
 
 /// Adds a line and its newline.

@@ -1,0 +1,157 @@
+#!/usr/bin/env python3
+"""Measures installs and updates beside the real ostree.
+
+usage: speed.py FPK [FILES] [DIRECTORIES]
+
+FPK is the program that was built; Debian's packages ostree and strace are needed. `ostree commit` makes a runtime of FILES files of
+4 KiB in DIRECTORIES directories (20000 in 200 where nothing is said). Both programs bring it from that folder into a new store and lay
+it out with hard links, both looking at each digest: `fpk install`, and `ostree pull-local --untrusted` with `ostree checkout -H -U`.
+Then one file of each directory is changed, and both bring that; then nothing is changed. It prints for each step the time by the
+clock, that of the processor, the peak of memory, and the first divided by that of ostree; and which calls of the system fpk makes,
+counted by `strace -c` over a second installation. All in one folder below TMPDIR.
+"""
+
+import os
+import subprocess
+import sys
+import tempfile
+import time
+
+REF = "runtime/org.x.Big/x86_64/1"
+SIZE = 4096
+# what strace -c is asked for
+ROWS = 10
+
+
+class Cost:
+    """What some programs took: seconds by the clock and of the processor, and the peak of memory in KiB."""
+
+    def __init__(self):
+        self.clock, self.processor, self.memory = 0.0, 0.0, 0
+
+    def run(self, words, env=None):
+        """Runs a program, which has to end with status 0, and adds what it took. Answers what it printed."""
+        with tempfile.TemporaryFile() as sink:
+            begun = time.monotonic()
+            process = subprocess.Popen(words, env=env, stdout=sink, stderr=subprocess.STDOUT)
+            _, status, usage = os.wait4(process.pid, 0)
+            process.returncode = os.waitstatus_to_exitcode(status)
+            self.clock += time.monotonic() - begun
+            self.processor += usage.ru_utime + usage.ru_stime
+            self.memory = max(self.memory, usage.ru_maxrss)
+            sink.seek(0)
+            text = sink.read().decode()
+        if process.returncode != 0:
+            sys.exit(f"{' '.join(words)}: status {process.returncode}, {text}")
+        return text
+
+
+class Bench:
+    """A repository, an installation of fpk, and a store of ostree with what is laid out of it."""
+
+    def __init__(self, fpk, folder, files, directories):
+        self.fpk, self.folder = os.path.abspath(fpk), folder
+        self.files, self.directories = files, directories
+        self.tree, self.repo, self.store = (os.path.join(folder, name) for name in ("tree", "repo", "store"))
+        for repo in (self.repo, self.store):
+            Cost().run(["ostree", "init", "--mode=bare-user-only", "--repo", repo])
+        self.offered = None
+
+    # ---- what is offered
+
+    def path(self, number):
+        return os.path.join(self.tree, "files", str(number % self.directories), str(number // self.directories))
+
+    def write(self, number):
+        os.makedirs(os.path.dirname(self.path(number)), exist_ok=True)
+        with open(self.path(number), "wb") as out:
+            out.write(os.urandom(SIZE))
+
+    def make(self):
+        for number in range(self.files):
+            self.write(number)
+        with open(os.path.join(self.tree, "metadata"), "w", encoding="ascii") as out:
+            out.write("[Runtime]\nname=org.x.Big\n")
+        self.commit()
+
+    def change(self):
+        """Changes one file of each directory."""
+        for number in range(self.directories):
+            self.write(number)
+        self.commit()
+
+    def commit(self):
+        words = ["ostree", "commit", "--repo", self.repo, "-b", REF, "--subject=", self.tree]
+        self.offered = Cost().run(words).strip()
+
+    # ---- what is measured
+
+    def environment(self, installation):
+        return dict(os.environ, FPK_INSTALLATION=os.path.join(self.folder, installation))
+
+    def fpk_run(self, words, front=(), installation="installation"):
+        cost = Cost()
+        cost.run([*front, self.fpk, *words], self.environment(installation))
+        return cost
+
+    def ostree_run(self):
+        """Brings what is offered, and lays it out where it isn't yet."""
+        cost, place = Cost(), os.path.join(self.folder, "checkout", self.offered)
+        cost.run(["ostree", "pull-local", "--untrusted", "--repo", self.store, self.repo, REF])
+        if not os.path.exists(place):
+            os.makedirs(os.path.dirname(place), exist_ok=True)
+            cost.run(["ostree", "checkout", "-H", "-U", "--repo", self.store, self.offered, place])
+        return cost
+
+    def traced(self, title, words):
+        """Prints which calls of the system fpk makes."""
+        sums = os.path.join(self.folder, "sums")
+        self.fpk_run(words, ("strace", "-f", "-c", "-S", "calls", "-o", sums), "traced")
+        with open(sums, encoding="ascii") as it:
+            rows = [line.split() for line in it]
+        rows = [row for row in rows if len(row) >= 5 and row[0][0].isdigit() and row[-1] != "total"]
+        counts = [f"{row[-1]} {row[3]}" for row in rows[:ROWS]]
+        total = sum(int(row[3]) for row in rows)
+        print(f"calls of {title}: {total}: {', '.join(counts)}")
+
+
+def told(title, fpk, ostree=None):
+    """Prints what a step took."""
+    text = f"{title}: fpk {fpk.clock:.2f} s, processor {fpk.processor:.2f} s, {fpk.memory / 1024:.0f} MiB"
+    if ostree:
+        text += f"; ostree {ostree.clock:.2f} s, {ostree.processor:.2f} s, {ostree.memory / 1024:.0f} MiB"
+        ratios = (fpk.clock / ostree.clock, fpk.processor / ostree.processor, fpk.memory / ostree.memory)
+        text += "; fpk / ostree: clock {:.1f}, processor {:.1f}, memory {:.1f}".format(*ratios)
+    print(text, flush=True)
+
+
+def play(bench):
+    url = "file://" + bench.repo
+    bench.make()
+    for installation in ("installation", "traced"):
+        bench.fpk_run(["remote-add", "hub", url], installation=installation)
+    told("install", bench.fpk_run(["install", "hub", REF]), bench.ostree_run())
+    bench.traced("install", ["install", "hub", REF])
+    bench.change()
+    told("update", bench.fpk_run(["update"]), bench.ostree_run())
+    bench.traced("update", ["update"])
+    told("idle update", bench.fpk_run(["update"]), bench.ostree_run())
+    bench.traced("idle update", ["update"])
+    told("pin", bench.fpk_run(["pin", "app/*/*/*"]))
+    bench.traced("pin", ["pin", "app/*/*/*"])
+    told("list", bench.fpk_run(["list"]))
+    told("rollback", bench.fpk_run(["rollback", REF]))
+    told("uninstall", bench.fpk_run(["uninstall", REF]))
+
+
+def main():
+    if not 2 <= len(sys.argv) <= 4:
+        sys.exit(__doc__)
+    os.umask(0o022)
+    files, directories = [int(word) for word in sys.argv[2:]] + [20000, 200][len(sys.argv) - 2 :]
+    with tempfile.TemporaryDirectory(prefix="speed") as folder:
+        play(Bench(sys.argv[1], folder, files, directories))
+
+
+if __name__ == "__main__":
+    main()
