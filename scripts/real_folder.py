@@ -98,8 +98,7 @@ def wrong_files(installation):
             is_object = folder.startswith(store) or found.st_nlink > 1
             if is_object != (found.st_mtime == 0):
                 times.append(path)
-            # The lock file is nobody's to read but fpk's, which goes on where it may not.
-            if found.st_mode & 0o444 != 0o444 and path != os.path.join(installation, ".lock"):
+            if found.st_mode & 0o444 != 0o444:
                 bits.append(path)
     return times, bits
 
