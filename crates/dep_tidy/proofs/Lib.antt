@@ -1,4 +1,4 @@
-mod Views
+pub mod Views
 mod Alter
 mod Apart
 mod Clearing
@@ -10,5 +10,5 @@ mod RefFiles
 pub mod Pruned
 mod Joined
 mod Ended
-mod Small
+pub mod Small
 pub mod Left

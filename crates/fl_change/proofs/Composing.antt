@@ -5,14 +5,14 @@ use Rattle.fp_host.specs.Causes.{IsCaused, end_of}
 use Rattle.fp_host.specs.Frame.{AtEnd}
 use Rattle.fp_host.specs.Moments.{Moments, Goes, Always, Makes, Rose, HasCause}
 use Rattle.fp_host.specs.Remote.{Holdings, nothing as no_entry}
-use Rattle.fp_host.specs.View.{View}
+use Rattle.fp_host.specs.View.{View, IsTree}
 use Rattle.fp_host.specs.declared.host.HostError.{HostError}
 use Rattle.fp_host.specs.declared.host.HostError.TheVariants as error
 use Rattle.fp_host.specs.declared.host.HostEnd.{HostEnd}
 use Rattle.fp_host.specs.declared.host.HostEnd.TheVariants as host
 use Rattle.fp_host.proofs.Cause.{clash_step}
 use Rattle.fp_host.proofs.Framed.{IsTold}
-use Rattle.fp_host.proofs.Goes.{makes_goes}
+use Rattle.fp_host.proofs.Goes.{makes_goes, ends_tree}
 use Rattle.fp_host.proofs.Ending.{goes_known}
 use Rattle.fp_small.specs.Places.{repo}
 use Rattle.fp_small.specs.declared.state.State.{State}
@@ -22,16 +22,16 @@ use Rattle.fp_small.specs.declared.refusal.Refusal.{Refusal}
 use Rattle.ost_model.specs.Objects.{Have}
 use Rattle.ost_model.specs.Remotes.{Supplies}
 use Rattle.ost_walk.specs.Ends.{IsRemotes, Outside}
-use Rattle.dep_states.specs.After.{plain, after}
+use Rattle.dep_states.specs.After.{May, plain, after}
 use Rattle.dep_states.specs.Sound.{Opens}
-use Rattle.dep_tidy.specs.Tidy.{Tidies, WasTidied}
+use Rattle.dep_tidy.specs.Tidy.{Tidies}
 use Rattle.op_bring.specs.Bringing.{AreTold, WasLeft}
 use Rattle.op_change.specs.Applied.{Brings, url_for, have_for, AppliesWith, AppliesPlainly, Applies, WasApplied, IsStarved, HostFaulted}
 use Rattle.op_change.specs.declared.ending.ApplyEnd.{ApplyEnd}
 use Rattle.op_change.specs.declared.ending.ApplyEnd.TheVariants as applies
 use Rattle.fl_lines.specs.Lines.{op_text}
 use Rattle.fl_change.specs.Ends.{end_of_host, end_of_apply}
-use Rattle.fl_change.specs.Performs.{PerformsOver, PerformedOver, AsksBy, OpensBy, ChangesFrom, Works, Acts, Rests, Just, DoneOver}
+use Rattle.fl_change.specs.Performs.{PerformsOver, PerformedOver, AsksBy, OpensBy, ChangesFrom, Works, Acts, Rests, Just, DoneOver, WasTidiedAfter}
 use Rattle.fl_change.specs.Refs.{op_over}
 use Rattle.fl_change.specs.Says.{Says, WasSaid}
 use Rattle.fl_change.specs.declared.end.RunEnd.{RunEnd}
@@ -120,10 +120,13 @@ module _ (op : Op) (s : State) (u v : Outside) where
   abbrev pub IsApplied : State → View → View → Type 0
   IsApplied t x y = (held : Holdings) → u.holdings ≡ Some held → Rests s x → Applied held op s t x y
 
-  pub works_applied : (t : State) → Clauses op s (Ok t) u v → Works (Just op) s (PerformsOver (Rests s) u.holdings (op_over op) s) (IsApplied t) (Ok t) u v
-  works_applied t clauses = record {
-    goes = goes_to (goes_first (goes_known clauses.moments clauses.success)) (λ x y r. performs_at x y r.0)
-        (λ x y q held told rests. applied u.holdings held told op s t rests q.0.0 q.0.1 (answers_at clauses held told x q.1));
+  tree_at : IsTold u.told → (x : View) → IsFirst u.told x → IsTree x
+  tree_at told x first = subst IsTree first.2 (told first.0 first.1)
+
+  pub works_applied : (t : State) → May s op → IsTold u.told → IsTold v.told → Clauses op s (Ok t) u v → Works (Just op) s (PerformsOver (Rests s) u.holdings (op_over op) s) (IsApplied t) (Ok t) u v
+  works_applied t may told_u told_v clauses = record {
+    goes = goes_to (ends_tree told_v (goes_first (goes_known clauses.moments clauses.success)) (λ x y tree q. (q, tree))) (λ x y r. performs_at x y r.0)
+        (λ x y q held told rests. applied u.holdings held told op s t may (tree_at told_u x q.0.1) q.1 rests q.0.0.0 q.0.0.1 (answers_at clauses held told x q.0.1));
     opens = λ known. record { goes = goes_to (goes_first (goes_known clauses.moments clauses.success)) (λ x y r. tt) (λ x y q. opens_of t clauses known x y q.1 q.0.1) };
     changes = λ known. goes_to clauses.moments changes_at changes_at;
     same = clauses.same;
@@ -226,22 +229,22 @@ module _ (op : Op) (s t : State) (u v w : Outside) where
   while_said : (x y z : View) → IsApplied op s u v t x y → Says (op_text op) y z → PerformsOver (Rests s) u.holdings (op_over op) s x z
   while_said x y z q n = record { performs = λ held told rests. saying held op s t x (q held told rests) n }
 
-  pub works_done : (piece : List ℕ) → IsTold v.told → piece ≡ op_text op → Clauses op s (Ok t) u v → Saying piece (Ok tt) v w → Works (Just op) s (PerformsOver (Rests s) u.holdings (op_over op) s) (DoneOver u.holdings op s (Ok t)) (Ok t) u w
-  works_done piece told same clauses call = works_on told (works_applied op s u v t clauses) (works_said (op_text op) t piece same call)
+  pub works_done : (piece : List ℕ) → May s op → IsTold u.told → IsTold v.told → piece ≡ op_text op → Clauses op s (Ok t) u v → Saying piece (Ok tt) v w → Works (Just op) s (PerformsOver (Rests s) u.holdings (op_over op) s) (DoneOver u.holdings op s (Ok t)) (Ok t) u w
+  works_done piece may told_u told same clauses call = works_on told (works_applied op s u v t may told_u told clauses) (works_said (op_text op) t piece same call)
       (λ x y z p q n. while_said x y z q n)
       (λ x y z p q n l. record { done = λ held known rests. said held op s t x (q held known rests) l })
 
-  pub works_silent : (piece : List ℕ) (e : HostError) → IsTold v.told → piece ≡ op_text op → Clauses op s (Ok t) u v → Saying piece (Err e) v w → Works (Just op) s (PerformsOver (Rests s) u.holdings (op_over op) s) (DoneOver u.holdings op s (Err (end_of_host (end_of e)))) (Err (end_of_host (end_of e))) u w
-  works_silent piece e told same clauses call = works_on told (works_applied op s u v t clauses) (works_not_said (op_text op) t piece e same call)
+  pub works_silent : (piece : List ℕ) (e : HostError) → May s op → IsTold u.told → IsTold v.told → piece ≡ op_text op → Clauses op s (Ok t) u v → Saying piece (Err e) v w → Works (Just op) s (PerformsOver (Rests s) u.holdings (op_over op) s) (DoneOver u.holdings op s (Err (end_of_host (end_of e)))) (Err (end_of_host (end_of e))) u w
+  works_silent piece e may told_u told same clauses call = works_on told (works_applied op s u v t may told_u told clauses) (works_not_said (op_text op) t piece e same call)
       (λ x y z p q n. while_said x y z q n)
       (λ x y z p q n l. subst (λ (r : RunEnd). DoneOver u.holdings op s (Err r) x z) (sym l) (record { done = λ held known rests. tt }))
 
 -- ---- tidying
 
--- what a tidying tells
-pub record Tidying (s : State) (result : Result State HostEnd) (u v : Outside) : Type 0 where
+-- what a tidying tells, and in the end this
+pub record Tidying (Q : View → View → Type 0) (s : State) (result : Result State HostEnd) (u v : Outside) : Type 0 where
   pub moments : Always (Tidies s) u.told v.told
-  pub success : OnOk result (AtEnd (WasTidied s) u.told v.told)
+  pub success : OnOk result (AtEnd Q u.told v.told)
   pub state : (t : State) → result ≡ Ok t → t ≡ s
   pub host : IsCaused (IsErrOf result host.Fault) u.told (Opens s) u.host_faults v.host_faults
   pub holdings : v.holdings ≡ u.holdings
@@ -250,7 +253,7 @@ pub record Tidying (s : State) (result : Result State HostEnd) (u v : Outside) :
 tidy_changes : {May : Op → Type 0} (s : State) (x y : View) → Tidies s x y → ChangesFrom May s x y
 tidy_changes s x y tidies ready = tidied_changes s x y tidies
 
-pub works_tidied : {May : Op → Type 0} (s t : State) {u v : Outside} → Tidying s (Ok t) u v → Works May s (Tidies s) (λ x y. Tidies s x y × WasTidied s x y) (Ok t) u v
+pub works_tidied : {May : Op → Type 0} {Q : View → View → Type 0} (s t : State) {u v : Outside} → Tidying Q s (Ok t) u v → Works May s (Tidies s) (λ x y. Tidies s x y × Q x y) (Ok t) u v
 works_tidied s t call = record {
   goes = goes_known call.moments call.success;
   opens = λ known. record { goes = goes_to call.moments (λ x y r. tt) (λ x y r opens. subst (λ (z : State). Opens z y) (sym (call.state t refl)) (r.opens opens)) };
@@ -269,7 +272,7 @@ tidy_no_remote : (e : HostEnd) → end_of_host e ≡ RemoteFault → ⊥
 tidy_no_remote host.Fault is = cc is
 tidy_no_remote host.NoMemory is = cc is
 
-pub works_untidied : {May : Op → Type 0} (s : State) (e : HostEnd) {u v : Outside} → Tidying s (Err e) u v → Works May s (Tidies s) (Tidies s) (Err (end_of_host e)) u v
+pub works_untidied : {May : Op → Type 0} {Q : View → View → Type 0} (s : State) (e : HostEnd) {u v : Outside} → Tidying Q s (Err e) u v → Works May s (Tidies s) (Tidies s) (Err (end_of_host e)) u v
 works_untidied s e call = record {
   goes = call.moments;
   opens = λ known. record { goes = goes_to call.moments (λ x y r. tt) (λ x y r. tt) };
@@ -289,12 +292,12 @@ module _ (op : Op) (s t : State) (u v w : Outside) (told : IsTold v.told) (works
   while_tidied : (x y z : View) → DoneOver u.holdings op s (Ok t) x y → Tidies t y z → PerformsOver (Rests s) u.holdings (op_over op) s x z
   while_tidied x y z q n = record { performs = λ held known rests. tidying held op s t x (q.done held known rests) n }
 
-  pub acts_done : (t' : State) → Tidying t (Ok t') v w → Acts (Rests s) (Just op) (op_over op) s (Ok t') u w
+  pub acts_done : (t' : State) → Tidying (WasTidiedAfter op t) t (Ok t') v w → Acts (Rests s) (Just op) (op_over op) s (Ok t') u w
   acts_done t' call = works_on told works (works_tidied t t' call)
       (λ x y z p q n. while_tidied x y z q n)
       (λ x y z p q n l. record { performed = λ held known rests. tidied held op s t x t' (call.state t' refl) (q.done held known rests) l.0 l.1 })
 
-  pub acts_untidied : (e : HostEnd) → Tidying t (Err e) v w → Acts (Rests s) (Just op) (op_over op) s (Err (end_of_host e)) u w
+  pub acts_untidied : (e : HostEnd) → Tidying (WasTidiedAfter op t) t (Err e) v w → Acts (Rests s) (Just op) (op_over op) s (Err (end_of_host e)) u w
   acts_untidied e call = works_on told works (works_untidied t e call)
       (λ x y z p q n. while_tidied x y z q n)
       (λ x y z p q n l. by e x y z q n)

@@ -3,7 +3,7 @@ use Rattle.std.proofs.Common.{◌≡◌, inl, inr, ℕ, List, [], ◌∷◌, ◌
 use Rattle.std.proofs.lemmas.List.{append-nil}
 use Rattle.fp_host.specs.Paths.{Slot, absent, dir, file, link, under}
 use Rattle.fp_host.specs.Remote.{Holdings}
-use Rattle.fp_host.specs.View.{View, Inode}
+use Rattle.fp_host.specs.View.{View, Inode, IsTree}
 use Rattle.fp_host.specs.Outcome.{Disk, Leaves, holds as standing, holding, spot_of, shows}
 use Rattle.fp_small.specs.Config.{config_text}
 use Rattle.fp_small.specs.Files.{KeepsFiles}
@@ -17,23 +17,24 @@ use Rattle.ost_model.specs.Objects.{Have}
 use Rattle.dep_states.specs.Names.{config}
 use Rattle.dep_states.specs.Shown.{settings_of}
 use Rattle.dep_states.specs.Sound.{Opens}
-use Rattle.dep_states.specs.After.{Done, plain, after, IsOnConfig}
+use Rattle.dep_states.specs.After.{Done, May, plain, after, IsOnConfig}
 use Rattle.dep_states.specs.Switch.{OpensEither}
-use Rattle.dep_tidy.specs.Tidy.{Tidies, WasTidied}
+use Rattle.dep_tidy.specs.Tidy.{Tidies, SettledButWork}
 use Rattle.op_bring.specs.Bringing.{AreTold, WasLeft}
 use Rattle.op_change.specs.Applied.{Brings, have_for, op_refusal, done_with, AppliesWith, Applies, WasApplied}
 use Rattle.fl_lines.specs.Lines.{op_text}
 use Rattle.fl_change.specs.World.{World, world_at, world_after, worlds_after, supplied}
-use Rattle.fl_change.specs.Answer.{Answer, Piece, lines_of, joined, ops_in, ops_of, done_answer, refusal_answer, unless, sets_config, set_config}
+use Rattle.fl_change.specs.Answer.{Answer, Piece, lines_of, joined, ops_in, ops_of, done_answer, refusal_answer, unless, sets_config, set_config, keeps_commits}
 use Rattle.fl_change.specs.Refs.{op_over}
 use Rattle.fl_change.specs.Changes.{HasText}
-use Rattle.fl_change.specs.Performs.{Printed, IsSome, Performs, Holds, IsDone, IsHalted, Performed, Rests, done_of, WasDone, WasDoneBy}
+use Rattle.fl_change.specs.Performs.{Printed, IsSome, Performs, Holds, IsDone, IsHalted, Performed, Rests, done_of, WasDone, WasDoneBy, WasTidiedAfter}
 use Rattle.fl_change.specs.declared.end.RunEnd.TheVariants.{Refused}
 use Rattle.fl_change.specs.Says.{Says, WasSaid}
 use Rattle.fl_change.proofs.Brought.{plainly, done_is, supplied_is, world_is, same_world}
 use Rattle.fl_change.proofs.Changing.{config_kept, config_tidied, tidied_not, keeps_files, text_on}
 use Rattle.fl_change.proofs.Pulled.{op_pulls}
-use Rattle.fl_change.proofs.Same.{same_opens, now_left}
+use Rattle.fl_change.proofs.Resting.{small_rest}
+use Rattle.fl_change.proofs.Same.{same_opens, same_rest, now_left}
 use Rattle.fl_change.proofs.Worlds.{holds_on, holds_tidied, same_objects}
 
 -- ---- nothing is done
@@ -201,6 +202,7 @@ pub record Applied (held : Holdings) (op : Op) (s t : State) (v w : View) : Type
   pub holds : Holds (world_after held (world_at s v) (done_of op held (world_at s v))) w
   pub text : sets_config op ≡ true → HasText t w
   pub config : sets_config op ≡ false → w.names config ≡ v.names config
+  pub rest : keeps_commits op ≡ true → SettledButWork (shows w)
 
 -- one that sets `config` is one on it, and brings nothing
 record OnConfig (op : Op) : Type 0 where
@@ -221,8 +223,8 @@ on_config (SetOverride row) sets = absurd (cc sets)
 on_config (DropOverride name) sets = absurd (cc sets)
 on_config (Rollback name commit) sets = absurd (cc sets)
 
-pub applied : (holds : Option Holdings) (held : Holdings) → holds ≡ Some held → (op : Op) (s t : State) {v w : View} → Rests s v → Applies s op holds v w → WasApplied s op holds v w → AppliesWith (have_for s op held v) s op (Ok t) → Applied held op s t v w
-applied holds held told op s t {v = v} {w = w} rests applies was answers =
+pub applied : (holds : Option Holdings) (held : Holdings) → holds ≡ Some held → (op : Op) (s t : State) {v w : View} → May s op → IsTree v → IsTree w → Rests s v → Applies s op holds v w → WasApplied s op holds v w → AppliesWith (have_for s op held v) s op (Ok t) → Applied held op s t v w
+applied holds held told op s t {v = v} {w = w} may tree next rests applies was answers =
     let changes = applies.changes (λ b. rests.opens) in
     let is = supplied_is held op s rests in
     let state : t ≡ after s (done_of op held (world_at s v)) = answers.1 ∙ ap (after s) (sym is.done) in
@@ -240,6 +242,7 @@ applied holds held told op s t {v = v} {w = w} rests applies was answers =
           let plain_is : t ≡ after s (plain op) = answers.1 ∙ ap (after s) (plainly (have_for s op held v) op on.brings).done in
           subst (λ (x : State). HasText x w) (sym plain_is) (written (was.settings on.is).text);
       config = λ not. config_kept s op not changes;
+      rest = small_rest s op may tree next rests changes;
     }
 
 -- ---- its answer
@@ -299,6 +302,7 @@ module _ (held : Holdings) (op : Op) (s t : State) (v : View) where
     holds = holds_on (same_opens was.follows a.holds.opens) (same_objects w z was.shown) a.holds;
     text = λ sets. text_on (was.untouched.names config) (keeps_files was.untouched) (a.text sets);
     config = λ not. was.untouched.names config ∙ a.config not;
+    rest = λ keeps. same_rest was.shown (a.rest keeps);
   }
 
   -- ---- tidying after it
@@ -327,7 +331,7 @@ module _ (held : Holdings) (op : Op) (s t : State) (v : View) where
   sets : (b : Bool) → set_config (d ∷ []) ≡ b → sets_config op ≡ b
   sets b is = ap sets_config (sym op_is) ∙ sym (or_false (sets_config d.op)) ∙ is
 
-  pub tidied : (t' : State) {w z : View} → t' ≡ t → WasDone held op s t v w → Tidies t w z → WasTidied t w z → Performed held (op_over op held x) x (Ok t') v z
+  pub tidied : (t' : State) {w z : View} → t' ≡ t → WasDone held op s t v w → Tidies t w z → WasTidiedAfter op t w z → Performed held (op_over op held x) x (Ok t') v z
   tidied t' {w = w} {z = z} same done tidies was = subst (λ (q : Answer). Performed held q x (Ok t') v z) (allowed_is done.allowed) (
     refl,
     same ∙ done.state,
@@ -335,7 +339,7 @@ module _ (held : Holdings) (op : Op) (s t : State) (v : View) where
       printed = (printed_it done tidies).printed;
       only_tidied = λ idle. absurd (made_some d idle.0);
       holds = holds_tidied (tidies_it done tidies) done.holds;
-      tidied = λ why. was.settled (subst (λ (q : State). Opens q w) (sym done.state) done.holds.opens);
+      tidied = λ why. was.settled (subst (λ (q : State). Opens q w) (sym done.state) done.holds.opens) done.rest;
       text = λ some. text_on (config_tidied tidies) tidies.files (subst (λ (q : State). HasText q w) done.state (done.text (sets true some)));
       config = λ not. config_tidied tidies ∙ done.config (sets false not);
     },

@@ -7,6 +7,7 @@ pub mod Stored
 pub mod Kept
 pub mod Brought
 pub mod Pulled
+pub mod Resting
 pub mod Doing
 pub mod Turning
 pub mod Working

@@ -7,6 +7,7 @@ use Rattle.fp_small.specs.declared.state.State.{State}
 use Rattle.dep_states.specs.Shown.{Shows}
 use Rattle.dep_states.specs.Sound.{Sound, Opens}
 use Rattle.dep_states.specs.Settled.{Settled}
+use Rattle.dep_tidy.specs.Tidy.{SettledButWork}
 
 pub unmoved : {disk before : Disk} → ((p : Elements) → (disk p ≡ before p) ⊎ Nothing p (disk p)) → (p : Elements) → disk p ≡ before p
 unmoved each p = elim (each p) [ inl same ↦ same | inr given ↦ absurd given ]
@@ -22,6 +23,9 @@ same_sound {disk = disk} {before = before} same sound = subst Sound (sym (same_d
 
 pub same_settled : {disk before : Disk} → ((p : Elements) → disk p ≡ before p) → Settled before → Settled disk
 same_settled {disk = disk} {before = before} same settled = subst Settled (sym (same_disk disk before same)) settled
+
+pub same_rest : {disk before : Disk} → ((p : Elements) → disk p ≡ before p) → SettledButWork before → SettledButWork disk
+same_rest {disk = disk} {before = before} same rest = subst SettledButWork (sym (same_disk disk before same)) rest
 
 pub same_opens : {v w : View} {s : State} → Follows Nothing v w → Opens s v → Opens s w
 same_opens follows opens = record {

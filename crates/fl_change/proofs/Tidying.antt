@@ -29,8 +29,8 @@ use Rattle.fl_change.proofs.Working.{works_as, works_on}
 use Rattle.fl_change.proofs.Worlds.{holds_at, holds_tidied, world_held}
 
 -- the clauses of a tidying
-pub tidying_of : (s : State) (result : Result State HostEnd) {u v : Outside} → Always (Tidies s) u.told v.told → OnOk result (AtEnd (WasTidied s) u.told v.told) → ((t : State) → result ≡ Ok t → t ≡ s)
-    → IsCaused (result ≡ Err host.Fault) u.told (Opens s) u.host_faults v.host_faults → v.holdings ≡ u.holdings → v.remote_faults ≡ u.remote_faults → Tidying s result u v
+pub tidying_of : {Q : View → View → Type 0} (s : State) (result : Result State HostEnd) {u v : Outside} → Always (Tidies s) u.told v.told → OnOk result (AtEnd Q u.told v.told) → ((t : State) → result ≡ Ok t → t ≡ s)
+    → IsCaused (result ≡ Err host.Fault) u.told (Opens s) u.host_faults v.host_faults → v.holdings ≡ u.holdings → v.remote_faults ≡ u.remote_faults → Tidying Q s result u v
 tidying_of s result moments success state cause holdings remote = record { moments = moments; success = success; state = state; host = cause; holdings = holdings; remote_faults = remote }
 
 first_moved : {a : Answer} {said : List Piece} {u v w : View} → v.printed ≡ u.printed → Printed a said v w → Printed a said u w
@@ -83,14 +83,14 @@ module _ (s : State) {u v : View} (tidies : Tidies s u v) (opens : Opens s u) wh
 first_over : (f : Holdings → World → Answer) (s : State) (holds : Option Holdings) (x y : View) → Tidies s x y → PerformsOver (Opens s) holds f s x y
 first_over f s holds x y tidies = record { performs = λ held told opens. tidied_first s tidies opens (f held (world_at s x)) }
 
-pub acts_untidied_first : {May : Op → Type 0} (f : Holdings → World → Answer) (s : State) (e : HostEnd) {u v : Outside} → Tidying s (Err e) u v → Acts (Opens s) May f s (Err (end_of_host e)) u v
+pub acts_untidied_first : {May : Op → Type 0} (f : Holdings → World → Answer) (s : State) (e : HostEnd) {u v : Outside} → Tidying (WasTidied s) s (Err e) u v → Acts (Opens s) May f s (Err (end_of_host e)) u v
 acts_untidied_first f s e {u = u} call = works_as (λ x y first p. first_over f s u.holdings x y p) (λ x y first p q. by e x y q) (works_untidied s e call)
   where
     by : (e : HostEnd) (x y : View) → Tidies s x y → PerformedOver (Opens s) u.holdings f s (Err (end_of_host e)) x y
     by host.Fault x y tidies = record { performed = λ held told opens. tt }
     by host.NoMemory x y tidies = record { performed = λ held told opens. halted_first s tidies opens (f held (world_at s x)) }
 
-pub acts_tidied_first : {May : Op → Type 0} (f : Holdings → World → Answer) (s t : State) (r : Result State RunEnd) {u v w : Outside} → IsTold v.told → Tidying s (Ok t) u v → Acts (Rests s) May f s r v w → Acts (Opens s) May f s r u w
+pub acts_tidied_first : {May : Op → Type 0} (f : Holdings → World → Answer) (s t : State) (r : Result State RunEnd) {u v w : Outside} → IsTold v.told → Tidying (WasTidied s) s (Ok t) u v → Acts (Rests s) May f s r v w → Acts (Opens s) May f s r u w
 acts_tidied_first {May = May} f s t r {u = u} {v = v} {w = w} told call acts = works_on told first
     (subst (λ (h : Option Holdings). Works May s (PerformsOver (Rests s) h f s) (PerformedOver (Rests s) h f s r) r v w) call.holdings acts)
     (λ x y z p q n. record {

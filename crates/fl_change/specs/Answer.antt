@@ -58,6 +58,21 @@ sets_config (SetOverride row) = false
 sets_config (DropOverride name) = false
 sets_config (Rollback name commit) = false
 
+-- an operation that changes no commit, in layout 2: on pins, remotes or an override
+abbrev pub keeps_commits : Op → Bool
+keeps_commits (AddPin pin) = true
+keeps_commits (DropPin pin) = true
+keeps_commits (AddRemote row) = true
+keeps_commits (ModifyRemote row) = true
+keeps_commits (DropRemote name) = true
+keeps_commits (SetOverride row) = true
+keeps_commits (DropOverride name) = true
+keeps_commits Migrate = false
+keeps_commits (Install name origin commit) = false
+keeps_commits (Update name origin commit) = false
+keeps_commits (Uninstall name) = false
+keeps_commits (Rollback name commit) = false
+
 -- one of these is such
 abbrev pub set_config : List Done → Bool
 set_config ops = list_any (λ done. sets_config done.op) ops

@@ -17,11 +17,12 @@ use Rattle.dep_states.specs.Shown.{Shows}
 use Rattle.dep_states.specs.Sound.{Sound, Opens}
 use Rattle.dep_states.specs.After.{Done, after, after_all}
 use Rattle.dep_states.specs.Settled.{Settled}
+use Rattle.dep_tidy.specs.Tidy.{SettledButWork}
 use Rattle.op_bring.specs.Bringing.{AreTold}
 use Rattle.op_change.specs.Applied.{Brings, op_refusal, done_with}
 use Rattle.fl_lines.specs.Lines.{op_text}
 use Rattle.fl_change.specs.World.{World, world_at, used_of, supplied, world_after, worlds_after}
-use Rattle.fl_change.specs.Answer.{Answer, Piece, joined, ops_in, ops_of, lines_of, sets_config, set_config, IsIdle}
+use Rattle.fl_change.specs.Answer.{Answer, Piece, joined, ops_in, ops_of, lines_of, sets_config, set_config, keeps_commits, IsIdle}
 use Rattle.fl_change.specs.Refs.{op_over}
 use Rattle.fl_change.specs.Changes.{Changes, OnlyTidied, HasText}
 use Rattle.fl_change.specs.declared.end.RunEnd.{RunEnd}
@@ -133,7 +134,7 @@ Just op o = o ≡ op
 abbrev pub done_of : Op → Holdings → World → Done
 done_of op held x = done_with (supplied held x op) op
 
--- An operation is done and its line printed; it isn't tidied after it.
+-- An operation is done and its line printed; it isn't tidied after it. Where it changes no commit, all is settled but for work.
 pub record WasDone (held : Holdings) (op : Op) (s t : State) (v w : View) : Type 0 where
   pub allowed : op_refusal (supplied held (world_at s v) op) op ≡ None
   pub state : t ≡ after s (done_of op held (world_at s v))
@@ -142,6 +143,11 @@ pub record WasDone (held : Holdings) (op : Op) (s t : State) (v w : View) : Type
   pub holds : Holds (world_after held (world_at s v) (done_of op held (world_at s v))) w
   pub text : sets_config op ≡ true → HasText t w
   pub config : sets_config op ≡ false → w.names config ≡ v.names config
+  pub rest : keeps_commits op ≡ true → SettledButWork (shows w)
+
+-- After an operation that changes no commit it is enough that work is taken away.
+pub record WasTidiedAfter (op : Op) (s : State) (u w : View) : Type 0 where
+  pub settled : Opens s u → (keeps_commits op ≡ true → SettledButWork (shows u)) → Settled (shows w)
 
 abbrev pub WasDoneBy : Holdings → Op → State → Result State RunEnd → View → View → Type 0
 WasDoneBy held op s (Ok t) v w = WasDone held op s t v w

@@ -1,18 +1,24 @@
 //! One operation, its line, and the tidying after it.
-ghost use Rattle.std.specs.Prelude.{◌≡◌, ◌⊎◌, ℕ, IfOk};
+ghost use Rattle.std.specs.Prelude.{◌≡◌, ◌⊎◌, ℕ, IfOk, IsErrOf, OnOk};
+ghost use Rattle.fp_host.specs.Causes.{IsCaused};
+ghost use Rattle.fp_host.specs.Frame.{AtEnd};
+ghost use Rattle.fp_host.specs.Moments.{Always};
 ghost use Rattle.fp_small.specs.declared.state.Layout.TheVariants.{Two};
 ghost use Rattle.ost_walk.specs.Ends.{outside};
 ghost use Rattle.dep_states.specs.After.{May, IsGood, after_op};
+ghost use Rattle.dep_states.specs.Sound.{Opens};
+ghost use Rattle.dep_tidy.specs.Tidy.{Tidies};
 ghost use Rattle.op_change.specs.Applied.{IsShort};
 ghost use Rattle.fl_lines.specs.Lines.{op_text};
-ghost use Rattle.fl_change.specs.Performs.{Works, Acts, Rests, Just, PerformsOver, DoneOver};
+ghost use Rattle.fl_change.specs.Answer.{keeps_commits as op_keeps_commits};
+ghost use Rattle.fl_change.specs.Performs.{Works, Acts, Rests, Just, PerformsOver, DoneOver, WasTidiedAfter};
 ghost use Rattle.fl_change.specs.Refs.{op_over};
 
 use crate::end::RunEnd;
 use dep_states::Opened;
-use dep_tidy::tidy;
+use dep_tidy::{tidy, tidy_work};
 use fl_lines::op_line;
-use fp_host::{Host, Remotes};
+use fp_host::{Host, HostEnd, Remotes};
 use fp_small::Op;
 use op_change::apply;
 use std::alloc::Global;
@@ -37,7 +43,7 @@ pub(crate) fn do_op<H: Host, R: Remotes>(
 {
     let line = op_line(alloc, op)?;
     let done = do_and_say(alloc, host, remotes, opened, op, line.as_str().as_bytes())?;
-    Ok(tidy(alloc, host, done)?)
+    Ok(tidy_after(alloc, host, done, op)?)
 }
 
 /// Does one operation, and says its line once it is done.
@@ -63,4 +69,45 @@ fn do_and_say<H: Host, R: Remotes>(
     let done = apply(alloc, host, remotes, opened, op)?;
     host.say(line)?;
     Ok(done)
+}
+
+/// Tidies after an operation. One that changes no commit left no more than work in `repo/tmp`, so nothing else is looked at.
+fn tidy_after<H: Host>(
+    alloc: Global,
+    host: &mut H,
+    done: Opened,
+    op: &Op,
+) -> Result<Opened, HostEnd>
+    ensures state { IfOk result (λ o. o ≡ done) }
+    ensures any_moment { Always (Tidies done) (H.moments host.old) (H.moments host.new) }
+    ensures on_success { OnOk result (AtEnd (WasTidiedAfter op.now done)
+        (H.moments host.old) (H.moments host.new)) }
+    ensures fault_has_cause { IsCaused (IsErrOf result HostEnd.Fault) (H.moments host.old)
+        (Opens done) (H.faults host.old) (H.faults host.new) }
+{
+    if keeps_commits(op) {
+        tidy_work(alloc, host, done)
+    } else {
+        tidy(alloc, host, done)
+    }
+}
+
+/// Whether the operation changes no commit of an installation of layout 2.
+fn keeps_commits(op: &Op) -> bool
+    ensures { result ≡ op_keeps_commits op.now }
+{
+    match op {
+        Op::AddPin(_)
+        | Op::DropPin(_)
+        | Op::AddRemote(_)
+        | Op::ModifyRemote(_)
+        | Op::DropRemote(_)
+        | Op::SetOverride(_)
+        | Op::DropOverride(_) => true,
+        Op::Install { .. }
+        | Op::Update { .. }
+        | Op::Uninstall { .. }
+        | Op::Rollback { .. }
+        | Op::Migrate => false,
+    }
 }

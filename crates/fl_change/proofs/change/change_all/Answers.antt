@@ -2,6 +2,7 @@ use Rattle.std.proofs.Common.{◌≡◌, inl, inr, refl, subst, Result, Ok, Err,
 use Rattle.fp_host.specs.declared.host.HostEnd.{HostEnd}
 use Rattle.fp_small.specs.declared.state.State.{State}
 use Rattle.ost_walk.specs.Ends.{outside}
+use Rattle.dep_tidy.specs.Tidy.{WasTidied}
 use Rattle.fl_change.specs.Ends.{end_of_host}
 use Rattle.fl_change.specs.Performs.{Acts, Rests}
 use Rattle.fl_change.specs.Turns.{changing, migrating, in_turn, MayDo}
@@ -17,10 +18,10 @@ returns-in_err-tidied g c =
     let u = outside (g.H.Host.moments c.args.host.now) (g.H.Host.faults c.args.host.now) (g.R.Remotes.holds c.args.remotes.now) (g.R.Remotes.faults c.args.remotes.now) in
     let v = outside (g.H.Host.moments c.tidy.new.host) (g.H.Host.faults c.tidy.new.host) (g.R.Remotes.holds c.args.remotes.now) (g.R.Remotes.faults c.args.remotes.now) in
     let t = g.met.H.Host.is_tree in
-    let tidying : Tidying s c.tidy.result u v = tidying_of s c.tidy.result c.tidy.ensures.any_moment c.tidy.ensures.on_success (λ x is. subst (λ (r : Result State HostEnd). IfOk r (λ o. o ≡ s)) is c.tidy.ensures.state) c.tidy.ensures.fault_has_cause refl refl in
+    let tidying : Tidying (WasTidied s) s c.tidy.result u v = tidying_of s c.tidy.result c.tidy.ensures.any_moment c.tidy.ensures.on_success (λ x is. subst (λ (r : Result State HostEnd). IfOk r (λ o. o ≡ s)) is c.tidy.ensures.state) c.tidy.ensures.fault_has_cause refl refl in
     record {
       acts = acts_err c.from_residual.result (end_of_host c.in_err-tidied.field-0.0) c.from_residual.ensures.1
-          (acts_untidied_first (changing c.args.changes.now) s c.in_err-tidied.field-0.0 (subst (λ (r : Result State HostEnd). Tidying s r u v) c.in_err-tidied.was tidying));
+          (acts_untidied_first (changing c.args.changes.now) s c.in_err-tidied.field-0.0 (subst (λ (r : Result State HostEnd). Tidying (WasTidied s) s r u v) c.in_err-tidied.was tidying));
     }
 
 pub returns-in_err-current : goal.returns-in_err-current
@@ -29,12 +30,12 @@ returns-in_err-current g c =
     let u = outside (g.H.Host.moments c.args.host.now) (g.H.Host.faults c.args.host.now) (g.R.Remotes.holds c.args.remotes.now) (g.R.Remotes.faults c.args.remotes.now) in
     let v = outside (g.H.Host.moments c.tidy.new.host) (g.H.Host.faults c.tidy.new.host) (g.R.Remotes.holds c.args.remotes.now) (g.R.Remotes.faults c.args.remotes.now) in
     let t = g.met.H.Host.is_tree in
-    let tidying : Tidying s c.tidy.result u v = tidying_of s c.tidy.result c.tidy.ensures.any_moment c.tidy.ensures.on_success (λ x is. subst (λ (r : Result State HostEnd). IfOk r (λ o. o ≡ s)) is c.tidy.ensures.state) c.tidy.ensures.fault_has_cause refl refl in
+    let tidying : Tidying (WasTidied s) s c.tidy.result u v = tidying_of s c.tidy.result c.tidy.ensures.any_moment c.tidy.ensures.on_success (λ x is. subst (λ (r : Result State HostEnd). IfOk r (λ o. o ≡ s)) is c.tidy.ensures.state) c.tidy.ensures.fault_has_cause refl refl in
     let w = outside (g.H.Host.moments c.migrate.new.host) (g.H.Host.faults c.migrate.new.host) (g.R.Remotes.holds c.migrate.new.remotes) (g.R.Remotes.faults c.migrate.new.remotes) in
     let migrated : Acts (Rests s) (MayDo c.args.changes.now) migrating s (Err c.in_err-current.field-0.0) v w = works_to (λ op is. inl is) (subst (λ (x : State). Acts (Rests x) _ migrating x (Err c.in_err-current.field-0.0) v w) c.in_ok-tidied.ensures.state c.in_err-current.ensures.acts) in
     record {
       acts = acts_err c.from_residual-in_err-current.result c.in_err-current.field-0.0 c.from_residual-in_err-current.ensures.1
-          (acts_tidied_first (changing c.args.changes.now) s c.in_ok-tidied.tidied (Err c.in_err-current.field-0.0) (t c.tidy.new.host) (subst (λ (r : Result State HostEnd). Tidying s r u v) c.in_ok-tidied.was tidying)
+          (acts_tidied_first (changing c.args.changes.now) s c.in_ok-tidied.tidied (Err c.in_err-current.field-0.0) (t c.tidy.new.host) (subst (λ (r : Result State HostEnd). Tidying (WasTidied s) s r u v) c.in_ok-tidied.was tidying)
           (acts_first migrating (in_turn c.args.changes.now) c.in_err-current.field-0.0 migrated));
     }
 
@@ -44,10 +45,10 @@ returns g c =
     let u = outside (g.H.Host.moments c.args.host.now) (g.H.Host.faults c.args.host.now) (g.R.Remotes.holds c.args.remotes.now) (g.R.Remotes.faults c.args.remotes.now) in
     let v = outside (g.H.Host.moments c.tidy.new.host) (g.H.Host.faults c.tidy.new.host) (g.R.Remotes.holds c.args.remotes.now) (g.R.Remotes.faults c.args.remotes.now) in
     let t = g.met.H.Host.is_tree in
-    let tidying : Tidying s c.tidy.result u v = tidying_of s c.tidy.result c.tidy.ensures.any_moment c.tidy.ensures.on_success (λ x is. subst (λ (r : Result State HostEnd). IfOk r (λ o. o ≡ s)) is c.tidy.ensures.state) c.tidy.ensures.fault_has_cause refl refl in
+    let tidying : Tidying (WasTidied s) s c.tidy.result u v = tidying_of s c.tidy.result c.tidy.ensures.any_moment c.tidy.ensures.on_success (λ x is. subst (λ (r : Result State HostEnd). IfOk r (λ o. o ≡ s)) is c.tidy.ensures.state) c.tidy.ensures.fault_has_cause refl refl in
     let w = outside (g.H.Host.moments c.migrate.new.host) (g.H.Host.faults c.migrate.new.host) (g.R.Remotes.holds c.migrate.new.remotes) (g.R.Remotes.faults c.migrate.new.remotes) in
     let migrated : Acts (Rests s) (MayDo c.args.changes.now) migrating s (Ok c.in_ok-current.current) v w = works_to (λ op is. inl is) (subst (λ (x : State). Acts (Rests x) _ migrating x (Ok c.in_ok-current.current) v w) c.in_ok-tidied.ensures.state c.in_ok-current.ensures.acts) in
     record {
-      acts = acts_tidied_first (changing c.args.changes.now) s c.in_ok-tidied.tidied c.do_each.result (t c.tidy.new.host) (subst (λ (r : Result State HostEnd). Tidying s r u v) c.in_ok-tidied.was tidying)
+      acts = acts_tidied_first (changing c.args.changes.now) s c.in_ok-tidied.tidied c.do_each.result (t c.tidy.new.host) (subst (λ (r : Result State HostEnd). Tidying (WasTidied s) s r u v) c.in_ok-tidied.was tidying)
           (acts_second migrating (in_turn c.args.changes.now) c.in_ok-current.current c.do_each.result (t c.migrate.new.host) migrated (works_to (λ op may. inr may) c.do_each.ensures.acts));
     }

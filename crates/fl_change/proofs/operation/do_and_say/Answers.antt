@@ -32,7 +32,7 @@ returns-in_err-say-clause-works g c =
     let w = outside (g.H.Host.moments c.say.new.self) (g.H.Host.faults c.say.new.self) (g.R.Remotes.holds c.apply.new.remotes) (g.R.Remotes.faults c.apply.new.remotes) in
     let call : Saying c.args.line.now (Err c.in_err-say.field-0.0) v w = record { step = c.in_err-say.ensures.step; cause = c.in_err-say.ensures.fault_has_cause; holdings = refl; remote_faults = refl } in
     works_err (λ r. DoneOver u.holdings op s r) c.from_residual-in_err-say.result (end_of_host (end_of c.in_err-say.field-0.0)) c.from_residual-in_err-say.ensures.1
-    (works_silent op s c.in_ok-done.done u v w c.args.line.now c.in_err-say.field-0.0 (t c.apply.new.host) c.requires.line (subst (λ (r : Result State ApplyEnd). Clauses op s r u v) c.in_ok-done.was clauses) call)
+    (works_silent op s c.in_ok-done.done u v w c.args.line.now c.in_err-say.field-0.0 c.requires.may (t c.args.host.now) (t c.apply.new.host) c.requires.line (subst (λ (r : Result State ApplyEnd). Clauses op s r u v) c.in_ok-done.was clauses) call)
 
 pub returns-clause-works : goal.returns-clause-works
 returns-clause-works g c =
@@ -45,4 +45,4 @@ returns-clause-works g c =
     let t = g.met.H.Host.is_tree in
     let w = outside (g.H.Host.moments c.say.new.self) (g.H.Host.faults c.say.new.self) (g.R.Remotes.holds c.apply.new.remotes) (g.R.Remotes.faults c.apply.new.remotes) in
     let call : Saying c.args.line.now (Ok tt) v w = record { step = c.in_ok-say.ensures.step; cause = c.in_ok-say.ensures.fault_has_cause; holdings = refl; remote_faults = refl } in
-    works_done op s c.in_ok-done.done u v w c.args.line.now (t c.apply.new.host) c.requires.line (subst (λ (r : Result State ApplyEnd). Clauses op s r u v) c.in_ok-done.was clauses) call
+    works_done op s c.in_ok-done.done u v w c.args.line.now c.requires.may (t c.args.host.now) (t c.apply.new.host) c.requires.line (subst (λ (r : Result State ApplyEnd). Clauses op s r u v) c.in_ok-done.was clauses) call

@@ -3,6 +3,7 @@ use Rattle.fp_host.specs.declared.host.HostEnd.{HostEnd}
 use Rattle.fp_small.specs.declared.state.State.{State}
 use Rattle.ost_walk.specs.Ends.{outside}
 use Rattle.fl_change.specs.Ends.{end_of_host}
+use Rattle.fl_change.specs.Performs.{WasTidiedAfter}
 use Rattle.fl_change.specs.Refs.{op_over}
 use Rattle.fl_change.specs.declared.end.RunEnd.TheVariants.{NoMemory}
 use Rattle.fl_change.proofs.Acting.{acts_err, acts_halted}
@@ -16,23 +17,23 @@ returns-in_err-line-clause-acts g c = acts_err c.from_residual.result NoMemory c
 pub returns-in_err-done-clause-acts : goal.returns-in_err-done-clause-acts
 returns-in_err-done-clause-acts g c = acts_err c.from_residual-in_err-done.result c.in_err-done.field-0.0 c.from_residual-in_err-done.ensures.1 (acts_not_done c.args.op.now c.args.opened c.in_err-done.field-0.0 c.in_err-done.ensures.works)
 
-pub returns-in_err-tidy-clause-acts : goal.returns-in_err-tidy-clause-acts
-returns-in_err-tidy-clause-acts g c =
+pub returns-in_err-tidy_after-clause-acts : goal.returns-in_err-tidy_after-clause-acts
+returns-in_err-tidy_after-clause-acts g c =
     let op = c.args.op.now in
     let s = c.args.opened in
     let v = outside (g.H.Host.moments c.do_and_say.new.host) (g.H.Host.faults c.do_and_say.new.host) (g.R.Remotes.holds c.do_and_say.new.remotes) (g.R.Remotes.faults c.do_and_say.new.remotes) in
-    let w = outside (g.H.Host.moments c.tidy.new.host) (g.H.Host.faults c.tidy.new.host) (g.R.Remotes.holds c.do_and_say.new.remotes) (g.R.Remotes.faults c.do_and_say.new.remotes) in
+    let w = outside (g.H.Host.moments c.tidy_after.new.host) (g.H.Host.faults c.tidy_after.new.host) (g.R.Remotes.holds c.do_and_say.new.remotes) (g.R.Remotes.faults c.do_and_say.new.remotes) in
     let t = g.met.H.Host.is_tree in
-    let tidying : Tidying c.in_ok-done.done c.tidy.result v w = tidying_of c.in_ok-done.done c.tidy.result c.tidy.ensures.any_moment c.tidy.ensures.on_success (λ x is. subst (λ (r : Result State HostEnd). IfOk r (λ o. o ≡ c.in_ok-done.done)) is c.tidy.ensures.state) c.tidy.ensures.fault_has_cause refl refl in
-    acts_err c.from_residual-in_err-tidy.result (end_of_host c.in_err-tidy.field-0.0) c.from_residual-in_err-tidy.ensures.1
-    (acts_untidied op s c.in_ok-done.done (outside (g.H.Host.moments c.args.host.now) (g.H.Host.faults c.args.host.now) (g.R.Remotes.holds c.args.remotes.now) (g.R.Remotes.faults c.args.remotes.now)) v w (t c.do_and_say.new.host) c.in_ok-done.ensures.works c.in_err-tidy.field-0.0 (subst (λ (r : Result State HostEnd). Tidying c.in_ok-done.done r v w) c.in_err-tidy.was tidying))
+    let tidying : Tidying (WasTidiedAfter op c.in_ok-done.done) c.in_ok-done.done c.tidy_after.result v w = tidying_of c.in_ok-done.done c.tidy_after.result c.tidy_after.ensures.any_moment c.tidy_after.ensures.on_success (λ x is. subst (λ (r : Result State HostEnd). IfOk r (λ o. o ≡ c.in_ok-done.done)) is c.tidy_after.ensures.state) c.tidy_after.ensures.fault_has_cause refl refl in
+    acts_err c.from_residual-in_err-tidy_after.result (end_of_host c.in_err-tidy_after.field-0.0) c.from_residual-in_err-tidy_after.ensures.1
+    (acts_untidied op s c.in_ok-done.done (outside (g.H.Host.moments c.args.host.now) (g.H.Host.faults c.args.host.now) (g.R.Remotes.holds c.args.remotes.now) (g.R.Remotes.faults c.args.remotes.now)) v w (t c.do_and_say.new.host) c.in_ok-done.ensures.works c.in_err-tidy_after.field-0.0 (subst (λ (r : Result State HostEnd). Tidying (WasTidiedAfter op c.in_ok-done.done) c.in_ok-done.done r v w) c.in_err-tidy_after.was tidying))
 
 pub returns-clause-acts : goal.returns-clause-acts
 returns-clause-acts g c =
     let op = c.args.op.now in
     let s = c.args.opened in
     let v = outside (g.H.Host.moments c.do_and_say.new.host) (g.H.Host.faults c.do_and_say.new.host) (g.R.Remotes.holds c.do_and_say.new.remotes) (g.R.Remotes.faults c.do_and_say.new.remotes) in
-    let w = outside (g.H.Host.moments c.tidy.new.host) (g.H.Host.faults c.tidy.new.host) (g.R.Remotes.holds c.do_and_say.new.remotes) (g.R.Remotes.faults c.do_and_say.new.remotes) in
+    let w = outside (g.H.Host.moments c.tidy_after.new.host) (g.H.Host.faults c.tidy_after.new.host) (g.R.Remotes.holds c.do_and_say.new.remotes) (g.R.Remotes.faults c.do_and_say.new.remotes) in
     let t = g.met.H.Host.is_tree in
-    let tidying : Tidying c.in_ok-done.done c.tidy.result v w = tidying_of c.in_ok-done.done c.tidy.result c.tidy.ensures.any_moment c.tidy.ensures.on_success (λ x is. subst (λ (r : Result State HostEnd). IfOk r (λ o. o ≡ c.in_ok-done.done)) is c.tidy.ensures.state) c.tidy.ensures.fault_has_cause refl refl in
-    acts_done op s c.in_ok-done.done (outside (g.H.Host.moments c.args.host.now) (g.H.Host.faults c.args.host.now) (g.R.Remotes.holds c.args.remotes.now) (g.R.Remotes.faults c.args.remotes.now)) v w (t c.do_and_say.new.host) c.in_ok-done.ensures.works c.in_ok-tidy.field-0 (subst (λ (r : Result State HostEnd). Tidying c.in_ok-done.done r v w) c.in_ok-tidy.was tidying)
+    let tidying : Tidying (WasTidiedAfter op c.in_ok-done.done) c.in_ok-done.done c.tidy_after.result v w = tidying_of c.in_ok-done.done c.tidy_after.result c.tidy_after.ensures.any_moment c.tidy_after.ensures.on_success (λ x is. subst (λ (r : Result State HostEnd). IfOk r (λ o. o ≡ c.in_ok-done.done)) is c.tidy_after.ensures.state) c.tidy_after.ensures.fault_has_cause refl refl in
+    acts_done op s c.in_ok-done.done (outside (g.H.Host.moments c.args.host.now) (g.H.Host.faults c.args.host.now) (g.R.Remotes.holds c.args.remotes.now) (g.R.Remotes.faults c.args.remotes.now)) v w (t c.do_and_say.new.host) c.in_ok-done.ensures.works c.in_ok-tidy_after.field-0 (subst (λ (r : Result State HostEnd). Tidying (WasTidiedAfter op c.in_ok-done.done) c.in_ok-done.done r v w) c.in_ok-tidy_after.was tidying)
