@@ -2,13 +2,16 @@
 #![tactic(auto)]
 
 mod escaping;
+mod exports;
 mod info;
 mod laws;
 mod lines;
 mod printed_words;
 mod refusals;
+mod stores;
 
 pub use escaping::escape;
+pub use exports::export_line;
 pub use info::info_text;
 pub use laws::escapes_tell_texts;
 pub use lines::{digits_of, object_of, op_line, pins_text, refs_text, remotes_text, skipped_line};
@@ -17,3 +20,4 @@ pub use printed_words::{
     side_word, what_word,
 };
 pub use refusals::{octal_of, refusal_line};
+pub use stores::{bad_line, fsck_line, stray_line};

@@ -26,6 +26,7 @@ fn told_command(alloc: Global, command: &Command) -> Result<String, AllocError> 
         Command::Show(thing) => told_shown(alloc, thing),
         Command::Filter(source) => told_source(alloc, source),
         Command::Batch => "Batch".to_string(alloc),
+        Command::Fsck => "Fsck".to_string(alloc),
     }
 }
 
@@ -59,6 +60,7 @@ fn told_listing(alloc: Global, listing: &Listing) -> Result<String, AllocError> 
         Listing::Refs => "ListRefs".to_string(alloc),
         Listing::Remotes => "ListRemotes".to_string(alloc),
         Listing::Pins => "ListPins".to_string(alloc),
+        Listing::Exports => "ListExports".to_string(alloc),
         Listing::Info(name) => format!(in alloc; "Info {}", name.as_str()),
         Listing::Launch { name, options } => told_options(alloc, "Launch", name.as_str(), options),
         Listing::OverrideShow { name } => format!(in alloc; "OverrideShow {}", name.as_str()),
@@ -102,7 +104,7 @@ fn told_remote(alloc: Global, what: &str, row: &RemoteRow) -> Result<String, All
 }
 
 /// Words, and the command that they are, or the place of the first bad one.
-const WORDS: [(&[&str], &str); 66] = [
+const WORDS: [(&[&str], &str); 69] = [
     // remotes
     (
         &["remote-add", "lab", "file:///lab"],
@@ -133,6 +135,8 @@ const WORDS: [(&[&str], &str); 66] = [
     (&["batch", ""], "bad words at 1"),
     (&["batch", "pin", "app/*/*/*"], "bad words at 1"),
     (&["batches"], "bad words at 0"),
+    (&["fsck"], "Fsck"),
+    (&["fsck", "file"], "bad words at 1"),
     (&["pin", "app/*/*/*"], "Pin app/*/*/*"),
     (
         &["pin", "runtime/org.x.Y/x86_64/1.0"],
@@ -140,6 +144,7 @@ const WORDS: [(&[&str], &str); 66] = [
     ),
     (&["unpin", "app/*/*/*"], "Unpin app/*/*/*"),
     (&["list", "--pins"], "ListPins"),
+    (&["list", "--exports"], "ListExports"),
     (&[], "bad words at 0"),
     (&[""], "bad words at 0"),
     (&["", "x"], "bad words at 0"),

@@ -13,7 +13,7 @@ use Rattle.fp_small.specs.declared.state.RemoteRow.{RemoteRow}
 use Rattle.fl_options.specs.Options.{is_option, is_launch_option}
 use Rattle.fl_rules.specs.Rules.{is_rule}
 use Rattle.fl_words.specs.declared.command.Command.{Command}
-use Rattle.fl_words.specs.declared.command.Command.TheVariants.{Change as Changing, List as Listed, Show as Showing, Filter as Filtering, Batch as Batched}
+use Rattle.fl_words.specs.declared.command.Command.TheVariants.{Change as Changing, List as Listed, Show as Showing, Filter as Filtering, Batch as Batched, Fsck as Checked}
 use Rattle.fl_words.specs.declared.command.PolicySource.TheVariants as sources
 use Rattle.fl_words.specs.declared.command.Change.TheVariants as changes
 use Rattle.fl_words.specs.declared.command.Listing.TheVariants as listings
@@ -21,7 +21,7 @@ use Rattle.fl_words.specs.declared.command.Shown.TheVariants as things
 use Rattle.fl_words.specs.declared.forms.Slot.{Slot}
 use Rattle.fl_words.specs.declared.forms.Slot.TheVariants as slots
 use Rattle.fl_words.specs.declared.forms.Form.{Form}
-use Rattle.fl_words.specs.declared.forms.Form.TheVariants.{Pin, Unpin, RemoteAdd, RemoteModify, RemoteDelete, Install, UpdateAll, UpdateOne, Uninstall, UninstallUnused, Rollback, Override, OverrideApp, OverrideReset, OverrideResetApp, ListRefs, ListRemotes, ListPins, Info, Launch, OverrideShow, OverrideShowApp, Filter, FilterFrom, FilterSystemFrom, Batch, ShowCommit, ShowDirTree, ShowDirMeta, ShowValue}
+use Rattle.fl_words.specs.declared.forms.Form.TheVariants.{Pin, Unpin, RemoteAdd, RemoteModify, RemoteDelete, Install, UpdateAll, UpdateOne, Uninstall, UninstallUnused, Rollback, Override, OverrideApp, OverrideReset, OverrideResetApp, ListRefs, ListRemotes, ListPins, ListExports, Info, Launch, OverrideShow, OverrideShowApp, Filter, FilterFrom, FilterSystemFrom, Batch, Fsck, ShowCommit, ShowDirTree, ShowDirMeta, ShowValue}
 use Rattle.fl_words.specs.Types.{is_type_text}
 
 -- ---- places
@@ -95,8 +95,8 @@ forms =
     Pin ∷ Unpin ∷ RemoteAdd ∷ RemoteModify ∷ RemoteDelete
     ∷ Install ∷ UpdateAll ∷ UpdateOne ∷ Uninstall ∷ UninstallUnused ∷ Rollback
     ∷ Override ∷ OverrideApp ∷ OverrideReset ∷ OverrideResetApp
-    ∷ ListRefs ∷ ListRemotes ∷ ListPins ∷ Info ∷ Launch ∷ OverrideShow ∷ OverrideShowApp
-    ∷ Filter ∷ FilterFrom ∷ FilterSystemFrom ∷ Batch
+    ∷ ListRefs ∷ ListRemotes ∷ ListPins ∷ ListExports ∷ Info ∷ Launch ∷ OverrideShow ∷ OverrideShowApp
+    ∷ Filter ∷ FilterFrom ∷ FilterSystemFrom ∷ Batch ∷ Fsck
     ∷ ShowCommit ∷ ShowDirTree ∷ ShowDirMeta ∷ ShowValue ∷ []
 
 abbrev pub slots_of : Form → List Place
@@ -118,6 +118,7 @@ slots_of OverrideResetApp = literal (codes "override") ∷ literal (codes "--res
 slots_of ListRefs = literal (codes "list") ∷ []
 slots_of ListRemotes = literal (codes "list") ∷ literal (codes "--remotes") ∷ []
 slots_of ListPins = literal (codes "list") ∷ literal (codes "--pins") ∷ []
+slots_of ListExports = literal (codes "list") ∷ literal (codes "--exports") ∷ []
 slots_of Info = literal (codes "info") ∷ ref_name ∷ []
 slots_of Launch = literal (codes "launch") ∷ app ∷ launch_options ∷ []
 slots_of OverrideShow = literal (codes "override") ∷ literal (codes "--show") ∷ []
@@ -126,6 +127,7 @@ slots_of Filter = literal (codes "filter") ∷ filter_rules ∷ []
 slots_of FilterFrom = literal (codes "filter") ∷ from_app ∷ []
 slots_of FilterSystemFrom = literal (codes "filter") ∷ literal (codes "--system") ∷ from_app ∷ []
 slots_of Batch = literal (codes "batch") ∷ []
+slots_of Fsck = literal (codes "fsck") ∷ []
 slots_of ShowCommit = literal (codes "show") ∷ literal (codes "commit") ∷ []
 slots_of ShowDirTree = literal (codes "show") ∷ literal (codes "dirtree") ∷ []
 slots_of ShowDirMeta = literal (codes "show") ∷ literal (codes "dirmeta") ∷ []
@@ -162,6 +164,7 @@ made OverrideResetApp words = Changing (changes.OverrideReset (word_at 2 words))
 made ListRefs words = Listed listings.Refs
 made ListRemotes words = Listed listings.Remotes
 made ListPins words = Listed listings.Pins
+made ListExports words = Listed listings.Exports
 made Info words = Listed (listings.Info (ref_at (word_at 1 words)))
 made Launch words = Listed (listings.Launch (ref_at (word_at 1 words)) (drop 2 words))
 made OverrideShow words = Listed (listings.OverrideShow (codes "global"))
@@ -170,6 +173,7 @@ made Filter words = Filtering (sources.Rules (drop 1 words))
 made FilterFrom words = Filtering (sources.Session (ref_at (drop 7 (word_at 1 words))))
 made FilterSystemFrom words = Filtering (sources.System (ref_at (drop 7 (word_at 2 words))))
 made Batch words = Batched
+made Fsck words = Checked
 made ShowCommit words = Showing things.Commit
 made ShowDirTree words = Showing things.DirTree
 made ShowDirMeta words = Showing things.DirMeta

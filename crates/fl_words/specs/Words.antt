@@ -6,11 +6,11 @@ use Rattle.fp_name.specs.Grammar.{is_remote_name, is_url}
 use Rattle.fp_name.specs.Pins.{is_pin}
 use Rattle.fp_name.specs.Refs.{Ref, is_ref, ref_text}
 use Rattle.fl_words.specs.declared.command.Command.{Command}
-use Rattle.fl_words.specs.declared.command.Command.TheVariants.{Change as Changing, List as Listed, Show as Showing, Filter, Batch}
+use Rattle.fl_words.specs.declared.command.Command.TheVariants.{Change as Changing, List as Listed, Show as Showing, Filter, Batch, Fsck}
 use Rattle.fl_words.specs.declared.command.Change.{Change}
 use Rattle.fl_words.specs.declared.command.Change.TheVariants.{Pin, Unpin, RemoteAdd, RemoteModify, RemoteDelete, Install, UpdateAll, UpdateOne, Uninstall, UninstallUnused, Rollback, OverrideChange, OverrideReset}
 use Rattle.fl_words.specs.declared.command.Listing.{Listing}
-use Rattle.fl_words.specs.declared.command.Listing.TheVariants.{Refs, Remotes, Pins, Info, Launch, OverrideShow}
+use Rattle.fl_words.specs.declared.command.Listing.TheVariants.{Refs, Remotes, Pins, Exports, Info, Launch, OverrideShow}
 use Rattle.fl_words.specs.declared.command.PolicySource.{PolicySource}
 use Rattle.fl_words.specs.declared.command.PolicySource.TheVariants.{Rules, Session, System}
 use Rattle.fl_words.specs.declared.command.Shown.{Shown}
@@ -47,6 +47,7 @@ words_of (Changing (OverrideReset name)) = codes "override" ∷ codes "--reset" 
 words_of (Listed Refs) = codes "list" ∷ []
 words_of (Listed Remotes) = codes "list" ∷ codes "--remotes" ∷ []
 words_of (Listed Pins) = codes "list" ∷ codes "--pins" ∷ []
+words_of (Listed Exports) = codes "list" ∷ codes "--exports" ∷ []
 words_of (Listed (Info name)) = codes "info" ∷ ref_text name ∷ []
 words_of (Listed (Launch name options)) = codes "launch" ∷ ref_text name ∷ options
 words_of (Listed (OverrideShow name)) = codes "override" ∷ codes "--show" ∷ override_word name
@@ -54,6 +55,7 @@ words_of (Filter (Rules rules)) = codes "filter" ∷ rules
 words_of (Filter (Session name)) = codes "filter" ∷ from_word name ∷ []
 words_of (Filter (System name)) = codes "filter" ∷ codes "--system" ∷ from_word name ∷ []
 words_of Batch = codes "batch" ∷ []
+words_of Fsck = codes "fsck" ∷ []
 words_of (Showing Commit) = codes "show" ∷ codes "commit" ∷ []
 words_of (Showing DirTree) = codes "show" ∷ codes "dirtree" ∷ []
 words_of (Showing DirMeta) = codes "show" ∷ codes "dirmeta" ∷ []
@@ -66,6 +68,7 @@ may_change (Listed listing) = false
 may_change (Showing thing) = false
 may_change (Filter source) = false
 may_change Batch = true
+may_change Fsck = false
 
 -- one option or more that change permissions
 abbrev pub are_options : List (List ℕ) → Bool
@@ -92,6 +95,7 @@ abbrev pub is_listing : Listing → Bool
 is_listing Refs = true
 is_listing Remotes = true
 is_listing Pins = true
+is_listing Exports = true
 is_listing (Info name) = is_ref name
 is_listing (Launch name options) = (is_ref name && is_app name) && list_all is_launch_option options
 is_listing (OverrideShow name) = is_override_name name
@@ -113,6 +117,7 @@ is_command (Listed listing) = is_listing listing
 is_command (Showing thing) = is_shown thing
 is_command (Filter source) = is_source source
 is_command Batch = true
+is_command Fsck = true
 
 -- the words are a command, or are one with more words after them
 pub record Begins (words : List (List ℕ)) : Type 0 where

@@ -25,6 +25,8 @@ pub enum Command {
     Filter(PolicySource),
     /// `batch`: does the changes that the lines of the input ask for.
     Batch,
+    /// `fsck`: looks at each object of the store, and prints what is wrong there.
+    Fsck,
 }
 
 impl Command {
@@ -84,6 +86,8 @@ pub enum Listing {
     Remotes,
     /// `list --pins`: the patterns.
     Pins,
+    /// `list --exports`
+    Exports,
     /// `info REF`: what is known of a deployed ref.
     Info(RefName),
     /// `launch APP LAUNCHOPTION..`: what an application is launched with, by options, which are as the words were.
