@@ -2,43 +2,34 @@
 //! each call. `docs/CASES.md` says how to write one.
 #![tactic(auto)]
 
-use case::Case;
-use fault::Fault;
-use folder::{is_for_folder, play_in_folder};
-use memory::play_in_memory;
-use parser::Parser;
+use case_hosts::{Program, is_for_folder};
+use case_play::{play_in_folder, play_in_memory, play_stops};
+use case_system::System;
+use case_text::{Case, Fault, Parser, Wrong};
+use fl_top::run;
+use fp_host::{Host, Remotes, Source};
 use std::alloc::Global;
 use std::process::ExitCode;
+use std::thread::Threads;
 use std::{env, fs, io};
-use stops::play_stops;
-use system::System;
-use wrong::Wrong;
 
-mod capture;
-mod case;
-mod expecting;
-mod fault;
-mod folder;
-mod harm;
-mod judge;
-mod memory;
-mod naming;
-mod outcomes;
-mod own_remotes;
-mod parser;
-mod playing;
-mod remote_faults;
-mod replay;
-mod showing;
-mod sign;
-mod sound;
-mod stage;
-mod stops;
-mod system;
-mod unsynced;
-mod wares;
-mod words;
-mod wrong;
+/// fpk, whose cases are played.
+#[derive(Clone, Copy)]
+struct Fpk;
+
+impl Program for Fpk {
+    fn run<T: Threads + Sync, H: Host, R: Remotes, I: Source>(
+        &self,
+        rt: &T,
+        alloc: Global,
+        words: &[String],
+        input: &mut I,
+        host: &mut H,
+        remotes: &mut R,
+    ) -> u8 {
+        run(rt, alloc, words, input, host, remotes)
+    }
+}
 
 /// The arguments are names of files of cases.
 fn main(rt: HostRuntime) -> io::Result<ExitCode> {
@@ -137,7 +128,7 @@ fn try_cases<R: System>(rt: &R, alloc: Global, name: &str, cases: &[Case]) -> io
 
 /// Tries a case each way, prints what isn't as it says, and answers how much that is.
 fn try_case<R: System>(rt: &R, alloc: Global, name: &str, case: &Case) -> io::Result<u64> {
-    if let Some(wrong) = play_in_memory(rt, alloc, case)? {
+    if let Some(wrong) = play_in_memory(&Fpk, rt, alloc, case)? {
         return say(rt, name, case, "in memory", &wrong);
     }
     if let Some(wrong) = in_folder(rt, alloc, case)? {
@@ -152,7 +143,7 @@ fn try_case<R: System>(rt: &R, alloc: Global, name: &str, case: &Case) -> io::Re
 /// Plays a case over a folder where it can be.
 fn in_folder<R: System>(rt: &R, alloc: Global, case: &Case) -> io::Result<Option<Wrong>> {
     match is_for_folder(case) {
-        true => play_in_folder(rt, alloc, case),
+        true => play_in_folder(&Fpk, rt, alloc, case),
         false => Ok(None),
     }
 }
@@ -160,7 +151,7 @@ fn in_folder<R: System>(rt: &R, alloc: Global, case: &Case) -> io::Result<Option
 /// Plays a case with a stop at each call where it asks for it.
 fn with_stops<R: System>(rt: &R, alloc: Global, case: &Case) -> io::Result<Option<Wrong>> {
     match &case.stops {
-        Some(stops) => Ok(play_stops(rt, alloc, case, stops)?),
+        Some(stops) => Ok(play_stops(&Fpk, rt, alloc, case, stops)?),
         None => Ok(None),
     }
 }

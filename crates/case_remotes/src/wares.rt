@@ -1,9 +1,9 @@
 //! The remotes of a case: commits that are made of what it gives, and objects that are broken.
-use crate::case::{Action, CommitLine, Fixture, FixtureKind, Harm, ObjectWords, Owner, Step};
-use crate::fault::Fault;
 use crate::harm::{harmed, harmed_digest};
-use crate::naming::{Name, name_of};
-use crate::wrong::{Wrong, message};
+use case_text::{
+    Action, CommitLine, Fault, Fixture, FixtureKind, Harm, Name, ObjectWords, Owner, Step, Wrong,
+    message, name_of,
+};
 use fp_base::{Blob, ObjKind, Text};
 use fp_host::{Path, is_link_text};
 use fp_name::{Digest, RefName};

@@ -1,10 +1,8 @@
 //! What is to stand at a path.
-use crate::case::{Expected, What};
-use crate::naming::{text_with_digits, with_digits};
-use crate::stage::{PathState, Stage};
-use crate::system::System;
-use crate::wares::Wares;
-use crate::wrong::{difference, message};
+use case_hosts::{PathState, Stage};
+use case_remotes::{Wares, text_with_digits, with_digits};
+use case_system::System;
+use case_text::{Expected, What, difference, message};
 use std::alloc::{AllocError, Global};
 
 /// Looks at a path, and answers what isn't as it is to be.

@@ -1,9 +1,9 @@
 //! Whether what a stop may leave is as it has to be.
-use crate::outcomes::{outcomes, picture};
 use crate::showing::{State, reopen};
-use crate::sound::fault_in;
-use crate::wares::Wares;
-use crate::wrong::{bytes_text, message};
+use case_hosts::Program;
+use case_left::{fault_in, outcomes, picture};
+use case_remotes::Wares;
+use case_text::{bytes_text, message};
 use fp_memhost::{Image, MemHost};
 use std::alloc::{AllocError, Global};
 use std::thread::Threads;
@@ -60,8 +60,9 @@ impl<'a> Judge<'a> {
 
     /// Says what isn't as it has to be where a call failed: the status that came is the one that was wanted, and a stop
     /// shows the state after one of these numbers of lines.
-    pub fn refused<R: Threads + Sync>(
+    pub fn refused<P: Program, R: Threads + Sync>(
         &mut self,
+        program: &P,
         rt: &R,
         host: &MemHost,
         statuses: (u8, u8),
@@ -71,12 +72,13 @@ impl<'a> Judge<'a> {
         if came != wanted {
             return Ok(Some(format!(in self.alloc; "expected status {wanted}, but {came} came")?));
         }
-        self.moment(rt, host, host.calls(), lines)
+        self.moment(program, rt, host, host.calls(), lines)
     }
 
     /// Says which outcome after so many calls isn't whole, or shows another state than those after these numbers of lines.
-    pub fn moment<R: Threads + Sync>(
+    pub fn moment<P: Program, R: Threads + Sync>(
         &mut self,
+        program: &P,
         rt: &R,
         host: &MemHost,
         calls: u64,
@@ -89,7 +91,7 @@ impl<'a> Judge<'a> {
         self.seen = looks;
         self.lines = lines;
         for image in outcomes(self.alloc, host, calls)? {
-            if let Some(text) = self.outcome(rt, image)? {
+            if let Some(text) = self.outcome(program, rt, image)? {
                 return Ok(Some(text));
             }
         }
@@ -97,15 +99,16 @@ impl<'a> Judge<'a> {
     }
 
     /// Says what isn't as it has to be in an outcome of the present moment.
-    fn outcome<R: Threads + Sync>(
+    fn outcome<P: Program, R: Threads + Sync>(
         &self,
+        program: &P,
         rt: &R,
         image: Image,
     ) -> Result<Option<String>, AllocError> {
         if let Some(text) = fault_in(&image, self.wares.commits()) {
             return message(self.alloc, text);
         }
-        let state = reopen(rt, self.alloc, image)?;
+        let state = reopen(program, rt, self.alloc, image)?;
         if self.is_expected(state.as_ref()) {
             return Ok(None);
         }

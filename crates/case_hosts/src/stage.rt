@@ -1,9 +1,10 @@
 //! Where a case is played, and what is asked of any host.
-use crate::case::{Command, Fixture, FixtureKind};
 use crate::folder::FolderStage;
 use crate::memory::MemStage;
-use crate::system::System;
-use crate::wares::Wares;
+use crate::program::Program;
+use case_remotes::Wares;
+use case_system::System;
+use case_text::{Command, Fixture, FixtureKind};
 use fp_host::{Host, HostEnd, Path, Stat};
 use std::alloc::{AllocError, Global};
 use std::rt::Files;
@@ -55,16 +56,17 @@ impl<R: System> Stage<'_, '_, R> {
     }
 
     /// Runs a command over these remotes. Its input fails at the call with this number, counted from 0.
-    pub fn run<T: Threads + Sync>(
+    pub fn run<P: Program, T: Threads + Sync>(
         &mut self,
+        program: &P,
         rt: &T,
         command: &Command,
         input_fails_at: Option<u64>,
         wares: &Wares,
     ) -> Result<Ending, AllocError> {
         match self {
-            Stage::Memory(stage) => stage.run(rt, command, input_fails_at, wares),
-            Stage::Folder(stage) => stage.run(rt, command, input_fails_at, wares),
+            Stage::Memory(stage) => stage.run(program, rt, command, input_fails_at, wares),
+            Stage::Folder(stage) => stage.run(program, rt, command, input_fails_at, wares),
         }
     }
 

@@ -1,27 +1,13 @@
 //! A case over the host in memory.
-use crate::case::{Case, Command, Failing, Failure, Fixture};
-use crate::playing::play;
-use crate::stage::{Ending, PathState, Stage, find, give, unless_fault};
-use crate::system::System;
-use crate::wares::{Ware, Wares};
-use crate::wrong::Wrong;
-use fl_top::run;
+use crate::program::Program;
+use crate::stage::{Ending, PathState, find, give, unless_fault};
+use case_remotes::{Ware, Wares};
+use case_text::{Command, Failing, Failure, Fixture};
 use fp_base::{Blob, Text};
 use fp_host::Path;
 use fp_memhost::{MemHost, MemNode, MemRemotes, MemSource};
 use std::alloc::{AllocError, Global};
 use std::thread::Threads;
-
-/// Plays a case in memory.
-pub fn play_in_memory<R: System>(
-    rt: &R,
-    alloc: Global,
-    case: &Case,
-) -> Result<Option<Wrong>, AllocError> {
-    let host = MemHost::new(alloc)?;
-    let mut stage: Stage<'_, '_, R> = Stage::Memory(MemStage { alloc, host });
-    play(rt, alloc, &mut stage, case)
-}
 
 /// The input of a command. What is short comes in small pieces, so that something is cut.
 pub fn input_of(
@@ -98,8 +84,9 @@ fn put_node(
 }
 
 /// Runs a command over a host in memory, and answers its status.
-pub fn run_in_memory<R: Threads + Sync>(
-    rt: &R,
+pub fn run_in_memory<P: Program, T: Threads + Sync>(
+    program: &P,
+    rt: &T,
     alloc: Global,
     host: &mut MemHost,
     command: &Command,
@@ -111,7 +98,7 @@ pub fn run_in_memory<R: Threads + Sync>(
     if let Some(call) = failing.remotes {
         remotes.fail_calls(&[call])?;
     }
-    Ok(run(rt, alloc, &command.words, &mut input, host, &mut remotes))
+    Ok(program.run(rt, alloc, &command.words, &mut input, host, &mut remotes))
 }
 
 /// The host in memory that a case is played on.
@@ -133,13 +120,20 @@ fn let_fail(host: &mut MemHost, failure: Option<Failure>) -> Result<(), AllocErr
 }
 
 impl MemStage {
+    /// A new host.
+    pub fn new(alloc: Global) -> Result<Self, AllocError> {
+        let host = MemHost::new(alloc)?;
+        Ok(MemStage { alloc, host })
+    }
+
     pub fn give(&mut self, given: &Fixture, bytes: &[u8]) -> Result<bool, AllocError> {
         let answer = give(self.alloc, &mut self.host, given, bytes);
         Ok(unless_fault(answer)?.is_some())
     }
 
-    pub fn run<T: Threads + Sync>(
+    pub fn run<P: Program, T: Threads + Sync>(
         &mut self,
+        program: &P,
         rt: &T,
         command: &Command,
         input_fails_at: Option<u64>,
@@ -153,7 +147,7 @@ impl MemStage {
             input: input_fails_at,
             remotes: None,
         };
-        let status = run_in_memory(rt, self.alloc, host, command, failing, wares)?;
+        let status = run_in_memory(program, rt, self.alloc, host, command, failing, wares)?;
         self.host.fail_calls(&[])?;
         ran_since(self.alloc, &self.host, status, start, calls)
     }

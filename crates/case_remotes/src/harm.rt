@@ -1,6 +1,6 @@
 //! Objects that are broken.
-use crate::case::Harm;
 use crate::wares::{Ware, object_ware};
+use case_text::Harm;
 use fp_name::Digest;
 use ost_content::{file_digest, is_permission, meta_digest};
 use ost_model::Object;

@@ -1,13 +1,12 @@
 //! A case with a stop, and with a failure, at each call of the host.
-use crate::case::{Case, Failure, ShownText, Stops};
 use crate::judge::{Judge, Lines};
-use crate::naming::with_digits;
-use crate::outcomes::{last_open, oldest_image, open_names, present_image};
 use crate::remote_faults::fail_remotes;
 use crate::replay::{Replay, Start, Trouble, start_of, wares_of};
 use crate::showing::{State, reopen};
-use crate::wares::Wares;
-use crate::wrong::{Wrong, difference, message};
+use case_hosts::Program;
+use case_left::{last_open, oldest_image, open_names, present_image};
+use case_remotes::{Wares, with_digits};
+use case_text::{Case, Failure, ShownText, Stops, Wrong, difference, message};
 use fp_memhost::{Image, MemHost};
 use std::alloc::{AllocError, Global};
 use std::thread::Threads;
@@ -31,19 +30,20 @@ impl Course {
 
 /// Plays a case with a stop and with a failure at each call of the host. Answers the first that shows another state than
 /// those after the last line that was printed, or after the next one.
-pub fn play_stops<R: Threads + Sync>(
+pub fn play_stops<P: Program, R: Threads + Sync>(
+    program: &P,
     rt: &R,
     alloc: Global,
     case: &Case,
     stops: &Stops,
 ) -> Result<Option<Wrong>, AllocError> {
-    let start = start_of(rt, alloc, case)?;
-    let course = course_of(rt, alloc, &start)?;
+    let start = start_of(program, rt, alloc, case)?;
+    let course = course_of(program, rt, alloc, &start)?;
     let wares = wares_of(rt, alloc, case)?;
     if let Some(wrong) = judge_shown(alloc, &wares, &stops.shown, &course.states)? {
         return Ok(Some(wrong));
     }
-    let text = judge_course(rt, alloc, &start, stops, &course, &wares)?;
+    let text = judge_course(program, rt, alloc, &start, stops, &course, &wares)?;
     match text {
         Some(text) => Ok(Some(wrong_at(stops, text))),
         None => Ok(None),
@@ -51,7 +51,8 @@ pub fn play_stops<R: Threads + Sync>(
 }
 
 /// Judges how a case goes where something stops it.
-fn judge_course<R: Threads + Sync>(
+fn judge_course<P: Program, R: Threads + Sync>(
+    program: &P,
     rt: &R,
     alloc: Global,
     start: &Start<'_>,
@@ -60,17 +61,17 @@ fn judge_course<R: Threads + Sync>(
     wares: &Wares,
 ) -> Result<Option<String>, AllocError> {
     let host = &course.plain.host;
-    if let Some(text) = judge_open(rt, alloc, host, &stops.open, &course.states)? {
+    if let Some(text) = judge_open(program, rt, alloc, host, &stops.open, &course.states)? {
         return Ok(Some(text));
     }
     let mut judge = Judge::new(alloc, wares, &course.states);
-    if let Some(text) = stop_everywhere(rt, alloc, course, &mut judge)? {
+    if let Some(text) = stop_everywhere(program, rt, alloc, course, &mut judge)? {
         return Ok(Some(text));
     }
-    if let Some(text) = fail_everywhere(rt, alloc, start, host.calls(), &mut judge)? {
+    if let Some(text) = fail_everywhere(program, rt, alloc, start, host.calls(), &mut judge)? {
         return Ok(Some(text));
     }
-    fail_remotes(rt, alloc, start, &mut judge)
+    fail_remotes(program, rt, alloc, start, &mut judge)
 }
 
 fn wrong_at(stops: &Stops, text: String) -> Wrong {
@@ -79,25 +80,27 @@ fn wrong_at(stops: &Stops, text: String) -> Wrong {
 }
 
 /// Looks at the case before each call.
-fn course_of<R: Threads + Sync>(
+fn course_of<P: Program, R: Threads + Sync>(
+    program: &P,
     rt: &R,
     alloc: Global,
     start: &Start<'_>,
 ) -> Result<Course, AllocError> {
-    let plain = start.replay(rt, alloc, Trouble::Nothing)?;
+    let plain = start.replay(program, rt, alloc, Trouble::Nothing)?;
     let mut printed_at = Vec::new(alloc);
     let mut states = Vec::new(alloc);
     add_state(
+        program,
         rt,
         alloc,
         &mut states,
         present_image(alloc, &plain.host, 0)?,
     )?;
     for line in 1..=plain.lines() {
-        let call = call_after(rt, alloc, start, &plain, line)?;
+        let call = call_after(program, rt, alloc, start, &plain, line)?;
         printed_at.push(call)?;
         let image = present_image(alloc, &plain.host, call)?;
-        add_state(rt, alloc, &mut states, image)?;
+        add_state(program, rt, alloc, &mut states, image)?;
     }
     Ok(Course {
         plain,
@@ -107,7 +110,8 @@ fn course_of<R: Threads + Sync>(
 }
 
 /// The first call before which so many lines were printed, by halves: a line that was printed stays.
-fn call_after<R: Threads + Sync>(
+fn call_after<P: Program, R: Threads + Sync>(
+    program: &P,
     rt: &R,
     alloc: Global,
     start: &Start<'_>,
@@ -120,7 +124,7 @@ fn call_after<R: Threads + Sync>(
             break;
         }
         let middle = low.saturating_add(high.saturating_sub(low) / 2);
-        if lines_before(rt, alloc, start, middle)? < lines {
+        if lines_before(program, rt, alloc, start, middle)? < lines {
             low = middle.saturating_add(1);
         } else {
             high = middle;
@@ -130,7 +134,8 @@ fn call_after<R: Threads + Sync>(
 }
 
 /// How many lines were printed before this call: those that are printed where it fails.
-fn lines_before<R: Threads + Sync>(
+fn lines_before<P: Program, R: Threads + Sync>(
+    program: &P,
     rt: &R,
     alloc: Global,
     start: &Start<'_>,
@@ -140,18 +145,23 @@ fn lines_before<R: Threads + Sync>(
         call,
         is_done: false,
     };
-    Ok(start.replay(rt, alloc, Trouble::Host(failure))?.lines())
+    Ok(
+        start
+            .replay(program, rt, alloc, Trouble::Host(failure))?
+            .lines(),
+    )
 }
 
 /// Adds what is shown now. A list has several lines in one call, and changes nothing.
-fn add_state<R: Threads + Sync>(
+fn add_state<P: Program, R: Threads + Sync>(
+    program: &P,
     rt: &R,
     alloc: Global,
     states: &mut Vec<State>,
     image: Option<Image>,
 ) -> Result<(), AllocError> {
     if let Some(image) = image {
-        if let Some(state) = reopen(rt, alloc, image)? {
+        if let Some(state) = reopen(program, rt, alloc, image)? {
             states.push(state)?;
         }
     }
@@ -185,7 +195,8 @@ fn judge_shown(
 
 /// Compares what a stop may bring back, at the last moment where it may bring back anything, with what the case says, where
 /// it says so. All names at their oldest entries show the state before the last line, and the present ones that after it.
-fn judge_open<R: Threads + Sync>(
+fn judge_open<P: Program, R: Threads + Sync>(
+    program: &P,
     rt: &R,
     alloc: Global,
     host: &MemHost,
@@ -201,12 +212,13 @@ fn judge_open<R: Threads + Sync>(
         let text = difference(alloc, "may come back", expected, names.as_bytes())?;
         return Ok(Some(text));
     }
-    judge_last(rt, alloc, host, calls, states)
+    judge_last(program, rt, alloc, host, calls, states)
 }
 
 /// Says where all names at their oldest entries don't show the state before the last line, or the present ones that after
 /// it.
-fn judge_last<R: Threads + Sync>(
+fn judge_last<P: Program, R: Threads + Sync>(
+    program: &P,
     rt: &R,
     alloc: Global,
     host: &MemHost,
@@ -215,13 +227,25 @@ fn judge_last<R: Threads + Sync>(
 ) -> Result<Option<String>, AllocError> {
     let lines = states.len().saturating_sub(1);
     let before = states.get(lines.saturating_sub(1));
-    if !shows(rt, alloc, oldest_image(alloc, host, calls)?, before)? {
+    if !shows(
+        program,
+        rt,
+        alloc,
+        oldest_image(alloc, host, calls)?,
+        before,
+    )? {
         return message(
             alloc,
             "the oldest entries don't show the state before the last line",
         );
     }
-    if !shows(rt, alloc, present_image(alloc, host, calls)?, states.last())? {
+    if !shows(
+        program,
+        rt,
+        alloc,
+        present_image(alloc, host, calls)?,
+        states.last(),
+    )? {
         return message(
             alloc,
             "the present entries don't show the state after the last line",
@@ -231,7 +255,8 @@ fn judge_last<R: Threads + Sync>(
 }
 
 /// Whether an image shows this state.
-fn shows<R: Threads + Sync>(
+fn shows<P: Program, R: Threads + Sync>(
+    program: &P,
     rt: &R,
     alloc: Global,
     image: Option<Image>,
@@ -240,14 +265,15 @@ fn shows<R: Threads + Sync>(
     let Some(image) = image else {
         return Ok(false);
     };
-    match reopen(rt, alloc, image)? {
+    match reopen(program, rt, alloc, image)? {
         Some(shown) => Ok(state == Some(&shown)),
         None => Ok(false),
     }
 }
 
 /// Stops the case before each call and at its end.
-fn stop_everywhere<R: Threads + Sync>(
+fn stop_everywhere<P: Program, R: Threads + Sync>(
+    program: &P,
     rt: &R,
     alloc: Global,
     course: &Course,
@@ -256,7 +282,7 @@ fn stop_everywhere<R: Threads + Sync>(
     let host = &course.plain.host;
     for call in 0..=host.calls() {
         let lines = Lines::or_next(course.lines_at(call));
-        if let Some(text) = judge.moment(rt, host, call, lines)? {
+        if let Some(text) = judge.moment(program, rt, host, call, lines)? {
             let text = format!(in alloc; "stopped before call {call}: {text}")?;
             return Ok(Some(text));
         }
@@ -265,7 +291,8 @@ fn stop_everywhere<R: Threads + Sync>(
 }
 
 /// Lets each call fail, not done and done.
-fn fail_everywhere<R: Threads + Sync>(
+fn fail_everywhere<P: Program, R: Threads + Sync>(
+    program: &P,
     rt: &R,
     alloc: Global,
     start: &Start<'_>,
@@ -275,7 +302,7 @@ fn fail_everywhere<R: Threads + Sync>(
     for call in 0..calls {
         for is_done in [false, true] {
             let failure = Failure { call, is_done };
-            if let Some(text) = fail_call(rt, alloc, start, failure, judge)? {
+            if let Some(text) = fail_call(program, rt, alloc, start, failure, judge)? {
                 let sign = if is_done { "!+" } else { "!" };
                 return Ok(Some(format!(in alloc; "{sign} {call}: {text}")?));
             }
@@ -285,17 +312,18 @@ fn fail_everywhere<R: Threads + Sync>(
 }
 
 /// Lets a call fail, and says what isn't as it has to be.
-fn fail_call<R: Threads + Sync>(
+fn fail_call<P: Program, R: Threads + Sync>(
+    program: &P,
     rt: &R,
     alloc: Global,
     start: &Start<'_>,
     failure: Failure,
     judge: &mut Judge<'_>,
 ) -> Result<Option<String>, AllocError> {
-    let failed = start.replay(rt, alloc, Trouble::Host(failure))?;
+    let failed = start.replay(program, rt, alloc, Trouble::Host(failure))?;
     let Some(status) = failed.other_status else {
         return message(alloc, "expected status 3");
     };
     let lines = Lines::or_next(failed.lines());
-    judge.refused(rt, &failed.host, (status, 3), lines)
+    judge.refused(program, rt, &failed.host, (status, 3), lines)
 }

@@ -4,7 +4,7 @@ use crate::case::{
     ShownText, Step, Stops, What,
 };
 use crate::fault::Fault;
-use crate::naming::{Name, name_of};
+use crate::name::{Name, name_of};
 use crate::sign::{Form, Line, Sign, line_of};
 use crate::words::{
     cut_words, number, path_and_mode, push_hex, push_line, push_text, size, status, word_and_rest,

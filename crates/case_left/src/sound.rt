@@ -1,5 +1,5 @@
 //! Whether what a stop left is whole, read from its names and files alone: nothing of the program under test looks at it.
-use crate::wares::MadeCommit;
+use case_remotes::MadeCommit;
 use fp_base::ObjKind;
 use fp_host::Entry;
 use fp_memhost::Image;

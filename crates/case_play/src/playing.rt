@@ -1,16 +1,15 @@
 //! The steps of a case, one after another.
-use crate::case::{Action, Case, Command, Fixture, Step};
 use crate::expecting::expect;
-use crate::naming::with_digits;
-use crate::stage::{Ending, Stage};
-use crate::system::System;
-use crate::wares::Wares;
-use crate::wrong::{Wrong, difference, message};
+use case_hosts::{Ending, Program, Stage};
+use case_remotes::{Wares, with_digits};
+use case_system::System;
+use case_text::{Action, Case, Command, Fixture, Step, Wrong, difference, message};
 use std::alloc::{AllocError, Global};
 use std::thread::Threads;
 
 /// Plays the steps of a case, and answers the first that isn't as it says.
-pub fn play<T: Threads + Sync, R: System>(
+pub fn play<P: Program, T: Threads + Sync, R: System>(
+    program: &P,
     rt: &T,
     alloc: Global,
     stage: &mut Stage<'_, '_, R>,
@@ -22,7 +21,7 @@ pub fn play<T: Threads + Sync, R: System>(
         if let Some(wrong) = wares.take(rt, step, after)? {
             return Ok(Some(wrong));
         }
-        if let Some(text) = play_step(rt, alloc, stage, step, &wares)? {
+        if let Some(text) = play_step(program, rt, alloc, stage, step, &wares)? {
             let line = step.line;
             return Ok(Some(Wrong { line, text }));
         }
@@ -31,7 +30,8 @@ pub fn play<T: Threads + Sync, R: System>(
 }
 
 /// Plays a step, and answers what isn't as it says.
-fn play_step<T: Threads + Sync, R: System>(
+fn play_step<P: Program, T: Threads + Sync, R: System>(
+    program: &P,
     rt: &T,
     alloc: Global,
     stage: &mut Stage<'_, '_, R>,
@@ -47,7 +47,7 @@ fn play_step<T: Threads + Sync, R: System>(
         | Action::FromHere => Ok(None),
         Action::Run(command) => {
             let expected = with_digits(alloc, wares, step.bytes())?;
-            play_command(rt, alloc, stage, command, &expected, wares)
+            play_command(program, rt, alloc, stage, command, &expected, wares)
         }
         Action::Expect(expected) => expect(alloc, stage, expected, step.bytes(), wares),
     }
@@ -69,7 +69,8 @@ fn play_give<R: System>(
 }
 
 /// Runs a command, first with each call of its input failing where that is asked for.
-fn play_command<T: Threads + Sync, R: System>(
+fn play_command<P: Program, T: Threads + Sync, R: System>(
+    program: &P,
     rt: &T,
     alloc: Global,
     stage: &mut Stage<'_, '_, R>,
@@ -79,12 +80,12 @@ fn play_command<T: Threads + Sync, R: System>(
 ) -> Result<Option<String>, AllocError> {
     let unreached = command.pieces.map(|pieces| pieces.calls);
     for call in 0..unreached.unwrap_or(0) {
-        let ran = stage.run(rt, command, Some(call), wares)?;
+        let ran = stage.run(program, rt, command, Some(call), wares)?;
         if ran.status != 5 || !ran.printed.is_empty() {
             return Ok(Some(failed_text(alloc, call, ran.status)?));
         }
     }
-    let ran = stage.run(rt, command, unreached, wares)?;
+    let ran = stage.run(program, rt, command, unreached, wares)?;
     judge(alloc, command, &ran, expected)
 }
 

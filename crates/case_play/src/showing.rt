@@ -1,8 +1,7 @@
 //! What an installation shows when it is opened again.
-use crate::case::{Command, Failing};
-use crate::memory::run_in_memory;
-use crate::stage::{PathState, find, unless_fault};
-use crate::wares::Wares;
+use case_hosts::{PathState, Program, find, run_in_memory, unless_fault};
+use case_remotes::Wares;
+use case_text::{Command, Failing};
 use fp_memhost::{Image, MemHost};
 use std::alloc::{AllocError, Global};
 use std::thread::Threads;
@@ -47,7 +46,8 @@ fn command_of(alloc: Global, words: &[&str]) -> Result<Command, AllocError> {
 }
 
 /// Whether a command of these words is done.
-fn is_done<R: Threads + Sync>(
+fn is_done<P: Program, R: Threads + Sync>(
+    program: &P,
     rt: &R,
     alloc: Global,
     host: &mut MemHost,
@@ -55,11 +55,12 @@ fn is_done<R: Threads + Sync>(
 ) -> Result<bool, AllocError> {
     let command = command_of(alloc, words)?;
     let wares = Wares::new(alloc);
-    Ok(run_in_memory(rt, alloc, host, &command, Failing::none(), &wares)? == 0)
+    Ok(run_in_memory(program, rt, alloc, host, &command, Failing::none(), &wares)? == 0)
 }
 
 /// What a host shows, and nothing where a command that looks at it isn't done.
-fn state_of<R: Threads + Sync>(
+fn state_of<P: Program, R: Threads + Sync>(
+    program: &P,
     rt: &R,
     alloc: Global,
     host: &mut MemHost,
@@ -67,7 +68,7 @@ fn state_of<R: Threads + Sync>(
     let config = find(alloc, host, "config");
     let has_config = matches!(unless_fault(config)?, Some(PathState::File { .. }));
     for words in &LISTS {
-        if !is_done(rt, alloc, host, words)? {
+        if !is_done(program, rt, alloc, host, words)? {
             return Ok(None);
         }
     }
@@ -76,7 +77,8 @@ fn state_of<R: Threads + Sync>(
 }
 
 /// Opens what a stop left, and answers what it shows; nothing where a command isn't done on it.
-pub fn reopen<R: Threads + Sync>(
+pub fn reopen<P: Program, R: Threads + Sync>(
+    program: &P,
     rt: &R,
     alloc: Global,
     image: Image,
@@ -85,8 +87,8 @@ pub fn reopen<R: Threads + Sync>(
         return Ok(None);
     }
     let mut host = MemHost::from_image(alloc, image)?;
-    let state = state_of(rt, alloc, &mut host)?;
-    match is_done(rt, alloc, &mut host, &NEXT)? {
+    let state = state_of(program, rt, alloc, &mut host)?;
+    match is_done(program, rt, alloc, &mut host, &NEXT)? {
         true => Ok(state),
         false => Ok(None),
     }

@@ -1,14 +1,10 @@
-//! A case over a real folder.
-use crate::capture::Capture;
-use crate::case::{Action, Case, Command, Fixture};
+//! A real folder that a case is played on.
 use crate::memory::input_of;
-use crate::own_remotes::OwnRemotes;
-use crate::playing::play;
-use crate::stage::{Ending, PathState, Stage, find, give, give_file, make_folders, unless_fault};
-use crate::system::System;
-use crate::wares::{RemotePath, Ware, Wares};
-use crate::wrong::Wrong;
-use fl_top::run;
+use crate::program::Program;
+use crate::stage::{Ending, PathState, find, give, give_file, make_folders, unless_fault};
+use case_remotes::{RemotePath, Ware, Wares};
+use case_system::{Capture, OwnRemotes, System};
+use case_text::{Action, Case, Command, Fixture};
 use fp_host::{Host, HostEnd, Path, Stat};
 use fp_realhost::{Access, HostDir};
 use std::alloc::{AllocError, Global};
@@ -41,41 +37,12 @@ fn is_step_for_folder(action: &Action) -> bool {
     }
 }
 
-/// Plays a case over a new folder, which is taken away again.
-pub fn play_in_folder<R: System>(rt: &R, alloc: Global, case: &Case) -> io::Result<Option<Wrong>> {
-    clear(rt, alloc)?;
-    let capture = Capture::new(rt, alloc);
-    let wrong = play_over(rt, alloc, &capture, case)?;
-    clear(rt, alloc)?;
-    Ok(wrong)
-}
-
 /// Takes the folder away where it is there.
-fn clear<R: System>(rt: &R, alloc: Global) -> io::Result<()> {
+pub fn clear_folder<R: System>(rt: &R, alloc: Global) -> io::Result<()> {
     match fs::exists(rt, FOLDER)? {
         true => rt.remove_dir_all(alloc, FOLDER),
         false => Ok(()),
     }
-}
-
-fn play_over<R: System>(
-    rt: &R,
-    alloc: Global,
-    capture: &Capture<'_, R>,
-    case: &Case,
-) -> io::Result<Option<Wrong>> {
-    let folder = own_folder(rt, alloc)?;
-    let remotes = OwnRemotes::new(rt, alloc, folder);
-    let host = HostDir::new(rt, capture, alloc, INSTALLATION, Access::Change)?;
-    let around = HostDir::new(rt, capture, alloc, FOLDER, Access::Change)?;
-    let mut stage = Stage::Folder(FolderStage {
-        alloc,
-        capture,
-        host,
-        around,
-        remotes,
-    });
-    Ok(play(rt, alloc, &mut stage, case)?)
 }
 
 /// The absolute path of the folder.
@@ -106,14 +73,30 @@ impl<R: Files> Drop for FolderStage<'_, '_, R> {
     }
 }
 
-impl<R: System> FolderStage<'_, '_, R> {
+impl<'a, 'b, R: System> FolderStage<'a, 'b, R> {
+    /// A new installation in the folder. What is printed is kept.
+    pub fn new(rt: &'a R, alloc: Global, capture: &'b Capture<'a, R>) -> io::Result<Self> {
+        let folder = own_folder(rt, alloc)?;
+        let remotes = OwnRemotes::new(rt, alloc, folder);
+        let host = HostDir::new(rt, capture, alloc, INSTALLATION, Access::Change)?;
+        let around = HostDir::new(rt, capture, alloc, FOLDER, Access::Change)?;
+        Ok(FolderStage {
+            alloc,
+            capture,
+            host,
+            around,
+            remotes,
+        })
+    }
+
     pub fn give(&mut self, given: &Fixture, bytes: &[u8]) -> Result<bool, AllocError> {
         let answer = give(self.alloc, &mut self.host, given, bytes);
         Ok(unless_fault(answer)?.is_some())
     }
 
-    pub fn run<T: Threads + Sync>(
+    pub fn run<P: Program, T: Threads + Sync>(
         &mut self,
+        program: &P,
         rt: &T,
         command: &Command,
         input_fails_at: Option<u64>,
@@ -121,7 +104,7 @@ impl<R: System> FolderStage<'_, '_, R> {
     ) -> Result<Ending, AllocError> {
         unless_fault(lay(self.alloc, &mut self.around, wares))?;
         let mut input = input_of(self.alloc, command, input_fails_at)?;
-        let status = run(
+        let status = program.run(
             rt,
             self.alloc,
             &command.words,

@@ -1,9 +1,8 @@
 //! The commands of a case over a host in memory, with a call that fails.
-use crate::case::{Action, Case, Failing, Failure};
-use crate::memory::run_in_memory;
-use crate::outcomes::present_image;
-use crate::stage::{give, unless_fault};
-use crate::wares::Wares;
+use case_hosts::{Program, give, run_in_memory, unless_fault};
+use case_left::present_image;
+use case_remotes::Wares;
+use case_text::{Action, Case, Failing, Failure};
 use fp_memhost::MemHost;
 use std::alloc::{AllocError, Global};
 use std::ops::Range;
@@ -51,7 +50,8 @@ impl Replay {
 }
 
 /// Does what a case does before its stops begin.
-pub fn start_of<'a, R: Threads + Sync>(
+pub fn start_of<'a, P: Program, R: Threads + Sync>(
+    program: &P,
     rt: &R,
     alloc: Global,
     case: &'a Case,
@@ -63,7 +63,7 @@ pub fn start_of<'a, R: Threads + Sync>(
         .unwrap_or(0);
     let mut host = MemHost::new(alloc)?;
     give_all(alloc, &mut host, case)?;
-    let _other = run_steps(rt, alloc, &mut host, case, 0..at, Trouble::Nothing)?;
+    let _other = run_steps(program, rt, alloc, &mut host, case, 0..at, Trouble::Nothing)?;
     Ok(Start { case, at, host })
 }
 
@@ -80,8 +80,9 @@ impl Start<'_> {
     }
 
     /// Plays the commands.
-    pub fn replay<R: Threads + Sync>(
+    pub fn replay<P: Program, R: Threads + Sync>(
         &self,
+        program: &P,
         rt: &R,
         alloc: Global,
         trouble: Trouble,
@@ -91,7 +92,7 @@ impl Start<'_> {
             host.fail_calls(&[(call, is_done)])?;
         }
         let steps = self.at..self.case.steps.len();
-        let other_status = run_steps(rt, alloc, &mut host, self.case, steps, trouble)?;
+        let other_status = run_steps(program, rt, alloc, &mut host, self.case, steps, trouble)?;
         Ok(Replay { host, other_status })
     }
 
@@ -121,7 +122,8 @@ fn give_all(alloc: Global, host: &mut MemHost, case: &Case) -> Result<(), AllocE
 }
 
 /// Runs the commands of these steps, and answers the first status that is another than the case says.
-fn run_steps<R: Threads + Sync>(
+fn run_steps<P: Program, R: Threads + Sync>(
+    program: &P,
     rt: &R,
     alloc: Global,
     host: &mut MemHost,
@@ -141,7 +143,7 @@ fn run_steps<R: Threads + Sync>(
         if at < steps.start || at >= steps.end {
             continue;
         }
-        let status = run_in_memory(rt, alloc, host, command, failing, &wares)?;
+        let status = run_in_memory(program, rt, alloc, host, command, failing, &wares)?;
         if status != command.status {
             return Ok(Some(status));
         }

@@ -1,0 +1,12 @@
+//! What a case is played on: the host in memory, and a real folder.
+#![tactic(auto)]
+
+mod folder;
+mod memory;
+mod program;
+mod stage;
+
+pub use folder::{FolderStage, clear_folder, is_for_folder};
+pub use memory::{MemStage, run_in_memory};
+pub use program::Program;
+pub use stage::{Ending, PathState, Stage, find, give, unless_fault};

@@ -1,0 +1,14 @@
+//! Cases played: in memory, on a real folder, and with a stop or a failure at each call.
+#![tactic(auto)]
+
+mod expecting;
+mod judge;
+mod places;
+mod playing;
+mod remote_faults;
+mod replay;
+mod showing;
+mod stops;
+
+pub use places::{play_in_folder, play_in_memory};
+pub use stops::play_stops;

@@ -1,0 +1,43 @@
+//! A case in memory, and on a real folder.
+use crate::playing::play;
+use case_hosts::{FolderStage, MemStage, Program, Stage, clear_folder};
+use case_system::{Capture, System};
+use case_text::{Case, Wrong};
+use std::alloc::{AllocError, Global};
+use std::io;
+
+/// Plays a case in memory.
+pub fn play_in_memory<P: Program, R: System>(
+    program: &P,
+    rt: &R,
+    alloc: Global,
+    case: &Case,
+) -> Result<Option<Wrong>, AllocError> {
+    let mut stage: Stage<'_, '_, R> = Stage::Memory(MemStage::new(alloc)?);
+    play(program, rt, alloc, &mut stage, case)
+}
+
+/// Plays a case over a new folder, which is taken away again.
+pub fn play_in_folder<P: Program, R: System>(
+    program: &P,
+    rt: &R,
+    alloc: Global,
+    case: &Case,
+) -> io::Result<Option<Wrong>> {
+    clear_folder(rt, alloc)?;
+    let capture = Capture::new(rt, alloc);
+    let wrong = play_over(program, rt, alloc, &capture, case)?;
+    clear_folder(rt, alloc)?;
+    Ok(wrong)
+}
+
+fn play_over<P: Program, R: System>(
+    program: &P,
+    rt: &R,
+    alloc: Global,
+    capture: &Capture<'_, R>,
+    case: &Case,
+) -> io::Result<Option<Wrong>> {
+    let mut stage = Stage::Folder(FolderStage::new(rt, alloc, capture)?);
+    Ok(play(program, rt, alloc, &mut stage, case)?)
+}

@@ -1,0 +1,20 @@
+//! Cases as text: the lines of a case, and what is said where one can't be read or isn't so.
+#![tactic(auto)]
+
+mod case;
+mod fault;
+mod name;
+mod parser;
+mod sign;
+mod words;
+mod wrong;
+
+pub use case::{
+    Action, Case, Command, CommitLine, Expected, Failing, Failure, Fixture, FixtureKind, Harm,
+    ObjectWords, Owner, Pieces, ShownText, Step, Stops, What,
+};
+pub use fault::Fault;
+pub use name::{Name, name_of};
+pub use parser::Parser;
+pub use sign::Form;
+pub use wrong::{Wrong, bytes_text, difference, message};
