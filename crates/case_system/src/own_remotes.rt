@@ -1,10 +1,10 @@
 //! Remotes below the folder of a run.
 ghost use Rattle.std.specs.Prelude.{◌≤◌, IfOk, IsErrOf, length};
 ghost use Rattle.fp_host.specs.Remote.{HasNodeBits};
-ghost use Rattle.fp_realhost.specs.Counts.{RemoteCounts};
+ghost use Rattle.fp_system.specs.Counts.{RemoteCounts};
 
 use fp_host::{Node, Path, RemoteError, Remotes};
-use fp_realhost::DirRemotes;
+use fp_realinput::DirRemotes;
 use std::alloc::{AllocError, Global};
 use std::rt::Files;
 

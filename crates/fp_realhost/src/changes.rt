@@ -1,21 +1,46 @@
 // The calls of a host over a folder of the system that change it.
 ghost use Rattle.std.specs.Prelude.{◌≢◌, ◌≤◌, [], OnOk};
 
-use crate::cause::Cause;
-use crate::files;
-use crate::system::System;
+use crate::notes::Notes;
 use crate::tree::Tree;
+use crate::writer::Writer;
+use crate::{links, moves};
 use fp_host::Path;
+use fp_realroot::{System, make_folder};
+use fp_system::{Cause, Reader, known};
+use std::fs::{OpenFile, OpenOptions};
+use std::io::Write;
+use std::os::unix::fs::OpenOptionsExt;
+use std::rt::Files;
 
 // Where the objects of the store are.
 const STORED: &str = "repo/objects/";
 
+// A change at one path.
+#[derive(Clone, Copy)]
+pub enum Change<'a> {
+    MakeDir,
+    // With these permission bits.
+    Create(u32),
+    Append(&'a [u8]),
+    Symlink(&'a str),
+    Unlink,
+    RemoveDir,
+}
+
 impl<R: System> Tree<'_, R> {
-    pub fn make_dir(&mut self, path: &Path) -> Result<(), Cause> {
-        self.reach_to_change(path)?;
-        files::make_folder(self.rt, &self.at)?;
-        self.touched.add_made(&self.at);
-        Ok(())
+    pub fn change(&mut self, path: &Path, change: Change<'_>) -> Result<(), Cause> {
+        match self.reach_to_change(path) {
+            Ok(()) => change_at(
+                self.rt,
+                &self.at,
+                change,
+                &mut self.notes,
+                &mut self.reader,
+                &mut self.writer,
+            ),
+            Err(e) => Err(e),
+        }
     }
 
     pub fn create(&mut self, path: &Path, mode: u32) -> Result<(), Cause>
@@ -24,61 +49,7 @@ impl<R: System> Tree<'_, R> {
         if mode > 0o7777 {
             return Err(Cause::BadBits);
         }
-        self.reach_to_change(path)?;
-        match files::create_new(self.rt, &self.at, mode) {
-            Ok(file) => {
-                self.touched.add_created(&self.at);
-                self.handles.writer.keep_new(&self.at, file, mode)
-            }
-            Err(e) => Err(e),
-        }
-    }
-
-    pub fn append(&mut self, path: &Path, bytes: &[u8]) -> Result<(), Cause> {
-        self.reach_to_change(path)?;
-        if self.touched.has_file(&self.at) {
-            self.handles.writer.append(self.rt, &self.at, bytes)
-        } else {
-            Err(Cause::NotNew)
-        }
-    }
-
-    pub fn link(&mut self, from: &Path, to: &Path) -> Result<(), Cause> {
-        self.reach_both(from, to)?;
-        files::link(self.rt, &self.from, &self.at)?;
-        self.touched.add_linked(&self.from, &self.at);
-        Ok(())
-    }
-
-    pub fn symlink(&mut self, text: &str, path: &Path) -> Result<(), Cause> {
-        self.reach_to_change(path)?;
-        files::symlink(self.rt, text, &self.at)?;
-        self.touched.add_name(&self.at);
-        Ok(())
-    }
-
-    pub fn rename(&mut self, from: &Path, to: &Path) -> Result<(), Cause> {
-        self.reach_both(from, to)?;
-        self.prepare_move(to)?;
-        files::rename(self.rt, &self.from, &self.at)?;
-        self.handles.forget(&self.from);
-        self.handles.forget(&self.at);
-        self.touched.add_moved(&self.from, &self.at);
-        Ok(())
-    }
-
-    fn prepare_move(&mut self, to: &Path) -> Result<(), Cause> {
-        let is_stored = to.text().starts_with(STORED);
-        self.handles
-            .prepare_move(self.rt, &self.from, &self.at, is_stored)
-    }
-
-    pub fn unlink(&mut self, path: &Path) -> Result<(), Cause> {
-        self.reach_to_change(path)?;
-        files::unlink(self.rt, &self.at)?;
-        self.handles.forget(&self.at);
-        self.touched.add_gone(&self.at);
-        Ok(())
+        self.change(path, Change::Create(mode))
     }
 
     pub fn remove_dir(&mut self, path: &Path) -> Result<(), Cause>
@@ -87,10 +58,134 @@ impl<R: System> Tree<'_, R> {
         if path.is_root() {
             return Err(Cause::IsRoot);
         }
-        self.reach_to_change(path)?;
-        files::remove_folder(self.rt, &self.at)?;
-        self.folders.forget(&self.at);
-        self.touched.add_gone_folder(&self.at);
-        Ok(())
+        self.change(path, Change::RemoveDir)
     }
+
+    pub fn link(&mut self, from: &Path, to: &Path) -> Result<(), Cause> {
+        match self.reach_both(from, to) {
+            Ok(()) => links::link(self.rt, &self.from, &self.at, &mut self.notes),
+            Err(e) => Err(e),
+        }
+    }
+
+    pub fn rename(&mut self, from: &Path, to: &Path) -> Result<(), Cause> {
+        let is_stored = to.text().starts_with(STORED);
+        match self.reach_both(from, to) {
+            Ok(()) => rename_at(
+                self.rt,
+                &self.from,
+                &self.at,
+                is_stored,
+                &mut self.notes,
+                &mut self.reader,
+                &mut self.writer,
+            ),
+            Err(e) => Err(e),
+        }
+    }
+}
+
+fn change_at<R: System>(
+    rt: &R,
+    at: &str,
+    change: Change<'_>,
+    notes: &mut Notes,
+    reader: &mut Reader<R::File>,
+    writer: &mut Writer<R::File>,
+) -> Result<(), Cause> {
+    match change {
+        Change::MakeDir => make_dir(rt, at, notes),
+        Change::Create(mode) => create(rt, at, mode, notes, writer),
+        Change::Append(bytes) => append(rt, at, bytes, notes, writer),
+        Change::Symlink(text) => links::symlink(rt, text, at, notes),
+        Change::Unlink => unlink(rt, at, notes, reader, writer),
+        Change::RemoveDir => links::remove_folder(rt, at, notes),
+    }
+}
+
+fn make_dir<R: Files>(rt: &R, at: &str, notes: &mut Notes) -> Result<(), Cause> {
+    let done = make_folder(rt, at);
+    match done {
+        Ok(()) => notes.add_made(at),
+        // It may be there without its permission bits.
+        Err(_) => notes.made.add_other(at),
+    }
+    done
+}
+
+fn create<R: Files>(
+    rt: &R,
+    at: &str,
+    mode: u32,
+    notes: &mut Notes,
+    writer: &mut Writer<R::File>,
+) -> Result<(), Cause> {
+    match create_new(rt, at, mode) {
+        Ok(file) => {
+            notes.add_created(at);
+            writer.keep_new(at, file, mode)
+        }
+        Err(e) => Err(e),
+    }
+}
+
+// Makes a new file that is written at its end. The umask may take some of its permission bits.
+fn create_new<R: Files>(rt: &R, at: &str, mode: u32) -> Result<R::File, Cause> {
+    let created = OpenOptions::new()
+        .append(true)
+        .create_new(true)
+        .mode(mode)
+        .open(rt, at);
+    known(created)
+}
+
+fn append<R: Files>(
+    rt: &R,
+    at: &str,
+    bytes: &[u8],
+    notes: &Notes,
+    writer: &mut Writer<R::File>,
+) -> Result<(), Cause> {
+    if notes.touched.has_file(at) {
+        writer.append(rt, at, bytes)
+    } else {
+        Err(Cause::NotNew)
+    }
+}
+
+fn unlink<R: Files>(
+    rt: &R,
+    at: &str,
+    notes: &mut Notes,
+    reader: &mut Reader<R::File>,
+    writer: &mut Writer<R::File>,
+) -> Result<(), Cause> {
+    let done = links::unlink(rt, at, notes);
+    if done.is_ok() {
+        forget(at, reader, writer);
+    }
+    done
+}
+
+fn rename_at<R: Files>(
+    rt: &R,
+    from: &str,
+    to: &str,
+    is_stored: bool,
+    notes: &mut Notes,
+    reader: &mut Reader<R::File>,
+    writer: &mut Writer<R::File>,
+) -> Result<(), Cause> {
+    let done = moves::rename(rt, from, to, is_stored, notes, writer);
+    if done.is_ok() {
+        forget(from, reader, writer);
+        forget(to, reader, writer);
+    }
+    done
+}
+
+// A name was taken away, or holds something else now.
+fn forget<F: OpenFile + Write + Drop>(at: &str, reader: &mut Reader<F>, writer: &mut Writer<F>) {
+    reader.close_at(at);
+    writer.close_at(at);
 }

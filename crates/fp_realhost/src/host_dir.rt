@@ -3,18 +3,19 @@ ghost use Rattle.std.specs.Prelude.{◌≡◌, ◌≢◌, ◌↔◌, ◌≤◌, 
 ghost use Rattle.fp_host.specs.Moments.{NeedsNoMemory};
 ghost use Rattle.fp_host.specs.Reads.{AreNames, HasBits};
 ghost use Rattle.fp_host.specs.declared.host.HostError.TheVariants.{Failed};
-ghost use Rattle.fp_realhost.specs.Counts.{Counts, one_more, many_more};
+ghost use Rattle.fp_system.specs.Counts.{Counts, one_more, many_more};
 
-use crate::cause::Cause;
-use crate::fault::{Call, Faults, SystemError};
+use crate::changes::Change;
 use crate::output::Output;
-use crate::system::{Access, System};
 use crate::tree::Tree;
 use fp_base::{Items, Text};
 use fp_host::{Host, HostError, Path, Stat};
+use fp_realroot::{Access, System};
+use fp_system::{Call, Cause, Faults, SystemError};
 use std::alloc::{AllocError, Global};
 use std::marker::Model;
 use std::rt::Files;
+use std::thread::Threads;
 
 /// A folder of the system as a host, and where it prints.
 ///
@@ -31,8 +32,8 @@ use std::rt::Files;
 /// into `repo/objects` gets the modification time 0, as OSTree's objects have. Ids are the numbers of inodes.
 ///
 /// The root may be a symlink or stand below one. Below the root no symlink is followed: a call fails where one stands in the
-/// place of a folder above its path. Each folder is looked at once, and remembered until it is removed: a symlink that
-/// another program puts in its place later is followed.
+/// place of a folder above its path. Each folder is looked at once, and remembered until it is removed, and so is what the host
+/// made itself: what another program puts in its place later is followed, or not seen.
 ///
 /// A `sync` makes last each file and each folder that was changed since the last one. While changes wait for it, the lock file
 /// holds the text that Linux gives this start of the machine. Where an earlier run of the same start left that, or the root was
@@ -64,7 +65,7 @@ impl<R: Files, O> Drop for HostDir<'_, R, O> {
     }
 }
 
-impl<'a, R: System, O: Print> HostDir<'a, R, O> {
+impl<'a, R: System + Threads + Sync, O: Print> HostDir<'a, R, O> {
     /// The host over the folder of this name, which prints to this output; the empty name is the current folder. It asks
     /// nothing of the system yet.
     pub fn new(
@@ -143,7 +144,18 @@ impl<'a, R: Files, O> HostDir<'a, R, O> {
     }
 }
 
-impl<R: System, O: Print> Host for HostDir<'_, R, O> {
+impl<R: System, O> HostDir<'_, R, O> {
+    // Changes what stands at the path.
+    fn change(&mut self, call: Call, path: &Path, change: Change<'_>) -> Result<(), HostError>
+        ensures counts { Counts self.old.faults self.new.faults result }
+        ensures needs_no_memory { NeedsNoMemory result }
+    {
+        let done = self.tree.change(path, change);
+        self.answer(call, path, done)
+    }
+}
+
+impl<R: System + Threads + Sync, O: Print> Host for HostDir<'_, R, O> {
     ghost use Rattle.std.specs.Prelude.{None};
     ghost use Rattle.std.proofs.lemmas.Option.{none-some};
 
@@ -188,8 +200,7 @@ impl<R: System, O: Print> Host for HostDir<'_, R, O> {
         ensures counts { Counts self.old.faults self.new.faults result }
         ensures needs_no_memory { NeedsNoMemory result }
     {
-        let done = self.tree.make_dir(path);
-        self.answer(Call::MakeDir, path, done)
+        self.change(Call::MakeDir, path, Change::MakeDir)
     }
 
     fn create(&mut self, path: &Path, mode: u32) -> Result<(), HostError>
@@ -205,8 +216,7 @@ impl<R: System, O: Print> Host for HostDir<'_, R, O> {
         ensures counts { Counts self.old.faults self.new.faults result }
         ensures needs_no_memory { NeedsNoMemory result }
     {
-        let done = self.tree.append(path, bytes);
-        self.answer(Call::Append, path, done)
+        self.change(Call::Append, path, Change::Append(bytes))
     }
 
     fn link(&mut self, from: &Path, to: &Path) -> Result<(), HostError>
@@ -221,8 +231,7 @@ impl<R: System, O: Print> Host for HostDir<'_, R, O> {
         ensures counts { Counts self.old.faults self.new.faults result }
         ensures needs_no_memory { NeedsNoMemory result }
     {
-        let done = self.tree.symlink(text, path);
-        self.answer(Call::Symlink, path, done)
+        self.change(Call::Symlink, path, Change::Symlink(text))
     }
 
     fn rename(&mut self, from: &Path, to: &Path) -> Result<(), HostError>
@@ -237,8 +246,7 @@ impl<R: System, O: Print> Host for HostDir<'_, R, O> {
         ensures counts { Counts self.old.faults self.new.faults result }
         ensures needs_no_memory { NeedsNoMemory result }
     {
-        let done = self.tree.unlink(path);
-        self.answer(Call::Unlink, path, done)
+        self.change(Call::Unlink, path, Change::Unlink)
     }
 
     fn remove_dir(&mut self, path: &Path) -> Result<(), HostError>

@@ -1,8 +1,8 @@
 // What a host prints.
 ghost use Rattle.std.specs.Prelude.{◌≡◌, length, OnOk};
-ghost use Rattle.fp_realhost.specs.Counts.{many_more};
+ghost use Rattle.fp_system.specs.Counts.{many_more};
 
-use crate::cause::{Cause, known};
+use fp_system::{Cause, known};
 use std::marker::Model;
 
 // The standard output. Contracts see how many bytes were printed; the number stands still at 2^64 - 1.
@@ -35,8 +35,12 @@ impl<O: Print> Output<'_, O> {
     pub fn print(&mut self, piece: &[u8]) -> Result<(), Cause>
         ensures printed { OnOk result (self.new ≡ many_more self.old (length piece.now)) }
     {
-        known(self.out.write_all(piece))?;
-        self.printed = self.printed.saturating_add(piece.len() as u64);
-        Ok(())
+        match known(self.out.write_all(piece)) {
+            Ok(()) => {
+                self.printed = self.printed.saturating_add(piece.len() as u64);
+                Ok(())
+            }
+            Err(e) => Err(e),
+        }
     }
 }

@@ -3,68 +3,140 @@
 ghost use Rattle.std.specs.Prelude.{◌≤◌, length, IfOk};
 ghost use Rattle.fp_host.specs.Reads.{AreNames, HasBits};
 
-use crate::cause::Cause;
-use crate::files;
-use crate::found::{find_file, look};
-use crate::gate::LOCK_NAME;
-use crate::names::list_names;
-use crate::system::System;
+use crate::notes::Notes;
 use crate::tree::Tree;
 use fp_base::{Items, Text};
 use fp_host::{Path, Stat};
+use fp_realroot::{LOCK_NAME, System, find_file, list_names};
+use fp_system::{Cause, Folders, Kind, Reader, look};
 use std::alloc::Global;
 use std::io::ErrorKind;
+use std::rt::Files;
 
 impl<R: System> Tree<'_, R> {
     pub fn stat(&mut self, path: &Path) -> Result<Stat, Cause>
         ensures { IfOk result HasBits }
     {
-        self.reach(path)?;
-        if path.is_root() {
-            return Ok(Stat::Dir);
-        }
-        match look(self.rt, &self.at)? {
-            Some(found) => found.stat(),
-            None => Ok(Stat::Absent),
+        match self.locate(path) {
+            Ok(_) if path.is_root() => Ok(Stat::Dir),
+            Ok(below) => stat_at(self.rt, &self.at, below, &mut self.notes),
+            Err(e) => Err(e),
         }
     }
 
     pub fn list(&mut self, alloc: Global, path: &Path) -> Result<Items<Text>, Cause>
         ensures { IfOk result AreNames }
     {
-        self.reach(path)?;
-        if path.is_root() {
-            return self.list_root(alloc);
-        }
-        match self.folders.is_folder(self.rt, &self.at)? {
-            true => list_names(self.rt, alloc, &self.at, ""),
-            false => Err(Cause::Kind(ErrorKind::NotADirectory)),
-        }
-    }
-
-    // All but the file that is locked.
-    fn list_root(&mut self, alloc: Global) -> Result<Items<Text>, Cause>
-        ensures { IfOk result AreNames }
-    {
-        if self.gate.is_there() {
-            list_names(self.rt, alloc, &self.at, LOCK_NAME)
-        } else {
-            Ok(Items::from_vec(Vec::new(alloc)))
+        match self.reach(path) {
+            Ok(()) if path.is_root() => {
+                list_root(self.rt, alloc, &self.at, self.gate.is_there())
+            }
+            Ok(()) => list_folder(self.rt, alloc, &self.at, &mut self.notes.folders),
+            Err(e) => Err(e),
         }
     }
 
     pub fn read_at(&mut self, path: &Path, from: u64, into: &mut [u8]) -> Result<usize, Cause>
         ensures { IfOk result (λ n. n ≤ length into.old) }
     {
-        self.reach(path)?;
-        if self.handles.reader.begins(&self.at, from) {
-            find_file(self.rt, &self.at)?;
+        match self.reach(path) {
+            Ok(()) => read_piece(self.rt, &self.at, &mut self.reader, from, into),
+            Err(e) => Err(e),
         }
-        self.handles.reader.read(self.rt, &self.at, from, into)
     }
 
     pub fn read_link(&mut self, alloc: Global, path: &Path) -> Result<Text, Cause> {
-        self.reach(path)?;
-        files::read_link(self.rt, alloc, &self.at)
+        match self.reach(path) {
+            Ok(()) => fp_system::read_link(self.rt, alloc, &self.at),
+            Err(e) => Err(e),
+        }
+    }
+}
+
+// What stands at the path. What is remembered isn't looked at again.
+fn stat_at<R: Files>(rt: &R, at: &str, below: usize, notes: &mut Notes) -> Result<Stat, Cause>
+    ensures { IfOk result HasBits }
+{
+    if notes.folders.has(at) {
+        return Ok(Stat::Dir);
+    }
+    if notes.made.is_absent(at) {
+        return Ok(Stat::Absent);
+    }
+    match notes.folders.look_above(rt, at, below) {
+        Ok(()) => stat_below(rt, at, &mut notes.folders),
+        Err(e) => Err(e),
+    }
+}
+
+// The same of a path above which no symlink stands.
+fn stat_below<R: Files>(rt: &R, at: &str, folders: &mut Folders) -> Result<Stat, Cause>
+    ensures { IfOk result HasBits }
+{
+    match look(rt, at) {
+        Ok(found) => {
+            if found.kind == Kind::Dir {
+                folders.add(at);
+            }
+            found.stat()
+        }
+        Err(e) => Err(e),
+    }
+}
+
+// All but the file that is locked.
+fn list_root<R: System>(
+    rt: &R,
+    alloc: Global,
+    at: &str,
+    is_there: bool,
+) -> Result<Items<Text>, Cause>
+    ensures { IfOk result AreNames }
+{
+    if is_there {
+        list_names(rt, alloc, at, LOCK_NAME)
+    } else {
+        Ok(Items::from_vec(Vec::new(alloc)))
+    }
+}
+
+fn list_folder<R: System>(
+    rt: &R,
+    alloc: Global,
+    at: &str,
+    folders: &mut Folders,
+) -> Result<Items<Text>, Cause>
+    ensures { IfOk result AreNames }
+{
+    match folders.is_folder(rt, at) {
+        Ok(true) => list_names(rt, alloc, at, ""),
+        Ok(false) => Err(Cause::Kind(ErrorKind::NotADirectory)),
+        Err(e) => Err(e),
+    }
+}
+
+fn read_piece<R: Files>(
+    rt: &R,
+    at: &str,
+    reader: &mut Reader<R::File>,
+    from: u64,
+    into: &mut [u8],
+) -> Result<usize, Cause>
+    ensures { IfOk result (λ n. n ≤ length into.old) }
+{
+    match begin(rt, at, reader, from) {
+        Ok(()) => reader.read(from, into),
+        Err(e) => Err(e),
+    }
+}
+
+// Opens the file where the read begins it.
+fn begin<R: Files>(rt: &R, at: &str, reader: &mut Reader<R::File>, from: u64) -> Result<(), Cause> {
+    if !reader.begins(at, from) {
+        return Ok(());
+    }
+    match find_file(rt, at) {
+        Ok(_) => reader.open(rt, at),
+        Err(e) => Err(e),
     }
 }

@@ -1,31 +1,29 @@
 // A folder of the system, with what was changed in it since the last sync.
 ghost use Rattle.std.specs.Prelude.{◌≡◌, true, OnOk};
 
-use crate::cause::Cause;
-use crate::fault::{Call, SystemError};
-use crate::folders::Folders;
-use crate::gate::Gate;
-use crate::handles::Handles;
-use crate::leftover::{add_above, add_below};
-use crate::system::{Access, System};
-use crate::touched::{Touched, Unsynced};
+use crate::notes::Notes;
+use crate::writer::Writer;
 use fp_host::Path;
+use fp_realroot::{Access, Gate, System, Touched, Unsynced, add_above, add_below};
+use fp_system::{Call, Cause, Reader, SystemError};
 use std::alloc::{AllocError, Global};
 use std::marker::Model;
 use std::mem::swap;
 use std::rt::Files;
+use std::thread::Threads;
 
 // The calls of a host over a folder of the system. Contracts see whether nothing waits for a sync.
 pub struct Tree<'a, R: Files> {
     pub rt: &'a R,
-    pub alloc: Global,
+    alloc: Global,
     pub gate: Gate<R::File>,
     // The path of a call for the system, and where it has two, the first one.
     pub at: String,
     pub from: String,
-    pub folders: Folders,
-    pub handles: Handles<R::File>,
-    pub touched: Touched,
+    pub notes: Notes,
+    // The file that was read last and the one that was written last.
+    pub reader: Reader<R::File>,
+    pub writer: Writer<R::File>,
     // Whether what an earlier run left was made to last.
     is_caught_up: bool,
 }
@@ -35,7 +33,7 @@ impl<'a, R: Files> Model for Tree<'a, R> {
 
     ghost Value = { Bool };
 
-    ghost view = { λ t. t.touched };
+    ghost view = { λ t. t.notes };
 }
 
 impl<R: Files> Drop for Tree<'_, R> {
@@ -46,9 +44,9 @@ impl<R: Files> Drop for Tree<'_, R> {
             gate: _,
             at: _,
             from: _,
-            folders: _,
-            handles: _,
-            touched: _,
+            notes: _,
+            reader: _,
+            writer: _,
             is_caught_up: _,
         } = self;
     }
@@ -63,100 +61,176 @@ impl<'a, R: Files> Tree<'a, R> {
                 gate,
                 at: String::new(alloc),
                 from: String::new(alloc),
-                folders: Folders::none(alloc),
-                handles: Handles::nothing(alloc),
-                touched: Touched::nothing(alloc),
+                notes: Notes::nothing(alloc),
+                reader: Reader::nothing(alloc),
+                writer: Writer::nothing(alloc),
                 is_caught_up: false,
             }),
             Err(e) => Err(e),
         }
     }
 
-    // What a call on the path met. Before the root is known no call comes further.
+    // What a call on the path met.
     pub fn refusal(&self, call: Call, path: &Path, cause: Cause) -> SystemError {
-        if !self.gate.is_known() {
-            return SystemError::on(self.alloc, Call::Enter, self.gate.root(), cause);
-        }
-        let mut at = String::new(self.alloc);
-        match self.gate.write_path(path, &mut at) {
-            Ok(()) => SystemError::with_path(call, at, cause),
-            Err(_) => SystemError::without_path(call, cause),
-        }
+        refusal(self.alloc, &self.gate, call, path, cause)
     }
 
     // What a sync met, at the path that stands in the buffer.
     pub fn unsynced(&self, met: Unsynced) -> SystemError {
-        if self.at.is_empty() {
-            return SystemError::without_path(met.call, met.cause);
-        }
-        SystemError::on(self.alloc, met.call, &self.at, met.cause)
+        refusal_of_sync(self.alloc, &self.at, met)
     }
 }
 
+// Before the root is known no call comes further.
+fn refusal<F>(alloc: Global, gate: &Gate<F>, call: Call, path: &Path, cause: Cause) -> SystemError {
+    if !gate.is_known() {
+        return SystemError::on(alloc, Call::Enter, gate.root(), cause);
+    }
+    let mut at = String::new(alloc);
+    match gate.write_path(path, &mut at) {
+        Ok(()) => SystemError::with_path(call, at, cause),
+        Err(_) => SystemError::without_path(call, cause),
+    }
+}
+
+fn refusal_of_sync(alloc: Global, at: &str, met: Unsynced) -> SystemError {
+    if at.is_empty() {
+        return SystemError::without_path(met.call, met.cause);
+    }
+    SystemError::on(alloc, met.call, at, met.cause)
+}
+
 impl<R: System> Tree<'_, R> {
-    // Finds the path for the system. No symlink stands above it.
+    // Writes the path for the system, and answers where its part below the root begins.
+    pub fn locate(&mut self, path: &Path) -> Result<usize, Cause> {
+        match self.gate.enter(self.rt, &mut self.notes.touched) {
+            Ok(()) => locate(&self.gate, path, &mut self.at),
+            Err(e) => Err(e),
+        }
+    }
+
+    // The same. No symlink stands above the path.
     pub fn reach(&mut self, path: &Path) -> Result<(), Cause> {
-        self.gate.enter(self.rt, &mut self.touched)?;
-        self.gate.write_path(path, &mut self.at)?;
-        let below = self.gate.root().len().saturating_add(1);
-        self.folders.look_above(self.rt, &self.at, below)
+        match self.locate(path) {
+            Ok(below) => self.notes.folders.look_above(self.rt, &self.at, below),
+            Err(e) => Err(e),
+        }
     }
 
     // The same for a change, which waits for a sync.
     pub fn reach_to_change(&mut self, path: &Path) -> Result<(), Cause> {
-        self.reach(path)?;
-        self.gate.mark()
+        match self.reach(path) {
+            Ok(()) => self.gate.mark(),
+            Err(e) => Err(e),
+        }
     }
 
     // The same for a change with two paths.
     pub fn reach_both(&mut self, from: &Path, to: &Path) -> Result<(), Cause> {
-        self.reach(from)?;
-        swap(&mut self.from, &mut self.at);
-        self.reach_to_change(to)
-    }
-
-    // Makes all changes last, the first time also what an earlier run may have left.
-    pub fn sync(&mut self) -> Result<(), Unsynced>
-        ensures settled { OnOk result (self.new ≡ true) }
-    {
-        if let Err(cause) = self.catch_up() {
-            return Err(self.unsynced_root(cause));
-        }
-        self.touched.sync(self.rt, &mut self.at)?;
-        match self.gate.clear() {
-            Ok(()) => Ok(()),
-            Err(cause) => Err(Unsynced {
-                call: Call::Sync,
-                cause,
-            }),
-        }
-    }
-
-    fn unsynced_root(&mut self, cause: Cause) -> Unsynced {
-        self.at.clear();
-        let _kept = self.at.push_str(self.gate.root());
-        Unsynced {
-            call: Call::Enter,
-            cause,
+        match self.reach(from) {
+            Ok(()) => {
+                swap(&mut self.from, &mut self.at);
+                self.reach_to_change(to)
+            }
+            Err(e) => Err(e),
         }
     }
 
     // Notes what an earlier run may have left.
     fn catch_up(&mut self) -> Result<(), Cause> {
-        self.gate.enter(self.rt, &mut self.touched)?;
-        if self.is_caught_up || self.is_idle() {
-            return Ok(());
+        match self.gate.enter(self.rt, &mut self.notes.touched) {
+            Ok(()) => self.note_left(),
+            Err(e) => Err(e),
         }
-        add_above(self.gate.root(), &mut self.touched);
-        if self.gate.has_left() {
-            add_below(self.rt, self.alloc, self.gate.root(), &mut self.touched)?;
-        }
-        self.is_caught_up = true;
-        Ok(())
     }
 
-    // Whether nothing was changed, and nothing left.
-    fn is_idle(&self) -> bool {
-        self.touched.is_settled() && !self.gate.has_left()
+    fn note_left(&mut self) -> Result<(), Cause> {
+        if self.is_caught_up {
+            return Ok(());
+        }
+        match add_left(self.rt, self.alloc, &self.gate, &mut self.notes.touched) {
+            Ok(is_noted) => {
+                self.is_caught_up = is_noted;
+                Ok(())
+            }
+            Err(e) => Err(e),
+        }
+    }
+}
+
+impl<R: System + Threads + Sync> Tree<'_, R> {
+    // Makes all changes last, the first time also what an earlier run may have left.
+    pub fn sync(&mut self) -> Result<(), Unsynced>
+        ensures settled { OnOk result (self.new ≡ true) }
+    {
+        match self.catch_up() {
+            Ok(()) => self.sync_touched(),
+            Err(cause) => Err(unsynced_root(self.gate.root(), &mut self.at, cause)),
+        }
+    }
+
+    fn sync_touched(&mut self) -> Result<(), Unsynced>
+        ensures settled { OnOk result (self.new ≡ true) }
+    {
+        match self.notes.touched.sync(self.rt, &mut self.at) {
+            Ok(()) => cleared(self.gate.clear()),
+            Err(e) => Err(e),
+        }
+    }
+}
+
+fn locate<F>(gate: &Gate<F>, path: &Path, at: &mut String) -> Result<usize, Cause> {
+    match gate.write_path(path, at) {
+        Ok(()) => Ok(gate.root().len().saturating_add(1)),
+        Err(e) => Err(e),
+    }
+}
+
+// Notes the folders above the root, and what is below it where an earlier run may have left something. Where nothing was
+// changed or left, it does nothing and answers that.
+fn add_left<R: System>(
+    rt: &R,
+    alloc: Global,
+    gate: &Gate<R::File>,
+    touched: &mut Touched,
+) -> Result<bool, Cause> {
+    if touched.is_settled() && !gate.has_left() {
+        return Ok(false);
+    }
+    add_above(gate.root(), touched);
+    match gate.has_left() {
+        true => add_all_below(rt, alloc, gate.root(), touched),
+        false => Ok(true),
+    }
+}
+
+fn add_all_below<R: System>(
+    rt: &R,
+    alloc: Global,
+    root: &str,
+    touched: &mut Touched,
+) -> Result<bool, Cause> {
+    match add_below(rt, alloc, root, touched) {
+        Ok(()) => Ok(true),
+        Err(e) => Err(e),
+    }
+}
+
+fn cleared(done: Result<(), Cause>) -> Result<(), Unsynced> {
+    match done {
+        Ok(()) => Ok(()),
+        Err(cause) => Err(Unsynced {
+            call: Call::Sync,
+            cause,
+        }),
+    }
+}
+
+fn unsynced_root(root: &str, at: &mut String, cause: Cause) -> Unsynced {
+    at.clear();
+    let _kept = at.push_str(root);
+    Unsynced {
+        call: Call::Enter,
+        cause,
     }
 }

@@ -1,10 +1,17 @@
 // Calls of a host as data, and what a folder shows.
-use fp_host::{Host, HostEnd, Path, Stat};
-use fp_realhost::SystemError;
+use fp_host::{Host, HostEnd, HostError, Path, Stat};
+use fp_realroot::System;
+use fp_system::SystemError;
 use std::alloc::Global;
 use std::rt::Files;
 use std::test::Fail;
+use std::thread::Threads;
 use std::{fs, io};
+
+// What a host over a folder needs of a system.
+pub trait Runtime: System + Print + Threads + Sync {}
+
+impl<R: System + Print + Threads + Sync> Runtime for R {}
 
 // A call, on paths of one element or two.
 #[derive(Clone, Copy)]
@@ -32,40 +39,59 @@ pub fn path(alloc: Global, text: &str) -> Result<Path, HostEnd> {
     Ok(Path::parse(alloc, text)?)
 }
 
-pub fn change<H: Host>(host: &mut H, alloc: Global, step: Step<'_>) -> Result<(), HostEnd> {
-    match step {
-        Step::MakeDir(at) => host.make_dir(&path(alloc, at)?)?,
-        Step::Create(at, mode) => host.create(&path(alloc, at)?, mode)?,
-        Step::Append(at, text) => host.append(&path(alloc, at)?, text.as_bytes())?,
-        Step::Link(from, to) => host.link(&path(alloc, from)?, &path(alloc, to)?)?,
-        Step::Symlink(text, at) => host.symlink(text, &path(alloc, at)?)?,
-        Step::Rename(from, to) => host.rename(&path(alloc, from)?, &path(alloc, to)?)?,
-        Step::Unlink(at) => host.unlink(&path(alloc, at)?)?,
-        Step::RemoveDir(at) => host.remove_dir(&path(alloc, at)?)?,
-        Step::Sync => host.sync()?,
-        Step::Say(text) => host.say(text.as_bytes())?,
-        _ => read(host, alloc, step)?,
+impl<'a> Step<'a> {
+    // Its path; of two, the last one.
+    fn place(self) -> &'a str {
+        match self {
+            Step::MakeDir(at) | Step::Create(at, _) | Step::Append(at, _) => at,
+            Step::Link(_, at) | Step::Symlink(_, at) | Step::Rename(_, at) => at,
+            Step::Unlink(at) | Step::RemoveDir(at) | Step::Stat(at) => at,
+            Step::Read(at) | Step::ReadLink(at) | Step::List(at) => at,
+            Step::Sync | Step::Say(_) => "",
+        }
     }
-    Ok(())
 }
 
-pub fn read<H: Host>(host: &mut H, alloc: Global, step: Step<'_>) -> Result<(), HostEnd> {
+pub fn change<H: Host>(host: &mut H, alloc: Global, step: Step<'_>) -> Result<(), HostEnd> {
+    let at = path(alloc, step.place())?;
+    let done = match step {
+        Step::Link(from, _) => link(host, &path(alloc, from)?, &at),
+        Step::Rename(from, _) => host.rename(&path(alloc, from)?, &at),
+        _ => change_one(host, alloc, step, &at),
+    };
+    Ok(done?)
+}
+
+fn link<H: Host>(host: &mut H, from: &Path, to: &Path) -> Result<(), HostError> {
+    host.link(from, to)
+}
+
+fn change_one<H: Host>(
+    host: &mut H,
+    alloc: Global,
+    step: Step<'_>,
+    at: &Path,
+) -> Result<(), HostError> {
     match step {
-        Step::Stat(at) => {
-            host.stat(&path(alloc, at)?)?;
-        }
-        Step::Read(at) => {
-            host.read_at(&path(alloc, at)?, 0, &mut [0u8; 4])?;
-        }
-        Step::ReadLink(at) => {
-            host.read_link(alloc, &path(alloc, at)?)?;
-        }
-        Step::List(at) => {
-            host.list(alloc, &path(alloc, at)?)?;
-        }
-        _ => {}
+        Step::MakeDir(_) => host.make_dir(at),
+        Step::Create(_, mode) => host.create(at, mode),
+        Step::Append(_, text) => host.append(at, text.as_bytes()),
+        Step::Symlink(text, _) => host.symlink(text, at),
+        Step::Unlink(_) => host.unlink(at),
+        Step::RemoveDir(_) => host.remove_dir(at),
+        Step::Sync => host.sync(),
+        Step::Say(text) => host.say(text.as_bytes()),
+        _ => read(host, alloc, step, at),
     }
-    Ok(())
+}
+
+fn read<H: Host>(host: &mut H, alloc: Global, step: Step<'_>, at: &Path) -> Result<(), HostError> {
+    match step {
+        Step::Stat(_) => host.stat(at).map(|_| ()),
+        Step::Read(_) => host.read_at(at, 0, &mut [0u8; 4]).map(|_| ()),
+        Step::ReadLink(_) => host.read_link(alloc, at).map(|_| ()),
+        _ => host.list(alloc, at).map(|_| ()),
+    }
 }
 
 // What stands at the path: a folder's names, a file's permission bits and first bytes, a symlink's text.

@@ -1,11 +1,13 @@
 // A system that notes what it is asked to change, in order, as the lines of a file.
-use fp_realhost::{Access, System};
+use crate::fixture::Runtime;
+use fp_realroot::{Access, System};
 use std::alloc::{Alloc, Allocator, Global};
 use std::fmt::Display;
 use std::fs::{FileTimes, Metadata, OpenFile, OpenOptions, Permissions};
 use std::io::{Eprint, Print, Read, Seek, SeekFrom, Write};
 use std::path::PathBuf;
 use std::rt::Files;
+use std::thread::Threads;
 use std::{fs, io};
 
 // The file, and what is other than in the system below it.
@@ -17,6 +19,8 @@ pub struct Log<'a, R> {
     fails: &'a str,
     // Whether somebody else holds each lock until it is waited for.
     is_busy: bool,
+    // Whether it notes what is looked at, too.
+    tells_looks: bool,
 }
 
 impl<R> Drop for Log<'_, R> {
@@ -27,6 +31,7 @@ impl<R> Drop for Log<'_, R> {
             file: _,
             fails: _,
             is_busy: _,
+            tells_looks: _,
         } = self;
     }
 }
@@ -39,6 +44,7 @@ impl<'a, R: Files + AllocGlobal> Log<'a, R> {
             file,
             fails,
             is_busy: false,
+            tells_looks: false,
         }
     }
 
@@ -49,25 +55,45 @@ impl<'a, R: Files + AllocGlobal> Log<'a, R> {
             file,
             fails: "",
             is_busy: true,
+            tells_looks: false,
         }
     }
 
+    pub fn telling_looks(rt: &'a R, file: &'a str) -> Self {
+        Log {
+            rt,
+            alloc: rt.alloc(),
+            file,
+            fails: "",
+            is_busy: false,
+            tells_looks: true,
+        }
+    }
+
+    fn note_look(&self, at: &str) -> io::Result<()> {
+        if self.tells_looks {
+            return self.note("look", at);
+        }
+        Ok(())
+    }
+
     fn note(&self, what: &str, at: &str) -> io::Result<()> {
-        let line = format!(in self.alloc; "{what} {at}")?;
+        let line = format!(in self.alloc; "{what} {at}\n")?;
         self.add(&line)?;
-        if line.as_str() == self.fails {
+        if line.trim_end() == self.fails {
             return Err(io::Error::other("the cable is out"));
         }
         Ok(())
     }
+
+    // Several threads may add a line.
 
     fn add(&self, line: &str) -> io::Result<()> {
         let mut file = OpenOptions::new()
             .append(true)
             .create(true)
             .open(self.rt, self.file)?;
-        file.write_all(line.as_bytes())?;
-        file.write_all(b"\n")
+        file.write_all(line.as_bytes())
     }
 
     // The lines since the last time.
@@ -131,10 +157,12 @@ impl<'a, R: Files + AllocGlobal> Files for Logged<'a, R> {
     }
 
     fn metadata(&self, path: &str) -> io::Result<Metadata> {
+        self.log.note_look(path)?;
         self.log.rt.metadata(path)
     }
 
     fn symlink_metadata(&self, path: &str) -> io::Result<Metadata> {
+        self.log.note_look(path)?;
         self.log.rt.symlink_metadata(path)
     }
 
@@ -242,6 +270,8 @@ impl<R: Files + AllocGlobal> OpenFile for LoggedFile<'_, R> {
     }
 }
 
+impl<R: Threads> Threads for Logged<'_, R> {}
+
 impl<R> Alloc for Logged<'_, R> {
     type A = Global;
 
@@ -276,7 +306,7 @@ impl<R: Files + AllocGlobal> Eprint for Logged<'_, R> {
     }
 }
 
-impl<R: System> System for Logged<'_, R> {
+impl<R: Runtime> System for Logged<'_, R> {
     fn try_lock(&self, file: &Self::File, access: Access) -> io::Result<bool> {
         self.log.note("lock", &file.at)?;
         if self.log.is_busy {

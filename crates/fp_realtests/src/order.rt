@@ -1,8 +1,10 @@
 // What the system is asked, in order, and what a failure of it does.
-use crate::fixture::{Step, change, clear};
+use crate::fixture::{Runtime, Step, change, clear};
 use crate::log::{Log, Logged};
 use fp_host::{Host, HostEnd};
-use fp_realhost::{Access, HostDir, System};
+use fp_realhost::HostDir;
+use fp_realroot::Access;
+use std::alloc::Global;
 use std::fs;
 use std::rt::Files;
 use std::test::Fail;
@@ -97,7 +99,7 @@ fn first_call_asked_otherwise<H: Host, R: Files + AllocGlobal>(
 }
 
 // The same over a folder whose system notes what it is asked.
-fn first_other<R: System>(
+fn first_other<R: Runtime>(
     log: &Log<'_, R>,
     root: &str,
     access: Access,
@@ -112,10 +114,7 @@ fn first_other<R: System>(
 fn the_system_is_asked_in_order(rt: HostRuntime) -> Result<(), Fail> {
     clear(&rt, "order");
     let log = Log::new(&rt, "order.log", "");
-    assert_eq!(rt;
-        first_other(&log, "order/root", Access::Change, &ASKED)?,
-        None
-    );
+    assert!(rt; first_other(&log, "order/root", Access::Change, &ASKED)?.is_none());
     clear(&rt, "order");
     Ok(())
 }
@@ -153,7 +152,7 @@ fn first_failure<H: Host, R: AllocGlobal>(rt: &R, host: &mut H) -> Option<usize>
     None
 }
 
-fn is_met<R: System>(rt: &R, row: &(&'static str, usize, bool)) -> Result<bool, Fail> {
+fn is_met<R: Runtime>(rt: &R, row: &(&'static str, usize, bool)) -> Result<bool, Fail> {
     let (fails, at, syncs) = *row;
     clear(rt, "fails");
     let log = Log::new(rt, "fails.log", fails);
@@ -165,7 +164,7 @@ fn is_met<R: System>(rt: &R, row: &(&'static str, usize, bool)) -> Result<bool, 
     Ok(failure == Some(at) && synced == syncs)
 }
 
-fn first_not_met<R: System>(rt: &R) -> Result<Option<usize>, Fail> {
+fn first_not_met<R: Runtime>(rt: &R) -> Result<Option<usize>, Fail> {
     for (i, row) in (&FAILURES).iter().enumerate() {
         if !is_met(rt, row)? {
             return Ok(Some(i));
@@ -176,7 +175,7 @@ fn first_not_met<R: System>(rt: &R) -> Result<Option<usize>, Fail> {
 
 #[test]
 fn what_the_system_fails_at_is_not_done(rt: HostRuntime) -> Result<(), Fail> {
-    assert_eq!(rt; first_not_met(&rt)?, None);
+    assert!(rt; first_not_met(&rt)?.is_none());
     Ok(())
 }
 
@@ -208,7 +207,7 @@ const IDLE: [(Step<'static>, &str); 2] = [
 ];
 
 // The first of these runs in which the system is asked something else, and the call.
-fn first_other_run<R: System>(log: &Log<'_, R>) -> Result<Option<(usize, usize)>, Fail> {
+fn first_other_run<R: Runtime>(log: &Log<'_, R>) -> Result<Option<(usize, usize)>, Fail> {
     let runs: [&[(Step, &str)]; 4] = [&UNSYNCED, &CAUGHT_UP, &IDLE, &IDLE];
     for (i, rows) in runs.iter().enumerate() {
         if i == 3 {
@@ -226,7 +225,7 @@ fn first_other_run<R: System>(log: &Log<'_, R>) -> Result<Option<(usize, usize)>
 fn what_a_run_left_is_made_to_last(rt: HostRuntime) -> Result<(), Fail> {
     clear(&rt, "left");
     let log = Log::new(&rt, "left.log", "");
-    assert_eq!(rt; first_other_run(&log)?, None);
+    assert!(rt; first_other_run(&log)?.is_none());
     clear(&rt, "left");
     Ok(())
 }
@@ -250,10 +249,70 @@ fn a_folder_without_a_lock_is_synced_once(rt: HostRuntime) -> Result<(), Fail> {
     fs::create_dir_all(&rt, "old/root")?;
     fs::write(&rt, "old/root/f", "")?;
     let log = Log::new(&rt, "old.log", "");
-    assert_eq!(rt;
-        first_other(&log, "old/root", Access::Change, &UNKNOWN)?,
-        None
-    );
+    assert!(rt; first_other(&log, "old/root", Access::Change, &UNKNOWN)?.is_none());
     clear(&rt, "old");
+    Ok(())
+}
+
+// What is looked at: the root, and what isn't known to be there or absent.
+const LOOKS: [(Step<'static>, &str); 10] = [
+    (
+        Step::Stat("none"),
+        "look looks/root\nmake looks\nmake looks/root\nlock looks/root/.lock\n\
+         look looks/root/none\n",
+    ),
+    (
+        Step::MakeDir("d"),
+        "write looks/root/.lock\nmake looks/root/d\n",
+    ),
+    (Step::Stat("d"), ""),
+    (Step::Stat("d/x"), ""),
+    (Step::Create("d/x", 0o644), "create looks/root/d/x\n"),
+    (Step::Stat("d/x"), "look looks/root/d/x\n"),
+    (Step::Link("d/x", "d/y"), "link looks/root/d/y\n"),
+    (Step::Rename("d/x", "d/z"), "rename to looks/root/d/z\n"),
+    (Step::Stat("d/e/f"), ""),
+    (Step::Unlink("d/y"), "remove looks/root/d/y\n"),
+];
+
+#[test]
+fn nothing_is_looked_at_twice(rt: HostRuntime) -> Result<(), Fail> {
+    clear(&rt, "looks");
+    let log = Log::telling_looks(&rt, "looks.log");
+    assert!(rt; first_other(&log, "looks/root", Access::Change, &LOOKS)?.is_none());
+    clear(&rt, "looks");
+    Ok(())
+}
+
+// Makes so many files.
+fn make_many<H: Host>(host: &mut H, alloc: Global, count: u32) -> Result<(), Fail> {
+    for i in 0..count {
+        let name = format!(in alloc; "f{i:02}")?;
+        change(host, alloc, Step::Create(name.as_str(), 0o644))?;
+    }
+    Ok(())
+}
+
+// The files of so many that a sync makes last, and whether it succeeds.
+fn synced<R: Runtime>(log: &Log<'_, R>, root: &str, count: u32) -> Result<(usize, bool), Fail> {
+    let system = Logged { log };
+    let mut host = HostDir::new(&system, &system, log.rt.alloc(), root, Access::Change)?;
+    make_many(&mut host, log.rt.alloc(), count)?;
+    log.lines()?;
+    let done = host.sync().is_ok();
+    let lines = log.lines()?;
+    let files = lines.lines().filter(|line| line.contains("root/f")).count();
+    Ok((files, done && host.sync().is_ok()))
+}
+
+#[test]
+fn many_files_are_synced(rt: HostRuntime) -> Result<(), Fail> {
+    clear(&rt, "many");
+    let log = Log::new(&rt, "many.log", "");
+    assert!(rt; synced(&log, "many/root", 60)? == (60, true));
+    clear(&rt, "many");
+    let log = Log::new(&rt, "many.log", "sync many/root/f47");
+    assert!(rt; !synced(&log, "many/root", 60)?.1);
+    clear(&rt, "many");
     Ok(())
 }

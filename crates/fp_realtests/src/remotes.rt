@@ -1,7 +1,8 @@
 // Folders as remotes, and an input as a source.
 use crate::fixture::{clear, is_message, make_file, path};
+use crate::log::{Log, Logged};
 use fp_host::{Node, Path, RemoteError, Remotes, Source, Taken};
-use fp_realhost::{DirRemotes, StdinSource};
+use fp_realinput::{DirRemotes, StdinSource};
 use std::alloc::{Allocator, Global};
 use std::cell::Cell;
 use std::env::Env;
@@ -87,12 +88,11 @@ fn first_not_held<M: Remotes>(
     Ok(None)
 }
 
-// The first row that isn't so, and the count of faults.
-fn held<R: Files + AllocGlobal>(rt: &R, url: &str) -> Result<(Option<usize>, u64), Fail> {
+// Whether each row is so, and nothing failed.
+fn held<R: Files + AllocGlobal>(rt: &R, url: &str) -> Result<bool, Fail> {
     let mut remotes = DirRemotes::new(rt, rt.alloc());
-    prove_eq!(remotes.faults(), 0);
     let other = first_not_held(&mut remotes, rt.alloc(), url)?;
-    Ok((other, remotes.faults()))
+    Ok(other.is_none() && remotes.faults() == 0)
 }
 
 #[test]
@@ -100,7 +100,7 @@ fn folders_are_remotes(rt: HostRuntime) -> Result<(), Fail> {
     clear(&rt, "remote");
     make_remote(&rt)?;
     let url = remote_url(&rt)?;
-    assert_eq!(rt; held(&rt, &url)?, (None, 0));
+    assert!(rt; held(&rt, &url)?);
     clear(&rt, "remote");
     Ok(())
 }
@@ -125,21 +125,54 @@ fn fails<M: Remotes>(remotes: &mut M, alloc: Global, url: &str, root: &Path) -> 
 // The first url at which a call doesn't fail.
 fn first_found<M: Remotes>(remotes: &mut M, alloc: Global) -> Option<&'static str> {
     let root = Path::root(alloc);
-    for url in OTHER_URLS {
+    for url in &OTHER_URLS {
         if !fails(remotes, alloc, url, &root) {
-            return Some(url);
+            return Some(*url);
         }
     }
     None
 }
 
+fn are_refused<R: Files + AllocGlobal>(rt: &R) -> Result<bool, Fail> {
+    let mut remotes = DirRemotes::new(rt, rt.alloc());
+    let found = first_found(&mut remotes, rt.alloc());
+    let last = "cannot find the remote https:///: a url is file:// and an absolute path";
+    let said = is_message(rt.alloc(), remotes.last_error(), last)?;
+    Ok(said && found.is_none() && remotes.faults() == 14)
+}
+
 #[test]
 fn other_urls_are_faults(rt: HostRuntime) -> Result<(), Fail> {
-    let mut remotes = DirRemotes::new(&rt, rt.alloc());
-    assert_eq!(rt; first_found(&mut remotes, rt.alloc()), None);
-    assert_eq!(rt; remotes.faults(), 14);
-    let last = "cannot find the remote https:///: a url is file:// and an absolute path";
-    assert!(rt; is_message(rt.alloc(), remotes.last_error(), last)?);
+    assert!(rt; are_refused(&rt)?);
+    Ok(())
+}
+
+// Whether just this was looked at since the last time.
+fn is_noted<R: Files + AllocGlobal>(log: &Log<'_, R>, want: &str) -> Result<bool, Fail> {
+    Ok(log.lines()?.as_str() == want)
+}
+
+// Whether a file that was found is not looked at again when it is read.
+fn reads_found<R: Files + AllocGlobal>(log: &Log<'_, R>, url: &str) -> Result<bool, Fail> {
+    let alloc = log.rt.alloc();
+    let system = Logged { log };
+    let mut remotes = DirRemotes::new(&system, alloc);
+    let at = path(alloc, "file")?;
+    remotes.node(alloc, url, &at)?;
+    let folder = url.strip_prefix("file://").unwrap_or("");
+    let looked = is_noted(log, format!(in alloc; "look {folder}/file\n")?.as_str())?;
+    let read = has_bytes(&mut remotes, url, &at, 5)?;
+    Ok(looked && read && is_noted(log, "")?)
+}
+
+#[test]
+fn a_found_file_is_looked_at_once(rt: HostRuntime) -> Result<(), Fail> {
+    clear(&rt, "remote");
+    make_remote(&rt)?;
+    let url = remote_url(&rt)?;
+    let log = Log::telling_looks(&rt, "remote.log");
+    assert!(rt; reads_found(&log, &url)?);
+    clear(&rt, "remote");
     Ok(())
 }
 
@@ -207,10 +240,8 @@ fn an_input_is_a_source(rt: HostRuntime) -> Result<(), Fail> {
     let turn = Cell::new(0);
     let turns = Turns { turn: &turn };
     let mut source = StdinSource::new(&turns);
-    prove_eq!(source.faults(), 0);
     let taken = [Taken::Took(2), Taken::Failed, Taken::End, Taken::Took(0)];
-    assert_eq!(rt; takes(&mut source), taken);
-    assert_eq!(rt; source.faults(), 1);
+    assert!(rt; takes(&mut source) == taken && source.faults() == 1);
     let last = "cannot read the standard input: Input/output error (os error 5)";
     assert!(rt; is_message(rt.alloc(), source.last_error(), last)?);
     Ok(())

@@ -1,6 +1,7 @@
 // What is printed to a terminal.
+use crate::fixture::Runtime;
 use crate::log::{Log, Logged};
-use fp_realhost::{Screen, System};
+use fp_realhost::Screen;
 use std::test::Fail;
 
 // What drives a terminal, and what is shown in its place.
@@ -19,7 +20,7 @@ const SHOWN: [(&str, &str); 5] = [
 ];
 
 // The first that is shown otherwise. Elsewhere the text itself is printed.
-fn first_other<R: System>(log: &Log<'_, R>, is_terminal: bool) -> Result<Option<usize>, Fail> {
+fn first_other<R: Runtime>(log: &Log<'_, R>, is_terminal: bool) -> Result<Option<usize>, Fail> {
     let system = Logged { log };
     let screen = Screen::new(&system, log.rt.alloc(), is_terminal);
     for (i, (text, want)) in (&SHOWN).iter().enumerate() {
@@ -34,7 +35,7 @@ fn first_other<R: System>(log: &Log<'_, R>, is_terminal: bool) -> Result<Option<
 }
 
 // Whether bytes that are no UTF-8 are shown so.
-fn are_shown<R: System>(log: &Log<'_, R>, bytes: &[u8], want: &str) -> Result<bool, Fail> {
+fn are_shown<R: Runtime>(log: &Log<'_, R>, bytes: &[u8], want: &str) -> Result<bool, Fail> {
     let system = Logged { log };
     Screen::new(&system, log.rt.alloc(), true).write_all(bytes)?;
     Ok(log.lines()?.as_str() == want)
@@ -43,8 +44,8 @@ fn are_shown<R: System>(log: &Log<'_, R>, bytes: &[u8], want: &str) -> Result<bo
 #[test]
 fn nothing_drives_a_terminal(rt: HostRuntime) -> Result<(), Fail> {
     let log = Log::new(&rt, "shown.log", "");
-    assert_eq!(rt; first_other(&log, true)?, None);
-    assert_eq!(rt; first_other(&log, false)?, None);
+    assert!(rt; first_other(&log, true)?.is_none());
+    assert!(rt; first_other(&log, false)?.is_none());
     let want = "print a\\x9b\\xff\\u{1b}\n\n";
     assert!(rt; are_shown(&log, b"a\x9b\xff\x1b\n", want)?);
     Ok(())

@@ -1,7 +1,8 @@
 // Times and bits of stored files.
-use crate::fixture::{Step, change, clear};
+use crate::fixture::{Runtime, Step, change, clear};
 use fp_host::HostEnd;
-use fp_realhost::{Access, HostDir, System};
+use fp_realhost::HostDir;
+use fp_realroot::Access;
 use std::fs;
 use std::test::Fail;
 use std::time::{SystemTime, UNIX_EPOCH};
@@ -17,7 +18,7 @@ const STORED: [Step<'static>; 8] = [
     Step::Rename("new", "kept"),
 ];
 
-fn store<R: System + Print>(rt: &R) -> Result<(), HostEnd> {
+fn store<R: Runtime>(rt: &R) -> Result<(), HostEnd> {
     let mut host = HostDir::new(rt, rt, rt.alloc(), "stored", Access::Change)?;
     for step in &STORED {
         change(&mut host, rt.alloc(), *step)?;
@@ -25,7 +26,7 @@ fn store<R: System + Print>(rt: &R) -> Result<(), HostEnd> {
     Ok(())
 }
 
-fn modified<R: System>(rt: &R, at: &str) -> Result<SystemTime, Fail> {
+fn modified<R: Runtime>(rt: &R, at: &str) -> Result<SystemTime, Fail> {
     Ok(fs::metadata(rt, at)?.modified()?)
 }
 

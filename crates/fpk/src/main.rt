@@ -5,7 +5,10 @@ ghost use Rattle.std.specs.Prelude.{◌≡◌};
 
 use fl_top::run;
 use fl_words::{WordsError, batch_reason, read_words, reason};
-use fp_realhost::{Access, DirRemotes, HostDir, Screen, StdinSource, System, SystemError};
+use fp_realhost::{HostDir, Screen};
+use fp_realinput::{DirRemotes, StdinSource};
+use fp_realroot::{Access, System};
+use fp_system::SystemError;
 use std::alloc::{AllocError, Global};
 use std::env::{self, VarError};
 use std::io::{self, ErrorKind, Input};

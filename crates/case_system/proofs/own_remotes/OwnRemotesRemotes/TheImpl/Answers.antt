@@ -1,7 +1,7 @@
 -- Each call counts as the remotes below do, tells nothing of content, and has its trait's bounds from its own clauses.
 use Rattle.std.proofs.Common.{refl}
 use Rattle.std.proofs.lemmas.Option.{none-some}
-use Rattle.fp_realhost.proofs.Causes.{remote_cause}
+use Rattle.fp_realinput.proofs.Causes.{remote_cause}
 use Rattle.case_system.proofs.own_remotes.OwnRemotesRemotes.TheImpl.Goals as goal
 
 pub node-tells : goal.node-tells

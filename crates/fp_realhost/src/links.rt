@@ -1,0 +1,104 @@
+// Names that come into a folder or go, but for moves.
+use crate::made::Made;
+use crate::notes::Notes;
+use fp_realroot::find_file;
+use fp_system::{Cause, Found, Kind, known, look};
+use std::fs;
+use std::os::unix;
+use std::rt::Files;
+
+// The system's number of the error that nothing stands there.
+const NO_ENTRY: i32 = 2;
+
+// Gives a file a second name.
+pub fn link<R: Files>(rt: &R, from: &str, to: &str, notes: &mut Notes) -> Result<(), Cause> {
+    match link_file(rt, from, to, &notes.made) {
+        Ok(()) => {
+            notes.add_linked(from, to);
+            Ok(())
+        }
+        Err(e) => Err(e),
+    }
+}
+
+fn link_file<R: Files>(rt: &R, from: &str, to: &str, made: &Made) -> Result<(), Cause> {
+    match check_file(rt, from, made) {
+        Ok(()) => known(fs::hard_link(rt, from, to)),
+        Err(e) => Err(e),
+    }
+}
+
+fn check_file<R: Files>(rt: &R, at: &str, made: &Made) -> Result<(), Cause> {
+    if made.is_file(at) {
+        return Ok(());
+    }
+    match find_file(rt, at) {
+        Ok(_) => Ok(()),
+        Err(e) => Err(e),
+    }
+}
+
+pub fn symlink<R: Files>(rt: &R, text: &str, at: &str, notes: &mut Notes) -> Result<(), Cause> {
+    match known(unix::fs::symlink(rt, text, at)) {
+        Ok(()) => {
+            notes.add_symlink(at);
+            Ok(())
+        }
+        Err(e) => Err(e),
+    }
+}
+
+// Takes a file or symlink away.
+pub fn unlink<R: Files>(rt: &R, at: &str, notes: &mut Notes) -> Result<(), Cause> {
+    match unlink_leaf(rt, at, &notes.made) {
+        Ok(()) => {
+            notes.add_gone(at);
+            Ok(())
+        }
+        Err(e) => Err(e),
+    }
+}
+
+fn unlink_leaf<R: Files>(rt: &R, at: &str, made: &Made) -> Result<(), Cause> {
+    match leaf_kind(rt, at, made) {
+        Ok(_) => known(fs::remove_file(rt, at)),
+        Err(e) => Err(e),
+    }
+}
+
+// Whether a file or a symlink is at the path. What is neither is an error.
+pub fn leaf_kind<R: Files>(rt: &R, at: &str, made: &Made) -> Result<Kind, Cause> {
+    if made.is_file(at) {
+        return Ok(Kind::File);
+    }
+    match find_leaf(rt, at) {
+        Ok(found) => Ok(found.kind),
+        Err(e) => Err(e),
+    }
+}
+
+// The file or symlink at the path.
+pub fn find_leaf<R: Files>(rt: &R, at: &str) -> Result<Found, Cause> {
+    match look(rt, at) {
+        Ok(found) if found.is_leaf() => Ok(found),
+        Ok(found) => Err(no_leaf(found.kind)),
+        Err(e) => Err(e),
+    }
+}
+
+fn no_leaf(kind: Kind) -> Cause {
+    match kind {
+        Kind::Absent => Cause::Number(NO_ENTRY),
+        _ => Cause::NoLeaf,
+    }
+}
+
+pub fn remove_folder<R: Files>(rt: &R, at: &str, notes: &mut Notes) -> Result<(), Cause> {
+    match known(fs::remove_dir(rt, at)) {
+        Ok(()) => {
+            notes.add_gone_folder(at);
+            Ok(())
+        }
+        Err(e) => Err(e),
+    }
+}

@@ -1,0 +1,126 @@
+// Folders of the system as remotes.
+ghost use Rattle.std.specs.Prelude.{◌≡◌, ◌↔◌, ◌≤◌, None, IfOk, IsErrOf, length};
+ghost use Rattle.fp_host.specs.Remote.{HasNodeBits};
+ghost use Rattle.fp_system.specs.Counts.{RemoteCounts};
+
+use crate::places::{Places, refusal};
+use fp_host::{Node, Path, RemoteError, Remotes};
+use fp_system::{Call, Cause, Faults, SystemError};
+use std::alloc::Global;
+use std::marker::Model;
+use std::rt::Files;
+
+/// The remotes whose urls are `file://` and the absolute path of a folder, byte for byte. Contracts see it as its count
+/// of faults.
+///
+/// It tells nothing of what they hold. Whatever the system refuses, a url of another form and a socket, pipe or device
+/// are counted and answered `Failed`, and so is want of memory in `read_at`.
+///
+/// The folder that a url names may be a symlink or stand below one. Below it no symlink is followed: a call fails where one
+/// stands in the place of a folder above its path. Each folder is looked at once: a symlink that another program puts in
+/// its place later is followed.
+pub struct DirRemotes<'a, R: Files> {
+    places: Places<'a, R>,
+    faults: Faults,
+}
+
+impl<R: Files> Drop for DirRemotes<'_, R> {
+    fn drop(self) {
+        let DirRemotes {
+            places: _,
+            faults: _,
+        } = self;
+    }
+}
+
+impl<'a, R: Files> Model for DirRemotes<'a, R> {
+    ghost use Rattle.std.specs.Prelude.{ℕ};
+
+    ghost Value = { ℕ };
+
+    ghost view = { λ r. r.faults };
+}
+
+impl<'a, R: Files + AllocGlobal> DirRemotes<'a, R> {
+    /// The remotes of a system. It takes no memory, and asks nothing of the system yet.
+    pub fn new(rt: &'a R, alloc: Global) -> Self
+        ensures untold { ⟦<DirRemotes<'a, R> as Remotes>⟧.holds result ≡ None }
+        ensures faults { ⟦<DirRemotes<'a, R> as Remotes>⟧.faults result ≡ 0 }
+    {
+        DirRemotes {
+            places: Places::new(rt, alloc),
+            faults: Faults::none(),
+        }
+    }
+}
+
+impl<'a, R: Files> DirRemotes<'a, R> {
+    /// How often a call has failed; the count stands still at 2^64 - 1.
+    pub fn faults(&self) -> u64
+        ensures { result ≡ self.now }
+    {
+        self.faults.count()
+    }
+
+    /// What the system refused last, which is there exactly where the count of faults is not 0.
+    pub fn last_error(&self) -> Option<&SystemError>
+        ensures { (result ≡ None) ↔ (self.now ≡ 0) }
+    {
+        self.faults.last()
+    }
+
+    // The answer of a call at a path of a remote. Each error is a fault.
+    fn answer<T>(
+        &mut self,
+        call: Call,
+        url: &str,
+        path: &Path,
+        done: Result<T, Cause>,
+    ) -> Result<T, RemoteError>
+        ensures counts { RemoteCounts self.old self.new result }
+        ensures needs_no_memory { IsErrOf result RemoteError.NoMemory → ⊥ }
+        ensures same { IfOk result (λ t. done ≡ Ok t) }
+    {
+        match done {
+            Ok(answer) => Ok(answer),
+            Err(cause) => {
+                let refusal = refusal(self.places.alloc(), call, url, path, cause);
+                self.faults.note(refusal);
+                Err(RemoteError::Failed)
+            }
+        }
+    }
+}
+
+impl<R: Files + AllocGlobal> Remotes for DirRemotes<'_, R> {
+    ghost use Rattle.std.specs.Prelude.{None};
+
+    ghost holds = { λ r. None };
+
+    ghost faults = { λ r. r };
+
+    fn node(&mut self, alloc: Global, url: &str, path: &Path) -> Result<Node, RemoteError>
+        ensures counts { RemoteCounts self.old self.new result }
+        ensures bits { IfOk result HasNodeBits }
+    {
+        match self.places.node(alloc, url, path) {
+            Err(Cause::NoMemory) => Err(RemoteError::NoMemory),
+            done => self.answer(Call::Stat, url, path, done),
+        }
+    }
+
+    fn read_at(
+        &mut self,
+        url: &str,
+        path: &Path,
+        at: u64,
+        into: &mut [u8],
+    ) -> Result<usize, RemoteError>
+        ensures counts { RemoteCounts self.old self.new result }
+        ensures bound { IfOk result (λ n. n ≤ length into.old) }
+        ensures needs_no_memory { IsErrOf result RemoteError.NoMemory → ⊥ }
+    {
+        let done = self.places.read_at(url, path, at, into);
+        self.answer(Call::Read, url, path, done)
+    }
+}

@@ -1,0 +1,324 @@
+// The root folder, and the lock.
+use crate::hold::Hold;
+use crate::roots::make_root;
+use crate::system::{Access, System};
+use crate::touched::Touched;
+use fp_host::Path;
+use fp_system::{Cause, Kind, has_folder, join, kind_at, known};
+use std::alloc::{AllocError, Global};
+use std::fs;
+use std::fs::{OpenFile, OpenOptions, Permissions};
+use std::io::{ErrorKind, Seek, Write};
+use std::os::unix::fs::{OpenOptionsExt, PermissionsExt};
+
+/// The name of the file at the top of an installation that is locked. No command looks at it.
+pub const LOCK_NAME: &str = ".lock";
+
+// Its permission bits: who may not open it looks without a lock.
+const LOCK_BITS: u32 = 0o644;
+
+// What is known of the root folder.
+#[derive(Clone, Copy, PartialEq, Eq)]
+enum Root {
+    // It was not looked at, or is no folder.
+    Unknown,
+    Absent,
+    There,
+}
+
+// What keeps others out.
+enum Lock<F> {
+    // It was not asked for.
+    NotYet,
+    // There is no lock file, or none that may be opened.
+    Open,
+    Shared(F),
+    Whole(Hold<F>),
+}
+
+impl<F: Drop> Drop for Lock<F> {
+    fn drop(self) {
+        match self {
+            Lock::NotYet | Lock::Open => {}
+            Lock::Shared(_) => {}
+            Lock::Whole(_) => {}
+        }
+    }
+}
+
+/// The root folder of a host, which is held against other processes while the host is at work.
+pub struct Gate<F> {
+    root: String,
+    // The path of the file that is locked.
+    lock_at: String,
+    access: Access,
+    state: Root,
+    lock: Lock<F>,
+    // Whether an earlier run may have left changes that are not on the disk.
+    has_left: bool,
+}
+
+impl<F: Drop> Drop for Gate<F> {
+    fn drop(self) {
+        let Gate {
+            root: _,
+            lock_at: _,
+            access: _,
+            state: _,
+            lock: _,
+            has_left: _,
+        } = self;
+    }
+}
+
+impl<F> Gate<F> {
+    /// The empty name is the current folder.
+    pub fn new(alloc: Global, root: &str, access: Access) -> Result<Self, AllocError> {
+        let root = if root.is_empty() { "." } else { root };
+        let lock_at = format!(in alloc; "{root}/{LOCK_NAME}")?;
+        Gate::with_paths(root.to_string(alloc), lock_at, access)
+    }
+
+    fn with_paths(
+        root: Result<String, AllocError>,
+        lock_at: String,
+        access: Access,
+    ) -> Result<Self, AllocError> {
+        match root {
+            Ok(root) => Ok(Gate {
+                root,
+                lock_at,
+                access,
+                state: Root::Unknown,
+                lock: Lock::NotYet,
+                has_left: false,
+            }),
+            Err(e) => Err(e),
+        }
+    }
+
+    /// The path of the root folder.
+    pub fn root(&self) -> &str {
+        &self.root
+    }
+
+    /// Whether the root was found, or found absent.
+    pub fn is_known(&self) -> bool {
+        self.state != Root::Unknown
+    }
+
+    /// Whether the root folder was there when it was looked at last.
+    pub fn is_there(&self) -> bool {
+        self.state == Root::There
+    }
+
+    /// Whether an earlier run may have left changes that are not on the disk.
+    pub fn has_left(&self) -> bool {
+        self.has_left
+    }
+
+    /// Writes the path for the system: the root, a slash and the elements.
+    pub fn write_path(&self, path: &Path, into: &mut String) -> Result<(), Cause> {
+        join(&self.root, path.text(), into)
+    }
+}
+
+impl<F: Write + Seek + OpenFile + Drop> Gate<F> {
+    /// Finds the root and takes the lock, once. A host that changes makes the root for it where it is absent.
+    pub fn enter<R: System<File = F>>(
+        &mut self,
+        rt: &R,
+        touched: &mut Touched,
+    ) -> Result<(), Cause> {
+        match (&self.lock, self.access) {
+            (Lock::NotYet, Access::Look) => self.enter_to_look(rt),
+            (Lock::NotYet, Access::Change) => self.enter_to_change(rt, touched),
+            _ => Ok(()),
+        }
+    }
+
+    // Where there is no root there is no lock yet.
+    fn enter_to_look<R: System<File = F>>(&mut self, rt: &R) -> Result<(), Cause> {
+        match look_in(rt, &self.lock_at, &self.root) {
+            Ok(Some(lock)) => {
+                self.lock = lock;
+                self.state = Root::There;
+                Ok(())
+            }
+            Ok(None) => {
+                self.state = Root::Absent;
+                Ok(())
+            }
+            Err(e) => {
+                self.state = Root::Unknown;
+                Err(e)
+            }
+        }
+    }
+
+    fn enter_to_change<R: System<File = F>>(
+        &mut self,
+        rt: &R,
+        touched: &mut Touched,
+    ) -> Result<(), Cause> {
+        match find_or_make_root(rt, touched, &self.root, &self.lock_at) {
+            Ok(found) => self.take(rt, found),
+            Err(e) => Err(e),
+        }
+    }
+
+    // A lock file that is absent from a folder that was there before says nothing of earlier runs.
+    fn take<R: System<File = F>>(&mut self, rt: &R, found: Entry) -> Result<(), Cause> {
+        let mut hold = take_lock(rt, &self.lock_at, &self.root, found)?;
+        let is_unknown = found == Entry::Unlocked;
+        self.has_left = is_unknown || hold.is_marked();
+        let marked = if is_unknown { hold.mark() } else { Ok(()) };
+        self.lock = Lock::Whole(hold);
+        self.state = Root::There;
+        marked
+    }
+
+    /// Marks that changes wait for a sync.
+    pub fn mark(&mut self) -> Result<(), Cause> {
+        match &mut self.lock {
+            Lock::Whole(hold) => hold.mark(),
+            _ => Err(Cause::OnlyLooks),
+        }
+    }
+
+    /// Takes the mark away.
+    pub fn clear(&mut self) -> Result<(), Cause> {
+        match &mut self.lock {
+            Lock::Whole(hold) => hold.clear(),
+            _ => Ok(()),
+        }
+    }
+}
+
+// How a host that changes finds the root.
+#[derive(Clone, Copy, PartialEq, Eq)]
+enum Entry {
+    // It was made.
+    New,
+    // It is there without a lock file.
+    Unlocked,
+    // It has a lock file.
+    Old,
+}
+
+// Makes the root where it is absent.
+fn find_or_make_root<R: System>(
+    rt: &R,
+    touched: &mut Touched,
+    root: &str,
+    lock_at: &str,
+) -> Result<Entry, Cause> {
+    match has_folder(rt, root) {
+        Ok(true) => find_lock_file(rt, lock_at),
+        Ok(false) => make_new_root(rt, touched, root),
+        Err(e) => Err(e),
+    }
+}
+
+fn find_lock_file<R: System>(rt: &R, lock_at: &str) -> Result<Entry, Cause> {
+    match kind_at(rt, lock_at) {
+        Ok(Kind::Absent) => Ok(Entry::Unlocked),
+        Ok(_) => Ok(Entry::Old),
+        Err(e) => Err(e),
+    }
+}
+
+fn make_new_root<R: System>(rt: &R, touched: &mut Touched, root: &str) -> Result<Entry, Cause> {
+    match make_root(rt, touched, root) {
+        Ok(()) => Ok(Entry::New),
+        Err(e) => Err(e),
+    }
+}
+
+// The lock to look, and none where there is no root.
+fn look_in<R: System>(rt: &R, at: &str, root: &str) -> Result<Option<Lock<R::File>>, Cause> {
+    match has_folder(rt, root) {
+        Ok(true) => some_lock(rt, at, root),
+        Ok(false) => Ok(None),
+        Err(e) => Err(e),
+    }
+}
+
+fn some_lock<R: System>(rt: &R, at: &str, root: &str) -> Result<Option<Lock<R::File>>, Cause> {
+    match find_lock(rt, at, root) {
+        Ok(lock) => Ok(Some(lock)),
+        Err(e) => Err(e),
+    }
+}
+
+// The lock to look, where there is a file for it that may be opened: who may only read an installation looks without it.
+fn find_lock<R: System>(rt: &R, at: &str, root: &str) -> Result<Lock<R::File>, Cause> {
+    match known(fs::open(rt, at)) {
+        Ok(file) => share(rt, file, root),
+        Err(e) if e.is(ErrorKind::NotFound) || e.is(ErrorKind::PermissionDenied) => Ok(Lock::Open),
+        Err(e) => Err(e),
+    }
+}
+
+fn share<R: System>(rt: &R, file: R::File, root: &str) -> Result<Lock<R::File>, Cause> {
+    match wait(rt, &file, Access::Look, root) {
+        Ok(()) => Ok(Lock::Shared(file)),
+        Err(e) => Err(e),
+    }
+}
+
+// The lock to change. Its file is made where it is absent, so that all may read it, whatever the umask.
+fn take_lock<R: System>(
+    rt: &R,
+    at: &str,
+    root: &str,
+    found: Entry,
+) -> Result<Hold<R::File>, Cause> {
+    match open_lock(rt, at) {
+        Ok(file) if found == Entry::Old => hold(rt, file, at, root),
+        Ok(file) => hold_new(rt, file, at, root),
+        Err(e) => Err(e),
+    }
+}
+
+fn open_lock<R: System>(rt: &R, at: &str) -> Result<R::File, Cause> {
+    let opened = OpenOptions::new()
+        .write(true)
+        .create(true)
+        .mode(LOCK_BITS)
+        .open(rt, at);
+    known(opened)
+}
+
+fn hold_new<R: System>(
+    rt: &R,
+    file: R::File,
+    at: &str,
+    root: &str,
+) -> Result<Hold<R::File>, Cause> {
+    match known(file.set_permissions(Permissions::from_mode(LOCK_BITS))) {
+        Ok(()) => hold(rt, file, at, root),
+        Err(e) => Err(e),
+    }
+}
+
+fn hold<R: System>(rt: &R, file: R::File, at: &str, root: &str) -> Result<Hold<R::File>, Cause> {
+    match wait(rt, &file, Access::Change, root) {
+        Ok(()) => Ok(Hold::new(rt, file, at)),
+        Err(e) => Err(e),
+    }
+}
+
+// Takes the lock. Who has to wait says so once.
+fn wait<R: System>(rt: &R, file: &R::File, access: Access, root: &str) -> Result<(), Cause> {
+    match known(rt.try_lock(file, access)) {
+        Ok(true) => Ok(()),
+        Ok(false) => wait_long(rt, file, access, root),
+        Err(e) => Err(e),
+    }
+}
+
+fn wait_long<R: System>(rt: &R, file: &R::File, access: Access, root: &str) -> Result<(), Cause> {
+    let _said = eprintln!(rt; "fpk: waiting for another fpk that works on {root}");
+    known(rt.lock(file, access))
+}

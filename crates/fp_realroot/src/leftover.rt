@@ -1,0 +1,125 @@
+// What an earlier run may have left that was stopped before its own sync.
+use crate::names::read_names;
+use crate::roots::{above_root, folder_at};
+use crate::touched::Touched;
+use fp_base::Text;
+use fp_system::{Cause, Kind, kind_at};
+use std::alloc::{AllocError, Global};
+use std::rt::Files;
+
+/// Notes the root folder and those above it.
+pub fn add_above(root: &str, touched: &mut Touched) {
+    touched.add_left(above_root(root));
+    for end in 1..root.len() {
+        if let Some(above) = folder_at(root, end) {
+            touched.add_left(above);
+        }
+    }
+    touched.add_left(root);
+}
+
+/// Notes each file and folder below the root.
+pub fn add_below<R: Files + AllocGlobal>(
+    rt: &R,
+    alloc: Global,
+    root: &str,
+    touched: &mut Touched,
+) -> Result<(), Cause> {
+    let mut folders = Vec::new(alloc);
+    match push_path(alloc, root, "", &mut folders) {
+        Ok(()) => add_folders(rt, alloc, &mut folders, touched),
+        Err(_) => Err(Cause::NoMemory),
+    }
+}
+
+fn push_path(
+    alloc: Global,
+    folder: &str,
+    below: &str,
+    folders: &mut Vec<String>,
+) -> Result<(), AllocError> {
+    folders.push(format!(in alloc; "{folder}{below}")?)?;
+    Ok(())
+}
+
+// Goes through the folders, and those that are found in them.
+fn add_folders<R: Files + AllocGlobal>(
+    rt: &R,
+    alloc: Global,
+    folders: &mut Vec<String>,
+    touched: &mut Touched,
+) -> Result<(), Cause> {
+    for _ in 0..u64::MAX {
+        match folders.pop() {
+            Some(folder) => add_in(rt, alloc, &folder, folders, touched)?,
+            None => break,
+        }
+    }
+    Ok(())
+}
+
+fn add_in<R: Files + AllocGlobal>(
+    rt: &R,
+    alloc: Global,
+    folder: &str,
+    folders: &mut Vec<String>,
+    touched: &mut Touched,
+) -> Result<(), Cause> {
+    match read_names(rt, alloc, folder) {
+        Ok(names) => add_named(rt, alloc, folder, &names, folders, touched),
+        Err(e) => Err(e),
+    }
+}
+
+fn add_named<R: Files>(
+    rt: &R,
+    alloc: Global,
+    folder: &str,
+    names: &[Text],
+    folders: &mut Vec<String>,
+    touched: &mut Touched,
+) -> Result<(), Cause> {
+    for name in names {
+        let name = name.as_str();
+        match format!(in alloc; "{folder}/{name}") {
+            Ok(at) => add_found(rt, at, folders, touched)?,
+            Err(_) => return Err(Cause::NoMemory),
+        }
+    }
+    Ok(())
+}
+
+// Notes the file or folder that stands there.
+fn add_found<R: Files>(
+    rt: &R,
+    at: String,
+    folders: &mut Vec<String>,
+    touched: &mut Touched,
+) -> Result<(), Cause> {
+    match kind_at(rt, &at) {
+        Ok(kind) => add_kind(at, kind, folders, touched),
+        Err(e) => Err(e),
+    }
+}
+
+fn add_kind(
+    at: String,
+    kind: Kind,
+    folders: &mut Vec<String>,
+    touched: &mut Touched,
+) -> Result<(), Cause> {
+    if matches!(kind, Kind::Dir | Kind::File) {
+        touched.add_left(&at);
+    }
+    match kind {
+        Kind::Dir => push_folder(at, folders),
+        _ => Ok(()),
+    }
+}
+
+fn push_folder(at: String, folders: &mut Vec<String>) -> Result<(), Cause> {
+    match folders.push(at) {
+        Ok(()) => Ok(()),
+        Err(_) => Err(Cause::NoMemory),
+    }
+}

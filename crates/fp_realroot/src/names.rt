@@ -1,0 +1,113 @@
+// The names in a folder.
+ghost use Rattle.std.specs.Prelude.{◌≡◌, ◌↔◌, IfOk, IsTrue};
+ghost use Rattle.std.specs.List.{list_all};
+ghost use Rattle.std.specs.Ordering.{is_lt, nat_cmp};
+ghost use Rattle.std.specs.Cmp.Lexicographic.{slice_cmp};
+ghost use Rattle.fp_host.specs.Paths.{is_element};
+ghost use Rattle.fp_host.specs.Reads.{AreNames, is_ascending};
+
+use fp_base::{Items, Text};
+use fp_host::is_element;
+use fp_system::{Cause, known};
+use std::alloc::{AllocError, Global};
+use std::fs::DirEntry;
+use std::rt::Files;
+use std::{fs, io};
+
+/// The names in the folder but the hidden one, ascending by their bytes. A name that no path may have is an error.
+pub fn list_names<R: Files + AllocGlobal>(
+    rt: &R,
+    alloc: Global,
+    at: &str,
+    hidden: &str,
+) -> Result<Items<Text>, Cause>
+    ensures { IfOk result AreNames }
+{
+    match read_names(rt, alloc, at) {
+        Ok(names) => sorted(names, hidden),
+        Err(e) => Err(e),
+    }
+}
+
+fn sorted(mut names: Vec<Text>, hidden: &str) -> Result<Items<Text>, Cause>
+    ensures { IfOk result AreNames }
+{
+    names.retain(|name| name.as_str() != hidden);
+    names.sort_unstable_by(|a, b| a.as_str().cmp(b.as_str()));
+    if are_names(&names) {
+        Ok(Items::from_vec(names))
+    } else {
+        Err(Cause::BadName)
+    }
+}
+
+// The names in the folder, in no order.
+pub fn read_names<R: Files + AllocGlobal>(
+    rt: &R,
+    alloc: Global,
+    at: &str,
+) -> Result<Vec<Text>, Cause> {
+    let mut names = Vec::new(alloc);
+    match known(add_names(rt, alloc, at, &mut names)) {
+        Ok(()) => Ok(names),
+        Err(e) => Err(e),
+    }
+}
+
+fn add_names<R: Files + AllocGlobal>(
+    rt: &R,
+    alloc: Global,
+    at: &str,
+    names: &mut Vec<Text>,
+) -> io::Result<()> {
+    for entry in fs::read_dir(&rt, at)? {
+        add_name(alloc, entry, names)?;
+    }
+    Ok(())
+}
+
+fn add_name<R: Files + Drop>(
+    alloc: Global,
+    entry: io::Result<DirEntry<R>>,
+    names: &mut Vec<Text>,
+) -> io::Result<()> {
+    match entry {
+        Ok(entry) => Ok(push_name(alloc, entry.file_name(), names)?),
+        Err(e) => Err(e),
+    }
+}
+
+fn push_name(alloc: Global, name: &str, names: &mut Vec<Text>) -> Result<(), AllocError> {
+    names.push(Text::from_string(name.to_string(alloc)?))?;
+    Ok(())
+}
+
+// Whether each may be an element of a path, and each comes before the next.
+fn are_names(names: &[Text]) -> bool
+    ensures { IsTrue result → AreNames names.now }
+{
+    are_elements(names) && are_ascending(names)
+}
+
+fn are_elements(names: &[Text]) -> bool
+    ensures { result ≡ list_all is_element names.now }
+{
+    names.iter().all(|name| is_element(name.as_str()))
+}
+
+fn are_ascending(names: &[Text]) -> bool
+    ensures { result ≡ is_ascending names.now }
+{
+    for i in 1..names.len() {
+        if !is_before(&names[i - 1], &names[i]) {
+            return false;
+        }
+    }
+    true
+}
+
+fn is_before(a: &Text, b: &Text) -> bool
+    ensures { result ≡ is_lt (slice_cmp nat_cmp a.now b.now) }
+{
+    a.as_str() < b.as_str()
+}

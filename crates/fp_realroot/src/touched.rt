@@ -1,0 +1,240 @@
+// What was changed since the last sync.
+ghost use Rattle.std.specs.Prelude.{◌≡◌, Bool, true, OnOk};
+
+use crate::syncing::{Failure, Unsynced, is_denied, sync_by_threads, sync_own};
+use fp_system::{Call, Cause, folder_of, note};
+use std::alloc::{AllocError, Global};
+use std::collections::BTreeSet;
+use std::marker::Model;
+use std::rt::Files;
+use std::thread::Threads;
+
+// The files that were created or written and the folders whose names changed since the last sync, by their paths. A
+// file stands here under each of its names. Where there is no memory to note a change, no later sync succeeds. Contracts
+// see whether nothing waits for a sync.
+#[derive(Drop)]
+pub struct Touched {
+    alloc: Global,
+    // What an earlier run may have left.
+    left: BTreeSet<String>,
+    files: BTreeSet<String>,
+    folders: BTreeSet<String>,
+    is_settled: bool,
+    // A change could not be noted, or a sync of it failed, after which the system forgets it: no later sync succeeds.
+    is_lost: bool,
+}
+
+impl Model for Touched {
+    ghost use Rattle.std.specs.Prelude.{Bool};
+
+    ghost Value = { Bool };
+
+    ghost view = { λ t. t.is_settled };
+}
+
+impl Touched {
+    pub fn nothing(alloc: Global) -> Self {
+        Touched {
+            alloc,
+            left: BTreeSet::new(alloc),
+            files: BTreeSet::new(alloc),
+            folders: BTreeSet::new(alloc),
+            is_settled: true,
+            is_lost: false,
+        }
+    }
+
+    pub fn is_settled(&self) -> bool {
+        self.is_settled
+    }
+
+    pub fn has_file(&self, at: &str) -> bool {
+        self.files.contains(at)
+    }
+
+    pub fn add_left(&mut self, at: &str) {
+        let noted = note(self.alloc, &mut self.left, at);
+        self.keep(noted);
+    }
+
+    fn add_file(&mut self, at: &str) {
+        let noted = note(self.alloc, &mut self.files, at);
+        self.keep(noted);
+    }
+
+    fn add_folder(&mut self, at: &str) {
+        let noted = note(self.alloc, &mut self.folders, at);
+        self.keep(noted);
+    }
+
+    fn keep(&mut self, noted: Result<(), AllocError>) {
+        self.is_settled = false;
+        self.is_lost |= noted.is_err();
+    }
+
+    // A name came into the folder, or went.
+    pub fn add_name(&mut self, at: &str) {
+        self.add_folder(folder_of(at));
+    }
+
+    // A folder was made.
+    pub fn add_made(&mut self, at: &str) {
+        self.add_folder(at);
+        self.add_name(at);
+    }
+
+    // A file was created.
+    pub fn add_created(&mut self, at: &str) {
+        self.add_file(at);
+        self.add_name(at);
+    }
+
+    // The second path became another name of the first one's file.
+    pub fn add_linked(&mut self, from: &str, to: &str) {
+        if self.has_file(from) {
+            self.add_file(to);
+        }
+        self.add_name(to);
+    }
+
+    // The file or symlink went to the second path.
+    pub fn add_moved(&mut self, from: &str, to: &str) {
+        self.files.remove(to);
+        if self.files.remove(from) {
+            self.add_file(to);
+        }
+        self.add_name(from);
+        self.add_name(to);
+    }
+
+    // The file or symlink was taken away.
+    pub fn add_gone(&mut self, at: &str) {
+        self.files.remove(at);
+        self.add_name(at);
+    }
+
+    // The folder was taken away.
+    pub fn add_gone_folder(&mut self, at: &str) {
+        self.folders.remove(at);
+        self.add_name(at);
+    }
+
+    /// Makes all of it last, the files before the folders. On an error it stays as it was, and the path is in the buffer.
+    pub fn sync<R: Files + Threads + Sync>(
+        &mut self,
+        rt: &R,
+        at: &mut String,
+    ) -> Result<(), Unsynced>
+        ensures settled { OnOk result (self.new ≡ true) }
+    {
+        if self.is_settled {
+            return Ok(());
+        }
+        match self.sync_all(rt, at) {
+            Ok(()) => {
+                self.settle();
+                Ok(())
+            }
+            Err(e) => {
+                self.is_lost |= e.call == Call::Sync;
+                Err(e)
+            }
+        }
+    }
+
+    fn settle(&mut self)
+        ensures { self.new ≡ true }
+    {
+        self.left.clear();
+        self.files.clear();
+        self.folders.clear();
+        self.is_settled = true;
+    }
+
+    fn sync_all<R: Files + Threads + Sync>(&self, rt: &R, at: &mut String) -> Result<(), Unsynced> {
+        at.clear();
+        if self.is_lost {
+            return Err(Unsynced {
+                call: Call::Sync,
+                cause: Cause::MayBeLost,
+            });
+        }
+        sync_sets(rt, self.alloc, [&self.left, &self.files, &self.folders], at)
+    }
+}
+
+// Syncs each of the sets in turn. Of the first, which an earlier run left, what may not be opened is not ours.
+fn sync_sets<R: Files + Threads + Sync>(
+    rt: &R,
+    alloc: Global,
+    sets: [&BTreeSet<String>; 3],
+    refused: &mut String,
+) -> Result<(), Unsynced> {
+    let [left, files, folders] = sets;
+    sync_set(rt, alloc, left, true, refused)?;
+    sync_set(rt, alloc, files, false, refused)?;
+    sync_set(rt, alloc, folders, false, refused)
+}
+
+fn sync_set<R: Files + Threads + Sync>(
+    rt: &R,
+    alloc: Global,
+    set: &BTreeSet<String>,
+    spares: bool,
+    refused: &mut String,
+) -> Result<(), Unsynced> {
+    match list_of(alloc, set) {
+        Ok(paths) => answer_of(sync_list(rt, alloc, &paths, spares), &paths, refused),
+        Err(_) => Err(Unsynced {
+            call: Call::Open,
+            cause: Cause::NoMemory,
+        }),
+    }
+}
+
+fn list_of<'a>(alloc: Global, set: &'a BTreeSet<String>) -> Result<Vec<&'a str>, AllocError> {
+    let mut list = Vec::new(alloc);
+    for at in set {
+        list.push(at.as_str())?;
+    }
+    Ok(list)
+}
+
+// What may not be opened as it is, is opened one after another: its permission bits are widened meanwhile, and a file may
+// stand in the list under several names.
+fn sync_list<R: Files + Threads + Sync>(
+    rt: &R,
+    alloc: Global,
+    paths: &[&str],
+    spares: bool,
+) -> Option<Failure> {
+    match sync_by_threads(rt, alloc, paths) {
+        Some(met) if is_denied(&met) => sync_rest(rt, paths, met.place, spares),
+        met => met,
+    }
+}
+
+// The paths before this place are synced.
+fn sync_rest<R: Files + Threads + Sync>(
+    rt: &R,
+    paths: &[&str],
+    place: usize,
+    spares: bool,
+) -> Option<Failure> {
+    match paths.split_at_checked(place) {
+        Some((_, rest)) => sync_own(rt, place, rest, spares),
+        None => sync_own(rt, 0, paths, spares),
+    }
+}
+
+// Keeps the path of a failure where there is memory.
+fn answer_of(met: Option<Failure>, paths: &[&str], refused: &mut String) -> Result<(), Unsynced> {
+    match met {
+        Some(failure) => {
+            let at = paths.get(failure.place).copied().unwrap_or("");
+            let _kept = refused.push_str(at);
+            Err(failure.met)
+        }
+        None => Ok(()),
+    }
+}

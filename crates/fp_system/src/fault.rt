@@ -1,0 +1,169 @@
+// What the system refused, and how often.
+ghost use Rattle.std.specs.Prelude.{◌≡◌, ◌↔◌, ◌≤◌, None};
+ghost use Rattle.fp_system.specs.Counts.{one_more};
+
+use crate::cause::Cause;
+use fp_base::Text;
+use std::alloc::Global;
+use std::fmt;
+use std::marker::Model;
+
+/// What an adapter asked of the system.
+#[derive(Clone, Copy, PartialEq, Eq)]
+pub enum Call {
+    Stat,
+    List,
+    Read,
+    ReadLink,
+    MakeDir,
+    Create,
+    Append,
+    Link,
+    Symlink,
+    Rename,
+    Unlink,
+    RemoveDir,
+    /// Finding or making the root folder.
+    Enter,
+    /// Opening a file or folder that is to be synced.
+    Open,
+    Sync,
+    Say,
+    /// Finding the folder that the url of a remote names.
+    Locate,
+    /// Reading the standard input.
+    Take,
+}
+
+impl Call {
+    fn words(self) -> &'static str {
+        match self {
+            Call::Stat => "look at",
+            Call::List => "list",
+            Call::Read => "read",
+            Call::ReadLink => "read the link",
+            Call::MakeDir => "make the folder",
+            Call::Create => "create",
+            Call::Append => "write to",
+            Call::Link | Call::Symlink => "make the link",
+            Call::Rename => "rename to",
+            Call::Unlink => "remove",
+            Call::RemoveDir => "remove the folder",
+            Call::Enter => "use the folder",
+            Call::Open => "open",
+            Call::Sync => "sync",
+            Call::Say => "print",
+            Call::Locate => "find the remote",
+            Call::Take => "read the standard input",
+        }
+    }
+}
+
+impl fmt::Display for Call {
+    fn fmt<W: fmt::Write>(&self, f: &mut fmt::Formatter<W>) -> fmt::Result {
+        f.write_str(self.words())
+    }
+}
+
+/// What the system refused, as in `cannot sync installation/config: No space left on device (os error 28)`.
+#[derive(Drop)]
+pub struct SystemError {
+    pub call: Call,
+    /// The path, where the call has one and there was memory to keep it.
+    pub path: Option<Text>,
+    pub cause: Cause,
+}
+
+impl SystemError {
+    /// On a path, which is kept where there is memory.
+    pub fn on(alloc: Global, call: Call, at: &str, cause: Cause) -> Self {
+        SystemError {
+            call,
+            path: at.to_string(alloc).ok().map(Text::from_string),
+            cause,
+        }
+    }
+
+    /// On a path.
+    pub fn with_path(call: Call, at: String, cause: Cause) -> Self {
+        SystemError {
+            call,
+            path: Some(Text::from_string(at)),
+            cause,
+        }
+    }
+
+    /// Of a call that has no path.
+    pub fn without_path(call: Call, cause: Cause) -> Self {
+        SystemError {
+            call,
+            path: None,
+            cause,
+        }
+    }
+}
+
+impl fmt::Display for SystemError {
+    fn fmt<W: fmt::Write>(&self, f: &mut fmt::Formatter<W>) -> fmt::Result {
+        let call = self.call;
+        let cause = self.cause;
+        match &self.path {
+            Some(path) => {
+                let path = path.as_str().escape_debug();
+                write!(f, "cannot {call} {path}: {cause}")
+            }
+            None => write!(f, "cannot {call}: {cause}"),
+        }
+    }
+}
+
+/// How often the system refused, and the last refusal. Contracts see the number.
+#[derive(Drop)]
+pub struct Faults {
+    count: u64,
+    last: Option<SystemError>,
+    ghost kept: { (last ≡ None) ↔ (count ≡ 0) },
+}
+
+impl Model for Faults {
+    ghost use Rattle.std.specs.Prelude.{ℕ};
+
+    ghost Value = { ℕ };
+
+    ghost view = { λ f. f.count };
+}
+
+impl Faults {
+    /// None so far.
+    pub fn none() -> Self
+        ensures { result ≡ 0 }
+    {
+        Faults {
+            count: 0,
+            last: None,
+        }
+    }
+
+    /// How often it refused; the count stands still at 2^64 - 1.
+    pub fn count(&self) -> u64
+        ensures { result ≡ self.now }
+    {
+        self.count
+    }
+
+    /// The last refusal.
+    pub fn last(&self) -> Option<&SystemError>
+        ensures { (result ≡ None) ↔ (self.now ≡ 0) }
+    {
+        self.last.as_ref()
+    }
+
+    /// Counts a refusal and keeps it.
+    pub fn note(&mut self, error: SystemError)
+        ensures more { self.new ≡ one_more self.old }
+        ensures later { self.old ≤ self.new }
+    {
+        self.count = self.count.saturating_add(1);
+        self.last = Some(error);
+    }
+}

@@ -1,0 +1,137 @@
+// What stands at a path of the system.
+ghost use Rattle.std.specs.Prelude.{◌≤◌, IfOk};
+ghost use Rattle.fp_host.specs.Reads.{HasBits};
+
+use crate::cause::{Cause, known};
+use fp_host::Stat;
+use std::fs;
+use std::fs::Metadata;
+use std::io::ErrorKind;
+use std::os::unix::fs::MetadataExt;
+use std::rt::Files;
+
+const PERMISSION_BITS: u32 = 0o7777;
+
+/// What kind of thing stands at a path.
+#[derive(Clone, Copy, PartialEq, Eq)]
+pub enum Kind {
+    /// Nothing: the name is missing, or stands below a file.
+    Absent,
+    Dir,
+    File,
+    Link,
+    /// A socket, a pipe or a device.
+    Other,
+}
+
+/// What stands at a path. Where nothing does, all numbers are 0.
+#[derive(Clone, Copy)]
+pub struct Found {
+    pub kind: Kind,
+    mode: u32,
+    pub size: u64,
+    // The numbers of the inode and of its device.
+    id: u64,
+    device: u64,
+}
+
+impl Found {
+    fn of(found: &Metadata) -> Self {
+        Found {
+            kind: kind_of(found),
+            mode: found.mode(),
+            size: found.len(),
+            id: found.ino(),
+            device: found.dev(),
+        }
+    }
+
+    fn nothing() -> Self {
+        Found {
+            kind: Kind::Absent,
+            mode: 0,
+            size: 0,
+            id: 0,
+            device: 0,
+        }
+    }
+
+    /// Whether it is a file or symlink.
+    pub fn is_leaf(&self) -> bool {
+        matches!(self.kind, Kind::File | Kind::Link)
+    }
+
+    /// Whether both are one file.
+    pub fn is_one_with(&self, other: &Found) -> bool {
+        self.id == other.id && self.device == other.device
+    }
+
+    pub fn permission_bits(&self) -> u32
+        ensures { result ≤ 4095 }
+    {
+        self.mode & PERMISSION_BITS
+    }
+
+    /// The same as a host says it. Its id is the number of the inode.
+    pub fn stat(&self) -> Result<Stat, Cause>
+        ensures { IfOk result HasBits }
+    {
+        match self.kind {
+            Kind::Absent => Ok(Stat::Absent),
+            Kind::Dir => Ok(Stat::Dir),
+            Kind::Link => Ok(Stat::Link),
+            Kind::File => Ok(Stat::File {
+                id: self.id,
+                mode: self.permission_bits(),
+                size: self.size,
+            }),
+            Kind::Other => Err(Cause::IsOther),
+        }
+    }
+}
+
+fn kind_of(found: &Metadata) -> Kind {
+    if found.is_dir() {
+        Kind::Dir
+    } else if found.is_file() {
+        Kind::File
+    } else if found.is_symlink() {
+        Kind::Link
+    } else {
+        Kind::Other
+    }
+}
+
+/// What stands at the path. A symlink is not followed.
+pub fn look<R: Files>(rt: &R, at: &str) -> Result<Found, Cause> {
+    match known(fs::symlink_metadata(rt, at)) {
+        Ok(found) => Ok(Found::of(&found)),
+        Err(e) if e.is_absence() => Ok(Found::nothing()),
+        Err(e) => Err(e),
+    }
+}
+
+/// Of what kind it is.
+pub fn kind_at<R: Files>(rt: &R, at: &str) -> Result<Kind, Cause> {
+    match look(rt, at) {
+        Ok(found) => Ok(found.kind),
+        Err(e) => Err(e),
+    }
+}
+
+/// Whether a folder is there, or a symlink to one. What is no folder is an error.
+pub fn has_folder<R: Files>(rt: &R, at: &str) -> Result<bool, Cause> {
+    match known(fs::metadata(rt, at)) {
+        Ok(found) => must_be_dir(&found),
+        Err(e) if e.is(ErrorKind::NotFound) => Ok(false),
+        Err(e) => Err(e),
+    }
+}
+
+fn must_be_dir(found: &Metadata) -> Result<bool, Cause> {
+    if found.is_dir() {
+        Ok(true)
+    } else {
+        Err(Cause::Kind(ErrorKind::NotADirectory))
+    }
+}
