@@ -125,7 +125,7 @@ module _ (op : Op) (s : State) (u v : Outside) where
 
   pub works_applied : (t : State) → May s op → IsTold u.told → IsTold v.told → Clauses op s (Ok t) u v → Works (Just op) s (PerformsOver (Rests s) u.holdings (op_over op) s) (IsApplied t) (Ok t) u v
   works_applied t may told_u told_v clauses = record {
-    goes = goes_to (ends_tree told_v (goes_first (goes_known clauses.moments clauses.success)) (λ x y tree q. (q, tree))) (λ x y r. performs_at x y r.0)
+    goes = goes_to in_trees (λ x y r. performs_at x y r.0)
         (λ x y q held told rests. applied u.holdings held told op s t may (tree_at told_u x q.0.1) q.1 rests q.0.0.0 q.0.0.1 (answers_at clauses held told x q.0.1));
     opens = λ known. record { goes = goes_to (goes_first (goes_known clauses.moments clauses.success)) (λ x y r. tt) (λ x y q. opens_of t clauses known x y q.1 q.0.1) };
     changes = λ known. goes_to clauses.moments changes_at changes_at;
@@ -134,6 +134,10 @@ module _ (op : Op) (s : State) (u v : Outside) where
     remote = record { later = clauses.remote.later; rose = λ is. absurd (cc is) };
     unasked = λ none. (clauses.unasked (λ b. none (op, refl, b)), λ is. cc is);
   }
+    where
+      in_trees : Goes u.told v.told (λ x y. Applies s op u.holdings x y × IsFirst u.told x)
+          (λ x y. ((Applies s op u.holdings x y × WasApplied s op u.holdings x y) × IsFirst u.told x) × IsTree y)
+      in_trees = ends_tree told_v (goes_first (goes_known clauses.moments clauses.success)) (λ x y tree q. (q, tree))
 
   -- ---- it isn't
 

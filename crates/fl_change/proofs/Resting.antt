@@ -1,7 +1,10 @@
 -- What an operation that changes no commit leaves: all is settled but for work.
-use Rattle.std.proofs.Common.{◌≡◌, ◌≢◌, ◌⊎◌, inl, inr, ℕ, List, [], ◌∷◌, ◌++◌, Bool, true, false, Option, Some, None, Contains, if◌then◌else◌, refl, sym, ◌∙◌, ap, subst, codes}
+use Rattle.std.proofs.Common.{◌≡◌, ◌≢◌, ◌⊎◌, inl, inr, ℕ, List, [], ◌∷◌, ◌++◌, Bool, true, false, Option, Some, None, Result, Ok, Err, OnOk, Contains, if◌then◌else◌, refl, sym, ◌∙◌, ap, subst, codes}
 use Rattle.fp_host.specs.Paths.{Elements, Slot}
 use Rattle.fp_host.specs.View.{View, IsTree}
+use Rattle.fp_host.specs.Frame.{AtEnd}
+use Rattle.fp_host.specs.Moments.{Moments}
+use Rattle.fp_host.proofs.Ending.{ends_to}
 use Rattle.fp_host.specs.Outcome.{Disk, Spot, gone, folder, holds, points, shows}
 use Rattle.fp_small.specs.Clear.{IsWithin}
 use Rattle.fp_small.specs.Places.{repo, tmp}
@@ -17,12 +20,13 @@ use Rattle.dep_states.specs.Names.{config, remotes_conf, pins_file, overrides_fo
 use Rattle.dep_states.specs.After.{May}
 use Rattle.dep_states.specs.declared.setup.Setup.{Setup}
 use Rattle.dep_states.specs.Shown.{Seen, away, bad, there, read_of, read_file, small_most, Shows, settings_at, remotes_at, pins_at, layout_one, setup_of}
+use Rattle.dep_states.specs.Settled.{Settled}
 use Rattle.dep_tidy.specs.Tidy.{SettledButWork, IsSmallPlace, is_config, is_layer, is_repo, is_work}
 use Rattle.dep_tidy.proofs.Small.{small_changes, work_apart}
 use Rattle.dep_tidy.proofs.Views.{same_shows}
 use Rattle.op_change.specs.Applied.{MayChange, ChangesBy}
 use Rattle.fl_change.specs.Answer.{keeps_commits}
-use Rattle.fl_change.specs.Performs.{Rests}
+use Rattle.fl_change.specs.Performs.{Rests, WasTidiedAfter}
 use Rattle.fl_change.proofs.Same.{now_left}
 
 -- ---- in layout 2 without `config` there are no files of layout 1
@@ -90,19 +94,19 @@ on_config put = replaces_small config (is_config refl) config_folders put
 a_layer : (name : List ℕ) → IsSmallPlace (override_path name)
 a_layer name = is_layer (inr (inl refl))
 
-small_by : (s : State) (op : Op) {u : View} {q : Elements} {e : Slot} → keeps_commits op ≡ true → MayChange s op u q e → IsSmallPlace q
-small_by s (AddPin pin) keeps put = on_config put
-small_by s (DropPin pin) keeps put = on_config put
-small_by s (AddRemote row) keeps put = on_config put
-small_by s (ModifyRemote row) keeps put = on_config put
-small_by s (DropRemote name) keeps put = on_config put
-small_by s (SetOverride row) keeps put = replaces_small (override_path row.name) (a_layer row.name) (layer_folders row.name) put
-small_by s (DropOverride name) keeps put = subst IsSmallPlace (sym put.0) (a_layer name)
-small_by s Migrate keeps put = absurd (cc keeps)
-small_by s (Install name origin commit) keeps put = absurd (cc keeps)
-small_by s (Update name origin commit) keeps put = absurd (cc keeps)
-small_by s (Uninstall name) keeps put = absurd (cc keeps)
-small_by s (Rollback name commit) keeps put = absurd (cc keeps)
+small_by : (s : State) (op : Op) (u : View) (q : Elements) (e : Slot) → keeps_commits op ≡ true → MayChange s op u q e → IsSmallPlace q
+small_by s (AddPin pin) u q e keeps put = on_config put
+small_by s (DropPin pin) u q e keeps put = on_config put
+small_by s (AddRemote row) u q e keeps put = on_config put
+small_by s (ModifyRemote row) u q e keeps put = on_config put
+small_by s (DropRemote name) u q e keeps put = on_config put
+small_by s (SetOverride row) u q e keeps put = replaces_small (override_path row.name) (a_layer row.name) (layer_folders row.name) put
+small_by s (DropOverride name) u q e keeps put = subst IsSmallPlace (sym put.0) (a_layer name)
+small_by s Migrate u q e keeps put = absurd (cc keeps)
+small_by s (Install name origin commit) u q e keeps put = absurd (cc keeps)
+small_by s (Update name origin commit) u q e keeps put = absurd (cc keeps)
+small_by s (Uninstall name) u q e keeps put = absurd (cc keeps)
+small_by s (Rollback name commit) u q e keeps put = absurd (cc keeps)
 
 layout_two : (s : State) (op : Op) → keeps_commits op ≡ true → May s op → s.layout ≡ Two
 layout_two s (AddPin pin) keeps may = may.layout
@@ -128,4 +132,11 @@ small_rest s op {v = v} {w = w} may tree next rests changes keeps =
     shown = rests.opens.shown (shows v) (now_left v)
 
     same : (p : Elements) → (IsSmallPlace p → ⊥) → shows w p ≡ shows v p
-    same p off = same_shows tree next changes.files p (elim (changes.names p) [ inl is ↦ is | inr put ↦ absurd (off (small_by s op keeps put)) ])
+    same p off = same_shows tree next changes.files p (elim (changes.names p) [ inl is ↦ is | inr put ↦ absurd (off (small_by s op v p (w.names p) keeps put)) ])
+
+-- ---- tidying after it
+
+pub work_is_enough : {E : Type 0} (op : Op) (s : State) (r : Result State E) (a b : Option Moments) → keeps_commits op ≡ true
+    → OnOk r (AtEnd (λ u w. SettledButWork (shows u) → Settled (shows w)) a b) → OnOk r (AtEnd (WasTidiedAfter op s) a b)
+work_is_enough op s (Ok t) a b keeps end = ends_to end (λ u w settle. record { settled = λ opens rest. settle (rest keeps) })
+work_is_enough op s (Err e) a b keeps end = end
