@@ -6,7 +6,8 @@ usage: real_permissions.py FPK
 A runtime and an application are built with the real flatpak into a repository of mode `bare-user-only`, and installed from it with
 flatpak, in a user folder of its own, and with fpk. Then the same overrides are set in both, one after another. Each time
 `flatpak info --show-permissions` is compared with what `fpk launch` grants, and `flatpak override --show` with
-`fpk override --show`, permission by permission. At the end come options that one of the two refuses.
+`fpk override --show`, permission by permission. Then come options that one of the two refuses, and updates to
+metadata with lists as long as can be.
 
 FPK is the program that was built. Debian's packages ostree and flatpak are needed. Each difference is printed with its kind, which
 docs/GUIDE.md tells in a user's words. It ends with status 0 where every difference is of a known kind.
@@ -75,6 +76,9 @@ REFUSALS = [
     (["--unset-env=A"], True, False, "option"),
     (["--add-policy=group.key=value"], True, False, "option"),
 ]
+
+# How many bytes a list of places has that is as long as the metadata may be.
+LONG = 1_000_000
 
 KINDS = {
     "runtime": "the runtime's metadata grants it; flatpak takes the environment of a runtime alone, and shows none of it",
@@ -200,6 +204,24 @@ class Comparison(Bench):
             self.count(kind if found == (theirs, ours) and theirs != ours else None, f"override {' '.join(options)}: fpk {'sets' if found[1] else 'refuses'} it, "
                        f"flatpak {'sets' if found[0] else 'refuses'} it", found[0] != found[1] or found != (theirs, ours))
 
+    def reset(self):
+        """Takes the overrides away in both."""
+        for name in ([ID], []):
+            self.flatpak("override", "--reset", *name)
+            self.fpk_tool("override", "--reset", *name)
+        self.set = {None: [], ID: []}
+
+    def update_with(self, places):
+        """A new commit of the application, whose metadata grants these places, in both."""
+        metadata = os.path.join(self.folder, "hello/metadata")
+        with open(metadata) as text:
+            lines = text.read().splitlines()
+        with open(metadata, "w") as out:
+            out.writelines(("filesystems=" + places if line.startswith("filesystems=") else line) + "\n" for line in lines)
+        self.export("hello")
+        self.flatpak("update", "-y", "--noninteractive", APP)
+        self.fpk_tool("update", APP)
+
     def compare(self):
         shown = lambda *name: (permissions(self.fpk_tool("override", "--show", *name)), permissions(self.flatpak("override", "--show", *name)))
         self.differ("granted", grants(self.fpk_tool("launch", APP)), permissions(self.flatpak("info", "--show-permissions", ID)),
@@ -251,6 +273,13 @@ def main():
             bench.override(whose, options)
             bench.compare()
         bench.refuse()
+        bench.reset()
+        print("- without overrides, as installed")
+        bench.compare()
+        for places in ("".join(f"/p/{number:06};" for number in reversed(range(LONG // 10))), "/" + "x" * LONG + ";"):
+            print(f"- an update to metadata with {len(places)} bytes of places:", places[:20], "..")
+            bench.update_with(places)
+            bench.compare()
         for kind, meaning in KINDS.items():
             print(f"{bench.kinds.get(kind, 0)} of the kind `{kind}`: {meaning}")
         unknown = bench.kinds.get(None, 0)
