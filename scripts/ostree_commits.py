@@ -1,10 +1,9 @@
 #!/usr/bin/env python3
-"""Compares a commit that ost_commit builds, and a store of its objects, with those of the real `ostree` command.
+"""Compares a commit that ost_commit builds, and the store that ost_export writes, with those of the real `ostree` command.
 
     scripts/ostree_commits.py
 
-A program that stands below writes a commit of 2,000 files and links into a store on a real folder, with ost_store and ost_refs, over
-a copy of the repository.
+A program that stands below exports a commit of 2,000 files and links into a store on a real folder, over a copy of the repository.
 Then `ostree` has to find no fault in the store, to list and to check out what the rows say, to bring the commit into another
 repository, and to give the same digest to a commit of the same tree, subject and time. It needs Debian's package ostree, and
 takes some minutes. Modes are within 0755 here: `ostree commit` into a repository of the mode bare-user-only takes the group's
@@ -27,13 +26,11 @@ MODES = (0o644, 0o755, 0o400, 0o744)
 PROGRAM = r"""
 #![tactic(auto)]
 use fp_base::{Blob, Text};
-use fp_host::{Host, HostEnd, Path};
+use fp_host::Path;
 use fp_name::RefName;
-use fp_realhost::HostDir;
-use fp_small::{make_above, replace};
-use ost_commit::{BuildError, Built, TreeRow, commit_tree};
-use ost_refs::{RefPlace, write_ref};
-use ost_store::{place, stage};
+use fp_realhost::{Access, HostDir};
+use ost_commit::{BuildError, TreeRow, commit_tree};
+use ost_export::export;
 use std::alloc::Global;
 use std::process::ExitCode;
 
@@ -42,23 +39,9 @@ fn main(rt: HostRuntime) -> ExitCode {
     let Ok(rows) = rows(alloc) else { return ExitCode::from(1); };
     let Ok(name) = RefName::parse(alloc, b"@REF@") else { return ExitCode::from(2); };
     let Ok(built) = commit_tree(&rt, alloc, &rows, &name, "@SUBJECT@", @TIME@) else { return ExitCode::from(3); };
-    let Ok(mut host) = HostDir::new(&rt, alloc, "@FOLDER@") else { return ExitCode::from(4); };
+    let Ok(mut host) = HostDir::new(&rt, &rt, alloc, "@FOLDER@", Access::Change) else { return ExitCode::from(4); };
     let Ok(root) = Path::root(alloc).child("remote") else { return ExitCode::from(5); };
-    match write_store(alloc, &mut host, &root, &built, &name) { Ok(()) => ExitCode::from(0), Err(_) => ExitCode::from(6) }
-}
-
-fn write_store<H: Host>(alloc: Global, host: &mut H, root: &Path, built: &Built, name: &RefName) -> Result<(), HostEnd> {
-    let tmp = Path::root(alloc).child("repo")?.child("tmp")?.child("object")?;
-    for object in built.objects.as_slice() {
-        stage(alloc, host, &tmp, &object.object)?;
-        host.sync()?;
-        place(alloc, host, root, &tmp, &object.digest, object.kind)?;
-    }
-    replace(alloc, host, &root.child("config")?, b"[core]\nrepo_version=1\nmode=bare-user-only\n")?;
-    let remotes = root.child("refs")?.child("remotes")?;
-    make_above(alloc, host, &remotes)?;
-    host.make_dir(&remotes)?;
-    write_ref(alloc, host, root, &RefPlace::Head(name.copy()?), &built.commit)
+    match export(alloc, &mut host, &root, &built, &name) { Ok(()) => ExitCode::from(0), Err(_) => ExitCode::from(6) }
 }
 
 fn rows(alloc: Global) -> Result<Vec<TreeRow>, BuildError> {
@@ -89,11 +72,11 @@ fn path(alloc: Global, text: &str) -> Result<Path, BuildError> {
 
 
 def write_store(work):
-    """The store that ost_commit makes."""
+    """The store that ost_export writes."""
     copy = work / "copy"
     shutil.copytree(TOP / "crates", copy / "crates", ignore=shutil.ignore_patterns("out"))
     crates = (TOP / "crates.txt").read_text()
-    (copy / "crates.txt").write_text(crates + "made_store: fp_base fp_host fp_name fp_small fp_realhost ost_store ost_refs ost_commit\n")
+    (copy / "crates.txt").write_text(crates + "made_store: fp_base fp_host fp_name fp_realhost ost_commit ost_export\n")
     shutil.copy(TOP / "HANDLES", copy / "HANDLES")
     subprocess.run(["git", "init", "-q"], cwd=copy, check=True)
     program = copy / "crates" / "made_store"

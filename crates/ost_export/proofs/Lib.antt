@@ -1,0 +1,13 @@
+mod Exported
+mod Filling
+mod Furnished
+mod Given
+mod Listed
+mod Objects
+mod Paths
+mod Placed
+mod Ready
+mod Spared
+mod Staged
+mod Stored
+mod Works

@@ -1,0 +1,135 @@
+-- Objects that are staged in the work folder, one by one.
+use Rattle.std.proofs.Common.{◌≡◌, ◌⊎◌, inl, inr, ℕ, List, [], ◌∷◌, ◌++◌, Bool, true, false, Option, Some, None, Result, Ok, refl, sym, ◌∙◌, ap, subst, arith}
+use Rattle.fp_host.specs.Paths.{Elements, absent}
+use Rattle.fp_host.specs.View.{View, IsTree}
+use Rattle.fp_host.specs.Moments.{Moments, Always}
+use Rattle.fp_host.specs.Frame.{AtEnd, Observes}
+use Rattle.fp_host.proofs.Framed.{IsTold}
+use Rattle.fp_host.proofs.Ending.{ends_goes, ends_to, ends_on, ends_both, ends_looks}
+use Rattle.fp_small.specs.Clear.{IsWithin}
+use Rattle.fp_small.specs.Folders.{ancestors, AreFree}
+use Rattle.fp_small.proofs.Emptying.{above_longer}
+use Rattle.fp_small.proofs.Replacement.{ancestors_above}
+use Rattle.fp_name.specs.Hex.{is_digest}
+use Rattle.fp_base.specs.declared.object.ObjKind.{ObjKind}
+use Rattle.ost_model.specs.declared.object.Object.{Object}
+use Rattle.ost_model.specs.declared.object.Object.TheVariants as objects
+use Rattle.ost_model.specs.Objects.{Have, object_path, name_fault}
+use Rattle.ost_model.specs.Order.{In}
+use Rattle.ost_model.proofs.Stores.{one_name}
+use Rattle.ost_store.specs.Stage.{Stages, WasStaged, IsHeld, CanStage}
+use Rattle.ost_store.proofs.Staying.{staged_stays, held_stays, staged_held}
+use Rattle.ost_commit.specs.declared.built.BuiltObject.{BuiltObject}
+use Rattle.ost_export.specs.Staging.{Named, name_of, IsOnce, IsStagedObject, AreStaged, IsAbsentSaid, IsLacking, StagesOne, IsIn, CanStageOne, AreOpen}
+use Rattle.ost_export.proofs.Works.{above_object}
+
+-- ---- lists of objects
+
+pub in_push : {A : Type 0} (os : List A) (o p : A) → In os p → In (os ++ o ∷ []) p
+in_push [] o p has = absurd has
+in_push (x ∷ os) o p (inl is) = inl is
+in_push (x ∷ os) o p (inr has) = inr (in_push os o p has)
+
+pub in_last : {A : Type 0} (os : List A) (o : A) → In (os ++ o ∷ []) o
+in_last [] o = inl refl
+in_last (x ∷ os) o = inr (in_last os o)
+
+pub in_cases : {A : Type 0} (os : List A) (o p : A) → In (os ++ o ∷ []) p → In os p ⊎ (o ≡ p)
+in_cases [] o p (inl is) = inr is
+in_cases [] o p (inr none) = absurd none
+in_cases (x ∷ os) o p (inl is) = inl (inl is)
+in_cases (x ∷ os) o p (inr has) = elim (in_cases os o p has) [ inl h ↦ inl (inr h) | inr is ↦ inr is ]
+
+once_push : (os : List Named) (o : Named) → IsOnce os → (In os o → ⊥) → IsOnce (os ++ o ∷ [])
+once_push [] o once new = (λ none. none, tt)
+once_push (x ∷ os) o once new = (
+  λ has. elim (in_cases os o x has) [ inl h ↦ once.0 h | inr is ↦ new (inl (sym is)) ],
+  once_push os o once.1 (λ h. new (inr h)),
+)
+
+-- ---- one object more
+
+leaf_there : (q : Elements) (object : Object) (v : View) → IsHeld q object v → v.names q ≡ absent → ⊥
+leaf_there q (objects.Meta bytes) v h none = absurd (cc (sym h.name ∙ none))
+leaf_there q (objects.File mode bytes) v h none = absurd (cc (sym h.name ∙ none))
+leaf_there q (objects.Link text) v h none = absurd (cc (sym h ∙ none))
+
+off_own : (t : Elements) (o p : Named) → (object_path t p.0 p.1 ≡ object_path t o.0 o.1 → ⊥) → IsWithin (object_path t p.0 p.1) (object_path t o.0 o.1) → ⊥
+off_own t o p off (inl same) = off (sym same)
+off_own t o p off (inr above) = absurd (omega (arith, above_longer (object_path t p.0 p.1) (object_path t o.0 o.1) above))
+
+module _ {have : Have} {t : Elements} (o : Named) (object : Object) (staged : List Named) {u w : View} (good : is_digest o.0 ≡ true) (is : have o.0 o.1 ≡ Some object) (named : name_fault o.0 o.1 (Some object) ≡ None)
+    (stages : Stages (object_path t o.0 o.1) object u w) (was : WasStaged (object_path t o.0 o.1) object u w) where
+  new : (are : AreStaged have t staged u) → In staged o → ⊥
+  new are has = let k = are.each o has in leaf_there (object_path t o.0 o.1) k.object u k.held was.free
+
+  other : (are : AreStaged have t staged u) (p : Named) → In staged p → IsStagedObject have t p w
+  other are p has =
+      let k = are.each p has in
+      record {
+        object = k.object;
+        digits = k.digits;
+        is = k.is;
+        named = k.named;
+        held = held_stays (object_path t p.0 p.1) u w (staged_stays (object_path t p.0 p.1) (object_path t o.0 o.1) object u w stages
+            (off_own t o p (λ same. leaf_there (object_path t p.0 p.1) k.object u k.held (ap u.names same ∙ was.free)))) k.object k.held;
+      }
+
+  pub staged_more : AreStaged have t staged u → AreStaged have t (staged ++ o ∷ []) w
+  staged_more are = record {
+    each = λ p has. elim (in_cases staged o p has) [
+      | inl had ↦ other are p had
+      | inr same ↦ subst (λ (x : Named). IsStagedObject have t x w) same (record { object = object; digits = good; is = is; named = named; held = staged_held (object_path t o.0 o.1) object w was.there })
+    ];
+    once = once_push staged o are.once (new are);
+    only = λ d kind digits. elim (stages.keeps.names (object_path t d kind)) [
+      | inl same ↦ elim (are.only d kind digits) [ inl none ↦ inl (same ∙ none) | inr had ↦ inr (in_push staged o (d, kind) had) ]
+      | inr put ↦ elim put [
+        | inl here ↦ let one = one_name t d o.0 kind o.1 digits good here.0 in inr (subst (In (staged ++ o ∷ [])) (λ i. (sym one.0 i, sym one.1 i)) (in_last staged o))
+        | inr made ↦ absurd (omega (arith, above_longer (object_path t d kind) (object_path t o.0 o.1) (ancestors_above (object_path t o.0 o.1) (object_path t d kind) made.0)))
+      ]
+    ];
+  }
+
+-- ---- at the end
+
+-- it is there already
+pub stages_none : {have : Have} {root t : Elements} (o : Named) (staged : List Named) {u w : View} → is_digest o.0 ≡ true → w ≡ u → IsLacking root t o u false → StagesOne have root t o staged staged u w
+stages_none {have = have} {root = root} {t = t} o staged {u = u} good same there = record {
+  on = λ are. subst (AreStaged have t staged) (sym same) are;
+  more = λ p has. has;
+  new = λ p has. inl has;
+  waits = λ are none. elim (are.only o.0 o.1 good) [ inl gone ↦ absurd (there none gone) | inr has ↦ has ];
+}
+
+pub stages_new : {have : Have} {root t : Elements} (o : BuiltObject) (staged after : List Named) {u v w : View} → is_digest o.digest ≡ true → IsIn have o → v ≡ u → IsLacking root t (name_of o) u true
+    → Stages (object_path t o.digest o.kind) o.object v w → WasStaged (object_path t o.digest o.kind) o.object v w → after ≡ staged ++ name_of o ∷ [] → StagesOne have root t (name_of o) staged after u w
+stages_new {have = have} {root = root} {t = t} o staged after {u = u} {v = v} {w = w} good in_it same lacks stages was is =
+    subst (λ (l : List Named). StagesOne have root t (name_of o) staged l u w) (sym is) (record {
+      on = λ are. staged_more (name_of o) o.object staged good in_it.is in_it.named stages was (subst (AreStaged have t staged) (sym same) are);
+      more = λ p has. in_push staged (name_of o) p has;
+      new = λ p has. elim (in_cases staged (name_of o) p has) [ inl had ↦ inl had | inr here ↦ inr (sym here, lacks.0) ];
+      waits = λ are none. in_last staged (name_of o);
+    })
+
+pub can_stage : {t : Elements} (o : BuiltObject) {u v : View} → is_digest o.digest ≡ true → v ≡ u → v.names (object_path t o.digest o.kind) ≡ absent → CanStageOne t o.object u → CanStage (object_path t o.digest o.kind) o.object v
+can_stage {t = t} o {u = u} {v = v} good same none can = record {
+  keepable = can.keepable;
+  free = none;
+  folders = record { free = λ q has. let still : AreOpen t v = subst (AreOpen t) (sym same) can.open_above in still.free q (above_object t o.digest o.kind q good has) };
+}
+
+-- ---- what is said of both names
+
+pub both_said : (root t : Elements) (o : Named) {p q : Elements} {none : Bool} {u v : View} (b : Bool) → p ≡ object_path root o.0 o.1 → q ≡ object_path t o.0 o.1 → none ≡ true → v ≡ u → IsAbsentSaid p u none → IsAbsentSaid q v b → IsLacking root t o u b
+both_said root t o {p = p} {q = q} {u = u} {v = v} b at_p at_q is same first second = by_case b at_q (subst (λ (x : View). IsAbsentSaid q x b) same second)
+  where
+    here : u.names (object_path root o.0 o.1) ≡ absent
+    here = ap u.names (sym at_p) ∙ subst (IsAbsentSaid p u) is first
+
+    by_case : (b : Bool) → q ≡ object_path t o.0 o.1 → IsAbsentSaid q u b → IsLacking root t o u b
+    by_case true at said = (here, ap u.names (sym at) ∙ said)
+    by_case false at said = λ none gone. said (ap u.names at ∙ gone)
+
+pub none_said : (root t : Elements) (o : Named) {p : Elements} {none : Bool} (u : View) → p ≡ object_path root o.0 o.1 → none ≡ false → IsAbsentSaid p u none → IsLacking root t o u false
+none_said root t o {p = p} u at is said = λ none gone. subst (IsAbsentSaid p u) is said (ap u.names at ∙ none)

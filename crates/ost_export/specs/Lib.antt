@@ -1,0 +1,4 @@
+pub mod Staging
+pub mod Placing
+pub mod Storing
+pub mod Exports

@@ -1,0 +1,72 @@
+//! What a store has beside its objects and refs: `config`, and the folder of its remotes' refs.
+ghost use Rattle.std.specs.Prelude.{◌≡◌, IfOk, OnOk, IsErrOf};
+ghost use Rattle.fp_host.specs.Paths.{absent, dir};
+ghost use Rattle.fp_host.specs.Causes.{IsCaused};
+ghost use Rattle.fp_host.specs.Frame.{AtEnd, Frame, NoPath};
+ghost use Rattle.fp_host.specs.Moments.{Always};
+ghost use Rattle.fp_small.specs.Folders.{ancestors, AreFree, DirsAt, FoldersAt};
+ghost use Rattle.fp_small.specs.Replace.{CanReplace, Replaces, WasReplaced};
+ghost use Rattle.ost_refs.specs.Places.{remotes};
+ghost use Rattle.ost_export.specs.Exports.{a_remote, config_path, config_text};
+
+use fp_host::{Host, HostEnd, Path, Stat};
+use fp_small::{make_above, replace};
+use std::alloc::{AllocError, Global};
+
+/// What `config` of a store says.
+const CONFIG: &[u8] = b"[core]\nrepo_version=1\nmode=bare-user-only\n";
+
+/// The path of `config`.
+fn config_path(root: &Path) -> Result<Path, AllocError>
+    ensures { IfOk result (λ path. path ≡ config_path root.now) }
+{
+    root.child("config")
+}
+
+/// What `config` says, as a file.
+fn config_bytes(alloc: Global) -> Result<Vec<u8>, AllocError>
+    ensures { IfOk result (λ bytes. bytes.items ≡ config_text) }
+{
+    Vec::from_slice(alloc, CONFIG)
+}
+
+/// The folder of the remotes' refs, and a name in it.
+fn remotes_paths(root: &Path) -> Result<(Path, Path), AllocError>
+    ensures { IfOk result (λ paths. (paths.0 ≡ remotes root.now) × (paths.1 ≡ a_remote root.now)) }
+{
+    let folder = root.child("refs")?.child("remotes")?;
+    let below = folder.child("x")?;
+    Ok((folder, below))
+}
+
+/// Writes `config` anew, and syncs.
+pub(crate) fn write_config<H: Host>(alloc: Global, host: &mut H, root: &Path) -> Result<(), HostEnd>
+    ensures any_moment { Always (Replaces (config_path root.now) config_text)
+        (H.moments host.old) (H.moments host.new) }
+    ensures on_success { OnOk result (AtEnd (WasReplaced (config_path root.now) config_text)
+        (H.moments host.old) (H.moments host.new)) }
+    ensures fault_has_cause { IsCaused (IsErrOf result HostEnd.Fault) (H.moments host.old)
+        (CanReplace (config_path root.now)) (H.faults host.old) (H.faults host.new) }
+{
+    let path = config_path(root)?;
+    let bytes = config_bytes(alloc)?;
+    replace(alloc, host, &path, &bytes)
+}
+
+/// Makes the folder `refs/remotes` and those above it where nothing stands there. OSTree's own tools need it.
+pub(crate) fn make_remotes<H: Host>(alloc: Global, host: &mut H, root: &Path) -> Result<(), HostEnd>
+    ensures frame { Frame (FoldersAt (ancestors (a_remote root.now))) (DirsAt (ancestors (a_remote root.now))) NoPath
+        (H.moments host.old) (H.moments host.new) }
+    ensures on_success { OnOk result (AtEnd (λ u w. AreFree (ancestors (a_remote root.now)) u
+        → u.names (remotes root.now) ≡ absent → w.names (remotes root.now) ≡ dir)
+        (H.moments host.old) (H.moments host.new)) }
+    ensures fault_has_cause { IsCaused (IsErrOf result HostEnd.Fault) (H.moments host.old)
+        (λ v. v.names (remotes root.now) ≡ absent → AreFree (ancestors (a_remote root.now)) v)
+        (H.faults host.old) (H.faults host.new) }
+{
+    let (folder, below) = remotes_paths(root)?;
+    match host.stat(&folder)? {
+        Stat::Absent => make_above(alloc, host, &below),
+        _ => Ok(()),
+    }
+}

@@ -1,0 +1,49 @@
+//! Laws of the words that the contracts use, for crates that build on them. Each is the contract of a function that
+//! does nothing.
+ghost use Rattle.std.specs.Prelude.{◌≡◌, ◌≢◌, ℕ, List, None};
+ghost use Rattle.fp_host.specs.Paths.{Elements, absent, IsAbove};
+ghost use Rattle.fp_host.specs.View.{View, IsTree};
+ghost use Rattle.fp_name.specs.Refs.{Ref};
+ghost use Rattle.fp_base.specs.declared.object.ObjKind.{ObjKind};
+ghost use Rattle.fp_small.specs.Clear.{IsWithin};
+ghost use Rattle.fp_small.specs.Places.{IsBare, repo, tmp};
+ghost use Rattle.ost_model.specs.Objects.{Have, object_path};
+ghost use Rattle.ost_model.specs.Order.{first_fault};
+ghost use Rattle.ost_refs.specs.Places.{place_path};
+ghost use Rattle.ost_refs.specs.declared.place.RefPlace.{RefPlace};
+ghost use Rattle.ost_commit.specs.declared.row.TreeRow.{TreeRow};
+ghost use Rattle.ost_commit.specs.declared.built.Built.{Built};
+ghost use Rattle.ost_commit.specs.Objects.{have_of};
+ghost use Rattle.ost_commit.specs.Built.{BuiltCommit};
+ghost use Rattle.ost_export.specs.Staging.{AreWhole};
+ghost use Rattle.ost_export.specs.Storing.{IsNoWork};
+ghost use Rattle.ost_export.specs.Exports.{AreFit, CanExport, Exports, IsSpared, ref_path};
+
+/// At every moment of an export, another ref of the store is as it was, each object that was there, and what is neither in the
+/// store nor above it nor in `repo/tmp`.
+pub fn exports_spare_the_rest()
+    ensures refs { (have : Have) (root : Elements) (r : Ref) (commit : List ℕ) (place : RefPlace)
+        (u w : View) → IsNoWork root → place_path root place ≢ ref_path root r
+        → Exports have root r commit u w → IsSpared (place_path root place) u w }
+    ensures objects { (have : Have) (root : Elements) (r : Ref) (commit d : List ℕ)
+        (kind : ObjKind) (u w : View) → IsNoWork root
+        → u.names (object_path root d kind) ≢ absent
+        → Exports have root r commit u w → IsSpared (object_path root d kind) u w }
+    ensures elsewhere { (have : Have) (root q : Elements) (r : Ref) (commit : List ℕ)
+        (u w : View) → (IsWithin root q → ⊥) → (IsAbove q root → ⊥) → (IsWithin tmp q → ⊥)
+        → q ≢ repo → Exports have root r commit u w → IsSpared q u w }
+{}
+
+/// What is asked of a built commit holds of each that is built from rows.
+pub fn built_commits_are_whole()
+    ensures { (rows : List TreeRow) (r : Ref) (subject : List ℕ) (timestamp : ℕ) (built : Built)
+        → BuiltCommit rows r subject timestamp built → AreWhole built.objects
+        × (first_fault (have_of built.objects) built.commit ≡ None) }
+{}
+
+/// What is asked of a host can be met: where nothing stands but the root, and where nothing stands at the store's folder.
+pub fn exports_can_be_done()
+    ensures bare { (root : Elements) (r : Ref) (v : View) → IsBare v → CanExport root r v }
+    ensures fit { (have : Have) (root : Elements) (v : View) → IsTree v → v.names root ≡ absent
+        → AreFit have root v }
+{}

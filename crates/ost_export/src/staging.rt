@@ -1,0 +1,136 @@
+//! Objects that a store lacks, staged in the work folder.
+ghost use Rattle.std.specs.Prelude.{◌≡◌, ◌∷◌, ◌++◌, [], true, false, Bool, Some, None, IfOk, OnOk, IsErrOf};
+ghost use Rattle.std.specs.List.{AllByRecursion};
+ghost use Rattle.fp_host.specs.Causes.{IsCaused, IsCounted};
+ghost use Rattle.fp_host.specs.Frame.{AtEnd, Unchanged};
+ghost use Rattle.fp_host.specs.Moments.{Always};
+ghost use Rattle.fp_name.specs.Hex.{is_digest};
+ghost use Rattle.ost_model.specs.Objects.{Have, object_path, name_fault};
+ghost use Rattle.ost_store.specs.Stage.{CanStage, Stages, WasStaged};
+ghost use Rattle.ost_commit.specs.Objects.{have_of};
+ghost use Rattle.ost_export.specs.Staging.{AreOpen, AreWhole, CanStageAll, CanStageOne, IsAbsentSaid, IsApart, IsIn, IsLacking, StagesOne, StagesSome, Works, name_of};
+
+use fp_base::ObjKind;
+use fp_host::{Host, HostEnd, Path, Stat};
+use fp_name::Digest;
+use ost_commit::BuiltObject;
+use ost_store::{path_of, stage};
+use std::alloc::Global;
+
+/// Whether nothing stands at the path.
+fn is_absent<H: Host>(host: &mut H, path: &Path) -> Result<bool, HostEnd>
+    ensures unchanged { Unchanged (H.moments host.old) (H.moments host.new) }
+    ensures tells { IfOk result (λ none. AtEnd (λ u w. IsAbsentSaid path.now u none)
+        (H.moments host.old) (H.moments host.new)) }
+    ensures fault_has_cause { IsCounted (IsErrOf result HostEnd.Fault)
+        (H.moments host.old) (H.faults host.old) (H.faults host.new) }
+{
+    match host.stat(path)? {
+        Stat::Absent => Ok(true),
+        _ => Ok(false),
+    }
+}
+
+/// Whether the object stands neither in the store nor in the work folder.
+fn is_lacking<H: Host>(
+    alloc: Global,
+    host: &mut H,
+    root: &Path,
+    work: &Path,
+    digest: &Digest,
+    kind: ObjKind,
+) -> Result<bool, HostEnd>
+    ensures unchanged { Unchanged (H.moments host.old) (H.moments host.new) }
+    ensures tells { IfOk result (λ lacks. AtEnd (λ u w. IsLacking root.now work.now (digest.now, kind) u lacks)
+        (H.moments host.old) (H.moments host.new)) }
+    ensures fault_has_cause { IsCounted (IsErrOf result HostEnd.Fault)
+        (H.moments host.old) (H.faults host.old) (H.faults host.new) }
+{
+    let name = path_of(alloc, root, digest, kind)?;
+    let place = path_of(alloc, work, digest, kind)?;
+    let none = is_absent(host, &name)?;
+    if none {
+        is_absent(host, &place)
+    } else {
+        Ok(false)
+    }
+}
+
+/// Makes the work folder hold the object, and notes it.
+fn stage_object<H: Host>(
+    alloc: Global,
+    host: &mut H,
+    work: &Path,
+    object: &BuiltObject,
+    staged: &mut Vec<(Digest, ObjKind)>,
+) -> Result<(), HostEnd>
+    ensures any_moment { Always
+        (Stages (object_path work.now object.now.digest object.now.kind) object.now.object)
+        (H.moments host.old) (H.moments host.new) }
+    ensures on_success { OnOk result ((staged.new.items ≡ staged.old.items ++ name_of object.now ∷ []) × AtEnd
+        (WasStaged (object_path work.now object.now.digest object.now.kind) object.now.object)
+        (H.moments host.old) (H.moments host.new)) }
+    ensures digits { is_digest object.now.digest ≡ true }
+    ensures fault_has_cause { IsCaused (IsErrOf result HostEnd.Fault) (H.moments host.old)
+        (CanStage (object_path work.now object.now.digest object.now.kind) object.now.object)
+        (H.faults host.old) (H.faults host.new) }
+{
+    let _bytes = object.digest.as_bytes();
+    let path = path_of(alloc, work, &object.digest, object.kind)?;
+    stage(alloc, host, &path, &object.object)?;
+    match staged.push((object.digest, object.kind)) {
+        Ok(()) => Ok(()),
+        Err(_) => Err(HostEnd::NoMemory),
+    }
+}
+
+/// Stages the object, unless the store has something at its name or the work folder has the object.
+fn stage_lacking<H: Host>(
+    alloc: Global,
+    host: &mut H,
+    root: &Path,
+    work: &Path,
+    object: &BuiltObject,
+    staged: &mut Vec<(Digest, ObjKind)>,
+) -> Result<(), HostEnd>
+    ensures any_moment { Always (Works work.now) (H.moments host.old) (H.moments host.new) }
+    ensures on_success { OnOk result ((have : Have) → IsIn have object.now
+        → AtEnd (StagesOne have root.now work.now (name_of object.now) staged.old.items staged.new.items)
+        (H.moments host.old) (H.moments host.new)) }
+    ensures digits { is_digest object.now.digest ≡ true }
+    ensures fault_has_cause { IsCaused (IsErrOf result HostEnd.Fault) (H.moments host.old)
+        (CanStageOne work.now object.now.object) (H.faults host.old) (H.faults host.new) }
+{
+    let _bytes = object.digest.as_bytes();
+    let lacks = is_lacking(alloc, host, root, work, &object.digest, object.kind)?;
+    if lacks {
+        stage_object(alloc, host, work, object, staged)
+    } else {
+        Ok(())
+    }
+}
+
+/// Stages each of these objects at whose name in the store nothing stands, below the work folder as in a store, and answers which
+/// those are. Nothing is synced. It is for a work folder in `repo/tmp` in which nothing stands, and for a store elsewhere.
+pub(crate) fn stage_all<H: Host>(
+    alloc: Global,
+    host: &mut H,
+    root: &Path,
+    work: &Path,
+    objects: &[BuiltObject],
+) -> Result<Vec<(Digest, ObjKind)>, HostEnd>
+    requires apart { IsApart root.now work.now }
+    requires whole { AreWhole objects.now }
+    ensures any_moment { Always (Works work.now) (H.moments host.old) (H.moments host.new) }
+    ensures on_success { IfOk result (λ staged. AtEnd
+        (StagesSome (have_of objects.now) root.now work.now objects.now staged.items)
+        (H.moments host.old) (H.moments host.new)) }
+    ensures fault_has_cause { IsCaused (IsErrOf result HostEnd.Fault) (H.moments host.old)
+        (CanStageAll work.now objects.now) (H.faults host.old) (H.faults host.new) }
+{
+    let mut staged = Vec::new(alloc);
+    for object in objects {
+        stage_lacking(alloc, host, root, work, object, &mut staged)?;
+    }
+    Ok(staged)
+}

@@ -1,0 +1,66 @@
+//! The objects of a built commit, written into a store.
+ghost use Rattle.std.specs.Prelude.{OnOk, IfOk, IsErrOf};
+ghost use Rattle.fp_host.specs.Causes.{IsCaused};
+ghost use Rattle.fp_host.specs.Frame.{AtEnd};
+ghost use Rattle.fp_host.specs.Moments.{Always};
+ghost use Rattle.ost_model.specs.Objects.{Have};
+ghost use Rattle.ost_commit.specs.Objects.{have_of};
+ghost use Rattle.ost_export.specs.Staging.{AreStaged, AreWhole, IsApart};
+ghost use Rattle.ost_export.specs.Placing.{CanStore, PutsStaged, WasStored};
+ghost use Rattle.ost_export.specs.Storing.{CanStoreAll, HasStored, IsNoWork, StoresObjects};
+
+use crate::placing::place_all;
+use crate::staging::stage_all;
+use crate::work::work_place;
+use fp_base::ObjKind;
+use fp_host::{Host, HostEnd, Path};
+use fp_name::Digest;
+use fp_small::clear;
+use ost_commit::BuiltObject;
+use std::alloc::Global;
+
+/// Stores the objects that stand in the work folder, and leaves nothing of it. They are made last before the first of them has
+/// its name, and again when all have.
+fn store_staged<H: Host>(
+    alloc: Global,
+    host: &mut H,
+    root: &Path,
+    work: &Path,
+    staged: &mut Vec<(Digest, ObjKind)>,
+) -> Result<(), HostEnd>
+    requires { IsApart root.now work.now }
+    ensures any_moment { (have : Have) → Always (PutsStaged have root.now work.now staged.old.items)
+        (H.moments host.old) (H.moments host.new) }
+    ensures on_success { (have : Have) → OnOk result (AtEnd
+        (λ u w. AreStaged have work.now staged.old.items u → WasStored root.now work.now staged.old.items u w)
+        (H.moments host.old) (H.moments host.new)) }
+    ensures fault_has_cause { (have : Have) → IsCaused (IsErrOf result HostEnd.Fault) (H.moments host.old)
+        (CanStore have root.now work.now staged.old.items) (H.faults host.old) (H.faults host.new) }
+{
+    host.sync()?;
+    place_all(alloc, host, root, work, staged)?;
+    clear(alloc, host, work)?;
+    Ok(host.sync()?)
+}
+
+/// Writes the objects into the store below `root`, each at whose name nothing stands. What is there stays. They are staged below
+/// the first free name of `repo/tmp`, and nothing is left there.
+pub(crate) fn store_objects<H: Host>(
+    alloc: Global,
+    host: &mut H,
+    root: &Path,
+    objects: &[BuiltObject],
+) -> Result<(), HostEnd>
+    requires no_work { IsNoWork root.now }
+    requires whole { AreWhole objects.now }
+    ensures any_moment { Always (StoresObjects (have_of objects.now) root.now)
+        (H.moments host.old) (H.moments host.new) }
+    ensures on_success { OnOk result (AtEnd (HasStored (have_of objects.now) root.now)
+        (H.moments host.old) (H.moments host.new)) }
+    ensures fault_has_cause { IsCaused (IsErrOf result HostEnd.Fault) (H.moments host.old)
+        (CanStoreAll root.now objects.now) (H.faults host.old) (H.faults host.new) }
+{
+    let work = work_place(alloc, host)?;
+    let mut staged = stage_all(alloc, host, root, &work, objects)?;
+    store_staged(alloc, host, root, &work, &mut staged)
+}
