@@ -15,7 +15,6 @@ use fp_system::{Call, Cause, Faults, SystemError};
 use std::alloc::{AllocError, Global};
 use std::marker::Model;
 use std::rt::Files;
-use std::thread::Threads;
 
 /// A folder of the system as a host, and where it prints.
 ///
@@ -65,7 +64,7 @@ impl<R: Files, O> Drop for HostDir<'_, R, O> {
     }
 }
 
-impl<'a, R: System + Threads + Sync, O: Print> HostDir<'a, R, O> {
+impl<'a, R: System, O: Print> HostDir<'a, R, O> {
     /// The host over the folder of this name, which prints to this output; the empty name is the current folder. It asks
     /// nothing of the system yet.
     pub fn new(
@@ -155,7 +154,7 @@ impl<R: System, O> HostDir<'_, R, O> {
     }
 }
 
-impl<R: System + Threads + Sync, O: Print> Host for HostDir<'_, R, O> {
+impl<R: System, O: Print> Host for HostDir<'_, R, O> {
     ghost use Rattle.std.specs.Prelude.{None};
     ghost use Rattle.std.proofs.lemmas.Option.{none-some};
 

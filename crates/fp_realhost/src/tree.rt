@@ -10,7 +10,6 @@ use std::alloc::{AllocError, Global};
 use std::marker::Model;
 use std::mem::swap;
 use std::rt::Files;
-use std::thread::Threads;
 
 // The calls of a host over a folder of the system. Contracts see whether nothing waits for a sync.
 pub struct Tree<'a, R: Files> {
@@ -158,7 +157,7 @@ impl<R: System> Tree<'_, R> {
     }
 }
 
-impl<R: System + Threads + Sync> Tree<'_, R> {
+impl<R: System> Tree<'_, R> {
     // Makes all changes last, the first time also what an earlier run may have left.
     pub fn sync(&mut self) -> Result<(), Unsynced>
         ensures settled { OnOk result (self.new ≡ true) }

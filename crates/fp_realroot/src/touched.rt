@@ -1,13 +1,12 @@
 // What was changed since the last sync.
 ghost use Rattle.std.specs.Prelude.{◌≡◌, Bool, true, OnOk};
 
-use crate::syncing::{Failure, Unsynced, is_denied, sync_by_threads, sync_own};
+use crate::syncing::{Failure, Unsynced, sync_each};
 use fp_system::{Call, Cause, folder_of, note};
 use std::alloc::{AllocError, Global};
 use std::collections::BTreeSet;
 use std::marker::Model;
 use std::rt::Files;
-use std::thread::Threads;
 
 // The files that were created or written and the folders whose names changed since the last sync, by their paths. A
 // file stands here under each of its names. Where there is no memory to note a change, no later sync succeeds. Contracts
@@ -120,11 +119,7 @@ impl Touched {
     }
 
     /// Makes all of it last, the files before the folders. On an error it stays as it was, and the path is in the buffer.
-    pub fn sync<R: Files + Threads + Sync>(
-        &mut self,
-        rt: &R,
-        at: &mut String,
-    ) -> Result<(), Unsynced>
+    pub fn sync<R: Files>(&mut self, rt: &R, at: &mut String) -> Result<(), Unsynced>
         ensures settled { OnOk result (self.new ≡ true) }
     {
         if self.is_settled {
@@ -151,7 +146,7 @@ impl Touched {
         self.is_settled = true;
     }
 
-    fn sync_all<R: Files + Threads + Sync>(&self, rt: &R, at: &mut String) -> Result<(), Unsynced> {
+    fn sync_all<R: Files>(&self, rt: &R, at: &mut String) -> Result<(), Unsynced> {
         at.clear();
         if self.is_lost {
             return Err(Unsynced {
@@ -164,7 +159,7 @@ impl Touched {
 }
 
 // Syncs each of the sets in turn. Of the first, which an earlier run left, what may not be opened is not ours.
-fn sync_sets<R: Files + Threads + Sync>(
+fn sync_sets<R: Files>(
     rt: &R,
     alloc: Global,
     sets: [&BTreeSet<String>; 3],
@@ -176,7 +171,7 @@ fn sync_sets<R: Files + Threads + Sync>(
     sync_set(rt, alloc, folders, false, refused)
 }
 
-fn sync_set<R: Files + Threads + Sync>(
+fn sync_set<R: Files>(
     rt: &R,
     alloc: Global,
     set: &BTreeSet<String>,
@@ -184,7 +179,7 @@ fn sync_set<R: Files + Threads + Sync>(
     refused: &mut String,
 ) -> Result<(), Unsynced> {
     match list_of(alloc, set) {
-        Ok(paths) => answer_of(sync_list(rt, alloc, &paths, spares), &paths, refused),
+        Ok(paths) => answer_of(sync_each(rt, &paths, spares), &paths, refused),
         Err(_) => Err(Unsynced {
             call: Call::Open,
             cause: Cause::NoMemory,
@@ -198,33 +193,6 @@ fn list_of<'a>(alloc: Global, set: &'a BTreeSet<String>) -> Result<Vec<&'a str>,
         list.push(at.as_str())?;
     }
     Ok(list)
-}
-
-// What may not be opened as it is, is opened one after another: its permission bits are widened meanwhile, and a file may
-// stand in the list under several names.
-fn sync_list<R: Files + Threads + Sync>(
-    rt: &R,
-    alloc: Global,
-    paths: &[&str],
-    spares: bool,
-) -> Option<Failure> {
-    match sync_by_threads(rt, alloc, paths) {
-        Some(met) if is_denied(&met) => sync_rest(rt, paths, met.place, spares),
-        met => met,
-    }
-}
-
-// The paths before this place are synced.
-fn sync_rest<R: Files + Threads + Sync>(
-    rt: &R,
-    paths: &[&str],
-    place: usize,
-    spares: bool,
-) -> Option<Failure> {
-    match paths.split_at_checked(place) {
-        Some((_, rest)) => sync_own(rt, place, rest, spares),
-        None => sync_own(rt, 0, paths, spares),
-    }
 }
 
 // Keeps the path of a failure where there is memory.

@@ -7,7 +7,6 @@ use std::fs::{FileTimes, Metadata, OpenFile, OpenOptions, Permissions};
 use std::io::{Eprint, Print, Read, Seek, SeekFrom, Write};
 use std::path::PathBuf;
 use std::rt::Files;
-use std::thread::Threads;
 use std::{fs, io};
 
 // The file, and what is other than in the system below it.
@@ -269,8 +268,6 @@ impl<R: Files + AllocGlobal> OpenFile for LoggedFile<'_, R> {
         self.file.set_times(times)
     }
 }
-
-impl<R: Threads> Threads for Logged<'_, R> {}
 
 impl<R> Alloc for Logged<'_, R> {
     type A = Global;
