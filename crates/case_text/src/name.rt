@@ -15,44 +15,27 @@ pub struct Name {
 /// Reads `LABEL`, which is the commit, `LABEL KIND` or `LABEL file PATH`, and how it is broken, if it is.
 pub fn name_of(alloc: Global, text: &str) -> Result<Name, Fault> {
     let words = cut_words(alloc, text)?;
-    name_in(alloc, &words)
-}
-
-fn name_in(alloc: Global, words: &[String]) -> Result<Name, Fault> {
-    let kind = kind_in(words)?;
-    let harm = harm_in(words, kind)?;
-    let label = word_at(alloc, words, 0)?;
-    let path = path_in(alloc, words, kind)?;
+    let label = word_at(alloc, &words, 0)?;
+    let Some(kind) = words.get(1) else {
+        let object = ObjectWords {
+            label,
+            kind: ObjKind::Commit,
+            path: String::new(alloc),
+        };
+        return Ok(Name { object, harm: None });
+    };
+    let kind = kind_of(kind)?;
+    let is_file = matches!(kind, ObjKind::File);
+    let path = match is_file {
+        true => word_at(alloc, &words, 2)?,
+        false => String::new(alloc),
+    };
+    let harm = match words.get(if is_file { 3 } else { 2 }) {
+        Some(word) => Some(harm_of(word)?),
+        None => None,
+    };
     let object = ObjectWords { label, kind, path };
     Ok(Name { object, harm })
-}
-
-/// The kind of the object, which is the second word.
-fn kind_in(words: &[String]) -> Result<ObjKind, Fault> {
-    match words.get(1) {
-        Some(word) => kind_of(word),
-        None => Ok(ObjKind::Commit),
-    }
-}
-
-/// How the object is broken, which comes after its kind, and after the path of a file.
-fn harm_in(words: &[String], kind: ObjKind) -> Result<Option<Harm>, Fault> {
-    let at = match kind {
-        ObjKind::File => 3,
-        _ => 2,
-    };
-    match words.get(at) {
-        Some(word) => Ok(Some(harm_of(word)?)),
-        None => Ok(None),
-    }
-}
-
-/// The path of a file or a link.
-fn path_in(alloc: Global, words: &[String], kind: ObjKind) -> Result<String, Fault> {
-    match kind {
-        ObjKind::File => word_at(alloc, words, 2),
-        _ => Ok(String::new(alloc)),
-    }
 }
 
 fn word_at(alloc: Global, words: &[String], at: usize) -> Result<String, Fault> {
