@@ -6,6 +6,11 @@ use fp_small::RemoteRow;
 use std::alloc::{AllocError, Global};
 use std::test::Fail;
 
+/// The words with spaces between them.
+fn spaced(alloc: Global, words: &[&str]) -> Result<String, AllocError> {
+    words.join(alloc, " ")
+}
+
 /// What the words read as, in one text.
 fn told(alloc: Global, words: &[&str]) -> Result<String, AllocError> {
     let mut owned = Vec::new(alloc);
@@ -33,24 +38,24 @@ fn told_command(alloc: Global, command: &Command) -> Result<String, AllocError> 
 /// A change in one text.
 pub fn told_change(alloc: Global, change: &Change) -> Result<String, AllocError> {
     match change {
-        Change::Pin(pin) => format!(in alloc; "Pin {}", pin.as_str()),
-        Change::Unpin(pin) => format!(in alloc; "Unpin {}", pin.as_str()),
+        Change::Pin(pin) => spaced(alloc, &["Pin", pin.as_str()]),
+        Change::Unpin(pin) => spaced(alloc, &["Unpin", pin.as_str()]),
         Change::RemoteAdd(row) => told_remote(alloc, "RemoteAdd", row),
         Change::RemoteModify(row) => told_remote(alloc, "RemoteModify", row),
-        Change::RemoteDelete(name) => format!(in alloc; "RemoteDelete {}", name.as_str()),
+        Change::RemoteDelete(name) => spaced(alloc, &["RemoteDelete", name.as_str()]),
         Change::Install { remote, name } => {
-            format!(in alloc; "Install {} {}", remote.as_str(), name.as_str())
+            spaced(alloc, &["Install", remote.as_str(), name.as_str()])
         }
         Change::UpdateAll => "UpdateAll".to_string(alloc),
-        Change::UpdateOne(name) => format!(in alloc; "UpdateOne {}", name.as_str()),
-        Change::Uninstall(name) => format!(in alloc; "Uninstall {}", name.as_str()),
+        Change::UpdateOne(name) => spaced(alloc, &["UpdateOne", name.as_str()]),
+        Change::Uninstall(name) => spaced(alloc, &["Uninstall", name.as_str()]),
         Change::UninstallUnused => "UninstallUnused".to_string(alloc),
-        Change::Rollback(name) => format!(in alloc; "Rollback {}", name.as_str()),
+        Change::Rollback(name) => spaced(alloc, &["Rollback", name.as_str()]),
         Change::OverrideChange { name, options } => {
             told_options(alloc, "OverrideChange", name.as_text().as_str(), options)
         }
         Change::OverrideReset { name } => {
-            format!(in alloc; "OverrideReset {}", name.as_text().as_str())
+            spaced(alloc, &["OverrideReset", name.as_text().as_str()])
         }
     }
 }
@@ -61,17 +66,17 @@ fn told_listing(alloc: Global, listing: &Listing) -> Result<String, AllocError> 
         Listing::Remotes => "ListRemotes".to_string(alloc),
         Listing::Pins => "ListPins".to_string(alloc),
         Listing::Exports => "ListExports".to_string(alloc),
-        Listing::Info(name) => format!(in alloc; "Info {}", name.as_str()),
+        Listing::Info(name) => spaced(alloc, &["Info", name.as_str()]),
         Listing::Launch { name, options } => told_options(alloc, "Launch", name.as_str(), options),
-        Listing::OverrideShow { name } => format!(in alloc; "OverrideShow {}", name.as_str()),
+        Listing::OverrideShow { name } => spaced(alloc, &["OverrideShow", name.as_str()]),
     }
 }
 
 fn told_source(alloc: Global, source: &PolicySource) -> Result<String, AllocError> {
     match source {
         PolicySource::Rules(rules) => told_options(alloc, "Filter", "rules", rules),
-        PolicySource::Session(name) => format!(in alloc; "Filter session {}", name.as_str()),
-        PolicySource::System(name) => format!(in alloc; "Filter system {}", name.as_str()),
+        PolicySource::Session(name) => spaced(alloc, &["Filter session", name.as_str()]),
+        PolicySource::System(name) => spaced(alloc, &["Filter system", name.as_str()]),
     }
 }
 
@@ -82,7 +87,7 @@ fn told_options(
     name: &str,
     options: &Items<Text>,
 ) -> Result<String, AllocError> {
-    let mut text = format!(in alloc; "{what} {name}")?;
+    let mut text = spaced(alloc, &[what, name])?;
     for option in options.as_slice() {
         text.push(' ')?;
         text.push_str(option.as_str())?;
@@ -100,7 +105,7 @@ fn told_shown(alloc: Global, thing: &Shown) -> Result<String, AllocError> {
 }
 
 fn told_remote(alloc: Global, what: &str, row: &RemoteRow) -> Result<String, AllocError> {
-    format!(in alloc; "{what} {} {}", row.name.as_str(), row.url.as_str())
+    spaced(alloc, &[what, row.name.as_str(), row.url.as_str()])
 }
 
 /// Words, and the command that they are, or the place of the first bad one.

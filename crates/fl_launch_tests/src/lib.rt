@@ -1,0 +1,7 @@
+//! Tests of extension points and of launches.
+#![tactic(auto)]
+
+#[cfg(test)]
+mod extension;
+#[cfg(test)]
+mod launch;
