@@ -2,12 +2,12 @@
 //! each call. `docs/CASES.md` says how to write one.
 #![tactic(auto)]
 
-use case_hosts::{Program, is_for_folder};
-use case_play::{play_in_folder, play_in_memory, play_stops};
-use case_system::System;
-use case_text::{Case, Fault, Parser, Wrong};
 use fl_top::run;
 use fp_host::{Host, Remotes, Source};
+use fpk_case_hosts::{Program, is_for_folder};
+use fpk_case_play::{play_in_folder, play_in_memory, play_stops};
+use fpk_case_system::System;
+use fpk_case_text::{Case, Fault, Parser, Wrong};
 use std::alloc::Global;
 use std::process::ExitCode;
 use std::thread::Threads;

@@ -1,11 +1,11 @@
 //! A case over the host in memory.
 use crate::program::Program;
 use crate::stage::{Ending, PathState, find, give, unless_fault};
-use case_remotes::{Ware, Wares};
-use case_text::{Command, Failing, Failure, Fixture};
 use fp_base::{Blob, Text};
 use fp_host::Path;
 use fp_memhost::{MemHost, MemNode, MemRemotes, MemSource};
+use fpk_case_remotes::{Ware, Wares};
+use fpk_case_text::{Command, Failing, Failure, Fixture};
 use std::alloc::{AllocError, Global};
 use std::thread::Threads;
 

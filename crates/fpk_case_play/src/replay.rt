@@ -1,9 +1,9 @@
 //! The commands of a case over a host in memory, with a call that fails.
-use case_hosts::{Program, give, run_in_memory, unless_fault};
-use case_left::present_image;
-use case_remotes::Wares;
-use case_text::{Action, Case, Failing, Failure};
 use fp_memhost::MemHost;
+use fpk_case_hosts::{Program, give, run_in_memory, unless_fault};
+use fpk_case_left::present_image;
+use fpk_case_remotes::Wares;
+use fpk_case_text::{Action, Case, Failing, Failure};
 use std::alloc::{AllocError, Global};
 use std::ops::Range;
 use std::thread::Threads;

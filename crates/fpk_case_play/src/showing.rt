@@ -1,8 +1,8 @@
 //! What an installation shows when it is opened again.
-use case_hosts::{PathState, Program, find, run_in_memory, unless_fault};
-use case_remotes::Wares;
-use case_text::{Command, Failing};
 use fp_memhost::{Image, MemHost};
+use fpk_case_hosts::{PathState, Program, find, run_in_memory, unless_fault};
+use fpk_case_remotes::Wares;
+use fpk_case_text::{Command, Failing};
 use std::alloc::{AllocError, Global};
 use std::thread::Threads;
 

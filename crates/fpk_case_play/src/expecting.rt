@@ -1,8 +1,8 @@
 //! What is to stand at a path.
-use case_hosts::{PathState, Stage};
-use case_remotes::{Wares, text_with_digits, with_digits};
-use case_system::System;
-use case_text::{Expected, What, difference, message};
+use fpk_case_hosts::{PathState, Stage};
+use fpk_case_remotes::{Wares, text_with_digits, with_digits};
+use fpk_case_system::System;
+use fpk_case_text::{Expected, What, difference, message};
 use std::alloc::{AllocError, Global};
 
 /// Looks at a path, and answers what isn't as it is to be.

@@ -1,9 +1,9 @@
 //! The steps of a case, one after another.
 use crate::expecting::expect;
-use case_hosts::{Ending, Program, Stage};
-use case_remotes::{Wares, with_digits};
-use case_system::System;
-use case_text::{Action, Case, Command, Fixture, Step, Wrong, difference, message};
+use fpk_case_hosts::{Ending, Program, Stage};
+use fpk_case_remotes::{Wares, with_digits};
+use fpk_case_system::System;
+use fpk_case_text::{Action, Case, Command, Fixture, Step, Wrong, difference, message};
 use std::alloc::{AllocError, Global};
 use std::thread::Threads;
 

@@ -2,7 +2,7 @@
 use Rattle.std.proofs.Common.{refl}
 use Rattle.std.proofs.lemmas.Option.{none-some}
 use Rattle.fp_realinput.proofs.Causes.{remote_cause}
-use Rattle.case_system.proofs.own_remotes.OwnRemotesRemotes.TheImpl.Goals as goal
+use Rattle.fpk_case_system.proofs.own_remotes.OwnRemotesRemotes.TheImpl.Goals as goal
 
 pub node-tells : goal.node-tells
 node-tells g c = record {

@@ -1,7 +1,7 @@
 //! Objects that are broken.
 use crate::wares::{Ware, object_ware};
-use case_text::Harm;
 use fp_name::Digest;
+use fpk_case_text::Harm;
 use ost_content::{file_digest, is_permission, meta_digest};
 use ost_model::Object;
 use std::alloc::{AllocError, Global};

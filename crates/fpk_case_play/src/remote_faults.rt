@@ -1,8 +1,8 @@
 //! A case with a failure at each call of the remotes.
 use crate::judge::{Judge, Lines};
 use crate::replay::{Start, Trouble};
-use case_hosts::Program;
-use case_text::message;
+use fpk_case_hosts::Program;
+use fpk_case_text::message;
 use std::alloc::{AllocError, Global};
 use std::thread::Threads;
 

@@ -3,11 +3,11 @@ use crate::judge::{Judge, Lines};
 use crate::remote_faults::fail_remotes;
 use crate::replay::{Replay, Start, Trouble, start_of, wares_of};
 use crate::showing::{State, reopen};
-use case_hosts::Program;
-use case_left::{last_open, oldest_image, open_names, present_image};
-use case_remotes::{Wares, with_digits};
-use case_text::{Case, Failure, ShownText, Stops, Wrong, difference, message};
 use fp_memhost::{Image, MemHost};
+use fpk_case_hosts::Program;
+use fpk_case_left::{last_open, oldest_image, open_names, present_image};
+use fpk_case_remotes::{Wares, with_digits};
+use fpk_case_text::{Case, Failure, ShownText, Stops, Wrong, difference, message};
 use std::alloc::{AllocError, Global};
 use std::thread::Threads;
 

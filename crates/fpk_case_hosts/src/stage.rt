@@ -2,10 +2,10 @@
 use crate::folder::FolderStage;
 use crate::memory::MemStage;
 use crate::program::Program;
-use case_remotes::Wares;
-use case_system::System;
-use case_text::{Command, Fixture, FixtureKind};
 use fp_host::{Host, HostEnd, Path, Stat};
+use fpk_case_remotes::Wares;
+use fpk_case_system::System;
+use fpk_case_text::{Command, Fixture, FixtureKind};
 use std::alloc::{AllocError, Global};
 use std::rt::Files;
 use std::thread::Threads;

@@ -1,12 +1,12 @@
 //! The remotes of a case: commits that are made of what it gives, and objects that are broken.
 use crate::harm::{harmed, harmed_digest};
-use case_text::{
-    Action, CommitLine, Fault, Fixture, FixtureKind, Harm, Name, ObjectWords, Owner, Step, Wrong,
-    message, name_of,
-};
 use fp_base::{Blob, ObjKind, Text};
 use fp_host::{Path, is_link_text};
 use fp_name::{Digest, RefName};
+use fpk_case_text::{
+    Action, CommitLine, Fault, Fixture, FixtureKind, Harm, Name, ObjectWords, Owner, Step, Wrong,
+    message, name_of,
+};
 use ost_commit::{BuildError, Built, BuiltObject, TreeRow, commit_tree};
 use ost_content::{file_digest, is_permission, link_digest};
 use ost_model::Object;

@@ -1,8 +1,8 @@
 //! A case in memory, and on a real folder.
 use crate::playing::play;
-use case_hosts::{FolderStage, MemStage, Program, Stage, clear_folder};
-use case_system::{Capture, System};
-use case_text::{Case, Wrong};
+use fpk_case_hosts::{FolderStage, MemStage, Program, Stage, clear_folder};
+use fpk_case_system::{Capture, System};
+use fpk_case_text::{Case, Wrong};
 use std::alloc::{AllocError, Global};
 use std::io;
 

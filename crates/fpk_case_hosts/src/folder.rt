@@ -2,12 +2,12 @@
 use crate::memory::input_of;
 use crate::program::Program;
 use crate::stage::{Ending, PathState, find, give, give_file, make_folders, unless_fault};
-use case_remotes::{RemotePath, Ware, Wares};
-use case_system::{Capture, OwnRemotes, System};
-use case_text::{Action, Case, Command, Fixture};
 use fp_host::{Host, HostEnd, Path, Stat};
 use fp_realhost::HostDir;
 use fp_realroot::Access;
+use fpk_case_remotes::{RemotePath, Ware, Wares};
+use fpk_case_system::{Capture, OwnRemotes, System};
+use fpk_case_text::{Action, Case, Command, Fixture};
 use std::alloc::{AllocError, Global};
 use std::rt::Files;
 use std::thread::Threads;
