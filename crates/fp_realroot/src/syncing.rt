@@ -1,6 +1,7 @@
 // Files and folders that are made to last.
 use crate::files::open_to_read;
 use fp_system::{Call, Cause, known};
+use std::collections::BTreeSet;
 use std::fs::OpenFile;
 use std::io::ErrorKind;
 use std::rt::Files;
@@ -12,22 +13,22 @@ pub struct Unsynced {
     pub cause: Cause,
 }
 
-// The same with the place of its path in a list.
-#[derive(Clone, Copy)]
-pub struct Failure {
-    pub place: usize,
-    pub met: Unsynced,
-}
-
-// Syncs files and folders of ours one after another, and answers the first that failed. What may not be opened is spared where
-// others may own it.
-pub fn sync_each<R: Files>(rt: &R, paths: &[&str], spares: bool) -> Option<Failure> {
-    for (i, at) in paths.iter().enumerate() {
-        if let Some(met) = sync_at(rt, at, spares) {
-            return Some(Failure { place: i, met });
+// Syncs files and folders of ours one after another, up to the first that fails. Its path is kept where there is memory. What may
+// not be opened is spared where others may own it.
+pub fn sync_each<R: Files>(
+    rt: &R,
+    paths: &BTreeSet<String>,
+    spares: bool,
+    refused: &mut String,
+) -> Result<(), Unsynced> {
+    for at in paths {
+        if let Some(met) = sync_at(rt, at.as_str(), spares) {
+            refused.clear();
+            let _kept = refused.push_str(at.as_str());
+            return Err(met);
         }
     }
-    None
+    Ok(())
 }
 
 fn sync_at<R: Files>(rt: &R, at: &str, spares: bool) -> Option<Unsynced> {

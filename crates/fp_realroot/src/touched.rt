@@ -1,7 +1,7 @@
 // What was changed since the last sync.
 ghost use Rattle.std.specs.Prelude.{◌≡◌, Bool, true, OnOk};
 
-use crate::syncing::{Failure, Unsynced, sync_each};
+use crate::syncing::{Unsynced, sync_each};
 use fp_system::{Call, Cause, folder_of, note};
 use std::alloc::{AllocError, Global};
 use std::collections::BTreeSet;
@@ -147,62 +147,15 @@ impl Touched {
     }
 
     fn sync_all<R: Files>(&self, rt: &R, at: &mut String) -> Result<(), Unsynced> {
-        at.clear();
         if self.is_lost {
+            at.clear();
             return Err(Unsynced {
                 call: Call::Sync,
                 cause: Cause::MayBeLost,
             });
         }
-        sync_sets(rt, self.alloc, [&self.left, &self.files, &self.folders], at)
-    }
-}
-
-// Syncs each of the sets in turn. Of the first, which an earlier run left, what may not be opened is not ours.
-fn sync_sets<R: Files>(
-    rt: &R,
-    alloc: Global,
-    sets: [&BTreeSet<String>; 3],
-    refused: &mut String,
-) -> Result<(), Unsynced> {
-    let [left, files, folders] = sets;
-    sync_set(rt, alloc, left, true, refused)?;
-    sync_set(rt, alloc, files, false, refused)?;
-    sync_set(rt, alloc, folders, false, refused)
-}
-
-fn sync_set<R: Files>(
-    rt: &R,
-    alloc: Global,
-    set: &BTreeSet<String>,
-    spares: bool,
-    refused: &mut String,
-) -> Result<(), Unsynced> {
-    match list_of(alloc, set) {
-        Ok(paths) => answer_of(sync_each(rt, &paths, spares), &paths, refused),
-        Err(_) => Err(Unsynced {
-            call: Call::Open,
-            cause: Cause::NoMemory,
-        }),
-    }
-}
-
-fn list_of<'a>(alloc: Global, set: &'a BTreeSet<String>) -> Result<Vec<&'a str>, AllocError> {
-    let mut list = Vec::new(alloc);
-    for at in set {
-        list.push(at.as_str())?;
-    }
-    Ok(list)
-}
-
-// Keeps the path of a failure where there is memory.
-fn answer_of(met: Option<Failure>, paths: &[&str], refused: &mut String) -> Result<(), Unsynced> {
-    match met {
-        Some(failure) => {
-            let at = paths.get(failure.place).copied().unwrap_or("");
-            let _kept = refused.push_str(at);
-            Err(failure.met)
-        }
-        None => Ok(()),
+        sync_each(rt, &self.left, true, at)?;
+        sync_each(rt, &self.files, false, at)?;
+        sync_each(rt, &self.folders, false, at)
     }
 }
