@@ -1,0 +1,5 @@
+mod Picking
+mod Judged
+mod Reporting
+mod Single
+mod Samples
