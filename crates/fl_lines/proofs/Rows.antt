@@ -14,7 +14,7 @@ use Rattle.fp_small.specs.declared.state.RefRow.{RefRow}
 use Rattle.fp_small.specs.declared.refusal.Refusal.TheVariants.{BadWords, PinExists, NoSuchPin, Limit, BadRecord, Damaged, RemoteInUse, WrongMode, NoSuchRef, AlreadyInstalled, NotInstalled, RuntimeMissing, RuntimeInUse, MissingObject, CorruptObject, ModeRefused, BadMetadata, RefBinding, Older, NoPrevious}
 use Rattle.fp_base.specs.declared.what.What.TheVariants.{Pins, Input}
 use Rattle.fp_small.specs.declared.op.Op.TheVariants.{Install, Update, Uninstall, AddPin, DropPin, DropOverride, Migrate, Rollback}
-use Rattle.fl_lines.specs.Lines.{refusal_text, op_text, refs_text, skipped_text, info_text}
+use Rattle.fl_lines.specs.Lines.{refusal_text, op_text, refs_text, skipped_text, info_text, bad_text, stray_text, fsck_text}
 
 pub words_line : refusal_text (BadWords 2) ≡ codes "error: words 2\n"
 unfolding digits
@@ -147,3 +147,17 @@ pub info_whole : info_text (deployed (Some (record { commit = replicate 32 34; t
     ≡ codes "ref app/org.x.App/x86_64/stable\ncommit 1111111111111111111111111111111111111111111111111111111111111111\norigin hub\ntimestamp 12\nprevious 2222222222222222222222222222222222222222222222222222222222222222\nruntime runtime/org.x.Platform/x86_64/1\nextension a\\5cb\nextension org.x.App.Locale\n"
 unfolding hex digits
 info_whole = refl
+
+-- ---- a store
+
+pub bad_object_line : bad_text (replicate 32 17) File ≡ codes "bad 1111111111111111111111111111111111111111111111111111111111111111.file\n"
+unfolding hex
+bad_object_line = refl
+
+-- a name with a newline
+pub stray_line : stray_text ((120 ∷ 10 ∷ []) ∷ codes "objects" ∷ codes "repo" ∷ []) ≡ codes "stray repo/objects/x\\0a\n"
+stray_line = refl
+
+pub checked_line : fsck_text 5000 1 ≡ codes "fsck 5000 objects, 1 bad\n"
+unfolding digits
+checked_line = refl

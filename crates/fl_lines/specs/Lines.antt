@@ -4,7 +4,7 @@ use Rattle.std.specs.Fmt.{digit_glyph}
 use Rattle.std.specs.List.{join_with_byte}
 use Rattle.fp_base.specs.declared.object.ObjKind.{ObjKind}
 use Rattle.fp_base.specs.declared.object.ObjKind.TheVariants.{Commit, DirTree, DirMeta, File}
-use Rattle.fp_host.specs.Paths.{path_text}
+use Rattle.fp_host.specs.Paths.{Elements, path_text}
 use Rattle.fp_name.specs.Hex.{hex}
 use Rattle.fp_name.specs.Refs.{Ref, ref_text}
 use Rattle.fp_small.specs.declared.refusal.Refusal.{Refusal}
@@ -156,3 +156,17 @@ extension_line name = line_of (codes "extension" ∷ escaped name ∷ [])
 -- its row, the runtime that its metadata names, where it does, and a line for each extension
 abbrev pub info_text : RefRow → Option Ref → List (List ℕ) → List ℕ
 info_text row runtime extensions = row_text row ++ (runtime_text runtime ++ flat_map extension_line extensions)
+
+-- ---- what is found in a store
+
+-- an object that isn't what its name says
+abbrev pub bad_text : List ℕ → ObjKind → List ℕ
+bad_text digest kind = line_of (codes "bad" ∷ object_text digest kind ∷ [])
+
+-- a file or link whose path is the name of no object
+abbrev pub stray_text : Elements → List ℕ
+stray_text path = line_of (codes "stray" ∷ escaped (path_text path) ∷ [])
+
+-- how many objects there are, and how many of them are bad
+abbrev pub fsck_text : ℕ → ℕ → List ℕ
+fsck_text objects bad = line (codes "fsck " ++ (decimal objects ++ (codes " objects, " ++ (decimal bad ++ codes " bad"))))

@@ -7,6 +7,7 @@ mod laws;
 mod lines;
 mod printed_words;
 mod refusals;
+mod stores;
 
 pub use escaping::escape;
 pub use info::info_text;
@@ -17,3 +18,4 @@ pub use printed_words::{
     side_word, what_word,
 };
 pub use refusals::{octal_of, refusal_line};
+pub use stores::{bad_line, fsck_line, stray_line};

@@ -26,6 +26,7 @@ fn told_command(alloc: Global, command: &Command) -> Result<String, AllocError> 
         Command::Show(thing) => told_shown(alloc, thing),
         Command::Filter(source) => told_source(alloc, source),
         Command::Batch => "Batch".to_string(alloc),
+        Command::Fsck => "Fsck".to_string(alloc),
     }
 }
 
@@ -133,6 +134,8 @@ const WORDS: [(&[&str], &str); 66] = [
     (&["batch", ""], "bad words at 1"),
     (&["batch", "pin", "app/*/*/*"], "bad words at 1"),
     (&["batches"], "bad words at 0"),
+    (&["fsck"], "Fsck"),
+    (&["fsck", "file"], "bad words at 1"),
     (&["pin", "app/*/*/*"], "Pin app/*/*/*"),
     (
         &["pin", "runtime/org.x.Y/x86_64/1.0"],

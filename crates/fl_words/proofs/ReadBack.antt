@@ -16,7 +16,7 @@ use Rattle.fl_words.specs.declared.command.Listing.TheVariants as listings
 use Rattle.fl_words.specs.declared.command.Shown.TheVariants as things
 use Rattle.std.proofs.lemmas.Bool.{and_parts, false≢true}
 use Rattle.fl_words.specs.declared.forms.Form.{Form}
-use Rattle.fl_words.specs.declared.forms.Form.TheVariants.{Pin, Unpin, RemoteAdd, RemoteModify, RemoteDelete, Install, UpdateAll, UpdateOne, Uninstall, UninstallUnused, Rollback, Override, OverrideApp, OverrideReset, OverrideResetApp, ListRefs, ListRemotes, ListPins, Info, Launch, OverrideShow, OverrideShowApp, Filter, FilterFrom, FilterSystemFrom, Batch, ShowCommit, ShowDirTree, ShowDirMeta, ShowValue}
+use Rattle.fl_words.specs.declared.forms.Form.TheVariants.{Pin, Unpin, RemoteAdd, RemoteModify, RemoteDelete, Install, UpdateAll, UpdateOne, Uninstall, UninstallUnused, Rollback, Override, OverrideApp, OverrideReset, OverrideResetApp, ListRefs, ListRemotes, ListPins, Info, Launch, OverrideShow, OverrideShowApp, Filter, FilterFrom, FilterSystemFrom, Batch, Fsck, ShowCommit, ShowDirTree, ShowDirMeta, ShowValue}
 use Rattle.fl_words.specs.Forms.{literal, pattern, remote, url, ref_name, app, app_id, type_string, permission, permissions, launch_options, filter_rules, from_app, fits, is_app, forms, slots_of, made, reads, command_of}
 use Rattle.fl_options.specs.Options.{is_option, is_launch_option}
 use Rattle.fl_options.proofs.Lines.{uncut_no_option}
@@ -104,6 +104,7 @@ speaks Filter = next (literal (codes "filter")) (filter_rules ∷ []) refl (Spea
 speaks FilterFrom = two (literal (codes "filter")) from_app refl refl (Speaks FilterFrom) (λ a r h g. (after_word (codes "filter") a r h ∙ ap (λ (x : List ℕ). codes "filter" ∷ x ∷ []) (from_same r g), from_kept r g))
 speaks FilterSystemFrom = three (literal (codes "filter")) (literal (codes "--system")) from_app refl refl refl (Speaks FilterSystemFrom) (λ a b r h g k. (ap (λ (x : List ℕ). x ∷ b ∷ r ∷ []) (is_word a (codes "filter") h) ∙ ap (λ (x : List ℕ). codes "filter" ∷ x ∷ r ∷ []) (is_word b (codes "--system") g) ∙ ap (λ (x : List ℕ). codes "filter" ∷ codes "--system" ∷ x ∷ []) (from_same r k), from_kept r k))
 speaks Batch = one (literal (codes "batch")) refl (Speaks Batch) (λ a h. (ap (λ (x : List ℕ). x ∷ []) (is_word a (codes "batch") h), refl))
+speaks Fsck = one (literal (codes "fsck")) refl (Speaks Fsck) (λ a h. (ap (λ (x : List ℕ). x ∷ []) (is_word a (codes "fsck") h), refl))
 speaks ShowCommit = two (literal (codes "show")) (literal (codes "commit")) refl refl (Speaks ShowCommit) (λ a b h g. (both_words (codes "show") (codes "commit") a b h g, refl))
 speaks ShowDirTree = two (literal (codes "show")) (literal (codes "dirtree")) refl refl (Speaks ShowDirTree) (λ a b h g. (both_words (codes "show") (codes "dirtree") a b h g, refl))
 speaks ShowDirMeta = two (literal (codes "show")) (literal (codes "dirmeta")) refl refl (Speaks ShowDirMeta) (λ a b h g. (both_words (codes "show") (codes "dirmeta") a b h g, refl))
@@ -194,3 +195,4 @@ written (Filtering (sources.System name)) h =
     let good = and_parts (is_ref name) (is_app name) h in
     rw (no_system_rule, ref_of-ref_text name good.0, good.1) (ap (λ (r : Ref). Some (Filtering (sources.System r))) (ref_back name good.0))
 written commands.Batch h = refl
+written commands.Fsck h = refl

@@ -6,7 +6,7 @@ use Rattle.fp_name.specs.Grammar.{is_remote_name, is_url}
 use Rattle.fp_name.specs.Pins.{is_pin}
 use Rattle.fp_name.specs.Refs.{Ref, is_ref, ref_text}
 use Rattle.fl_words.specs.declared.command.Command.{Command}
-use Rattle.fl_words.specs.declared.command.Command.TheVariants.{Change as Changing, List as Listed, Show as Showing, Filter, Batch}
+use Rattle.fl_words.specs.declared.command.Command.TheVariants.{Change as Changing, List as Listed, Show as Showing, Filter, Batch, Fsck}
 use Rattle.fl_words.specs.declared.command.Change.{Change}
 use Rattle.fl_words.specs.declared.command.Change.TheVariants.{Pin, Unpin, RemoteAdd, RemoteModify, RemoteDelete, Install, UpdateAll, UpdateOne, Uninstall, UninstallUnused, Rollback, OverrideChange, OverrideReset}
 use Rattle.fl_words.specs.declared.command.Listing.{Listing}
@@ -54,6 +54,7 @@ words_of (Filter (Rules rules)) = codes "filter" ∷ rules
 words_of (Filter (Session name)) = codes "filter" ∷ from_word name ∷ []
 words_of (Filter (System name)) = codes "filter" ∷ codes "--system" ∷ from_word name ∷ []
 words_of Batch = codes "batch" ∷ []
+words_of Fsck = codes "fsck" ∷ []
 words_of (Showing Commit) = codes "show" ∷ codes "commit" ∷ []
 words_of (Showing DirTree) = codes "show" ∷ codes "dirtree" ∷ []
 words_of (Showing DirMeta) = codes "show" ∷ codes "dirmeta" ∷ []
@@ -66,6 +67,7 @@ may_change (Listed listing) = false
 may_change (Showing thing) = false
 may_change (Filter source) = false
 may_change Batch = true
+may_change Fsck = false
 
 -- one option or more that change permissions
 abbrev pub are_options : List (List ℕ) → Bool
@@ -113,6 +115,7 @@ is_command (Listed listing) = is_listing listing
 is_command (Showing thing) = is_shown thing
 is_command (Filter source) = is_source source
 is_command Batch = true
+is_command Fsck = true
 
 -- the words are a command, or are one with more words after them
 pub record Begins (words : List (List ℕ)) : Type 0 where

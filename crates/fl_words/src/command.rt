@@ -25,6 +25,8 @@ pub enum Command {
     Filter(PolicySource),
     /// `batch`: does the changes that the lines of the input ask for.
     Batch,
+    /// `fsck`: looks at each object of the store, and prints what is wrong there.
+    Fsck,
 }
 
 impl Command {

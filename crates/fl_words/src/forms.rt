@@ -81,6 +81,7 @@ pub enum Form {
     FilterFrom,
     FilterSystemFrom,
     Batch,
+    Fsck,
     ShowCommit,
     ShowDirTree,
     ShowDirMeta,
@@ -119,6 +120,7 @@ impl Form {
             Form::FilterFrom,
             Form::FilterSystemFrom,
             Form::Batch,
+            Form::Fsck,
             Form::ShowCommit,
             Form::ShowDirTree,
             Form::ShowDirMeta,
@@ -189,6 +191,7 @@ impl Form {
                 Slot::FromApp,
             ],
             Form::Batch => &[Slot::Word("batch")],
+            Form::Fsck => &[Slot::Word("fsck")],
             Form::ShowCommit => &[Slot::Word("show"), Slot::Word("commit")],
             Form::ShowDirTree => &[Slot::Word("show"), Slot::Word("dirtree")],
             Form::ShowDirMeta => &[Slot::Word("show"), Slot::Word("dirmeta")],
@@ -247,6 +250,7 @@ impl Form {
                 Command::Filter(PolicySource::System(from_at(alloc, words, 2)?))
             }
             Form::Batch => Command::Batch,
+            Form::Fsck => Command::Fsck,
             Form::ShowCommit => Command::Show(Shown::Commit),
             Form::ShowDirTree => Command::Show(Shown::DirTree),
             Form::ShowDirMeta => Command::Show(Shown::DirMeta),

@@ -1,5 +1,5 @@
 mod Picking
 mod Judged
 mod Reporting
-mod Single
+pub mod Single
 mod Samples

@@ -1,0 +1,34 @@
+//! The lines of a store that was checked.
+ghost use Rattle.std.specs.Prelude.{◌≡◌, IfOk};
+ghost use Rattle.fl_lines.specs.Lines.{bad_text, stray_text, fsck_text};
+
+use crate::escaping::escape;
+use crate::lines::{line_of_two, object_of};
+use fp_base::{ObjKind, Text};
+use fp_host::Path;
+use fp_name::Digest;
+use std::alloc::{AllocError, Global};
+
+/// The line of an object that isn't what its name says.
+pub fn bad_line(alloc: Global, digest: &Digest, kind: ObjKind) -> Result<Text, AllocError>
+    ensures { IfOk result (λ t. t ≡ bad_text digest.now kind) }
+{
+    let object = object_of(alloc, digest, kind)?;
+    line_of_two(alloc, "bad", object.as_str())
+}
+
+/// The line of a file or link whose path is the name of no object.
+pub fn stray_line(alloc: Global, path: &Path) -> Result<Text, AllocError>
+    ensures { IfOk result (λ t. t ≡ stray_text path.now) }
+{
+    let path = escape(alloc, path.text())?;
+    line_of_two(alloc, "stray", path.as_str())
+}
+
+/// The line of how many objects a store has, and how many of them are bad.
+pub fn fsck_line(alloc: Global, objects: u64, bad: u64) -> Result<Text, AllocError>
+    ensures { IfOk result (λ t. t ≡ fsck_text objects bad) }
+{
+    let text = format!(in alloc; "fsck {objects} objects, {bad} bad\n")?;
+    Ok(Text::from_string(text))
+}
