@@ -18,7 +18,7 @@ use Rattle.dep_states.specs.After.{Done, after_all}
 use Rattle.fl_lines.specs.Lines.{refusal_text, refs_text, pins_text, remotes_text}
 use Rattle.fl_words.specs.Batch.{batch_of}
 use Rattle.fl_words.specs.declared.command.Command.{Command}
-use Rattle.fl_words.specs.declared.command.Command.TheVariants.{Change as Changing, List as Listed, Show as Showing, Filter as Filtering, Batch}
+use Rattle.fl_words.specs.declared.command.Command.TheVariants.{Change as Changing, List as Listed, Show as Showing, Filter as Filtering, Batch, Fsck}
 use Rattle.fl_words.specs.declared.command.Change.{Change}
 use Rattle.fl_words.specs.declared.command.Listing.{Listing}
 use Rattle.fl_words.specs.declared.command.Listing.TheVariants as listings
@@ -36,7 +36,8 @@ use Rattle.fl_sandbox.specs.Refusals.{MayRefuse}
 use Rattle.fl_sandbox.proofs.Refusing.{launch_refuses}
 use Rattle.fl_change.specs.World.{World}
 use Rattle.fl_change.specs.Answer.{Answer, Piece, lines_of, last_of, joined, ops_in, ops_of, text_answer, refusal_answer}
-use Rattle.fl_top.specs.Answer.{Given, listed, override_text, shown_by, over, of_batch, answer_over, by_read, by_value, by_type, commit_shown, tree_shown, meta_shown, value_shown, over_input, launch_over, of_launch, on_session, on_system, rules_over, by_rules, of_recording, filtered_by, filter_by}
+use Rattle.fl_top.specs.Fsck.{report_text}
+use Rattle.fl_top.specs.Answer.{Given, listed, checked, override_text, shown_by, over, of_batch, answer_over, by_read, by_value, by_type, commit_shown, tree_shown, meta_shown, value_shown, over_input, launch_over, of_launch, on_session, on_system, rules_over, by_rules, of_recording, filtered_by, filter_by}
 use Rattle.fl_change.specs.Turns.{changing}
 use Rattle.fl_top.specs.Objects.{commit_lines, tree_lines, meta_lines}
 use Rattle.gv_value.specs.Shape.{Shape}
@@ -355,3 +356,4 @@ command_plain (Listed listing) given shown = over_plain (listed listing) shown (
 command_plain (Showing thing) given shown = input_plain (shown_by thing) given.input (shown_plain thing given.input)
 command_plain (Filtering source) given shown = input_plain (filter_by source shown) given.input (filter_plain source shown given.input)
 command_plain Batch given shown = input_plain (λ bytes. of_batch (batch_of bytes) given.held shown) given.input (batch_plain (batch_of given.input) given.held shown)
+command_plain Fsck given shown = over_plain (checked given.report) shown (λ x. told_plain (report_text given.report))

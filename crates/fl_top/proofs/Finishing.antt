@@ -28,7 +28,7 @@ use Rattle.fl_top.specs.Answer.{Given, answer, answer_to, answer_over, over, ove
 use Rattle.fl_change.specs.Turns.{changing, MayDo}
 use Rattle.fl_top.specs.Asked.{OpsBy, OpsFor}
 use Rattle.fp_small.specs.declared.op.Op.{Op}
-use Rattle.fl_top.specs.Runs.{Runs, Ran, Told, RunsBy, RanBy, IsGiven, IsGivenTo, Looks, IsReady, Serves, MayAnswer, WasTaken}
+use Rattle.fl_top.specs.Runs.{Runs, Ran, Told, RunsBy, RanBy, IsGiven, IsGivenTo, Looks, IsReady, Serves, HasCauses, MayAnswer, WasTaken}
 use Rattle.fl_top.specs.RunsOver.{RunsOver, LooksOver, EndedOver, LookedOver, RunsOn, EndedOn, RanOn, Ended, Closed, IsGivenBy, IsClosedBy, Takes, TakenBy}
 use Rattle.fl_change.specs.Says.{Says, Refuses}
 use Rattle.fl_top.specs.Status.{only_looks, reads_input, asks_remotes, IsAnswered, IsOfWords}
@@ -220,8 +220,8 @@ serves_change command v changes serves = elim serves [
 ]
 
 -- the cause of what changes something, and of what passes its fault on
-pub caused_change : {a : Option Moments} {F G : Type 0} (command : Command) (before now : ℕ) → only_looks command ≡ false → IsCaused F a IsReady before now → (G → F) → IsCaused G a (Serves (Some command)) before now
-caused_change command before now changes cause passes = record { later = cause.later; fault = λ is m told serves. cause.fault (passes is) m told (serves_change command m.now changes serves) }
+pub caused_change : {a : Option Moments} {F G : Type 0} (command : Command) (before now : ℕ) → only_looks command ≡ false → IsCaused F a IsReady before now → (G → F) → IsCaused G a (HasCauses (Some command)) before now
+caused_change command before now changes cause passes = record { later = cause.later; fault = λ is m told can. cause.fault (passes is) m told (serves_change command m.now changes can.serves) }
 
 -- of a call after others, which leave the count no lower
 pub caused_after : {a b : Option Moments} {R Q : View → View → Type 0} {C D : View → Type 0} {F G : Type 0} (n m k : ℕ) → n ≤ m → Goes a b R Q → ((u w : View) → Q u w → C u → D w) → IsCaused F b D m k → (G → F) → IsCaused G a C n k

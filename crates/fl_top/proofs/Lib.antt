@@ -13,3 +13,4 @@ pub mod Forwarding
 pub mod Finding
 pub mod ShowInput
 pub mod Shown
+mod Checked

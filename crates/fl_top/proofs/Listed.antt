@@ -71,16 +71,16 @@ tells text {u = u} {w = w} said_it = record {
 
 -- ---- what was read
 
-reads_opened : (e : OpenEnd) (u w : View) → Reads u (Err e) → Opened (Err e) u w
+pub reads_opened : (e : OpenEnd) (u w : View) → Reads u (Err e) → Opened (Err e) u w
 reads_opened (open_end.Damaged path) u w is = is
 reads_opened open_end.Fault u w is = tt
 reads_opened open_end.NoMemory u w is = tt
 
-keeping : {u w : View} → w ≡ u → Keeping u w
+pub keeping : {u w : View} → w ≡ u → Keeping u w
 keeping {u = u} same = subst (Keeping u) (sym same) unchanged
 
 -- nothing is done yet
-looks : (f : World → Answer) {u w : View} → w ≡ u → LooksOver f u w
+pub looks : (f : World → Answer) {u w : View} → w ≡ u → LooksOver f u w
 looks f same = record { runs = λ shown counts. begun (over f shown) (keeping same) (λ why. same_untouched same); untouched = same_untouched same }
 
 pub goes_not_read : {a b : Option Moments} (f : World → Answer) (e : OpenEnd) (r : Result (Unit {0}) RunEnd) → IsTold a → Unchanged a b → AtEnd (λ u w. Reads u (Err e)) a b → IsErrAnd r (λ end. end ≡ end_of_open e) → Goes a b (LooksOver f) (LookedOver f r)

@@ -14,7 +14,7 @@ use Rattle.fl_words.specs.declared.command.Command.{Command}
 use Rattle.fl_change.specs.World.{World}
 use Rattle.fl_change.specs.Answer.{Answer, text_answer}
 use Rattle.fl_top.specs.Answer.{Given, shown_by, answer_over}
-use Rattle.fl_top.specs.Runs.{Runs, Stands, Told, IsGivenTo, Serves}
+use Rattle.fl_top.specs.Runs.{Runs, Stands, Told, IsGivenTo, HasCauses}
 use Rattle.fl_top.specs.RunsOver.{RunsOn, EndedOn, Closed}
 use Rattle.fl_change.specs.Says.{Says, SaidBy}
 use Rattle.fl_words.specs.declared.command.Command.TheVariants.{Show as Showing}
@@ -104,7 +104,7 @@ said_fault s r e was err fault = was ∙ ap (λ (x : HostEnd). Err x) (of_host e
     of_host host.Fault same = refl
     of_host host.NoMemory same = absurd (cc same)
 
-pub show_causes : {a : Option Moments} {F : Type 0} {before now : ℕ} (command : Command) → IsCaused F a (λ v. Unit {0}) before now → IsCaused F a (Serves (Some command)) before now
+pub show_causes : {a : Option Moments} {F : Type 0} {before now : ℕ} (command : Command) → IsCaused F a (λ v. Unit {0}) before now → IsCaused F a (HasCauses (Some command)) before now
 show_causes command cause = record { later = cause.later; fault = λ is m told serves. cause.fault is m told tt }
 
 -- and no call of the remotes

@@ -22,7 +22,7 @@ use Rattle.fp_small.specs.declared.state.RefRow.{RefRow}
 use Rattle.fl_installed.specs.Described.{info_in}
 use Rattle.fl_installed.specs.declared.info.Info.{Info}
 use Rattle.fl_words.specs.declared.command.Command.{Command}
-use Rattle.fl_words.specs.declared.command.Command.TheVariants.{Change as Changing, List as Listed, Show as Showing, Filter as Filtering, Batch}
+use Rattle.fl_words.specs.declared.command.Command.TheVariants.{Change as Changing, List as Listed, Show as Showing, Filter as Filtering, Batch, Fsck}
 use Rattle.fl_words.specs.declared.command.Change.{Change}
 use Rattle.fl_words.specs.declared.command.Listing.{Listing}
 use Rattle.fl_words.specs.declared.command.Listing.TheVariants as listings
@@ -40,6 +40,8 @@ use Rattle.fl_launch.specs.declared.launching.LaunchText.{LaunchText}
 use Rattle.fl_sandbox.specs.Launching.{launch_in}
 use Rattle.fl_words.specs.Forms.{command_of, bad_index}
 use Rattle.fl_words.specs.Batch.{batch_of}
+use Rattle.ost_fsck.specs.declared.report.Report.{Report}
+use Rattle.fl_top.specs.Fsck.{report_text}
 use Rattle.fl_top.specs.Input.{input_most}
 use Rattle.fl_change.specs.World.{World, used_of}
 use Rattle.fl_lines.specs.Lines.{refs_text, pins_text, remotes_text, info_text}
@@ -54,10 +56,11 @@ use Rattle.fl_top.specs.Objects.{head, commit_lines, tree_lines, meta_lines, nor
 use Rattle.fl_change.specs.Turns.{changing}
 use Rattle.fl_change.specs.Answer.{Answer, Piece, refusal_answer, text_answer}
 
--- what a run is given beside the installation: its input, and what the remotes hold
+-- what a run is given beside the installation's state: its input, what the remotes hold, and what is found in the installation's store
 pub record Given : Type 0 where
   pub input : List ℕ
   pub held : Holdings
+  pub report : Report
 
 -- ---- what is listed of a world
 
@@ -87,6 +90,10 @@ listed listings.Remotes x = text_answer (remotes_text x.state.remotes)
 listed (listings.Info name) x = known_of name x
 listed (listings.Launch name options) x = launched_of (launch_in x.have x.state name options)
 listed (listings.OverrideShow name) x = text_answer (override_text x.state name)
+
+-- what is found in the store, whatever the world
+abbrev pub checked : Report → World → Answer
+checked report x = text_answer (report_text report)
 
 -- ---- what is shown of an input
 
@@ -199,6 +206,7 @@ answer_over (Listed listing) given shown = over (listed listing) shown
 answer_over (Showing thing) given shown = over_input (shown_by thing) given.input
 answer_over (Filtering source) given shown = over_input (filter_by source shown) given.input
 answer_over Batch given shown = over_input (λ bytes. of_batch (batch_of bytes) given.held shown) given.input
+answer_over Fsck given shown = over (checked given.report) shown
 
 abbrev pub answer_to : List (List ℕ) → Option Command → Given → Result World Elements → Answer
 answer_to words None given shown = refusal_answer (BadWords (bad_index words))

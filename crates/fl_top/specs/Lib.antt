@@ -1,3 +1,4 @@
+pub mod Fsck
 pub mod Answer
 pub mod Status
 pub mod Asked

@@ -3,8 +3,10 @@ use Rattle.std.specs.Prelude.{◌≡◌, ◌≢◌, ◌⊎◌, ℕ, true, false,
 use Rattle.fp_host.specs.Paths.{Elements}
 use Rattle.fp_host.specs.Remote.{Holdings}
 use Rattle.fp_host.specs.View.{View}
+use Rattle.fp_host.specs.Moments.{Moments}
 use Rattle.fp_host.specs.Outcome.{Disk, Leaves, shows}
 use Rattle.fp_small.specs.declared.state.State.{State}
+use Rattle.ost_fsck.specs.declared.report.Report.{Report}
 use Rattle.dep_states.specs.Shown.{Shows}
 use Rattle.dep_states.specs.Sound.{Sound, IsSound}
 use Rattle.dep_states.specs.After.{Done, after_all}
@@ -17,7 +19,8 @@ use Rattle.fl_change.specs.Answer.{Answer, Piece, lines_of, joined, ops_in, ops_
 use Rattle.fl_top.specs.Answer.{Given, answer, IsOver, IsAtOnce}
 use Rattle.fl_top.specs.Input.{IsDrained}
 use Rattle.fl_change.specs.Changes.{Changes, OnlyTidied, IsUntouched, HasText}
-use Rattle.fl_top.specs.Status.{status_at, IsAnswered, only_looks, reads_input, asks_remotes}
+use Rattle.fl_top.specs.Fsck.{Finds, IsListable}
+use Rattle.fl_top.specs.Status.{status_at, IsAnswered, only_looks, reads_input, asks_remotes, checks_store}
 use Rattle.fl_change.specs.Performs.{Printed, AsksBy}
 use Rattle.fp_small.specs.declared.op.Op.{Op}
 use Rattle.op_bring.specs.Bringing.{AreTold}
@@ -82,19 +85,30 @@ abbrev pub Looks : Option Command → Type 0
 Looks None = Unit {0}
 Looks (Some command) = only_looks command ≡ true
 
--- what source and remotes tell: what is left of the input, and what the remotes hold
+-- a command that looks at each object of the store
+abbrev pub Checks : Option Command → Type 0
+Checks None = ⊥
+Checks (Some command) = checks_store command ≡ true
+
+-- what source, remotes and host tell at the start: what is left of the input, what the remotes hold, and what stands there
 pub record Told : Type 0 where
   pub left : Option (List ℕ)
   pub holds : Option Holdings
+  pub moments : Option Moments
 
-abbrev pub told : Option (List ℕ) → Option Holdings → Told
-told left holds = record { left = left; holds = holds }
+abbrev pub told : Option (List ℕ) → Option Holdings → Option Moments → Told
+told left holds moments = record { left = left; holds = holds; moments = moments }
 
--- The command is given this: as its input all that is left, where it reads the input; and what the remotes hold, where it asks
--- them. Else it may be given any.
+-- this is found in the store at the start
+abbrev pub IsFoundAt : Option Moments → Report → Type 0
+IsFoundAt moments report = (m : Moments) → moments ≡ Some m → Finds (shows m.now) report
+
+-- The command is given this: as its input all that is left, where it reads the input; what the remotes hold, where it asks them;
+-- and what is found in the store, where it looks at that. Else it may be given any.
 pub record IsGivenTo (command : Command) (t : Told) (given : Given) : Type 0 where
   pub input : (reads_input command ≡ false) ⊎ (t.left ≡ Some given.input)
   pub held : (asks_remotes command ≡ false) ⊎ (t.holds ≡ Some given.held)
+  pub report : (checks_store command ≡ false) ⊎ IsFoundAt t.moments given.report
 
 abbrev pub IsGiven : Told → Option Command → Given → Type 0
 IsGiven t None given = Unit {0}
@@ -112,6 +126,11 @@ IsKnown May holds v = AsksBy May → AreTold holds × IsReady v
 -- only looks needs neither.
 abbrev pub Serves : Option Command → View → Type 0
 Serves command v = Looks command ⊎ IsReady v
+
+-- So a fault of a command has a cause. One that looks at each object of the store needs besides that no path there is too long.
+pub record HasCauses (command : Option Command) (v : View) : Type 0 where
+  pub serves : Serves command v
+  pub listable : Checks command → IsListable v
 
 -- Over such an installation a command gives its answer; and over each one, where words or input are refused.
 abbrev pub MayAnswer : Option Command → View → Answer → Type 0

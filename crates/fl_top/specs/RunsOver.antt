@@ -5,6 +5,7 @@ use Rattle.fp_host.specs.Remote.{Holdings}
 use Rattle.fp_host.specs.View.{View}
 use Rattle.fp_host.specs.Outcome.{Disk, Leaves, shows}
 use Rattle.fp_small.specs.declared.state.State.{State}
+use Rattle.ost_fsck.specs.declared.report.Report.{Report}
 use Rattle.dep_states.specs.Shown.{Shows}
 use Rattle.dep_states.specs.Sound.{IsSound}
 use Rattle.dep_states.specs.After.{after_all}
@@ -14,7 +15,8 @@ use Rattle.fl_words.specs.declared.command.Command.{Command}
 use Rattle.fl_change.specs.World.{World}
 use Rattle.fl_change.specs.Answer.{Answer, joined, ops_of, set_config}
 use Rattle.fp_small.specs.declared.op.Op.{Op}
-use Rattle.fl_top.specs.Answer.{Given, over, answer_over, IsOver}
+use Rattle.fl_top.specs.Answer.{Given, over, answer_over, checked, IsOver}
+use Rattle.fl_top.specs.Fsck.{Finds, HasReport}
 use Rattle.fl_top.specs.Asked.{OpsBy}
 use Rattle.fl_top.specs.Runs.{Runs, Ran, Stands, IsJust, Told, IsGivenTo, IsReady, IsKnown, MayAnswer}
 use Rattle.fl_change.specs.Changes.{Changes, IsUntouched, HasText}
@@ -76,6 +78,19 @@ pub record EndedOver (holds : Option Holdings) (f : Holdings → World → Answe
 pub record LookedOver (f : World → Answer) (result : Result (Unit {0}) RunEnd) (u w : View) : Type 0 where
   pub ended : OverView f u (λ a. Ended a result u w)
   pub given : HasOver f result u
+
+-- ---- what is found in the store
+
+-- So much of each report of the store was printed, and nothing changes.
+pub record ChecksOver (u w : View) : Type 0 where
+  pub runs : (report : Report) → Finds (shows u) report → OverView (checked report) u (λ a. Runs a u w)
+  pub untouched : IsUntouched u w
+
+-- So it ended for each; and there is one, where the whole answer was given.
+pub record CheckedOver (result : Result (Unit {0}) RunEnd) (u w : View) : Type 0 where
+  pub ended : (report : Report) → Finds (shows u) report → OverView (checked report) u (λ a. Ended a result u w)
+  pub given : (report : Report) → HasOver (checked report) result u
+  pub found : IsGivenBy result → HasReport (shows u)
 
 -- ---- the same for a command and what it is given
 

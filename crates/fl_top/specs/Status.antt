@@ -3,7 +3,7 @@ use Rattle.std.specs.Prelude.{◌≡◌, ◌≤◌, ◌⊎◌, ℕ, Bool, true, 
 use Rattle.fp_small.specs.declared.refusal.Refusal.{Refusal}
 use Rattle.fp_small.specs.declared.refusal.Refusal.TheVariants.{BadWords}
 use Rattle.fl_words.specs.declared.command.Command.{Command}
-use Rattle.fl_words.specs.declared.command.Command.TheVariants.{Change as Changing, List as Listed, Show as Showing, Filter as Filtering, Batch}
+use Rattle.fl_words.specs.declared.command.Command.TheVariants.{Change as Changing, List as Listed, Show as Showing, Filter as Filtering, Batch, Fsck}
 use Rattle.fl_change.specs.Answer.{Answer}
 
 -- 0 done, 1 refused, 2 no command, 3 a fault of the host, 4 a fault of the remotes, 5 a fault of the input, 6 want of memory
@@ -21,6 +21,7 @@ only_looks (Listed listing) = true
 only_looks (Showing thing) = true
 only_looks (Filtering source) = true
 only_looks Batch = false
+only_looks Fsck = true
 
 abbrev pub reads_input : Command → Bool
 reads_input (Changing change) = false
@@ -28,6 +29,7 @@ reads_input (Listed listing) = false
 reads_input (Showing thing) = true
 reads_input (Filtering source) = true
 reads_input Batch = true
+reads_input Fsck = false
 
 -- what it does may depend on what the remotes hold
 abbrev pub asks_remotes : Command → Bool
@@ -36,6 +38,16 @@ asks_remotes (Listed listing) = false
 asks_remotes (Showing thing) = false
 asks_remotes (Filtering source) = false
 asks_remotes Batch = true
+asks_remotes Fsck = false
+
+-- it looks at each object of the store
+abbrev pub checks_store : Command → Bool
+checks_store (Changing change) = false
+checks_store (Listed listing) = false
+checks_store (Showing thing) = false
+checks_store (Filtering source) = false
+checks_store Batch = false
+checks_store Fsck = true
 
 -- 2 for words that are no command, 1 for every other refusal
 abbrev pub status_of : Refusal → ℕ

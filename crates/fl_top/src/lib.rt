@@ -1,6 +1,7 @@
 //! The run of a command.
 #![tactic(auto)]
 
+mod checking;
 mod command_end;
 mod filtering;
 mod input;

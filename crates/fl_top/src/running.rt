@@ -10,11 +10,14 @@ ghost use Rattle.fl_words.specs.Forms.{command_of};
 ghost use Rattle.fl_words.specs.declared.command.Command.TheVariants.{Show as Showing, Filter as Filtering, Batch};
 ghost use Rattle.fl_change.specs.Says.{Says, SaidBy, Refuses};
 ghost use Rattle.fl_change.specs.Turns.{changing, MayDo};
+ghost use Rattle.fp_host.specs.Outcome.{shows};
+ghost use Rattle.fl_top.specs.Fsck.{HasReport};
 ghost use Rattle.fl_top.specs.Asked.{OpsBy, OpsFor, AreToldFor, AsksRemotes};
-ghost use Rattle.fl_top.specs.RunsOver.{RunsOver, EndedOver, RunsOn, EndedOn, RanOn, Takes, TakenBy};
-ghost use Rattle.fl_top.specs.Runs.{RunsBy, RanBy, told, WasTaken, IsReady, Serves};
-ghost use Rattle.fl_top.specs.Status.{IsStatus, IsOfWords, IsOfCommand, only_looks, reads_input};
+ghost use Rattle.fl_top.specs.RunsOver.{RunsOver, EndedOver, RunsOn, EndedOn, RanOn, Takes, TakenBy, IsClosedBy};
+ghost use Rattle.fl_top.specs.Runs.{RunsBy, RanBy, Checks, told, WasTaken, IsReady, HasCauses};
+ghost use Rattle.fl_top.specs.Status.{IsStatus, IsAnswered, IsOfWords, IsOfCommand, only_looks, reads_input};
 
+use crate::checking::check;
 use crate::command_end::CommandEnd;
 use crate::filtering::filter_bytes;
 use crate::input::read_input;
@@ -46,14 +49,18 @@ pub fn run<H: Host, R: Remotes, I: Source>(
     // Wherever the host stops: what was printed are the first pieces of the answer, and the installation is the one after a
     // prefix of its operations that holds each acknowledged one.
     ensures any_moment { Always (RunsBy (map string_bytes words.now)
-        (told (I.left input.old) (R.holds remotes.old))) (H.moments host.old) (H.moments host.new) }
+        (told (I.left input.old) (R.holds remotes.old) (H.moments host.old))) (H.moments host.old) (H.moments host.new) }
     // What was printed, the status and the state are the answer's; every stop leaves the acknowledged operations.
     ensures at_return { AtEnd (RanBy (map string_bytes words.now)
-        (told (I.left input.old) (R.holds remotes.old)) result)
+        (told (I.left input.old) (R.holds remotes.old) (H.moments host.old)) result)
         (H.moments host.old) (H.moments host.new) }
     ensures fault_has_cause { IsCaused (AreToldFor (OpsFor (command_of (map string_bytes words.now))
         (I.left input.old)) (R.holds remotes.old) × (result ≡ 3)) (H.moments host.old)
-        (Serves (command_of (map string_bytes words.now))) (H.faults host.old) (H.faults host.new) }
+        (HasCauses (command_of (map string_bytes words.now))) (H.faults host.old) (H.faults host.new) }
+    // Where a command that looks at each object of the store gave its whole answer, the store has a report, or no state is shown
+    // (so that this isn't said of nothing).
+    ensures found { Checks (command_of (map string_bytes words.now)) → IsAnswered result → AtEnd
+        (λ u w. HasReport (shows u)) (H.moments host.old) (H.moments host.new) }
     // The remotes stay as they are. Where the command brings no commit they aren't asked, and the status isn't 4; else it comes
     // only where their count rose.
     ensures remotes { AsksRemotes (OpsFor (command_of (map string_bytes words.now)) (I.left input.old))
@@ -83,11 +90,13 @@ fn run_command<H: Host, R: Remotes, I: Source>(
 ) -> u8
     ensures status { IsOfCommand command result }
     ensures any_moment { Goes (H.moments host.old) (H.moments host.new)
-        (RunsOn command (told (I.left input.old) (R.holds remotes.old)))
-        (RanOn command (told (I.left input.old) (R.holds remotes.old)) result) }
+        (RunsOn command (told (I.left input.old) (R.holds remotes.old) (H.moments host.old)))
+        (RanOn command (told (I.left input.old) (R.holds remotes.old) (H.moments host.old)) result) }
     ensures fault_has_cause { IsCaused (AreToldFor (OpsBy command (I.left input.old))
-        (R.holds remotes.old) × (result ≡ 3)) (H.moments host.old) (Serves (Some command))
+        (R.holds remotes.old) × (result ≡ 3)) (H.moments host.old) (HasCauses (Some command))
         (H.faults host.old) (H.faults host.new) }
+    ensures found { Checks (Some command) → IsAnswered result → AtEnd (λ u w. HasReport (shows u))
+        (H.moments host.old) (H.moments host.new) }
     ensures remotes { AsksRemotes (OpsBy command (I.left input.old)) (result ≡ 4)
         (R.holds remotes.old) (R.holds remotes.new) (R.faults remotes.old) (R.faults remotes.new) }
     ensures input { result ≡ 5 → Rose (I.faults input.old) (I.faults input.new) × Unchanged
@@ -114,11 +123,13 @@ fn perform<H: Host, R: Remotes, I: Source>(
     command: Command,
 ) -> Result<(), CommandEnd>
     ensures any_moment { Goes (H.moments host.old) (H.moments host.new)
-        (RunsOn command (told (I.left input.old) (R.holds remotes.old)))
-        (EndedOn command (told (I.left input.old) (R.holds remotes.old)) result) }
+        (RunsOn command (told (I.left input.old) (R.holds remotes.old) (H.moments host.old)))
+        (EndedOn command (told (I.left input.old) (R.holds remotes.old) (H.moments host.old)) result) }
     ensures fault_has_cause { IsCaused (AreToldFor (OpsBy command (I.left input.old))
         (R.holds remotes.old) × IsErrOf result CommandEnd.Fault) (H.moments host.old)
-        (Serves (Some command)) (H.faults host.old) (H.faults host.new) }
+        (HasCauses (Some command)) (H.faults host.old) (H.faults host.new) }
+    ensures found { Checks (Some command) → IsClosedBy result → AtEnd (λ u w. HasReport (shows u))
+        (H.moments host.old) (H.moments host.new) }
     ensures remotes { AsksRemotes (OpsBy command (I.left input.old))
         (IsErrOf result CommandEnd.RemoteFault) (R.holds remotes.old) (R.holds remotes.new)
         (R.faults remotes.old) (R.faults remotes.new) }
@@ -135,6 +146,7 @@ fn perform<H: Host, R: Remotes, I: Source>(
         Command::Show(thing) => show(alloc, input, host, &thing),
         Command::Filter(source) => filter(alloc, input, host, &source),
         Command::Batch => batch(alloc, input, host, remotes),
+        Command::Fsck => Ok(check(alloc, host)?),
     }
 }
 
@@ -146,8 +158,8 @@ fn show<H: Host, I: Source>(
     thing: &Shown,
 ) -> Result<(), CommandEnd>
     ensures any_moment { (holds : Option Holdings) → Goes (H.moments host.old) (H.moments host.new)
-        (RunsOn (Showing thing.now) (told (I.left input.old) holds))
-        (EndedOn (Showing thing.now) (told (I.left input.old) holds) result) }
+        (RunsOn (Showing thing.now) (told (I.left input.old) holds (H.moments host.old)))
+        (EndedOn (Showing thing.now) (told (I.left input.old) holds (H.moments host.old)) result) }
     ensures fault_has_cause { IsCounted (IsErrOf result CommandEnd.Fault)
         (H.moments host.old) (H.faults host.old) (H.faults host.new) }
     ensures no_remote_fault { IsErrOf result CommandEnd.RemoteFault → ⊥ }
@@ -170,8 +182,8 @@ fn filter<H: Host, I: Source>(
     source: &PolicySource,
 ) -> Result<(), CommandEnd>
     ensures any_moment { (holds : Option Holdings) → Goes (H.moments host.old) (H.moments host.new)
-        (RunsOn (Filtering source.now) (told (I.left input.old) holds))
-        (EndedOn (Filtering source.now) (told (I.left input.old) holds) result) }
+        (RunsOn (Filtering source.now) (told (I.left input.old) holds (H.moments host.old)))
+        (EndedOn (Filtering source.now) (told (I.left input.old) holds (H.moments host.old)) result) }
     ensures fault_has_cause { IsCounted (IsErrOf result CommandEnd.Fault)
         (H.moments host.old) (H.faults host.old) (H.faults host.new) }
     ensures no_remote_fault { IsErrOf result CommandEnd.RemoteFault → ⊥ }
@@ -193,8 +205,8 @@ fn batch<H: Host, R: Remotes, I: Source>(
     remotes: &mut R,
 ) -> Result<(), CommandEnd>
     ensures any_moment { Goes (H.moments host.old) (H.moments host.new)
-        (RunsOn Batch (told (I.left input.old) (R.holds remotes.old)))
-        (EndedOn Batch (told (I.left input.old) (R.holds remotes.old)) result) }
+        (RunsOn Batch (told (I.left input.old) (R.holds remotes.old) (H.moments host.old)))
+        (EndedOn Batch (told (I.left input.old) (R.holds remotes.old) (H.moments host.old)) result) }
     ensures fault_has_cause { IsCaused (AreToldFor (OpsBy Batch (I.left input.old))
         (R.holds remotes.old) × IsErrOf result CommandEnd.Fault) (H.moments host.old) IsReady
         (H.faults host.old) (H.faults host.new) }

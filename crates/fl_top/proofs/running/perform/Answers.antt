@@ -1,21 +1,27 @@
-use Rattle.std.proofs.Common.{[], ◌∷◌, Some, Ok, IsErrOf, refl, sym, subst}
+use Rattle.std.proofs.Common.{[], ◌∷◌, Some, Ok, IsErrOf, refl, sym, ap, subst}
 use Rattle.fp_host.specs.Causes.{IsCaused}
 use Rattle.fp_host.specs.Moments.{Goes}
 use Rattle.fl_words.specs.declared.command.Command.{Command}
-use Rattle.fl_words.specs.declared.command.Command.TheVariants.{Change as Changing, List as Listed, Batch}
+use Rattle.fl_words.specs.declared.command.Command.TheVariants.{Change as Changing, List as Listed, Show as Showing, Filter as Filtering, Batch, Fsck}
 use Rattle.fl_top.specs.Asked.{OpsBy, AreToldFor, AsksRemotes}
-use Rattle.fl_top.specs.Runs.{told, Serves}
+use Rattle.fl_top.specs.Runs.{told, HasCauses}
 use Rattle.fl_change.specs.Turns.{changing, MayDo}
 use Rattle.fl_top.specs.Answer.{listed}
 use Rattle.fl_top.specs.RunsOver.{RunsOn, EndedOn}
+use Rattle.fl_top.specs.Status.{checks_store}
+use Rattle.fl_top.specs.Ends.{end_of_run}
 use Rattle.fl_top.specs.declared.command_end.CommandEnd.TheVariants.{Fault, RemoteFault}
 use Rattle.fl_top.proofs.Asked.{asks_more}
 use Rattle.fl_top.proofs.Finishing.{goes_look, goes_not_looked, change_changes, goes_change, goes_not_changed, caused_change, run_fault, run_remote}
+use Rattle.fp_host.proofs.Ending.{ends_goes, ends_to}
+use Rattle.fl_top.specs.RunsOver.{IsClosedBy}
+use Rattle.fl_top.proofs.Finishing.{given_by, is_end}
+use Rattle.fl_top.proofs.Checked.{goes_check, goes_not_check, not_checks}
 use Rattle.fl_top.proofs.running.perform.Goals as goal
 
 pub returns-in_err-make_changes-in-Change-clause-any_moment : goal.returns-in_err-make_changes-in-Change-clause-any_moment
 returns-in_err-make_changes-in-Change-clause-any_moment g c =
-    let t = told (g.I.Source.left c.args.input.now) (g.R.Remotes.holds c.args.remotes.now) in
+    let t = told (g.I.Source.left c.args.input.now) (g.R.Remotes.holds c.args.remotes.now) (g.H.Host.moments c.args.host.now) in
     let a = g.H.Host.moments c.args.host.now in
     let b = g.H.Host.moments c.make_changes.new.host in
     let r = c.from_residual.result in
@@ -24,7 +30,7 @@ returns-in_err-make_changes-in-Change-clause-any_moment g c =
 
 pub returns-in_ok-make_changes-in-Change-clause-any_moment : goal.returns-in_ok-make_changes-in-Change-clause-any_moment
 returns-in_ok-make_changes-in-Change-clause-any_moment g c =
-    let t = told (g.I.Source.left c.args.input.now) (g.R.Remotes.holds c.args.remotes.now) in
+    let t = told (g.I.Source.left c.args.input.now) (g.R.Remotes.holds c.args.remotes.now) (g.H.Host.moments c.args.host.now) in
     let a = g.H.Host.moments c.args.host.now in
     let b = g.H.Host.moments c.make_changes.new.host in
     subst (λ (k : Command). Goes a b (RunsOn k t) (EndedOn k t (Ok tt))) (sym c.in-Change.is)
@@ -35,7 +41,7 @@ returns-in_err-make_changes-in-Change-clause-fault_has_cause g c =
     let left = g.I.Source.left c.args.input.now in
     let holds = g.R.Remotes.holds c.args.remotes.now in
     let r = c.from_residual.result in
-    subst (λ (k : Command). IsCaused (AreToldFor (OpsBy k left) holds × IsErrOf r Fault) (g.H.Host.moments c.args.host.now) (Serves (Some k)) (g.H.Host.faults c.args.host.now) (g.H.Host.faults c.make_changes.new.host)) (sym c.in-Change.is)
+    subst (λ (k : Command). IsCaused (AreToldFor (OpsBy k left) holds × IsErrOf r Fault) (g.H.Host.moments c.args.host.now) (HasCauses (Some k)) (g.H.Host.faults c.args.host.now) (g.H.Host.faults c.make_changes.new.host)) (sym c.in-Change.is)
     (caused_change (Changing c.in-Change.change) _ _ refl c.make_changes.ensures.fault_has_cause (λ is. (is.0, run_fault c.make_changes.result r c.in_err-make_changes-in-Change.field-0.0 c.in_err-make_changes-in-Change.was c.from_residual.ensures.1 is.1)))
 
 pub returns-in_ok-make_changes-in-Change-clause-fault_has_cause : goal.returns-in_ok-make_changes-in-Change-clause-fault_has_cause
@@ -56,7 +62,7 @@ returns-in_ok-make_changes-in-Change-clause-remotes g c =
 
 pub returns-in_err-list-in-List-clause-any_moment : goal.returns-in_err-list-in-List-clause-any_moment
 returns-in_err-list-in-List-clause-any_moment g c =
-    let t = told (g.I.Source.left c.args.input.now) (g.R.Remotes.holds c.args.remotes.now) in
+    let t = told (g.I.Source.left c.args.input.now) (g.R.Remotes.holds c.args.remotes.now) (g.H.Host.moments c.args.host.now) in
     let a = g.H.Host.moments c.args.host.now in
     let b = g.H.Host.moments c.list.new.host in
     let r = c.from_residual-in_err-list-in-List.result in
@@ -65,7 +71,7 @@ returns-in_err-list-in-List-clause-any_moment g c =
 
 pub returns-in_ok-list-in-List-clause-any_moment : goal.returns-in_ok-list-in-List-clause-any_moment
 returns-in_ok-list-in-List-clause-any_moment g c =
-    let t = told (g.I.Source.left c.args.input.now) (g.R.Remotes.holds c.args.remotes.now) in
+    let t = told (g.I.Source.left c.args.input.now) (g.R.Remotes.holds c.args.remotes.now) (g.H.Host.moments c.args.host.now) in
     let a = g.H.Host.moments c.args.host.now in
     let b = g.H.Host.moments c.list.new.host in
     subst (λ (k : Command). Goes a b (RunsOn k t) (EndedOn k t (Ok tt))) (sym c.in-List.is)
@@ -75,10 +81,70 @@ pub returns-in-Batch-clause-fault_has_cause : goal.returns-in-Batch-clause-fault
 returns-in-Batch-clause-fault_has_cause g c =
     let left = g.I.Source.left c.args.input.now in
     let holds = g.R.Remotes.holds c.args.remotes.now in
-    subst (λ (k : Command). IsCaused (AreToldFor (OpsBy k left) holds × IsErrOf c.batch.result Fault) (g.H.Host.moments c.args.host.now) (Serves (Some k)) (g.H.Host.faults c.args.host.now) (g.H.Host.faults c.batch.new.host)) (sym c.in-Batch.is)
+    subst (λ (k : Command). IsCaused (AreToldFor (OpsBy k left) holds × IsErrOf c.batch.result Fault) (g.H.Host.moments c.args.host.now) (HasCauses (Some k)) (g.H.Host.faults c.args.host.now) (g.H.Host.faults c.batch.new.host)) (sym c.in-Batch.is)
     (caused_change Batch _ _ refl c.batch.ensures.fault_has_cause (λ is. is))
 
 pub returns-in-Batch-clause-remotes : goal.returns-in-Batch-clause-remotes
 returns-in-Batch-clause-remotes g c =
     let left = g.I.Source.left c.args.input.now in
     subst (λ (k : Command). AsksRemotes (OpsBy k left) (IsErrOf c.batch.result RemoteFault) (g.R.Remotes.holds c.args.remotes.now) (g.R.Remotes.holds c.batch.new.remotes) (g.R.Remotes.faults c.args.remotes.now) (g.R.Remotes.faults c.batch.new.remotes)) (sym c.in-Batch.is) c.batch.ensures.remotes
+
+-- ---- the store is checked
+
+pub returns-in_err-check-in-Fsck-clause-any_moment : goal.returns-in_err-check-in-Fsck-clause-any_moment
+returns-in_err-check-in-Fsck-clause-any_moment g c =
+    let t = told (g.I.Source.left c.args.input.now) (g.R.Remotes.holds c.args.remotes.now) (g.H.Host.moments c.args.host.now) in
+    let a = g.H.Host.moments c.args.host.now in
+    let b = g.H.Host.moments c.check.new.host in
+    let r = c.from_residual-in_err-check-in-Fsck.result in
+    subst (λ (k : Command). Goes a b (RunsOn k t) (EndedOn k t r)) (sym c.in-Fsck.is)
+    (goes_not_check t c.in_err-check-in-Fsck.field-0.0 r refl c.in_err-check-in-Fsck.ensures.any_moment c.from_residual-in_err-check-in-Fsck.ensures.1)
+
+pub returns-in_ok-check-in-Fsck-clause-any_moment : goal.returns-in_ok-check-in-Fsck-clause-any_moment
+returns-in_ok-check-in-Fsck-clause-any_moment g c =
+    let t = told (g.I.Source.left c.args.input.now) (g.R.Remotes.holds c.args.remotes.now) (g.H.Host.moments c.args.host.now) in
+    let a = g.H.Host.moments c.args.host.now in
+    let b = g.H.Host.moments c.check.new.host in
+    subst (λ (k : Command). Goes a b (RunsOn k t) (EndedOn k t (Ok tt))) (sym c.in-Fsck.is) (goes_check t refl c.in_ok-check-in-Fsck.ensures.any_moment)
+
+pub returns-in_err-check-in-Fsck-clause-fault_has_cause : goal.returns-in_err-check-in-Fsck-clause-fault_has_cause
+returns-in_err-check-in-Fsck-clause-fault_has_cause g c =
+    let r = c.from_residual-in_err-check-in-Fsck.result in
+    let cause = c.check.ensures.fault_has_cause in
+    record {
+      later = cause.later;
+      fault = λ is m at can. cause.fault (run_fault c.check.result r c.in_err-check-in-Fsck.field-0.0 c.in_err-check-in-Fsck.was c.from_residual-in_err-check-in-Fsck.ensures.1 is.1) m at (can.listable (ap checks_store c.in-Fsck.is));
+    }
+
+pub returns-in_ok-check-in-Fsck-clause-fault_has_cause : goal.returns-in_ok-check-in-Fsck-clause-fault_has_cause
+returns-in_ok-check-in-Fsck-clause-fault_has_cause g c = record { later = c.check.ensures.fault_has_cause.later; fault = λ is. absurd (cc is.1) }
+
+pub returns-in_err-check-in-Fsck-clause-found : goal.returns-in_err-check-in-Fsck-clause-found
+returns-in_err-check-in-Fsck-clause-found g c checks by =
+    let e = c.in_err-check-in-Fsck.field-0.0 in
+    let r = c.from_residual-in_err-check-in-Fsck.result in
+    ends_to (ends_goes (g.met.H.Host.is_tree c.args.host.now) c.in_err-check-in-Fsck.ensures.any_moment) (λ u w q. q.found (given_by e (subst IsClosedBy (is_end r (end_of_run e) c.from_residual-in_err-check-in-Fsck.ensures.1) by)))
+
+pub returns-in_ok-check-in-Fsck-clause-found : goal.returns-in_ok-check-in-Fsck-clause-found
+returns-in_ok-check-in-Fsck-clause-found g c checks by = ends_to (ends_goes (g.met.H.Host.is_tree c.args.host.now) c.in_ok-check-in-Fsck.ensures.any_moment) (λ u w q. q.found tt)
+
+pub returns-in_err-make_changes-in-Change-clause-found : goal.returns-in_err-make_changes-in-Change-clause-found
+returns-in_err-make_changes-in-Change-clause-found g c checks by = absurd (not_checks c.args.command (Changing c.in-Change.change) c.in-Change.is refl checks)
+
+pub returns-in_ok-make_changes-in-Change-clause-found : goal.returns-in_ok-make_changes-in-Change-clause-found
+returns-in_ok-make_changes-in-Change-clause-found g c checks by = absurd (not_checks c.args.command (Changing c.in-Change.change) c.in-Change.is refl checks)
+
+pub returns-in_err-list-in-List-clause-found : goal.returns-in_err-list-in-List-clause-found
+returns-in_err-list-in-List-clause-found g c checks by = absurd (not_checks c.args.command (Listed c.in-List.listing) c.in-List.is refl checks)
+
+pub returns-in_ok-list-in-List-clause-found : goal.returns-in_ok-list-in-List-clause-found
+returns-in_ok-list-in-List-clause-found g c checks by = absurd (not_checks c.args.command (Listed c.in-List.listing) c.in-List.is refl checks)
+
+pub returns-in-Show-clause-found : goal.returns-in-Show-clause-found
+returns-in-Show-clause-found g c checks by = absurd (not_checks c.args.command (Showing c.in-Show.thing) c.in-Show.is refl checks)
+
+pub returns-in-Filter-clause-found : goal.returns-in-Filter-clause-found
+returns-in-Filter-clause-found g c checks by = absurd (not_checks c.args.command (Filtering c.in-Filter.source) c.in-Filter.is refl checks)
+
+pub returns-in-Batch-clause-found : goal.returns-in-Batch-clause-found
+returns-in-Batch-clause-found g c checks by = absurd (not_checks c.args.command Batch c.in-Batch.is refl checks)

@@ -1,7 +1,8 @@
-use Rattle.std.proofs.Common.{◌≡◌, ◌∙◌, inl, inr, Result, Ok, Err, refl, subst, ap, arith}
+use Rattle.std.proofs.Common.{◌≡◌, ◌∙◌, inl, inr, Result, Ok, Err, refl, sym, subst, ap, arith}
 use Rattle.fp_host.specs.Moments.{Goes}
+use Rattle.fp_host.proofs.Ending.{ends_goes, ends_on}
 use Rattle.fl_top.specs.Runs.{told}
-use Rattle.fl_top.specs.RunsOver.{RunsOn, EndedOn, Takes}
+use Rattle.fl_top.specs.RunsOver.{RunsOn, EndedOn, Takes, IsClosedBy}
 use Rattle.fl_top.specs.declared.command_end.CommandEnd.{CommandEnd}
 use Rattle.fl_top.specs.declared.command_end.CommandEnd.TheVariants.{Refused}
 use Rattle.fl_top.proofs.Finishing.{goes_done, goes_fault, goes_remote, goes_input, goes_memory, goes_refused, taken_at, caused_after}
@@ -10,17 +11,17 @@ use Rattle.fl_top.proofs.Ending.{not_answered}
 use Rattle.fl_top.proofs.running.run_command.Goals as goal
 
 pub returns-in-Ok-clause-any_moment : goal.returns-in-Ok-clause-any_moment
-returns-in-Ok-clause-any_moment g c = goes_done c.args.command (told (g.I.Source.left c.args.input.now) (g.R.Remotes.holds c.args.remotes.now)) (g.met.H.Host.is_tree c.args.host.now) c.in-Ok.ensures.any_moment
+returns-in-Ok-clause-any_moment g c = goes_done c.args.command (told (g.I.Source.left c.args.input.now) (g.R.Remotes.holds c.args.remotes.now) (g.H.Host.moments c.args.host.now)) (g.met.H.Host.is_tree c.args.host.now) c.in-Ok.ensures.any_moment
 
 pub returns-in-Err-Refused-clause-any_moment : goal.returns-in-Err-Refused-clause-any_moment
 returns-in-Err-Refused-clause-any_moment g c =
-    let t = told (g.I.Source.left c.args.input.now) (g.R.Remotes.holds c.args.remotes.now) in
+    let t = told (g.I.Source.left c.args.input.now) (g.R.Remotes.holds c.args.remotes.now) (g.H.Host.moments c.args.host.now) in
     let performed = subst (λ (e : CommandEnd). Goes (g.H.Host.moments c.args.host.now) (g.H.Host.moments c.perform.new.host) (RunsOn c.args.command t) (EndedOn c.args.command t (Err e))) c.in-Err-Refused.field-0-is c.in-Err-Refused.ensures.any_moment in
     goes_refused c.args.command t c.in-Err-Refused.refusal c.refuse.result (g.met.H.Host.is_tree c.perform.new.host) performed c.refuse.ensures.any_moment
 
 pub returns-in-Err-Fault-clause-any_moment : goal.returns-in-Err-Fault-clause-any_moment
 returns-in-Err-Fault-clause-any_moment g c =
-    let t = told (g.I.Source.left c.args.input.now) (g.R.Remotes.holds c.args.remotes.now) in
+    let t = told (g.I.Source.left c.args.input.now) (g.R.Remotes.holds c.args.remotes.now) (g.H.Host.moments c.args.host.now) in
     goes_fault c.args.command t (g.met.H.Host.is_tree c.args.host.now) (subst (λ (e : CommandEnd). Goes (g.H.Host.moments c.args.host.now) (g.H.Host.moments c.perform.new.host) (RunsOn c.args.command t) (EndedOn c.args.command t (Err e))) c.in-Err-Fault.field-0-is c.in-Err-Fault.ensures.any_moment)
 
 pub returns-in-Err-Fault-clause-fault_has_cause : goal.returns-in-Err-Fault-clause-fault_has_cause
@@ -31,7 +32,7 @@ returns-in-Err-Fault-clause-fault_has_cause g c = record {
 
 pub returns-in-Err-RemoteFault-clause-any_moment : goal.returns-in-Err-RemoteFault-clause-any_moment
 returns-in-Err-RemoteFault-clause-any_moment g c =
-    let t = told (g.I.Source.left c.args.input.now) (g.R.Remotes.holds c.args.remotes.now) in
+    let t = told (g.I.Source.left c.args.input.now) (g.R.Remotes.holds c.args.remotes.now) (g.H.Host.moments c.args.host.now) in
     goes_remote c.args.command t (g.met.H.Host.is_tree c.args.host.now) (subst (λ (e : CommandEnd). Goes (g.H.Host.moments c.args.host.now) (g.H.Host.moments c.perform.new.host) (RunsOn c.args.command t) (EndedOn c.args.command t (Err e))) c.in-Err-RemoteFault.field-0-is c.in-Err-RemoteFault.ensures.any_moment)
 
 pub returns-in-Err-RemoteFault-clause-status : goal.returns-in-Err-RemoteFault-clause-status
@@ -52,12 +53,12 @@ returns-in-Err-Refused-clause-remotes g c = asks_more (λ op may. may) (λ four.
 
 pub returns-in-Err-InputFault-clause-any_moment : goal.returns-in-Err-InputFault-clause-any_moment
 returns-in-Err-InputFault-clause-any_moment g c =
-    let t = told (g.I.Source.left c.args.input.now) (g.R.Remotes.holds c.args.remotes.now) in
+    let t = told (g.I.Source.left c.args.input.now) (g.R.Remotes.holds c.args.remotes.now) (g.H.Host.moments c.args.host.now) in
     goes_input c.args.command t (g.met.H.Host.is_tree c.args.host.now) (subst (λ (e : CommandEnd). Goes (g.H.Host.moments c.args.host.now) (g.H.Host.moments c.perform.new.host) (RunsOn c.args.command t) (EndedOn c.args.command t (Err e))) c.in-Err-InputFault.field-0-is c.in-Err-InputFault.ensures.any_moment)
 
 pub returns-in-Err-NoMemory-clause-any_moment : goal.returns-in-Err-NoMemory-clause-any_moment
 returns-in-Err-NoMemory-clause-any_moment g c =
-    let t = told (g.I.Source.left c.args.input.now) (g.R.Remotes.holds c.args.remotes.now) in
+    let t = told (g.I.Source.left c.args.input.now) (g.R.Remotes.holds c.args.remotes.now) (g.H.Host.moments c.args.host.now) in
     goes_memory c.args.command t (g.met.H.Host.is_tree c.args.host.now) (subst (λ (e : CommandEnd). Goes (g.H.Host.moments c.args.host.now) (g.H.Host.moments c.perform.new.host) (RunsOn c.args.command t) (EndedOn c.args.command t (Err e))) c.in-Err-NoMemory.field-0-is c.in-Err-NoMemory.ensures.any_moment)
 
 pub returns-in-Ok-clause-taken : goal.returns-in-Ok-clause-taken
@@ -97,3 +98,25 @@ returns-in-Err-InputFault-clause-remotes g c = asks_more (λ op may. may) (λ fo
 
 pub returns-in-Err-NoMemory-clause-remotes : goal.returns-in-Err-NoMemory-clause-remotes
 returns-in-Err-NoMemory-clause-remotes g c = asks_more (λ op may. may) (λ four. absurd (let is : 6 ≡ 4 = four in omega (arith, is))) c.perform.ensures.remotes
+
+-- ---- what was found
+
+pub returns-in-Ok-clause-found : goal.returns-in-Ok-clause-found
+returns-in-Ok-clause-found g c checks answered = c.in-Ok.ensures.found checks tt
+
+pub returns-in-Err-Refused-clause-found : goal.returns-in-Err-Refused-clause-found
+returns-in-Err-Refused-clause-found g c checks answered =
+    let t = g.met.H.Host.is_tree in
+    ends_on (ends_goes (t c.perform.new.host) c.refuse.ensures.any_moment) (c.in-Err-Refused.ensures.found checks (subst (λ (e : CommandEnd). IsClosedBy (Err e)) (sym c.in-Err-Refused.field-0-is) tt)) (t c.perform.new.host) (λ u v w tree q s. q)
+
+pub returns-in-Err-Fault-clause-found : goal.returns-in-Err-Fault-clause-found
+returns-in-Err-Fault-clause-found g c checks answered = absurd (not_answered 3 (omega arith) answered)
+
+pub returns-in-Err-RemoteFault-clause-found : goal.returns-in-Err-RemoteFault-clause-found
+returns-in-Err-RemoteFault-clause-found g c checks answered = absurd (not_answered 4 (omega arith) answered)
+
+pub returns-in-Err-InputFault-clause-found : goal.returns-in-Err-InputFault-clause-found
+returns-in-Err-InputFault-clause-found g c checks answered = absurd (not_answered 5 (omega arith) answered)
+
+pub returns-in-Err-NoMemory-clause-found : goal.returns-in-Err-NoMemory-clause-found
+returns-in-Err-NoMemory-clause-found g c checks answered = absurd (not_answered 6 (omega arith) answered)

@@ -1,0 +1,116 @@
+//! What is found in the installation's store.
+ghost use Rattle.std.specs.Prelude.{◌≡◌, ◌++◌, ◌≤◌, length, count_by, flat_map, IfOk, OnOk, IsErrOf, string_bytes};
+ghost use Rattle.fp_host.specs.Causes.{IsCaused};
+ghost use Rattle.fp_host.specs.Frame.{AtEnd, Unchanged};
+ghost use Rattle.fp_host.specs.Moments.{Goes};
+ghost use Rattle.fp_host.specs.Outcome.{shows};
+ghost use Rattle.fp_small.specs.Places.{repo};
+ghost use Rattle.ost_store.specs.Names.{CanList};
+ghost use Rattle.fl_top.specs.Fsck.{finding_text as text_of_finding, is_bad as is_of_bad, report_text as text_of_report, IsReportText, IsListable};
+ghost use Rattle.fl_top.specs.RunsOver.{ChecksOver, CheckedOver};
+
+use dep_open::read_state;
+use fl_change::RunEnd;
+use fl_lines::{bad_line, fsck_line, stray_line};
+use fp_base::Text;
+use fp_host::{Host, HostEnd, Path};
+use ost_fsck::{Finding, Report, check_store};
+use std::alloc::{AllocError, Global};
+
+/// Prints what is wrong in the store, and how many objects it has.
+pub(crate) fn check<H: Host>(alloc: Global, host: &mut H) -> Result<(), RunEnd>
+    ensures any_moment { Goes (H.moments host.old) (H.moments host.new) ChecksOver
+        (CheckedOver result) }
+    ensures fault_has_cause { IsCaused (IsErrOf result RunEnd.Fault) (H.moments host.old)
+        IsListable (H.faults host.old) (H.faults host.new) }
+    ensures no_remote_fault { IsErrOf result RunEnd.RemoteFault → ⊥ }
+{
+    let state = read_state(alloc, host)?;
+    let text = checked_text(alloc, host)?;
+    host.say(text.as_str().as_bytes())?;
+    Ok(())
+}
+
+/// The text of what is found in the store.
+fn checked_text<H: Host>(alloc: Global, host: &mut H) -> Result<Text, HostEnd>
+    ensures unchanged { Unchanged (H.moments host.old) (H.moments host.new) }
+    ensures tells { IfOk result (λ text. AtEnd (λ u w. IsReportText (shows u) text)
+        (H.moments host.old) (H.moments host.new)) }
+    ensures fault_has_cause { IsCaused (IsErrOf result HostEnd.Fault) (H.moments host.old)
+        (CanList repo) (H.faults host.old) (H.faults host.new) }
+{
+    let root = repo(alloc)?;
+    let report = check_store(alloc, host, &root)?;
+    let text = report_text(alloc, &report)?;
+    Ok(text)
+}
+
+/// The folder of the installation's store.
+fn repo(alloc: Global) -> Result<Path, AllocError>
+    ensures { IfOk result (λ path. path ≡ repo) }
+{
+    Path::root(alloc).child("repo")
+}
+
+/// The lines of a report.
+fn report_text(alloc: Global, report: &Report) -> Result<Text, AllocError>
+    ensures { IfOk result (λ t. t ≡ text_of_report report.now) }
+{
+    let bad = bad_count(report.findings.as_slice());
+    let last = fsck_line(alloc, report.objects, bad)?;
+    let mut text = String::new(alloc);
+    push_findings(alloc, &mut text, report.findings.as_slice())?;
+    text.push_str(last.as_str())?;
+    Ok(Text::from_string(text))
+}
+
+/// How many of the findings are bad objects.
+fn bad_count(findings: &[Finding]) -> u64
+    ensures { result ≡ count_by is_of_bad findings.now }
+{
+    let mut count = 0u64;
+    for finding in findings {
+        count += u64::from(is_bad(finding));
+    }
+    count
+}
+
+/// Whether it is a bad object.
+fn is_bad(finding: &Finding) -> bool
+    ensures { result ≡ is_of_bad finding.now }
+{
+    match finding {
+        Finding::Bad { .. } => true,
+        Finding::Stray(_) => false,
+    }
+}
+
+/// Puts after a text a line for each finding.
+fn push_findings(alloc: Global, text: &mut String, findings: &[Finding]) -> Result<(), AllocError>
+    ensures { OnOk result (string_bytes text.new ≡ string_bytes text.old
+        ++ flat_map text_of_finding findings.now) }
+{
+    for finding in findings {
+        push_finding(alloc, text, finding)?;
+    }
+    Ok(())
+}
+
+/// Puts after a text the line of a finding.
+fn push_finding(alloc: Global, text: &mut String, finding: &Finding) -> Result<(), AllocError>
+    ensures { OnOk result (string_bytes text.new ≡ string_bytes text.old
+        ++ text_of_finding finding.now) }
+{
+    let line = finding_line(alloc, finding)?;
+    text.push_str(line.as_str())
+}
+
+/// The line of a finding.
+fn finding_line(alloc: Global, finding: &Finding) -> Result<Text, AllocError>
+    ensures { IfOk result (λ t. t ≡ text_of_finding finding.now) }
+{
+    match finding {
+        Finding::Bad { digest, kind } => bad_line(alloc, digest, *kind),
+        Finding::Stray(path) => stray_line(alloc, path),
+    }
+}

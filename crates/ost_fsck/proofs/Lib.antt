@@ -1,0 +1,5 @@
+mod Picking
+mod Judged
+mod Reporting
+pub mod Single
+mod Samples

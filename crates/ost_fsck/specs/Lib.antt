@@ -1,0 +1,4 @@
+pub mod Report
+pub mod Judging
+pub mod Picking
+pub mod Laws

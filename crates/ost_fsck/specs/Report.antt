@@ -1,0 +1,69 @@
+-- What is found in a store.
+use Rattle.std.specs.Prelude.{◌≡◌, ◌≢◌, ◌↔◌, ℕ, List, length, map, true, Contains}
+use Rattle.fp_host.specs.Paths.{Elements, path_text, IsAbove}
+use Rattle.fp_host.specs.Outcome.{Spot, gone, folder, holds, points, Disk}
+use Rattle.fp_host.specs.Reads.{is_ascending}
+use Rattle.fp_name.specs.Hex.{is_digest}
+use Rattle.fp_base.specs.declared.object.ObjKind.{ObjKind}
+use Rattle.ost_model.specs.Objects.{object_path, Named}
+use Rattle.ost_model.specs.Stores.{objects_folder}
+use Rattle.ost_fsck.specs.declared.report.Finding.{Finding}
+use Rattle.ost_fsck.specs.declared.report.Finding.TheVariants as findings
+use Rattle.ost_fsck.specs.declared.report.Report.{Report}
+
+-- a file or a link
+abbrev pub IsLeafAt : Spot → Type 0
+IsLeafAt (holds id mode bytes) = Unit {0}
+IsLeafAt (points text) = Unit {0}
+IsLeafAt gone = ⊥
+IsLeafAt folder = ⊥
+
+-- the name of an object in the store at root
+abbrev pub name_in : Elements → List ℕ × ObjKind → Elements
+name_in root object = object_path root object.0 object.1
+
+abbrev pub name_text : Elements → List ℕ × ObjKind → List ℕ
+name_text root object = path_text (name_in root object)
+
+-- a file or link has the name of this object
+pub record IsEntry (root : Elements) (disk : Disk) (object : List ℕ × ObjKind) : Type 0 where
+  pub digits : is_digest object.0 ≡ true
+  pub there : IsLeafAt (disk (name_in root object))
+
+-- and it isn't the object that its name says
+pub record IsBad (root : Elements) (disk : Disk) (object : List ℕ × ObjKind) : Type 0 where
+  pub entry : IsEntry root disk object
+  pub untrue : Named object.0 object.1 (disk (name_in root object)) → ⊥
+
+-- the path is the name of no object
+abbrev pub IsNameless : Elements → Elements → Type 0
+IsNameless root path = (object : List ℕ × ObjKind) → is_digest object.0 ≡ true → path ≢ name_in root object
+
+-- a file or link below `objects` that has the name of no object
+pub record IsStray (root : Elements) (disk : Disk) (path : Elements) : Type 0 where
+  pub below : IsAbove (objects_folder root) path
+  pub there : IsLeafAt (disk path)
+  pub nameless : IsNameless root path
+
+-- what a finding says
+abbrev pub IsSo : Elements → Disk → Finding → Type 0
+IsSo root disk (findings.Bad d kind) = IsBad root disk (d, kind)
+IsSo root disk (findings.Stray path) = IsStray root disk path
+
+-- the path of what is found
+abbrev pub path_in : Elements → Finding → Elements
+path_in root (findings.Bad d kind) = object_path root d kind
+path_in root (findings.Stray path) = path
+
+abbrev pub text_in : Elements → Finding → List ℕ
+text_in root finding = path_text (path_in root finding)
+
+-- The report of the store at root: each finding is so, and what is so is found; the findings ascend by the bytes of their paths.
+-- The objects are counted, good and bad, each once.
+pub record Reports (root : Elements) (disk : Disk) (report : Report) : Type 0 where
+  pub each : (finding : Finding) → Contains report.findings finding ↔ IsSo root disk finding
+  pub ascending : is_ascending (map (text_in root) report.findings) ≡ true
+  pub objects : List (List ℕ × ObjKind)
+  pub entries : (object : List ℕ × ObjKind) → Contains objects object ↔ IsEntry root disk object
+  pub once : is_ascending (map (name_text root) objects) ≡ true
+  pub count : report.objects ≡ length objects

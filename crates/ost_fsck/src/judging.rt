@@ -1,0 +1,177 @@
+//! One path below `objects`.
+ghost use Rattle.std.specs.Prelude.{◌≡◌, false, Some, IfOk, IsErrOf};
+ghost use Rattle.fp_host.specs.Causes.{IsCounted};
+ghost use Rattle.fp_host.specs.Frame.{AtEnd, Unchanged};
+ghost use Rattle.fp_base.specs.declared.object.ObjKind.TheVariants as kinds;
+ghost use Rattle.ost_fsck.specs.Judging.{has_bits, bad_unless, AreBitsAt, IsTrueAt, IsNamedAt, LooksAt, Looks};
+ghost use Rattle.ost_fsck.specs.declared.report.Finding.TheVariants as findings;
+
+use crate::metadata::has_metadata;
+use crate::report::Finding;
+use fp_base::ObjKind;
+use fp_host::{Host, HostEnd, Path, Stat};
+use fp_name::Digest;
+use ost_content::is_permission;
+use ost_copy::check_stored;
+use ost_store::{object_named, path_of};
+use ost_walk::WalkEnd;
+use std::alloc::{AllocError, Global};
+
+/// What was seen at a path.
+#[derive(Drop)]
+pub(crate) struct Seen {
+    /// Whether it is the name of an object.
+    pub(crate) is_object: bool,
+    /// What is wrong there.
+    pub(crate) finding: Option<Finding>,
+}
+
+/// Whether the permission bits of a file are within 0775.
+fn has_bits(stat: Stat) -> bool
+    ensures { result ≡ has_bits stat }
+{
+    match stat {
+        Stat::File { mode, .. } => is_permission(mode),
+        Stat::Absent | Stat::Dir | Stat::Link => true,
+    }
+}
+
+/// Whether the permission bits of what stands at the path are within 0775.
+fn are_bits_good<H: Host>(host: &mut H, path: &Path) -> Result<bool, HostEnd>
+    ensures unchanged { Unchanged (H.moments host.old) (H.moments host.new) }
+    ensures tells { IfOk result (λ are. AtEnd (λ u w. AreBitsAt path.now u are)
+        (H.moments host.old) (H.moments host.new)) }
+    ensures fault_has_cause { IsCounted (IsErrOf result HostEnd.Fault)
+        (H.moments host.old) (H.faults host.old) (H.faults host.new) }
+{
+    let stat = host.stat(path)?;
+    Ok(has_bits(stat))
+}
+
+/// Whether the store in this folder has the file or link that the digest names. A file is read piece by piece.
+fn has_content<H: Host>(
+    alloc: Global,
+    host: &mut H,
+    root: &Path,
+    digest: &Digest,
+) -> Result<bool, HostEnd>
+    ensures unchanged { Unchanged (H.moments host.old) (H.moments host.new) }
+    ensures tells { IfOk result (λ is. AtEnd (λ u w. IsTrueAt root.now digest.now kinds.File u is)
+        (H.moments host.old) (H.moments host.new)) }
+    ensures fault_has_cause { IsCounted (IsErrOf result HostEnd.Fault)
+        (H.moments host.old) (H.faults host.old) (H.faults host.new) }
+{
+    match check_stored(alloc, host, root, digest) {
+        Ok(is) => Ok(is),
+        Err(WalkEnd::Refused(_)) => Ok(false),
+        Err(WalkEnd::HostFault | WalkEnd::RemoteFault) => Err(HostEnd::Fault),
+        Err(WalkEnd::NoMemory) => Err(HostEnd::NoMemory),
+    }
+}
+
+/// Whether the store in this folder has the object that the digest names.
+fn has_object<H: Host>(
+    alloc: Global,
+    host: &mut H,
+    root: &Path,
+    digest: &Digest,
+    kind: ObjKind,
+) -> Result<bool, HostEnd>
+    ensures unchanged { Unchanged (H.moments host.old) (H.moments host.new) }
+    ensures tells { IfOk result (λ is. AtEnd (λ u w. IsTrueAt root.now digest.now kind u is)
+        (H.moments host.old) (H.moments host.new)) }
+    ensures fault_has_cause { IsCounted (IsErrOf result HostEnd.Fault)
+        (H.moments host.old) (H.faults host.old) (H.faults host.new) }
+{
+    match kind {
+        ObjKind::File => has_content(alloc, host, root, digest),
+        ObjKind::Commit | ObjKind::DirTree | ObjKind::DirMeta => {
+            has_metadata(alloc, host, root, digest, kind)
+        }
+    }
+}
+
+/// Whether what stands at the object's name in the store in this folder is that object, with permission bits within 0775.
+fn is_named<H: Host>(
+    alloc: Global,
+    host: &mut H,
+    root: &Path,
+    digest: &Digest,
+    kind: ObjKind,
+) -> Result<bool, HostEnd>
+    ensures unchanged { Unchanged (H.moments host.old) (H.moments host.new) }
+    ensures tells { IfOk result (λ is. AtEnd (λ u w. IsNamedAt root.now digest.now kind u is)
+        (H.moments host.old) (H.moments host.new)) }
+    ensures fault_has_cause { IsCounted (IsErrOf result HostEnd.Fault)
+        (H.moments host.old) (H.faults host.old) (H.faults host.new) }
+{
+    let path = path_of(alloc, root, digest, kind)?;
+    if are_bits_good(host, &path)? {
+        has_object(alloc, host, root, digest, kind)
+    } else {
+        Ok(false)
+    }
+}
+
+/// What is wrong with an object, where it isn't the one that its name says.
+fn bad_unless(is: bool, digest: Digest, kind: ObjKind) -> Option<Finding>
+    ensures { result ≡ bad_unless is digest kind }
+{
+    if is {
+        None
+    } else {
+        Some(Finding::Bad { digest, kind })
+    }
+}
+
+/// A path that is the name of no object.
+fn stray(path: &Path) -> Result<Seen, AllocError>
+    ensures object { IfOk result (λ seen. seen.is_object ≡ false) }
+    ensures found { IfOk result (λ seen. seen.finding ≡ Some (findings.Stray path.now)) }
+{
+    Ok(Seen {
+        is_object: false,
+        finding: Some(Finding::Stray(path.copy()?)),
+    })
+}
+
+/// Looks at the name of an object in the store in this folder.
+fn look_at<H: Host>(
+    alloc: Global,
+    host: &mut H,
+    root: &Path,
+    digest: &Digest,
+    kind: ObjKind,
+) -> Result<Seen, HostEnd>
+    ensures unchanged { Unchanged (H.moments host.old) (H.moments host.new) }
+    ensures tells { IfOk result (λ seen. AtEnd (λ u w. LooksAt root.now digest.now kind u
+        seen.is_object seen.finding) (H.moments host.old) (H.moments host.new)) }
+    ensures fault_has_cause { IsCounted (IsErrOf result HostEnd.Fault)
+        (H.moments host.old) (H.faults host.old) (H.faults host.new) }
+{
+    let is = is_named(alloc, host, root, digest, kind)?;
+    let finding = bad_unless(is, *digest, kind);
+    Ok(Seen {
+        is_object: true,
+        finding,
+    })
+}
+
+/// Looks at a path below `objects` in the store in this folder.
+pub(crate) fn look<H: Host>(
+    alloc: Global,
+    host: &mut H,
+    root: &Path,
+    path: &Path,
+) -> Result<Seen, HostEnd>
+    ensures unchanged { Unchanged (H.moments host.old) (H.moments host.new) }
+    ensures tells { IfOk result (λ seen. AtEnd (λ u w. Looks root.now path.now u seen.is_object
+        seen.finding) (H.moments host.old) (H.moments host.new)) }
+    ensures fault_has_cause { IsCounted (IsErrOf result HostEnd.Fault)
+        (H.moments host.old) (H.faults host.old) (H.faults host.new) }
+{
+    match object_named(alloc, root, path)? {
+        Some(object) => look_at(alloc, host, root, &object.0, object.1),
+        None => Ok(stray(path)?),
+    }
+}
