@@ -34,7 +34,6 @@ usage: fpk override --reset ID
 usage: fpk list
 usage: fpk list --remotes
 usage: fpk list --pins
-usage: fpk list --exports
 usage: fpk info REF
 usage: fpk launch APP [OPTION..]
 usage: fpk override --show
@@ -128,7 +127,7 @@ const REASONS: [(&[&str], &str); 22] = [
     ),
     (
         &["list", "pins"],
-        "fpk: 'pins' isn't known here\nusage: fpk list\nusage: fpk list --remotes\nusage: fpk list --pins\nusage: fpk list --exports\n",
+        "fpk: 'pins' isn't known here\nusage: fpk list\nusage: fpk list --remotes\nusage: fpk list --pins\n",
     ),
     (
         &["list", "--pins", "x", "y"],
