@@ -1,13 +1,14 @@
 -- What was fed to a filter, and which of its lines are printed.
-use Rattle.std.proofs.Common.{◌≡◌, ℕ, Bool, true, false, ◌+◌, ◌≤◌, length, List, [], ◌∷◌, ◌++◌, map, take, drop, Option, Some, None, Result, Ok, Err, IsErrAnd, refl, sym, ap, subst, ◌∙◌, append_assoc, append_cancel_left}
+use Rattle.std.proofs.Common.{◌≡◌, ℕ, Bool, true, false, ◌+◌, ◌≤◌, length, List, [], ◌∷◌, ◌++◌, map, take, drop, Option, Some, None, Result, Ok, Err, IsErrAnd, refl, sym, ap, subst, ◌∙◌, append_assoc}
 use Rattle.std.specs.Prelude.{reverse, is_some, if◌then◌else◌, option_map}
 use Rattle.std.specs.Option.{option_to_list}
-use Rattle.std.proofs.lemmas.List.{append-nil, map-append}
+use Rattle.std.proofs.lemmas.List.{append-nil, append_cancel_left, map-append}
 use Rattle.fp_host.specs.View.{View}
 use Rattle.fp_host.specs.Moments.{Moments, Goes}
 use Rattle.fp_host.specs.declared.host.HostEnd.{HostEnd}
 use Rattle.fp_host.proofs.Framed.{IsTold}
 use Rattle.fp_host.proofs.Goes.{goes_on, ends as goes_ends}
+use Rattle.bus_stream.specs.Stream.{messages_in}
 use Rattle.bus_policy.specs.Events.{Event}
 use Rattle.bus_proxy.specs.declared.out.Out.{Out}
 use Rattle.bus_proxy.specs.declared.proxy.Filter.{Filter}
@@ -16,14 +17,15 @@ use Rattle.bus_proxy.specs.declared.error.FilterError.{FilterError}
 use Rattle.bus_proxy.specs.declared.error.FilterError.TheVariants as error
 use Rattle.bus_proxy.specs.Arrivals.{Pieces, End, bytes_of, breach, events, end_of, news, arrived}
 use Rattle.bus_proxy.specs.Outs.{Setting, out_after, forwarded}
-use Rattle.bus_proxy.specs.Filters.{FilterAt, Gives, AllTaken}
+use Rattle.bus_proxy.specs.Streaming.{stream_of}
+use Rattle.bus_proxy.specs.Filters.{FilterAt, Gives, AllTaken, AnswersEnd}
 use Rattle.bus_proxy.proofs.Draining.{all_pieces, nothing_comes, end_stays, at_the_end}
 use Rattle.fp_small.specs.declared.refusal.Refusal.{Refusal}
 use Rattle.fl_filter.specs.declared.end.FilterEnd.{FilterEnd}
 use Rattle.fl_filter.specs.declared.end.FilterEnd.TheVariants as ends
 use Rattle.fl_filter.specs.Filtered.{Filtered, out_text, broken}
 use Rattle.fl_filter.specs.Printed.{end_of as end_of_host, end_by, with_lines, PrintsFirst, PrintedAll, Printed, IsRefusedBy, Remains, remaining}
-use Rattle.fl_filter.proofs.Speaking.{Far, far_none, far_on, far_ends, first_on, all_on, not_all, all_printed}
+use Rattle.fl_filter.proofs.Speaking.{Far, far_none, far_on, far_ends, first_on, all_on, not_all, all_printed, by_err}
 
 -- ---- what more gives
 
@@ -51,7 +53,7 @@ brings_more (piece ∷ more) fed = by (is_some (breach (more ++ fed))) (brings_m
 pub left_of : {S H : Type 0} (f : Filter S H) (s : Setting) (fed : Pieces) (taken : List Event) (given : List Out) → FilterAt f s fed taken given
     → (more : List Out) × (forwarded s (events fed) ≡ given ++ more)
 left_of f s fed taken given at =
-    let more = gives_more s _ taken in
+    let more = gives_more s (arrived f.streams.latest (messages_in (stream_of f.streams f.streams.latest).cutter)) taken in
     (more.0, ap (forwarded s) at.streams.waiting ∙ more.1 ∙ ap (λ (l : List Out). l ++ more.0) (sym at.gave))
 
 -- what more pieces give
@@ -250,3 +252,9 @@ all_fed {a = a} {b = b} s pieces i r le refused far =
     all_printed (of_pieces s pieces) lines (option_map broken (end_of (reverse (take i pieces)))) r refl
     (ap (λ (l : Pieces). option_map broken (end_of l)) all) refused
     (subst (λ (l : Pieces). Far lines (map out_text (forwarded s (events l))) a b) all far)
+
+-- how a filter ends tells the refusal
+pub refused_end : (e : FilterError) (end : Option End) (r : Result (Unit {0}) FilterEnd) → IsErrAnd r (λ x. x ≡ end_by e) → AnswersEnd (Err e) end
+    → IsRefusedBy (option_map broken end) r
+refused_end (error.Bad side index rule) end r is answers = by_err (IsRefusedBy (option_map broken end)) r (end_by (error.Bad side index rule)) is (ap (option_map broken) answers)
+refused_end error.NoMemory end r is answers = absurd answers

@@ -1,0 +1,36 @@
+use Rattle.std.proofs.Common.{rules, ◌≡◌, ◌∷◌, ◌++◌, [], Result, Ok, ap, sym, subst, arith}
+use Rattle.fp_host.specs.Moments.{Goes}
+use Rattle.bus_proxy.specs.declared.proxy.Next.{Next}
+use Rattle.bus_proxy.specs.declared.proxy.Next.TheVariants as next
+use Rattle.bus_proxy.specs.declared.error.FilterError.{FilterError}
+use Rattle.bus_proxy.specs.Arrivals.{events}
+use Rattle.bus_proxy.specs.Outs.{forwarded}
+use Rattle.bus_proxy.specs.Filters.{Gives}
+use Rattle.fl_filter.specs.declared.end.FilterEnd.{FilterEnd}
+use Rattle.fl_filter.specs.Printed.{end_by, end_of as end_of_host, PrintsFirst, Printed, remaining}
+use Rattle.fl_filter.proofs.Speaking.{by_err}
+use Rattle.fl_filter.proofs.Remaining.{ready_none, ready_out, ready_quiet, next_fails, line_fails, none_left, left_of}
+use Rattle.fl_filter.proofs.printing.print_ready.Goals as goal
+
+pub loop-out-init : goal.loop-out-init
+loop-out-init g c = record {
+  ready = λ s fed taken given at. ready_none c.args.filter.now s fed taken given (g.met.H.Host.is_tree c.args.host.now) at;
+  later = omega arith;
+}
+
+pub returns-in_err-out-clause-any_moment : goal.returns-in_err-out-clause-any_moment
+returns-in_err-out-clause-any_moment g c = λ s fed taken given lines at remain.
+    let r = c.loop-out.invariant.ready s fed taken given at in
+    by_err (λ (x : Result (Unit {0}) FilterEnd). Goes (g.H.Host.moments c.args.host.now) (g.H.Host.moments c.loop-out.host) (PrintsFirst lines) (Printed (remaining fed lines) x))
+    c.from_residual.result (end_by c.in_err-out.field-0.0) c.from_residual.ensures.1
+    (next_fails c.loop-out.filter c.next.new.self s fed r.taken given r.now lines c.in_err-out.field-0.0 remain r.at (c.in_err-out.ensures.at s fed r.taken (given ++ r.now) r.at) (r.far lines remain))
+
+pub loop-out-preserved : goal.loop-out-preserved
+loop-out-preserved g c = record {
+  ready = λ s fed taken given at.
+      let r = c.loop-out.invariant.ready s fed taken given at in
+      let is : c.next.result ≡ Ok next.Quiet = search rules in
+      ready_quiet c.loop-out.filter c.next.new.self s fed given r
+      (subst (λ (x : Result Next FilterError). Gives x c.next.new.self s fed r.taken (given ++ r.now)) is (c.next.ensures.at s fed r.taken (given ++ r.now) r.at));
+  later = c.loop-out.invariant.later;
+}
