@@ -258,3 +258,9 @@ pub refused_end : (e : FilterError) (end : Option End) (r : Result (Unit {0}) Fi
     → IsRefusedBy (option_map broken end) r
 refused_end (error.Bad side index rule) end r is answers = by_err (IsRefusedBy (option_map broken end)) r (end_by (error.Bad side index rule)) is (ap (option_map broken) answers)
 refused_end error.NoMemory end r is answers = absurd answers
+
+-- all events are taken, and what they give is given
+pub all_taken : {S H : Type 0} (f : Filter S H) (s : Setting) (fed : Pieces) (taken : List Event) (given : List Out) → FilterAt f s fed taken given → events fed ≡ taken
+    → FilterAt f s fed (events fed) (forwarded s (events fed))
+all_taken f s fed taken given at all =
+    subst (λ (l : List Out). FilterAt f s fed (events fed) l) (at.gave ∙ ap (forwarded s) (sym all)) (subst (λ (l : List Event). FilterAt f s fed l given) (sym all) at)

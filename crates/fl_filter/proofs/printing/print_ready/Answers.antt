@@ -9,7 +9,7 @@ use Rattle.bus_proxy.specs.Filters.{Gives}
 use Rattle.fl_filter.specs.declared.end.FilterEnd.{FilterEnd}
 use Rattle.fl_filter.specs.Printed.{end_by, end_of as end_of_host, PrintsFirst, Printed, remaining}
 use Rattle.fl_filter.proofs.Speaking.{by_err}
-use Rattle.fl_filter.proofs.Remaining.{ready_none, ready_out, ready_quiet, next_fails, line_fails, none_left, left_of}
+use Rattle.fl_filter.proofs.Remaining.{ready_none, ready_out, ready_quiet, next_fails, line_fails, none_left, left_of, all_taken}
 use Rattle.fl_filter.proofs.printing.print_ready.Goals as goal
 
 pub loop-out-init : goal.loop-out-init
@@ -34,3 +34,39 @@ loop-out-preserved g c = record {
       (subst (λ (x : Result Next FilterError). Gives x c.next.new.self s fed r.taken (given ++ r.now)) is (c.next.ensures.at s fed r.taken (given ++ r.now) r.at));
   later = c.loop-out.invariant.later;
 }
+
+pub loop-out-preserved-in-Out : goal.loop-out-preserved-in-Out
+loop-out-preserved-in-Out g c = record {
+  ready = λ s fed taken given at.
+      let r = c.loop-out.invariant.ready s fed taken given at in
+      let is : c.next.result ≡ Ok (next.Out c.in-Out.out) = search rules in
+      ready_out c.loop-out.filter c.next.new.self s fed given c.in-Out.out (g.met.H.Host.is_tree c.loop-out.host) r
+      (subst (λ (x : Result Next FilterError). Gives x c.next.new.self s fed r.taken (given ++ r.now)) is (c.next.ensures.at s fed r.taken (given ++ r.now) r.at))
+      c.in_ok-print_one-in-Out.ensures.any_moment;
+  later = omega (arith, c.loop-out.invariant.later, c.print_one.ensures.fault_has_cause.later);
+}
+
+pub returns-in_err-print_one-in-Out-clause-any_moment : goal.returns-in_err-print_one-in-Out-clause-any_moment
+returns-in_err-print_one-in-Out-clause-any_moment g c = λ s fed taken given lines at remain.
+    let r = c.loop-out.invariant.ready s fed taken given at in
+    let out = c.in-Out.out in
+    let is : c.next.result ≡ Ok (next.Out out) = search rules in
+    let gives = subst (λ (x : Result Next FilterError). Gives x c.next.new.self s fed r.taken (given ++ r.now)) is (c.next.ensures.at s fed r.taken (given ++ r.now) r.at) in
+    let left = left_of c.next.new.self s fed (gives.0 ∷ r.taken) ((given ++ r.now) ++ out ∷ []) gives.2 in
+    by_err (λ (x : Result (Unit {0}) FilterEnd). Goes (g.H.Host.moments c.args.host.now) (g.H.Host.moments c.print_one.new.host) (PrintsFirst lines) (Printed (remaining fed lines) x))
+    c.from_residual-in_err-print_one-in-Out.result (end_of_host c.in_err-print_one-in-Out.field-0.0) c.from_residual-in_err-print_one-in-Out.ensures.1
+    (line_fails fed given r.now left.0 (forwarded s (events fed)) out lines c.in_err-print_one-in-Out.field-0.0 (g.met.H.Host.is_tree c.loop-out.host) remain left.1 (r.far lines remain) c.in_err-print_one-in-Out.ensures.any_moment)
+
+pub returns-in-NotYet-clause-any_moment : goal.returns-in-NotYet-clause-any_moment
+returns-in-NotYet-clause-any_moment g c = λ s fed taken given lines at remain.
+    let r = c.loop-out.invariant.ready s fed taken given at in
+    let is : c.next.result ≡ Ok next.NotYet = search rules in
+    let gives = subst (λ (x : Result Next FilterError). Gives x c.next.new.self s fed r.taken (given ++ r.now)) is (c.next.ensures.at s fed r.taken (given ++ r.now) r.at) in
+    none_left c.next.new.self s fed r.taken given r.now lines remain gives.0 gives.1 (r.far lines remain)
+
+pub returns-in-NotYet-clause-at : goal.returns-in-NotYet-clause-at
+returns-in-NotYet-clause-at g c = λ s fed taken given at.
+    let r = c.loop-out.invariant.ready s fed taken given at in
+    let is : c.next.result ≡ Ok next.NotYet = search rules in
+    let gives = subst (λ (x : Result Next FilterError). Gives x c.next.new.self s fed r.taken (given ++ r.now)) is (c.next.ensures.at s fed r.taken (given ++ r.now) r.at) in
+    all_taken c.next.new.self s fed r.taken (given ++ r.now) gives.0 gives.1.all
