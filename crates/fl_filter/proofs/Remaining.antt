@@ -1,11 +1,12 @@
 -- What was fed to a filter, and which of its lines are printed.
-use Rattle.std.proofs.Common.{◌≡◌, ℕ, Bool, true, false, ◌+◌, ◌≤◌, length, List, [], ◌∷◌, ◌++◌, map, take, drop, Option, Some, None, Result, Ok, Err, IsErrAnd, refl, sym, ap, subst, ◌∙◌, append_assoc}
+use Rattle.std.proofs.Common.{◌≡◌, ℕ, Bool, true, false, ◌+◌, ◌≤◌, length, List, [], ◌∷◌, ◌++◌, map, take, drop, Option, Some, None, Result, Ok, Err, IsErrAnd, IsErrOf, refl, sym, ap, subst, ◌∙◌, append_assoc}
 use Rattle.std.specs.Prelude.{reverse, is_some, if◌then◌else◌, option_map}
 use Rattle.std.specs.Option.{option_to_list}
 use Rattle.std.proofs.lemmas.List.{append-nil, append_cancel_left, map-append}
 use Rattle.fp_host.specs.View.{View}
 use Rattle.fp_host.specs.Moments.{Moments, Goes}
 use Rattle.fp_host.specs.declared.host.HostEnd.{HostEnd}
+use Rattle.fp_host.specs.declared.host.HostEnd.TheVariants as host
 use Rattle.fp_host.proofs.Framed.{IsTold}
 use Rattle.fp_host.proofs.Goes.{goes_on, ends as goes_ends}
 use Rattle.bus_stream.specs.Stream.{messages_in}
@@ -264,3 +265,15 @@ pub all_taken : {S H : Type 0} (f : Filter S H) (s : Setting) (fed : Pieces) (ta
     → FilterAt f s fed (events fed) (forwarded s (events fed))
 all_taken f s fed taken given at all =
     subst (λ (l : List Out). FilterAt f s fed (events fed) l) (at.gave ∙ ap (forwarded s) (sym all)) (subst (λ (l : List Event). FilterAt f s fed l given) (sym all) at)
+
+-- a fault of the filter is the host's
+abbrev pub host_err : HostEnd → Result (Unit {0}) HostEnd
+host_err e = Err e
+
+pub host_fault : (e : HostEnd) (r : Result (Unit {0}) FilterEnd) → IsErrAnd r (λ x. x ≡ end_of_host e) → IsErrOf r ends.Fault → IsErrOf (host_err e) host.Fault
+host_fault host.Fault r is faulted = refl
+host_fault host.NoMemory (Ok t) is faulted = absurd is
+host_fault host.NoMemory (Err x) is faulted = absurd (never x is faulted)
+  where
+    never : (x : FilterEnd) → x ≡ ends.NoMemory → x ≡ ends.Fault → ⊥
+    never x a b = cc
