@@ -13,13 +13,19 @@ const CALLS: u32 = 100_000;
 const PIECE: usize = 7;
 
 /// A call of `M` at `/a` of `org.bar`, and where its serial stands.
-const CALL: (&str, usize) = ("\
+const CALL: (&str, usize) = (
+    "\
 6c01000100000000010000003000000001016f00020000002f6100000000000003017300010000004d000000000000000601730007000000\
-6f72672e62617200", 8);
+6f72672e62617200",
+    8,
+);
 
 /// Its return by `:1.9`, and where the serial that it answers stands.
-const RETURN: (&str, usize) = ("\
-6c020001000000000900000025000000050175000100000006017300040000003a312e310000000007017300040000003a312e3900000000", 20);
+const RETURN: (&str, usize) = (
+    "\
+6c020001000000000900000025000000050175000100000006017300040000003a312e310000000007017300040000003a312e3900000000",
+    20,
+);
 
 /// A message with a little-endian number in the place of four bytes.
 fn with_number(
@@ -76,7 +82,10 @@ fn many_calls_wait(rt: HostRuntime) -> Result<(), Fail> {
     let mut policy = Policy::new(alloc);
     policy.add(alloc, "org.bar", Level::Talk)?;
     let mut owners = Vec::new(alloc);
-    owners.push((Text::from_str(alloc, "org.bar")?, Text::from_str(alloc, ":1.9")?))?;
+    owners.push((
+        Text::from_str(alloc, "org.bar")?,
+        Text::from_str(alloc, ":1.9")?,
+    ))?;
     let mut filter = Filter::new(alloc, policy, None, &Items::from_vec(owners))?;
     let (calls, length) = numbered(alloc, CALL)?;
     assert!(rt; count_passed(&mut filter, Side::Client, &calls, length)? == CALLS as usize);

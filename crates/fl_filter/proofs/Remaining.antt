@@ -45,6 +45,7 @@ brings_more (piece ∷ more) fed = by (is_some (breach (more ++ fed))) (brings_m
   where
     come : List Event
     come = arrived piece.0 (news (bytes_of piece.0 (more ++ fed)) (bytes_of piece.0 (piece ∷ (more ++ fed))))
+
     by : (b : Bool) → (new : List Event) × (events (more ++ fed) ≡ new ++ events fed)
         → (new : List Event) × ((if b then events (more ++ fed) else come ++ events (more ++ fed)) ≡ new ++ events fed)
     by true rest = rest
@@ -175,11 +176,12 @@ ready_quiet old new s fed given r gives = record { taken = gives.0 ∷ r.taken; 
 piece_parts : (s : Setting) (pieces before fed : Pieces) (i : ℕ) (more : List Out) → reverse (take (i + 1) pieces) ≡ fed → forwarded s (events fed) ≡ forwarded s (events before) ++ more
     → (left : List (List ℕ)) × (map out_text (forwarded s (events (reverse pieces))) ≡ map out_text (forwarded s (events before)) ++ (map out_text more ++ left))
 piece_parts s pieces before fed i more is gives =
-    let left = left_in s pieces (i + 1) in
-    (map out_text left.0,
-    ap (map out_text) (left.1 ∙ ap (λ (l : Pieces). forwarded s (events l) ++ left.0) is ∙ ap (λ (l : List Out). l ++ left.0) gives ∙ append_assoc (forwarded s (events before)) more left.0)
-    ∙ map-append out_text (forwarded s (events before)) (more ++ left.0)
-    ∙ ap (λ (l : List (List ℕ)). map out_text (forwarded s (events before)) ++ l) (map-append out_text more left.0))
+    let left = left_in s pieces (i + 1) in (
+      map out_text left.0,
+      ap (map out_text) (left.1 ∙ ap (λ (l : Pieces). forwarded s (events l) ++ left.0) is ∙ ap (λ (l : List Out). l ++ left.0) gives ∙ append_assoc (forwarded s (events before)) more left.0)
+          ∙ map-append out_text (forwarded s (events before)) (more ++ left.0)
+          ∙ ap (λ (l : List (List ℕ)). map out_text (forwarded s (events before)) ++ l) (map-append out_text more left.0),
+    )
 
 -- the messages that a piece made whole were printed
 pub piece_on : {a b c : Option Moments} (s : Setting) (pieces before fed : Pieces) (i : ℕ) (more : List Out) → IsTold b
@@ -222,13 +224,14 @@ piece_fails s pieces before fed i more e told is gives far ready =
   where
     parts : (left : List (List ℕ)) × (map out_text (forwarded s (events (reverse pieces))) ≡ map out_text (forwarded s (events before)) ++ (map out_text more ++ left))
     parts = piece_parts s pieces before fed i more is gives
+
     end : (e : FilterEnd) → (u v w : View) → v ≡ with_lines (map out_text (forwarded s (events before))) u → PrintsFirst (map out_text more) v w
         → Printed (remaining fed (map out_text more)) (Err e) v w → Printed (of_pieces s pieces) (Err e) u w
     end (ends.Refused r) u v w q p k =
         let short = cut_short pieces fed (i + 1) is (breach fed) refl r k.0 in (
           short.1,
           all_on (map out_text (forwarded s (events before))) (map out_text more) u v w q k.1
-          ∙ ap (λ (l : List (List ℕ)). with_lines l u) (sym (ap (λ (l : List Event). map out_text (forwarded s l)) short.0 ∙ ap (map out_text) gives ∙ map-append out_text (forwarded s (events before)) more)),
+              ∙ ap (λ (l : List (List ℕ)). with_lines l u) (sym (ap (λ (l : List Event). map out_text (forwarded s l)) short.0 ∙ ap (map out_text) gives ∙ map-append out_text (forwarded s (events before)) more)),
         )
     end ends.Fault u v w q p k = tt
     end ends.NoMemory u v w q p k = first_on (map out_text (forwarded s (events (reverse pieces)))) (map out_text (forwarded s (events before))) (map out_text more) parts.0 u v w parts.1 q p
@@ -273,7 +276,7 @@ host_err e = Err e
 pub host_fault : (e : HostEnd) (r : Result (Unit {0}) FilterEnd) → IsErrAnd r (λ x. x ≡ end_of_host e) → IsErrOf r ends.Fault → IsErrOf (host_err e) host.Fault
 host_fault host.Fault r is faulted = refl
 host_fault host.NoMemory (Ok t) is faulted = absurd is
-host_fault host.NoMemory (Err x) is faulted = absurd (never x is faulted)
+host_fault host.NoMemory (Err x) is faulted = absurd (never x is (cc faulted))
   where
     never : (x : FilterEnd) → x ≡ ends.NoMemory → x ≡ ends.Fault → ⊥
     never x a b = cc

@@ -66,7 +66,8 @@ fn print_ready<H: Host>(alloc: Global, host: &mut H, filter: &mut Filter) -> Res
         (PrintsFirst lines) (Printed (remaining fed lines) result) }
     ensures at { (s : Setting) (fed : Pieces) (taken : List Event) (given : List TheOut)
         → FilterAt filter.old s fed taken given
-        → OnOk result (FilterAt filter.new s fed (events fed) (forwarded s (events fed))) }
+        → OnOk result (FilterAt filter.new s fed (events fed) (forwarded s (events fed))
+        × AllTaken fed (events fed)) }
     ensures fault_has_cause { IsCounted (IsErrOf result FilterEnd.Fault)
         (H.moments host.old) (H.faults host.old) (H.faults host.new) }
 {

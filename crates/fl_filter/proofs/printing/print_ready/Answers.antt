@@ -1,4 +1,4 @@
-use Rattle.std.proofs.Common.{rules, ◌≡◌, ◌∷◌, ◌++◌, [], Result, Ok, ap, sym, subst, arith}
+use Rattle.std.proofs.Common.{rules, ◌≡◌, ◌∷◌, ◌++◌, [], Result, Ok, refl, subst, arith}
 use Rattle.fp_host.specs.Moments.{Goes}
 use Rattle.fp_host.proofs.Goes.{stays, goes_on}
 use Rattle.fp_host.proofs.Cause.{Rose-later}
@@ -74,7 +74,7 @@ returns-in-NotYet-clause-at g c = λ s fed taken given at.
     let r = c.loop-out.invariant.ready s fed taken given at in
     let is : c.next.result ≡ Ok next.NotYet = search rules in
     let gives = subst (λ (x : Result Next FilterError). Gives x c.next.new.self s fed r.taken (given ++ r.now)) is (c.next.ensures.at s fed r.taken (given ++ r.now) r.at) in
-    all_taken c.next.new.self s fed r.taken (given ++ r.now) gives.0 gives.1.all
+    (all_taken c.next.new.self s fed r.taken (given ++ r.now) gives.0 gives.1.all, record { all = refl; sound = gives.1.sound })
 
 pub returns-in_err-print_one-in-Out-clause-fault_has_cause : goal.returns-in_err-print_one-in-Out-clause-fault_has_cause
 returns-in_err-print_one-in-Out-clause-fault_has_cause g c = record {

@@ -1,4 +1,4 @@
-use Rattle.std.proofs.Common.{ℕ, List, ◌≤◌}
+use Rattle.std.proofs.Common.{List, ◌≤◌}
 use Rattle.fp_host.specs.Moments.{Goes}
 use Rattle.bus_policy.specs.Events.{Event}
 use Rattle.bus_proxy.specs.declared.out.Out.{Out}
