@@ -1,3 +1,4 @@
 pub mod Alike
 pub mod Clients
+pub mod Remaining
 pub mod Speaking

@@ -1,6 +1,7 @@
 // How a filter ends where not all of the recording was filtered.
 ghost use Rattle.std.specs.Prelude.{◌≡◌};
 
+use bus_proxy::FilterError;
 use fp_host::HostEnd;
 use fp_small::Refusal;
 use std::alloc::AllocError;
@@ -37,6 +38,24 @@ impl From<HostEnd> for FilterEnd {
         match end {
             HostEnd::Fault => FilterEnd::Fault,
             HostEnd::NoMemory => FilterEnd::NoMemory,
+        }
+    }
+}
+
+impl From<FilterError> for FilterEnd {
+    ghost use Rattle.std.specs.Prelude.{◌≡◌};
+    ghost use Rattle.fl_filter.specs.Printed.{end_by};
+
+    ghost from_gives = { λ error end. end ≡ end_by error };
+
+    fn from(error: FilterError) -> FilterEnd {
+        match error {
+            FilterError::Bad(side, index, rule) => FilterEnd::Refused(Refusal::BadMessage {
+                side,
+                index,
+                rule,
+            }),
+            FilterError::NoMemory => FilterEnd::NoMemory,
         }
     }
 }

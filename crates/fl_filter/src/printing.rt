@@ -1,25 +1,29 @@
 //! Printing what a filter gives.
-ghost use Rattle.std.specs.Prelude.{◌≡◌, [], ◌∷◌, map, option_map, IsErrOf, IsTrue};
+ghost use Rattle.std.specs.Prelude.{[], ◌∷◌, List, ℕ, option_map, IfOk, OnOk, IsErrOf, IsTrue};
 ghost use Rattle.std.specs.Option.{ForSome};
 ghost use Rattle.fp_host.specs.Causes.{IsCounted};
 ghost use Rattle.fp_host.specs.Moments.{Goes};
 ghost use Rattle.bus_frame.specs.Names.{is_unique};
+ghost use Rattle.bus_policy.specs.Events.{Event};
+ghost use Rattle.bus_proxy.specs.declared.out.Out.{Out as TheOut};
+ghost use Rattle.bus_proxy.specs.Arrivals.{Pieces, events, end_of};
+ghost use Rattle.bus_proxy.specs.Outs.{Setting, setting, forwarded};
+ghost use Rattle.bus_proxy.specs.Filters.{FilterAt, AllTaken};
 ghost use Rattle.fl_filter.specs.Filtered.{filtered, out_text, broken};
-ghost use Rattle.fl_filter.specs.Printed.{PrintsFirst, PrintedAll, Printed, IsRefusedBy};
+ghost use Rattle.fl_filter.specs.Printed.{PrintsFirst, PrintedAll, Printed, IsRefusedBy, Remains, remaining};
 
 use crate::end::FilterEnd;
 use crate::lines::out_line;
 use bus_policy::Policy;
-use bus_proxy::{Out, filter};
+use bus_proxy::{Filter, Next, Out};
 use bus_stream::Recording;
-use fp_base::{FrameRule, Side};
 use fp_host::{Host, HostEnd};
-use fp_small::Refusal;
-use std::alloc::Global;
+use std::alloc::{AllocError, Global};
 
 /// Filters a recording by a policy, as xdg-dbus-proxy(1) does, and prints each message that goes to a side: `bus HEX` or
 /// `client HEX`, a line each, in order. A message that breaks a rule of the D-Bus specification is refused after the lines of
-/// those before it; so is one that the recording's end cuts.
+/// those before it; so is one that the recording's end cuts. Each line is printed as its message comes, so what is kept are the
+/// tables of the filter and the message at hand.
 pub fn filter_recording<H: Host>(
     alloc: Global,
     host: &mut H,
@@ -33,22 +37,47 @@ pub fn filter_recording<H: Host>(
     ensures fault_has_cause { IsCounted (IsErrOf result FilterEnd.Fault)
         (H.moments host.old) (H.faults host.old) (H.faults host.new) }
 {
-    let filtered = filter(alloc, policy, recording)?;
-    print_all(alloc, host, filtered.out.as_slice())?;
-    refuse(filtered.bad)
+    let mut filter = filter_of(alloc, policy, recording)?;
+    for (side, piece) in recording.pieces.as_slice() {
+        filter.feed(*side, piece.as_slice())?;
+        print_ready(alloc, host, &mut filter)?;
+    }
+    finish(&filter)
 }
 
-/// Prints the lines of messages.
-fn print_all<H: Host>(alloc: Global, host: &mut H, outs: &[Out]) -> Result<(), HostEnd>
-    ensures any_moment { Goes (H.moments host.old) (H.moments host.new)
-        (PrintsFirst (map out_text outs.now)) (PrintedAll (map out_text outs.now) result) }
-    ensures fault_has_cause { IsCounted (IsErrOf result HostEnd.Fault)
+/// The filter of a recording, to which nothing is fed yet.
+fn filter_of(alloc: Global, policy: Policy, recording: &Recording) -> Result<Filter, AllocError>
+    requires client { ForSome recording.now.client (λ name. IsTrue (is_unique name)) }
+    ensures { IfOk result (λ filter. FilterAt filter
+        (setting policy recording.now.client recording.now.owners) [] [] []) }
+{
+    let client = match &recording.client {
+        Some(client) => Some(client.as_str()),
+        None => None,
+    };
+    Filter::new(alloc, policy, client, &recording.owners)
+}
+
+/// Takes every message that is whole, and prints the line of each that goes to a side.
+fn print_ready<H: Host>(alloc: Global, host: &mut H, filter: &mut Filter) -> Result<(), FilterEnd>
+    ensures any_moment { (s : Setting) (fed : Pieces) (taken : List Event) (given : List TheOut)
+        (lines : List (List ℕ)) → FilterAt filter.old s fed taken given
+        → Remains s fed given lines → Goes (H.moments host.old) (H.moments host.new)
+        (PrintsFirst lines) (Printed (remaining fed lines) result) }
+    ensures at { (s : Setting) (fed : Pieces) (taken : List Event) (given : List TheOut)
+        → FilterAt filter.old s fed taken given
+        → OnOk result (FilterAt filter.new s fed (events fed) (forwarded s (events fed))
+        × AllTaken fed (events fed)) }
+    ensures fault_has_cause { IsCounted (IsErrOf result FilterEnd.Fault)
         (H.moments host.old) (H.faults host.old) (H.faults host.new) }
 {
-    for out in outs {
-        print_one(alloc, host, out)?;
+    loop {
+        match filter.next()? {
+            Next::Out(out) => print_one(alloc, host, &out)?,
+            Next::Quiet => {}
+            Next::NotYet => return Ok(()),
+        }
     }
-    Ok(())
 }
 
 /// Prints the line of a message.
@@ -63,16 +92,12 @@ fn print_one<H: Host>(alloc: Global, host: &mut H, out: &Out) -> Result<(), Host
     Ok(())
 }
 
-/// Refuses a recording that ends badly.
-fn refuse(bad: Option<(Side, u64, FrameRule)>) -> Result<(), FilterEnd>
-    ensures { IsRefusedBy (option_map broken bad) result }
+/// Refuses a recording that ends within a message.
+fn finish(filter: &Filter) -> Result<(), FilterEnd>
+    ensures { (s : Setting) (fed : Pieces) (taken : List Event) (given : List TheOut)
+        → FilterAt filter.now s fed taken given → AllTaken fed taken
+        → IsRefusedBy (option_map broken (end_of fed)) result }
 {
-    match bad {
-        Some((side, index, rule)) => Err(FilterEnd::Refused(Refusal::BadMessage {
-            side,
-            index,
-            rule,
-        })),
-        None => Ok(()),
-    }
+    filter.end()?;
+    Ok(())
 }
