@@ -1,8 +1,8 @@
 -- A commit that is offered.
-use Rattle.std.proofs.Common.{◌≡◌, ◌≢◌, ◌⊎◌, inl, inr, ℕ, List, [], ◌∷◌, length, true, Option, Some, None, Result, Ok, refl, sym, ◌∙◌, ap, subst, arith, codes, Contains}
-use Rattle.fp_host.specs.Paths.{Elements, Slot, absent, dir, file, IsAbove}
+use Rattle.std.proofs.Common.{◌≡◌, ◌⊎◌, inl, inr, ℕ, List, ◌∷◌, length, Option, Some, None, Result, Ok, refl, sym, ◌∙◌, ap, subst, arith, codes, Contains}
+use Rattle.fp_host.specs.Paths.{Elements, absent, dir, file}
 use Rattle.fp_host.specs.View.{View, IsTree}
-use Rattle.fp_host.specs.Calls.{IsFile, syncs, done, Step}
+use Rattle.fp_host.specs.Calls.{syncs, done, Step}
 use Rattle.fp_host.specs.declared.host.HostError.{HostError}
 use Rattle.fp_host.proofs.Follow.{called}
 use Rattle.fp_host.specs.Outcome.{Disk, Leaves, shows, spot_of, holding}
@@ -17,12 +17,11 @@ use Rattle.fp_small.specs.Files.{KeepsFiles}
 use Rattle.fp_small.specs.Folders.{ancestors, AreFree, FoldersAt, DirsAt}
 use Rattle.fp_small.specs.Replace.{IsStaging, folders_of, Replaces, WasReplaced, CanReplace}
 use Rattle.fp_small.proofs.Keeping.{files_stay, files_on, files_kept}
-use Rattle.fp_small.proofs.Replacement.{ancestors_above, one_staging}
-use Rattle.fp_name.specs.Hex.{is_digest}
+use Rattle.fp_small.proofs.Replacement.{ancestors_above}
 use Rattle.fp_name.specs.Refs.{Ref}
 use Rattle.fp_base.specs.declared.object.ObjKind.{ObjKind}
 use Rattle.ost_model.specs.declared.object.Object.{Object}
-use Rattle.ost_model.specs.Objects.{Have, Fault, object_path, object_at, object_fault, store}
+use Rattle.ost_model.specs.Objects.{Have, object_path, object_at, object_fault, store}
 use Rattle.ost_model.specs.Order.{Place, In, order, first_fault}
 use Rattle.ost_model.proofs.Places.{faultless, first_same}
 use Rattle.ost_store.specs.Stays.{Stays}
@@ -36,7 +35,7 @@ use Rattle.ost_export.specs.Staging.{IsApart}
 use Rattle.ost_export.specs.Storing.{IsNoWork, IsWork, StoresObjects, IsFitFor, HasStored, CanStoreAll}
 use Rattle.ost_export.specs.Exports.{config_path, config_text, ref_path, a_remote, IsExportFolder, Furnishes, ExportsAt, ExportsName, Exports, ExportsSynced, FurnishesSynced, AreFit, IsOffered, WasExported, CanExport, CanExportAll}
 use Rattle.ost_export.proofs.Paths.{IsBranch, two_branches, object_within, apart_of, branch_off, branch_under, objects_branch, config_branch, refs_branch, one_work, none_below}
-use Rattle.ost_export.proofs.Placed.{stays_on, from_tree, to_tree}
+use Rattle.ost_export.proofs.Placed.{to_tree}
 use Rattle.ost_export.proofs.Furnished.{refs_within, remotes_within, folder_cases, FurnishStep, furnishes_on, furnishes_objects, staging_on, work_of, step_config, step_remotes, can_config, can_remotes, can_write}
 
 -- ---- the frame

@@ -2,22 +2,20 @@
 use Rattle.std.proofs.Common.{◌≡◌, ◌+◌, ◌<◌, ◌≤◌, inl, inr, ℕ, List, [], ◌∷◌, ◌++◌, length, take, get_or, true, Option, refl, sym, ◌∙◌, ap, subst}
 use Rattle.std.specs.List.{AllByRecursion}
 use Rattle.std.proofs.lemmas.List.{take_more, take_all}
-use Rattle.fp_host.specs.Paths.{Elements, absent}
-use Rattle.fp_host.specs.View.{View, IsTree}
+use Rattle.fp_host.specs.Paths.{Elements}
+use Rattle.fp_host.specs.View.{View}
 use Rattle.fp_host.specs.Frame.{AtEnd}
 use Rattle.fp_host.specs.Moments.{Moments, Always}
 use Rattle.fp_host.proofs.Framed.{IsTold}
-use Rattle.fp_host.proofs.Ending.{ends_on, ends_both, ends_goes, ends_to, ends_start, goes_last}
+use Rattle.fp_host.proofs.Ending.{ends_on, ends_both, ends_goes, ends_to, ends_start}
 use Rattle.fp_small.specs.Clear.{IsCleared}
 use Rattle.fp_name.specs.Hex.{is_digest}
-use Rattle.fp_base.specs.declared.object.ObjKind.{ObjKind}
 use Rattle.ost_model.specs.Objects.{Have, object_path}
 use Rattle.ost_model.specs.Order.{In}
 use Rattle.ost_commit.specs.declared.built.BuiltObject.{BuiltObject}
-use Rattle.ost_commit.specs.Objects.{have_of}
 use Rattle.ost_commit.proofs.Holding.{all_also, all_push}
-use Rattle.ost_export.specs.Staging.{Named, name_of, IsApart, AreStaged, StagesOne, HasStaged, IsCovered, StagesSome, Works, AreOpen, AreWhole, IsIn, IsKeepableObject, CanStageOne, CanStageAll}
-use Rattle.ost_export.proofs.Listed.{in_at, all_here, whole_in}
+use Rattle.ost_export.specs.Staging.{Named, name_of, IsApart, AreStaged, StagesOne, IsCovered, StagesSome, Works, IsKeepableObject, CanStageOne, CanStageAll}
+use Rattle.ost_export.proofs.Listed.{in_at, all_here}
 use Rattle.ost_export.proofs.Paths.{below_work}
 use Rattle.ost_export.proofs.Works.{works_stays, works_open}
 

@@ -1,17 +1,17 @@
 -- What an export leaves on its way: the objects, `config`, and folders.
-use Rattle.std.proofs.Common.{◌≡◌, ◌⊎◌, inl, inr, ℕ, List, [], ◌∷◌, ◌++◌, length, true, Option, Some, Result, refl, sym, ◌∙◌, ap, subst, arith, codes, Contains}
+use Rattle.std.proofs.Common.{◌≡◌, ◌⊎◌, inl, inr, ℕ, List, [], ◌∷◌, length, refl, sym, ◌∙◌, ap, subst, arith, codes, Contains}
 use Rattle.std.proofs.lemmas.List.Elements.{Contains-append_cases, Contains-push, Contains-push_cases}
-use Rattle.fp_host.specs.Paths.{Elements, Slot, absent, dir, file, link, IsAbove}
+use Rattle.fp_host.specs.Paths.{Elements, absent, IsAbove}
 use Rattle.fp_host.specs.View.{View, IsTree}
 use Rattle.fp_host.specs.Calls.{IsFile}
 use Rattle.fp_host.specs.Frame.{Keeps, NoPath}
-use Rattle.fp_host.proofs.Framed.{keeps_on, keeps_to, keeps_same}
+use Rattle.fp_host.proofs.Framed.{keeps_on, keeps_to}
 use Rattle.fp_small.specs.Clear.{IsWithin}
 use Rattle.fp_small.specs.Files.{KeepsFiles}
 use Rattle.fp_small.specs.Folders.{IsFree, ancestors, AreFree, FoldersAt, DirsAt}
 use Rattle.fp_small.specs.Places.{repo, tmp, new_name}
-use Rattle.fp_small.specs.Replace.{IsStaging, folders_of, Replaces, WasReplaced, IsFreeFile, CanReplace}
-use Rattle.fp_small.proofs.Keeping.{files_on, files_same, files_kept}
+use Rattle.fp_small.specs.Replace.{IsStaging, folders_of, Replaces, IsFreeFile, CanReplace}
+use Rattle.fp_small.proofs.Keeping.{files_on, files_kept}
 use Rattle.fp_small.proofs.Emptying.{above_longer}
 use Rattle.fp_small.proofs.Replacement.{ancestors_above, one_staging}
 use Rattle.fp_name.specs.Refs.{Ref}
@@ -20,10 +20,10 @@ use Rattle.ost_model.specs.Objects.{Have, object_path}
 use Rattle.ost_refs.specs.Places.{remotes}
 use Rattle.ost_refs.specs.Changes.{CanWrite}
 use Rattle.ost_refs.specs.declared.place.RefPlace.TheVariants.{Head}
-use Rattle.ost_export.specs.Staging.{IsApart, IsAboveObject}
-use Rattle.ost_export.specs.Storing.{IsNoWork, IsWork, IsNewName, IsStoreFolder, StoresObjects}
+use Rattle.ost_export.specs.Staging.{IsApart}
+use Rattle.ost_export.specs.Storing.{IsWork, StoresObjects}
 use Rattle.ost_export.specs.Exports.{config_path, config_text, ref_path, a_remote, IsFolderAbove, IsExportFolder, FurnishesAt, FurnishesName, Furnishes, CanExport}
-use Rattle.ost_export.proofs.Paths.{above_on, within_on, two_branches, object_within, not_both, apart_of, branch_off, branch_under, objects_branch, config_branch, refs_branch, one_work, free_at, none_below}
+use Rattle.ost_export.proofs.Paths.{above_on, two_branches, object_within, branch_off, branch_under, objects_branch, config_branch, refs_branch, one_work, free_at, none_below}
 
 -- ---- paths
 

@@ -1,6 +1,6 @@
 -- What an object that is ready may give, and what a staged object is read as.
-use Rattle.std.proofs.Common.{◌≡◌, inl, inr, ℕ, List, true, Option, Some, None, refl, sym, ◌∙◌, ap, subst, if◌then◌else◌}
-use Rattle.fp_host.specs.Paths.{Elements, Slot, absent, dir, file, link, at}
+use Rattle.std.proofs.Common.{◌≡◌, inl, inr, ℕ, List, Option, Some, None, sym, ◌∙◌, ap, subst, if◌then◌else◌}
+use Rattle.fp_host.specs.Paths.{Elements, Slot, absent, dir, file, link}
 use Rattle.fp_host.specs.View.{View, Inode, IsTree}
 use Rattle.fp_host.specs.Calls.{IsLeaf, IsDirty}
 use Rattle.fp_host.specs.Outcome.{Spot, holds, points, MayHold, Gives, spot_of, holding, shows}

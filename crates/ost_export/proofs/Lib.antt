@@ -4,6 +4,7 @@ mod Furnished
 mod Given
 mod Listed
 mod Objects
+mod Offering
 mod Paths
 mod Placed
 mod Ready

@@ -1,5 +1,5 @@
 -- Lists of built objects.
-use Rattle.std.proofs.Common.{◌≡◌, ◌<◌, ◌+◌, inl, inr, ℕ, zero, suc, List, [], ◌∷◌, length, get_or, Bool, true, false, Option, Some, None, refl, sym, ◌∙◌, ap, subst, arith, if◌then◌else◌}
+use Rattle.std.proofs.Common.{◌≡◌, ◌<◌, inl, inr, ℕ, zero, suc, List, [], ◌∷◌, length, get_or, Bool, true, false, Some, None, refl, sym, ◌∙◌, ap, subst, arith, if◌then◌else◌}
 use Rattle.std.specs.Prelude.{◌&&◌}
 use Rattle.std.specs.List.{AllByRecursion}
 use Rattle.std.specs.Str.{bytes_eq}
@@ -12,7 +12,7 @@ use Rattle.fp_name.specs.Hex.{is_digest}
 use Rattle.fp_base.specs.declared.object.ObjKind.{ObjKind}
 use Rattle.fp_base.specs.declared.object.ObjKind.TheVariants as kinds
 use Rattle.ost_model.specs.declared.object.Object.{Object}
-use Rattle.ost_model.specs.Objects.{Have, object_path}
+use Rattle.ost_model.specs.Objects.{object_path}
 use Rattle.ost_model.specs.Order.{In}
 use Rattle.ost_commit.specs.declared.built.BuiltObject.{BuiltObject}
 use Rattle.ost_commit.specs.Objects.{is_kind, have_of, IsNamed, AreApart}

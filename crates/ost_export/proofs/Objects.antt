@@ -1,18 +1,17 @@
 -- The objects of a commit come into a store: staged, placed, and nothing is left of the work.
-use Rattle.std.proofs.Common.{◌≡◌, ◌⊎◌, inl, inr, ℕ, List, [], ◌∷◌, length, true, Option, Some, None, refl, sym, ◌∙◌, ap, subst, arith}
+use Rattle.std.proofs.Common.{◌≡◌, inl, inr, ℕ, List, length, true, Option, Some, None, refl, sym, ◌∙◌, ap, subst, arith}
 use Rattle.std.specs.List.{AllByRecursion}
-use Rattle.fp_host.specs.Paths.{Elements, Slot, absent, dir, file, link, IsAbove}
+use Rattle.fp_host.specs.Paths.{Elements, absent}
 use Rattle.fp_host.specs.View.{View, IsTree}
-use Rattle.fp_host.specs.Outcome.{Spot, gone, shows, spot_of}
+use Rattle.fp_host.specs.Outcome.{gone, shows, spot_of}
 use Rattle.fp_host.specs.Frame.{Keeps, AtEnd, Unchanged}
 use Rattle.fp_host.specs.Moments.{Moments, Always}
 use Rattle.fp_host.proofs.Framed.{IsTold, keeps_on, keeps_to, keeps_same}
 use Rattle.fp_host.proofs.Settled.{at_tree}
 use Rattle.fp_host.proofs.Goes.{begins, goes_on}
 use Rattle.fp_host.proofs.Ending.{ends_on, ends_both, ends_goes, ends_looks, ends_to, goes_known}
-use Rattle.fp_small.specs.Clear.{IsWithin, IsCleared, CanClear}
+use Rattle.fp_small.specs.Clear.{IsWithin}
 use Rattle.fp_small.specs.Files.{KeepsFiles}
-use Rattle.fp_small.specs.Folders.{IsFree}
 use Rattle.fp_small.specs.Replace.{IsStaging}
 use Rattle.fp_small.proofs.Keeping.{files_on, files_same, files_kept}
 use Rattle.fp_small.proofs.Emptying.{cleared_absent, above_longer}
@@ -25,10 +24,9 @@ use Rattle.ost_model.specs.Order.{In}
 use Rattle.ost_store.proofs.Staying.{shown_stays}
 use Rattle.ost_commit.specs.declared.built.BuiltObject.{BuiltObject}
 use Rattle.ost_commit.specs.Objects.{have_of}
-use Rattle.ost_commit.proofs.Holding.{all_also}
-use Rattle.ost_export.specs.Staging.{Named, IsApart, AreStaged, AreOpen, HasStaged, IsCovered, StagesSome, Works, CanStageAll}
-use Rattle.ost_export.specs.Placing.{Puts, PutsStaged, PlacesAll, WasStored, CanStore}
-use Rattle.ost_export.specs.Storing.{IsNoWork, IsWork, IsNewObject, IsNewName, IsStoreFolder, StoresAt, StoresName, StoresObjects, IsFitFor, HasStored, CanStoreAll}
+use Rattle.ost_export.specs.Staging.{Named, IsApart, AreStaged, HasStaged, IsCovered, StagesSome, Works, CanStageAll}
+use Rattle.ost_export.specs.Placing.{Puts, PutsStaged, WasStored, CanStore}
+use Rattle.ost_export.specs.Storing.{IsNoWork, IsWork, StoresAt, StoresName, StoresObjects, HasStored, CanStoreAll}
 use Rattle.ost_export.proofs.Given.{held_object}
 use Rattle.ost_export.proofs.Listed.{covered_at}
 use Rattle.ost_export.proofs.Paths.{apart_of, above_work, below_work, off_object, off_above, one_work, free_at, none_below}

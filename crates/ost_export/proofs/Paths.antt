@@ -1,10 +1,10 @@
 -- Paths of a store, and of the work beside it.
-use Rattle.std.proofs.Common.{◌≡◌, ◌≢◌, ◌⊎◌, inl, inr, ℕ, List, [], ◌∷◌, length, get_or, true, refl, sym, ◌∙◌, ap, subst, arith, codes}
-use Rattle.fp_host.specs.Paths.{Elements, absent, dir, IsAbove}
+use Rattle.std.proofs.Common.{◌≡◌, ◌⊎◌, inl, inr, ℕ, List, [], ◌∷◌, length, get_or, true, refl, sym, ◌∙◌, ap, subst, arith, codes}
+use Rattle.fp_host.specs.Paths.{Elements, absent, IsAbove}
 use Rattle.fp_host.specs.View.{View, IsTree}
 use Rattle.fp_small.specs.Clear.{IsWithin}
 use Rattle.fp_small.specs.Folders.{IsFree}
-use Rattle.fp_small.specs.Places.{repo, tmp, new_name}
+use Rattle.fp_small.specs.Places.{tmp, new_name}
 use Rattle.fp_small.specs.Replace.{IsStaging}
 use Rattle.fp_small.proofs.Emptying.{above_longer, below_child}
 use Rattle.fp_small.proofs.Replacement.{one_staging}

@@ -1,5 +1,5 @@
 -- Staged objects that come to their names.
-use Rattle.std.proofs.Common.{◌≡◌, ◌≢◌, inl, inr, ℕ, List, [], ◌∷◌, ◌++◌, true, Option, Some, refl, sym, ◌∙◌, ap, subst, arith}
+use Rattle.std.proofs.Common.{◌≡◌, ◌≢◌, inl, inr, ℕ, List, [], ◌∷◌, ◌++◌, true, Option, refl, sym, ◌∙◌, ap, subst, arith}
 use Rattle.fp_host.specs.Paths.{Elements, absent}
 use Rattle.fp_host.specs.View.{View, IsTree}
 use Rattle.fp_host.specs.Moments.{Moments, Always}
@@ -21,7 +21,7 @@ use Rattle.ost_store.proofs.Staying.{placed_stays, placed_there, shown_stays, re
 use Rattle.ost_export.specs.Staging.{Named, IsApart, IsOnce, AreOpen}
 use Rattle.ost_export.specs.Placing.{Puts, PutsReady, IsReadyIn, AreReady, AreLacking, CanPlaceAll, CameTo, PlacesAll, PlacesSome}
 use Rattle.ost_export.proofs.Given.{given}
-use Rattle.ost_export.proofs.Paths.{off_object, off_above, above_on, below_work, not_both, free_at}
+use Rattle.ost_export.proofs.Paths.{off_object, above_on, below_work, not_both, free_at}
 use Rattle.ost_export.proofs.Staged.{in_push, in_cases, in_last}
 use Rattle.ost_export.proofs.Works.{above_object}
 

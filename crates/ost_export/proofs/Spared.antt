@@ -1,19 +1,17 @@
 -- What an export leaves alone, and where it may be done.
-use Rattle.std.proofs.Common.{◌≡◌, ◌≢◌, ◌⊎◌, inl, inr, ℕ, List, [], ◌∷◌, length, true, Some, None, refl, sym, ◌∙◌, ap, subst, arith, codes}
-use Rattle.std.specs.List.{AllByRecursion}
-use Rattle.fp_host.specs.Paths.{Elements, absent, dir, IsAbove}
+use Rattle.std.proofs.Common.{◌≡◌, ◌≢◌, ◌⊎◌, inl, inr, ℕ, List, [], ◌∷◌, length, true, None, refl, sym, ◌∙◌, ap, subst, arith, codes}
+use Rattle.fp_host.specs.Paths.{Elements, absent, IsAbove}
 use Rattle.fp_host.specs.View.{View, IsTree}
-use Rattle.fp_host.specs.Outcome.{Disk, Leaves}
 use Rattle.fp_small.specs.Clear.{IsWithin}
 use Rattle.fp_small.specs.Folders.{IsFree}
 use Rattle.fp_small.specs.Places.{IsBare, repo, tmp, new_name}
-use Rattle.fp_small.proofs.Emptying.{above_longer, below_child}
+use Rattle.fp_small.proofs.Emptying.{above_longer}
 use Rattle.fp_name.specs.Hex.{is_digest}
 use Rattle.fp_name.specs.Refs.{Ref}
 use Rattle.fp_base.specs.declared.object.ObjKind.{ObjKind}
 use Rattle.ost_model.specs.Objects.{Have, object_path}
 use Rattle.ost_model.specs.Order.{first_fault}
-use Rattle.ost_refs.specs.Places.{place_path, remotes, heads}
+use Rattle.ost_refs.specs.Places.{place_path, remotes}
 use Rattle.ost_refs.specs.declared.place.RefPlace.{RefPlace}
 use Rattle.ost_refs.specs.declared.place.RefPlace.TheVariants.{Head, Remote}
 use Rattle.ost_commit.specs.declared.row.TreeRow.{TreeRow}
@@ -23,7 +21,7 @@ use Rattle.ost_commit.specs.Built.{BuiltCommit}
 use Rattle.ost_export.specs.Staging.{IsApart, AreWhole}
 use Rattle.ost_export.specs.Storing.{IsNoWork, IsWork}
 use Rattle.ost_export.specs.Exports.{config_path, ref_path, IsExportFolder, Exports, AreFit, CanExport, IsSpared}
-use Rattle.ost_export.proofs.Paths.{above_on, within_on, two_branches, object_within, apart_of, branch_off, branch_under, objects_branch, refs_branch, none_below}
+use Rattle.ost_export.proofs.Paths.{within_on, two_branches, object_within, apart_of, branch_off, branch_under, objects_branch, refs_branch, none_below}
 use Rattle.ost_export.proofs.Furnished.{refs_within}
 
 -- ---- a path that is none of those that an export writes

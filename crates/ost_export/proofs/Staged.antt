@@ -1,17 +1,11 @@
 -- Objects that are staged in the work folder, one by one.
-use Rattle.std.proofs.Common.{◌≡◌, ◌⊎◌, inl, inr, ℕ, List, [], ◌∷◌, ◌++◌, Bool, true, false, Option, Some, None, Result, Ok, refl, sym, ◌∙◌, ap, subst, arith}
+use Rattle.std.proofs.Common.{◌≡◌, ◌⊎◌, inl, inr, List, [], ◌∷◌, ◌++◌, Bool, true, false, Some, None, refl, sym, ◌∙◌, ap, subst, arith}
 use Rattle.fp_host.specs.Paths.{Elements, absent}
-use Rattle.fp_host.specs.View.{View, IsTree}
-use Rattle.fp_host.specs.Moments.{Moments, Always}
-use Rattle.fp_host.specs.Frame.{AtEnd, Observes}
-use Rattle.fp_host.proofs.Framed.{IsTold}
-use Rattle.fp_host.proofs.Ending.{ends_goes, ends_to, ends_on, ends_both, ends_looks}
+use Rattle.fp_host.specs.View.{View}
 use Rattle.fp_small.specs.Clear.{IsWithin}
-use Rattle.fp_small.specs.Folders.{ancestors, AreFree}
 use Rattle.fp_small.proofs.Emptying.{above_longer}
 use Rattle.fp_small.proofs.Replacement.{ancestors_above}
 use Rattle.fp_name.specs.Hex.{is_digest}
-use Rattle.fp_base.specs.declared.object.ObjKind.{ObjKind}
 use Rattle.ost_model.specs.declared.object.Object.{Object}
 use Rattle.ost_model.specs.declared.object.Object.TheVariants as objects
 use Rattle.ost_model.specs.Objects.{Have, object_path, name_fault}

@@ -1,6 +1,6 @@
 -- Staged objects come to their names between two syncs.
-use Rattle.std.proofs.Common.{◌≡◌, inl, inr, ℕ, List, [], true, Option, Some, Result, Ok, refl, sym, ◌∙◌, ap, subst, arith, length}
-use Rattle.fp_host.specs.Paths.{Elements, absent, IsAbove}
+use Rattle.std.proofs.Common.{inl, inr, ℕ, List, Option, Result, Ok, ◌∙◌, ap, subst}
+use Rattle.fp_host.specs.Paths.{Elements, IsAbove}
 use Rattle.fp_host.specs.View.{View, IsTree}
 use Rattle.fp_host.specs.Calls.{syncs, Step}
 use Rattle.fp_host.specs.Moments.{Moments, Always, Makes}
@@ -10,16 +10,15 @@ use Rattle.fp_host.proofs.Follow.{called}
 use Rattle.fp_host.proofs.Framed.{IsTold, keeps_to, keeps_call}
 use Rattle.fp_host.proofs.Goes.{begins, goes_on, makes_goes}
 use Rattle.fp_host.proofs.Ending.{ends_call, ends_on, ends_both, ends_frame}
-use Rattle.fp_small.specs.Clear.{IsWithin, GoneWithin, AbsentWithin, IsCleared, CanClear}
+use Rattle.fp_small.specs.Clear.{GoneWithin, AbsentWithin, IsCleared, CanClear}
 use Rattle.fp_small.proofs.Keeping.{files_kept}
 use Rattle.fp_small.proofs.Staging.{synced}
-use Rattle.fp_name.specs.Hex.{is_digest}
 use Rattle.fp_base.specs.declared.object.ObjKind.{ObjKind}
 use Rattle.ost_model.specs.Objects.{Have, object_path}
 use Rattle.ost_store.specs.Stays.{Stays}
 use Rattle.ost_store.proofs.Staying.{shown_stays, held_stays}
-use Rattle.ost_export.specs.Staging.{Named, IsApart, AreStaged, AreOpen}
-use Rattle.ost_export.specs.Placing.{Puts, PutsReady, PutsStaged, AreReady, AreLacking, CanPlaceAll, PlacesAll, WasStored, CanStore}
+use Rattle.ost_export.specs.Staging.{Named, IsApart, AreStaged}
+use Rattle.ost_export.specs.Placing.{Puts, PutsReady, PutsStaged, AreReady, CanPlaceAll, PlacesAll, WasStored, CanStore}
 use Rattle.ost_export.proofs.Given.{held_object}
 use Rattle.ost_export.proofs.Ready.{staged_ready}
 use Rattle.ost_export.proofs.Paths.{off_object, off_above, free_at}

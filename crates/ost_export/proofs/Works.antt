@@ -1,19 +1,14 @@
 -- Work in the folder of an export.
-use Rattle.std.proofs.Common.{◌≡◌, ◌⊎◌, inl, inr, ℕ, List, true, Option, Some, None, Result, Ok, Err, refl, sym, ◌∙◌, ap, subst, arith, Contains, codes}
-use Rattle.fp_host.specs.Paths.{Elements, absent, dir, IsAbove}
-use Rattle.fp_host.specs.View.{View, IsTree}
-use Rattle.fp_host.specs.Moments.{Moments, Always, Makes}
-use Rattle.fp_host.specs.Calls.{syncs, Step}
-use Rattle.fp_host.specs.Reads.{StatOf}
+use Rattle.std.proofs.Common.{◌≡◌, inl, inr, ℕ, List, true, Option, refl, sym, subst, Contains, codes}
+use Rattle.fp_host.specs.Paths.{Elements, IsAbove}
+use Rattle.fp_host.specs.View.{View}
+use Rattle.fp_host.specs.Moments.{Moments, Always}
 use Rattle.fp_host.specs.Frame.{Unchanged}
-use Rattle.fp_host.specs.declared.host.HostError.{HostError}
-use Rattle.fp_host.specs.declared.host.HostError.TheVariants as errors
 use Rattle.fp_host.proofs.Framed.{IsTold, keeps_refl, keeps_on, keeps_to}
 use Rattle.fp_host.proofs.Goes.{stays, begins, goes_on}
-use Rattle.fp_small.specs.Clear.{IsWithin, IsCleared, CanClear}
-use Rattle.fp_small.specs.Folders.{IsFree, ancestors}
+use Rattle.fp_small.specs.Clear.{IsWithin}
+use Rattle.fp_small.specs.Folders.{ancestors}
 use Rattle.fp_small.proofs.Keeping.{files_on}
-use Rattle.fp_small.proofs.Emptying.{above_longer}
 use Rattle.fp_small.proofs.Replacement.{ancestors_above}
 use Rattle.fp_name.specs.Hex.{is_digest}
 use Rattle.fp_base.specs.declared.object.ObjKind.{ObjKind}
@@ -22,7 +17,7 @@ use Rattle.ost_model.specs.Objects.{object_path}
 use Rattle.ost_store.specs.Stage.{Stages}
 use Rattle.ost_store.specs.Stays.{Stays}
 use Rattle.ost_export.specs.Staging.{IsApart, IsAboveObject, Works, AreOpen}
-use Rattle.ost_export.proofs.Paths.{below_work, not_both, off_object, branch_under, objects_branch, object_within, free_at, above_on}
+use Rattle.ost_export.proofs.Paths.{below_work, not_both, off_object, branch_under, objects_branch, object_within, free_at}
 
 pub works_refl : {t : Elements} {v : View} → Works t v v
 works_refl = record { keeps = keeps_refl; files = record { rows = λ id f some. some } }

@@ -1,5 +1,5 @@
 -- Staged objects that come to their names in the store.
-use Rattle.std.specs.Prelude.{◌≡◌, ◌⊎◌, ◌≤◌, ◌+◌, ℕ, List, length, true, Some}
+use Rattle.std.specs.Prelude.{◌≡◌, ◌⊎◌, ℕ, List, true, Some}
 use Rattle.fp_host.specs.Paths.{Elements, Slot, absent, dir}
 use Rattle.fp_host.specs.View.{View}
 use Rattle.fp_host.specs.Outcome.{Spot, folder, gone, shows, IsSettled}

@@ -1,5 +1,5 @@
 -- Objects that are staged in a work folder, laid out as those of a store.
-use Rattle.std.specs.Prelude.{◌≡◌, ◌⊎◌, ℕ, List, [], ◌∷◌, true, false, Bool, Option, Some, None}
+use Rattle.std.specs.Prelude.{◌≡◌, ◌⊎◌, ℕ, List, [], ◌∷◌, true, false, Bool, Some, None}
 use Rattle.std.specs.List.{AllByRecursion}
 use Rattle.fp_host.specs.Paths.{Elements, Slot, absent, dir, IsAbove}
 use Rattle.fp_host.specs.View.{View}
@@ -16,7 +16,7 @@ use Rattle.ost_model.specs.Objects.{Have, object_path, name_fault}
 use Rattle.ost_model.specs.Order.{In}
 use Rattle.ost_store.specs.Stage.{IsHeld, IsKeepable}
 use Rattle.ost_commit.specs.declared.built.BuiltObject.{BuiltObject}
-use Rattle.ost_commit.specs.Objects.{have_of, IsNamed, AreApart}
+use Rattle.ost_commit.specs.Objects.{IsNamed, AreApart}
 
 -- an object's digest and kind
 abbrev pub Named : Type 0

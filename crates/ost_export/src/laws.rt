@@ -1,13 +1,17 @@
 //! Laws of the words that the contracts use, for crates that build on them. Each is the contract of a function that
 //! does nothing.
-ghost use Rattle.std.specs.Prelude.{◌≡◌, ◌≢◌, ℕ, List, None};
+ghost use Rattle.std.specs.Prelude.{◌≡◌, ◌≢◌, ℕ, List, None, true, Ok};
 ghost use Rattle.fp_host.specs.Paths.{Elements, absent, IsAbove};
 ghost use Rattle.fp_host.specs.View.{View, IsTree};
+ghost use Rattle.fp_host.specs.Outcome.{Disk};
+ghost use Rattle.fp_name.specs.Hex.{is_digest};
 ghost use Rattle.fp_name.specs.Refs.{Ref};
+ghost use Rattle.fp_small.specs.declared.state.RemoteRow.{RemoteRow};
 ghost use Rattle.fp_base.specs.declared.object.ObjKind.{ObjKind};
 ghost use Rattle.fp_small.specs.Clear.{IsWithin};
 ghost use Rattle.fp_small.specs.Places.{IsBare, repo, tmp};
-ghost use Rattle.ost_model.specs.Objects.{Have, object_path};
+ghost use Rattle.ost_model.specs.Objects.{Have, object_path, store};
+ghost use Rattle.ost_model.specs.Remotes.{remote_at};
 ghost use Rattle.ost_model.specs.Order.{first_fault};
 ghost use Rattle.ost_refs.specs.Places.{place_path};
 ghost use Rattle.ost_refs.specs.declared.place.RefPlace.{RefPlace};
@@ -15,9 +19,11 @@ ghost use Rattle.ost_commit.specs.declared.row.TreeRow.{TreeRow};
 ghost use Rattle.ost_commit.specs.declared.built.Built.{Built};
 ghost use Rattle.ost_commit.specs.Objects.{have_of};
 ghost use Rattle.ost_commit.specs.Built.{BuiltCommit};
+ghost use Rattle.ost_head.specs.Offers.{offered};
+ghost use Rattle.ost_export.specs.Remotes.{held_at};
 ghost use Rattle.ost_export.specs.Staging.{AreWhole};
 ghost use Rattle.ost_export.specs.Storing.{IsNoWork};
-ghost use Rattle.ost_export.specs.Exports.{AreFit, CanExport, Exports, IsSpared, ref_path};
+ghost use Rattle.ost_export.specs.Exports.{AreFit, CanExport, Exports, IsOffered, IsSpared, ref_path};
 
 /// At every moment of an export, another ref of the store is as it was, each object that was there, and what is neither in the
 /// store nor above it nor in `repo/tmp`.
@@ -46,4 +52,13 @@ pub fn exports_can_be_done()
     ensures bare { (root : Elements) (r : Ref) (v : View) → IsBare v → CanExport root r v }
     ensures fit { (have : Have) (root : Elements) (v : View) → IsTree v → v.names root ≡ absent
         → AreFit have root v }
+{}
+
+/// What an export leaves is what a remote offers under the ref, seen from any url, and the remote's objects are the store's.
+pub fn exports_are_offers()
+    ensures offered { (have : Have) (root : Elements) (r : Ref) (commit : List ℕ) (disk : Disk)
+        (remote : RemoteRow) → is_digest commit ≡ true → IsOffered have root r commit disk
+        → offered (held_at root disk) remote r ≡ Ok commit }
+    ensures objects { (root : Elements) (disk : Disk) (url d : List ℕ) (kind : ObjKind)
+        → remote_at (held_at root disk) url d kind ≡ store root disk d kind }
 {}

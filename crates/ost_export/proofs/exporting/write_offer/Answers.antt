@@ -1,7 +1,6 @@
-use Rattle.std.proofs.Common.{◌≡◌, List, ℕ, sym, subst, arith}
+use Rattle.std.proofs.Common.{◌≡◌, List, sym, subst, arith}
 use Rattle.std.proofs.lemmas.Result.{on_ok_weaker}
-use Rattle.fp_host.specs.Paths.{Elements, absent}
-use Rattle.fp_host.specs.View.{View}
+use Rattle.fp_host.specs.Paths.{absent}
 use Rattle.fp_host.specs.Frame.{AtEnd}
 use Rattle.fp_host.specs.Moments.{Always}
 use Rattle.fp_host.proofs.Cause.{same_fault}
@@ -14,7 +13,6 @@ use Rattle.ost_refs.specs.Places.{place_path, remotes}
 use Rattle.ost_refs.specs.Files.{ref_bytes}
 use Rattle.ost_refs.specs.Changes.{CanWrite}
 use Rattle.ost_refs.specs.declared.place.RefPlace.{RefPlace}
-use Rattle.ost_refs.specs.declared.place.RefPlace.TheVariants.{Head}
 use Rattle.ost_export.specs.Staging.{AreWhole}
 use Rattle.ost_export.specs.Storing.{StoresObjects, HasStored, CanStoreAll}
 use Rattle.ost_export.specs.Exports.{CanExportAll, Furnishes, a_remote, config_path}

@@ -1,7 +1,6 @@
-use Rattle.std.proofs.Common.{◌≡◌, Ok, sym, subst, arith, ◌∙◌, ap}
+use Rattle.std.proofs.Common.{◌≡◌, Ok, sym, subst, ◌∙◌, ap}
 use Rattle.std.proofs.lemmas.Result.{on_ok_weaker}
-use Rattle.fp_host.specs.Paths.{Elements, absent, dir}
-use Rattle.fp_host.specs.View.{View}
+use Rattle.fp_host.specs.Paths.{Elements, absent}
 use Rattle.fp_host.specs.Frame.{Frame, AtEnd, NoPath}
 use Rattle.fp_host.proofs.Framed.{frame_start, frame_stat, frame_within}
 use Rattle.fp_host.proofs.Ending.{ends_call, ends_on, ends_to, fault_caused}

@@ -1,4 +1,3 @@
-use Rattle.std.proofs.Common.{◌≡◌, Bool, true, false, sym, subst, ap, ◌∙◌}
 use Rattle.std.proofs.lemmas.Result.{IfOk-weaker}
 use Rattle.fp_host.proofs.Ending.{ends_looks, ends_both, ends_on, ends_to}
 use Rattle.fp_host.proofs.Looking.{looks_start, looks_within}

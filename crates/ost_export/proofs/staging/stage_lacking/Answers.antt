@@ -1,4 +1,4 @@
-use Rattle.std.proofs.Common.{Bool, true, false, ap, ◌∙◌, refl, subst, arith}
+use Rattle.std.proofs.Common.{Bool, ap, ◌∙◌, refl, subst}
 use Rattle.std.proofs.lemmas.Result.{on_ok_weaker}
 use Rattle.fp_host.specs.View.{View}
 use Rattle.fp_host.proofs.Ending.{ends_goes, ends_looks, ends_both, ends_on, ends_to, fault_caused}
