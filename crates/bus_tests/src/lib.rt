@@ -13,5 +13,3 @@ mod proxy;
 mod rules;
 #[cfg(test)]
 mod stream;
-#[cfg(test)]
-mod tables;
