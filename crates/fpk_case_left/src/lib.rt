@@ -1,8 +1,8 @@
 //! What a stop may leave of a host in memory, and whether it is whole.
 #![tactic(auto)]
 
-mod outcomes;
+mod images;
 mod sound;
 
-pub use outcomes::{last_open, oldest_image, open_names, outcomes, picture, present_image};
+pub use images::{last_open, oldest_image, open_names, outcomes, picture, present_image};
 pub use sound::fault_in;
