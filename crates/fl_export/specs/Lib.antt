@@ -1,0 +1,5 @@
+pub mod Rewritten
+pub mod Texts
+pub mod Trees
+pub mod Exported
+pub mod Sample

@@ -1,0 +1,65 @@
+-- What the directories of a commit hold.
+use Rattle.std.specs.Prelude.{ℕ, ◌*◌, List, [], length, leb, Bool, true, false, Option, Some, None, option_and_then, option_map, if◌then◌else◌}
+use Rattle.fp_host.specs.Paths.{Elements}
+use Rattle.ost_model.specs.declared.object.Object.{Object}
+use Rattle.ost_model.specs.declared.object.Object.TheVariants as objects
+use Rattle.ost_model.specs.Fields.{CommitView, FileRow, DirRow, TreeView}
+use Rattle.ost_model.specs.Objects.{Have}
+use Rattle.ost_model.specs.Order.{tree_at}
+use Rattle.ost_model.specs.Look.{Found, nothing, directory, file_at, find_dir, look, next}
+
+-- the dirtree of what was found, where it is a directory that reads
+abbrev pub tree_found : Have → Found → Option TreeView
+tree_found have nothing = None
+tree_found have (file_at d) = None
+tree_found have (directory e) = tree_at have e.tree
+
+abbrev pub commit_tree : CommitView → List ℕ
+commit_tree c = c.tree
+
+abbrev pub dir_tree : DirRow → List ℕ
+dir_tree e = e.tree
+
+abbrev pub root_tree : Option CommitView → Option (List ℕ)
+root_tree c = option_map commit_tree c
+
+-- the digest of the dirtree of the directory of this name in a directory, and the dirtree
+abbrev pub digest_below : List ℕ → Option TreeView → Option (List ℕ)
+digest_below name tree = option_map dir_tree (option_and_then (λ (v : TreeView). find_dir name v.dirs) tree)
+
+abbrev pub below : Have → List ℕ → Option TreeView → Option TreeView
+below have name tree = option_and_then (tree_at have) (digest_below name tree)
+
+abbrev pub files_in : Option TreeView → List FileRow
+files_in None = []
+files_in (Some v) = v.files
+
+abbrev pub dirs_in : Option TreeView → List DirRow
+dirs_in None = []
+dirs_in (Some v) = v.dirs
+
+-- the dirtree of the directory at a path of a commit
+abbrev pub tree_look : Have → List ℕ → Elements → Option TreeView
+tree_look have commit path = tree_found have (look have commit path)
+
+-- that of the directory of this name in a directory
+abbrev pub tree_next : Have → List ℕ → DirRow → Option TreeView
+tree_next have name e = tree_found have (next have name (directory e))
+
+-- ---- contents
+
+abbrev pub is_file : Option Object → Bool
+is_file (Some (objects.File mode bytes)) = true
+is_file (Some (objects.Link text)) = false
+is_file (Some (objects.Meta bytes)) = false
+is_file None = false
+
+-- the content of a file of at most 1 MiB
+abbrev pub if_short : List ℕ → Option (List ℕ)
+if_short bytes = if leb (length bytes) (1024 * 1024) then Some bytes else None
+
+abbrev pub short_content : Option Object → Option (List ℕ)
+short_content (Some (objects.File mode bytes)) = if_short bytes
+short_content (Some (objects.Link text)) = None
+short_content (Some (objects.Meta bytes)) = None
+short_content None = None
