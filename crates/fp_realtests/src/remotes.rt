@@ -122,12 +122,12 @@ fn fails<M: Remotes>(remotes: &mut M, alloc: Global, url: &str, root: &Path) -> 
     matches!(node, Err(RemoteError::Failed)) && piece == Err(RemoteError::Failed)
 }
 
-// The first url at which a call doesn't fail.
-fn first_found<M: Remotes>(remotes: &mut M, alloc: Global) -> Option<&'static str> {
+// The number of the first url at which a call doesn't fail.
+fn first_found<M: Remotes>(remotes: &mut M, alloc: Global) -> Option<usize> {
     let root = Path::root(alloc);
-    for url in &OTHER_URLS {
+    for (i, url) in OTHER_URLS.iter().enumerate() {
         if !fails(remotes, alloc, url, &root) {
-            return Some(*url);
+            return Some(i);
         }
     }
     None
