@@ -19,7 +19,7 @@ use Rattle.ost_commit.specs.Folders.{Gathers}
 use Rattle.ost_commit.specs.Tables.{AreUsable, AreContents, AreObjectsOf}
 use Rattle.ost_commit.specs.Trees.{row_of, Supports, HasTrees, IsRootWritten}
 use Rattle.ost_commit.specs.Rows.{says}
-use Rattle.ost_commit.specs.Objects.{have_of, IsNamed, AreApart, Holds}
+use Rattle.ost_commit.specs.Objects.{have_of, IsNamed, HasLinkText, AreApart, Holds}
 use Rattle.gv_value.specs.Tree.{Tree, no_trees}
 use Rattle.ost_model.specs.Types.{dictionary_shape, related_shape}
 use Rattle.ost_object.specs.Views.{tree_at, commit_view}
@@ -29,7 +29,7 @@ use Rattle.ost_commit.specs.Built.{BuiltCommit}
 use Rattle.ost_commit.proofs.Keys.{AreDistinct}
 use Rattle.ost_commit.proofs.Reading.{commit_good, dirmeta_good, named_if_good, none_related}
 use Rattle.ost_commit.proofs.Holding.{holds_rows, there_rows, all_also}
-use Rattle.ost_commit.proofs.Having.{IsGood, all_good, all, file_have, tree_have, meta_have, commit_have, are_apart, are_good}
+use Rattle.ost_commit.proofs.Having.{IsGood, all_good, all, file_have, tree_have, meta_have, commit_have, are_apart, are_links, are_good}
 use Rattle.ost_commit.proofs.Showing.{seen, plain_below, whole}
 
 pub built_commit : (rows : List TreeRow) (r : Ref) (subject : List ℕ) (timestamp : ℕ) (built : Built) (root meta : List ℕ) → IsTree (says rows)
@@ -37,8 +37,8 @@ pub built_commit : (rows : List TreeRow) (r : Ref) (subject : List ℕ) (timesta
     → Shows (have_of built.objects) (says rows) 65 [] (root_row (commit_of_tree r subject timestamp root meta))
     → AreGood (have_of built.objects) → length (order (have_of built.objects) built.commit) ≤ 200000
     → AllByRecursion (Holds (have_of built.objects)) rows → AllByRecursion IsNamed built.objects → AreApart built.objects
-    → BuiltCommit rows r subject timestamp built
-built_commit rows r subject timestamp built root meta tree commit shows good few holds named apart =
+    → AllByRecursion HasLinkText built.objects → BuiltCommit rows r subject timestamp built
+built_commit rows r subject timestamp built root meta tree commit shows good few holds named apart links =
     let have = have_of built.objects in
     let c = commit_of_tree r subject timestamp root meta in
     record {
@@ -51,6 +51,7 @@ built_commit rows r subject timestamp built root meta tree commit shows good few
       whole = whole have (says rows) good built.commit c commit shows few;
       named = named;
       apart = apart;
+      links = links;
     }
 
 built_is : (b : Built) (c : List ℕ) (os : List BuiltObject) → b.commit ≡ c → b.objects ≡ os → b ≡ record { commit = c; objects = os }
@@ -80,7 +81,8 @@ assembled rows r subject timestamp folders digests contents meta commit made bui
     subst (BuiltCommit rows r subject timestamp) (sym same)
     (built_commit rows r subject timestamp (record { commit = meta_digest commit; objects = os }) made.root (meta_digest meta) gathers.tree at
     (subst (λ t. Shows have (says rows) 65 [] (row_of t (meta_digest meta))) root.root (root.written.shows have trees support))
-    (all_good os good) few holds (all_also IsGood IsNamed (λ o h. named_if_good o.digest o.kind o.object h) os good) (are_apart contents made.trees.entries meta commit files dirs))
+    (all_good os good) few holds (all_also IsGood IsNamed (λ o h. named_if_good o.digest o.kind o.object h) os good) (are_apart contents made.trees.entries meta commit files dirs)
+    (are_links contents made.trees.entries meta commit files dirs held.links usable))
 
 -- what a commit says, by what its fields say
 pub commit_said : (metadata related subject body : List ℕ) (r : Ref) (s : List ℕ) (timestamp : ℕ) (tree meta : List ℕ) → tree_at dictionary_shape metadata ≡ bound_to r → related ≡ [] → subject ≡ s → body ≡ []

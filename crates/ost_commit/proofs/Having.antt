@@ -18,7 +18,7 @@ use Rattle.ost_commit.specs.declared.row.TreeRow.TheVariants as row
 use Rattle.ost_commit.specs.declared.built.BuiltObject.{BuiltObject}
 use Rattle.ost_commit.specs.Rows.{content, put_by}
 use Rattle.ost_commit.specs.Refusals.{is_content}
-use Rattle.ost_commit.specs.Objects.{is_kind, have_of, AreApart}
+use Rattle.ost_commit.specs.Objects.{is_kind, have_of, AreApart, IsLinkText, HasLinkText}
 use Rattle.ost_commit.specs.Shows.{AreGood}
 use Rattle.ost_commit.specs.Digests.{IsDigestOf, AreDigests}
 use Rattle.ost_commit.specs.Tables.{object_in, built_of, built_meta, AreUsable}
@@ -138,6 +138,17 @@ table_good kind es rest distinct usable all = go es (at_keys (λ e. object_fault
     go [] each = all
     go (e ∷ es) each = (each.0, go es each.1)
 
+-- and their links' texts
+table_links : (kind : ObjKind) (es : List (List ℕ × Object)) (rest : List BuiltObject) → AllByRecursion (λ (e : List ℕ × Object). IsLinkText e.1) es → AllByRecursion HasLinkText rest → AllByRecursion HasLinkText (map (built_of kind) es ++ rest)
+table_links kind [] rest each all = all
+table_links kind (e ∷ es) rest each all = (each.0, table_links kind es rest each.1 all)
+
+-- a dirtree is no link
+tree_link : (d : List ℕ) (o : Object) → object_fault d kinds.DirTree (Some o) ≡ None → IsLinkText o
+tree_link d (objects.Meta bytes) good = tt
+tree_link d (objects.File mode bytes) good = tt
+tree_link d (objects.Link text) good = absurd (cc good)
+
 pub table_apart : (kind : ObjKind) (es : List (List ℕ × Object)) (rest : List BuiltObject) → AreDistinct es → ((d : List ℕ) → have_of rest d kind ≡ None) → AreApart rest → AreApart (map (built_of kind) es ++ rest)
 table_apart kind [] rest distinct none apart = apart
 table_apart kind (e ∷ es) rest distinct none apart = (
@@ -182,6 +193,10 @@ module _ (contents trees : List (List ℕ × Object)) (meta commit : List ℕ) w
   are_apart files dirs = table_apart kinds.File contents (map (built_of kinds.DirTree) trees ++ last) files trees_none
       (table_apart kinds.DirTree trees last dirs (last_none kinds.DirTree refl refl)
       (ap (λ t. if t then Some (objects.Meta commit) else None) (and_none (bytes_eq (meta_digest commit) (meta_digest meta)) false refl), (refl, tt)))
+
+  pub are_links : AreDistinct contents → AreDistinct trees → ((d : List ℕ) (o : Object) → object_in contents d ≡ Some o → IsLinkText o) → AreUsable kinds.DirTree trees → AllByRecursion HasLinkText all
+  are_links files dirs links tree = table_links kinds.File contents (map (built_of kinds.DirTree) trees ++ last) (at_keys (λ e. IsLinkText e.1) contents files links)
+      (table_links kinds.DirTree trees last (at_keys (λ e. IsLinkText e.1) trees dirs (λ d o h. tree_link d o (tree.each d o h))) (tt, (tt, tt)))
 
   pub are_good : AreDistinct contents → AreDistinct trees → AreUsable kinds.File contents → AreUsable kinds.DirTree trees → object_fault (meta_digest meta) kinds.DirMeta (Some (objects.Meta meta)) ≡ None
       → object_fault (meta_digest commit) kinds.Commit (Some (objects.Meta commit)) ≡ None → AllByRecursion IsGood all

@@ -1,10 +1,11 @@
 -- The objects of rows in a table.
 use Rattle.std.proofs.Common.{◌≡◌, ◌⊎◌, inl, inr, ◌<◌, ℕ, zero, suc, List, [], ◌∷◌, ◌++◌, append-nil, length, get_or, Bool, true, false, Some, None, refl, sym, ◌∙◌, ap, subst, arith}
-use Rattle.std.specs.Prelude.{if◌then◌else◌}
+use Rattle.std.specs.Prelude.{if◌then◌else◌, leb}
 use Rattle.std.specs.Str.{bytes_eq}
 use Rattle.std.specs.List.{AllByRecursion}
 use Rattle.std.proofs.lemmas.Slice.Eq.{bytes_eq-Decides}
-use Rattle.std.proofs.lemmas.Bool.{false≢true}
+use Rattle.std.proofs.lemmas.Bool.{false≢true, and_parts}
+use Rattle.fp_host.specs.Paths.{is_link_text}
 use Rattle.fp_base.specs.declared.object.ObjKind.{ObjKind}
 use Rattle.fp_base.specs.declared.object.ObjKind.TheVariants as kinds
 use Rattle.ost_model.specs.declared.object.Object.{Object}
@@ -16,7 +17,7 @@ use Rattle.ost_commit.specs.declared.row.TreeRow.{TreeRow}
 use Rattle.ost_commit.specs.declared.row.TreeRow.TheVariants as row
 use Rattle.ost_commit.specs.Rows.{put_by}
 use Rattle.ost_commit.specs.Refusals.{is_good_row, is_content}
-use Rattle.ost_commit.specs.Objects.{Holds}
+use Rattle.ost_commit.specs.Objects.{Holds, IsLinkText}
 use Rattle.ost_commit.specs.Shows.{IsThere}
 use Rattle.ost_commit.specs.Digests.{IsDigestOf, AreDigests, object_by}
 use Rattle.ost_commit.specs.Folders.{At, put_at}
@@ -56,7 +57,7 @@ row_kept old new kept (row.File path mode bytes) has = kept (file_digest mode by
 row_kept old new kept (row.Link path target) has = kept (link_digest target) (objects.Link target) has
 
 pub no_contents : AreContents [] []
-no_contents = record { there = tt; usable = record { each = λ d o h. absurd (cc h) } }
+no_contents = record { there = tt; usable = record { each = λ d o h. absurd (cc h) }; links = λ d o h. absurd (cc h) }
 
 -- an object that may be used came to its digest
 pub usable_more : (kind : ObjKind) (old new : List (List ℕ × Object)) (d : List ℕ) (o : Object) → AreUsable kind old → object_fault d kind (Some o) ≡ None → PutsObject old new d o → AreUsable kind new
@@ -67,18 +68,29 @@ usable_more kind old new d o usable good puts = record {
   ];
 }
 
+-- the text of a good row's link is one
+row_link : (r : TreeRow) (o : Object) → is_good_row r ≡ true → object_by r ≡ Some o → IsLinkText o
+row_link (row.Dir path) o good by = absurd (cc by)
+row_link (row.File path mode bytes) o good by = let object : objects.File mode bytes ≡ o = cc by in subst IsLinkText object tt
+row_link (row.Link path target) o good by = let object : objects.Link target ≡ o = cc by in subst IsLinkText object (and_parts (leb (length path) 65) (is_link_text target) good).1
+
 -- a row more
 pub contents_more : (before : List TreeRow) (r : TreeRow) (old new : List (List ℕ × Object)) (d : List ℕ) (o : Object) → AreContents before old → is_good_row r ≡ true → IsDigestOf r d → object_by r ≡ Some o
     → PutsObject old new d o → AreContents (before ++ r ∷ []) new
 contents_more before r old new d o contents good is by puts = record {
   there = all_push (HasRow new) before r (all_also (HasRow old) (HasRow new) (row_kept old new puts.kept) before contents.there) (row_there new r d o is by puts.there);
   usable = usable_more kinds.File old new d o contents.usable (row_good r d o good is by) puts;
+  links = λ q x h. elim (puts.only q x h) [
+    | inl k ↦ contents.links q x k
+    | inr k ↦ subst IsLinkText (sym k.1) (row_link r o good by)
+  ];
 }
 
 pub contents_same : (before : List TreeRow) (r : TreeRow) (table : List (List ℕ × Object)) → AreContents before table → object_by r ≡ None → AreContents (before ++ r ∷ []) table
 contents_same before r table contents by = record {
   there = all_push (HasRow table) before r contents.there (go r by);
   usable = contents.usable;
+  links = contents.links;
 }
   where
     go : (s : TreeRow) → object_by s ≡ None → HasRow table s

@@ -13,7 +13,7 @@ use Rattle.ost_commit.specs.declared.built.BuildError.TheVariants as error
 use Rattle.ost_commit.specs.Rows.{says}
 use Rattle.ost_commit.specs.Refusals.{first_refused}
 use Rattle.ost_commit.specs.Tables.{Collide}
-use Rattle.ost_commit.specs.Objects.{have_of, IsNamed, AreApart, Holds}
+use Rattle.ost_commit.specs.Objects.{have_of, IsNamed, HasLinkText, AreApart, Holds}
 use Rattle.ost_commit.specs.Commits.{commit_of_tree}
 use Rattle.ost_commit.specs.Shows.{found_said, meta_at, plain_meta}
 
@@ -27,10 +27,11 @@ pub record BuiltCommit (rows : List TreeRow) (r : Ref) (subject : List ℕ) (tim
   pub directories : (path : Elements) (e : DirRow) → look (have_of built.objects) built.commit path ≡ directory e
       → meta_at (have_of built.objects) e.meta ≡ Some plain_meta
   pub contents : AllByRecursion (Holds (have_of built.objects)) rows
-  -- the objects are whole, and each is there once
+  -- the objects are whole, each is there once, and the text of each link is one
   pub whole : first_fault (have_of built.objects) built.commit ≡ None
   pub named : AllByRecursion IsNamed built.objects
   pub apart : AreApart built.objects
+  pub links : AllByRecursion HasLinkText built.objects
 
 -- why rows make no commit
 abbrev pub IsBuildFault : List TreeRow → BuildError → Type 0

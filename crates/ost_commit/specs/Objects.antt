@@ -1,8 +1,10 @@
 -- The objects of what was built.
 use Rattle.std.specs.Prelude.{◌≡◌, List, [], ◌∷◌, Bool, true, false, ◌&&◌, Some, None, if◌then◌else◌}
 use Rattle.std.specs.Str.{bytes_eq}
+use Rattle.fp_host.specs.Paths.{is_link_text}
 use Rattle.fp_base.specs.declared.object.ObjKind.{ObjKind}
 use Rattle.fp_base.specs.declared.object.ObjKind.TheVariants as kinds
+use Rattle.ost_model.specs.declared.object.Object.{Object}
 use Rattle.ost_model.specs.declared.object.Object.TheVariants as objects
 use Rattle.ost_model.specs.Contents.{file_digest, link_digest}
 use Rattle.ost_model.specs.Objects.{Have, name_fault}
@@ -25,6 +27,15 @@ have_of (o ∷ os) d kind = if bytes_eq o.digest d && is_kind o.kind kind then S
 -- it is the one that its digest names
 abbrev pub IsNamed : BuiltObject → Type 0
 IsNamed o = name_fault o.digest o.kind (Some o.object) ≡ None
+
+-- a link's text is one
+abbrev pub IsLinkText : Object → Type 0
+IsLinkText (objects.Meta bytes) = Unit {0}
+IsLinkText (objects.File mode bytes) = Unit {0}
+IsLinkText (objects.Link text) = is_link_text text ≡ true
+
+abbrev pub HasLinkText : BuiltObject → Type 0
+HasLinkText o = IsLinkText o.object
 
 -- each digest and kind stands once
 abbrev pub AreApart : List BuiltObject → Type 0

@@ -11,6 +11,7 @@ use Rattle.ost_model.specs.declared.object.Object.{Object}
 use Rattle.ost_model.specs.declared.object.Object.TheVariants as objects
 use Rattle.ost_model.specs.Objects.{object_fault, digest_of}
 use Rattle.ost_model.specs.Contents.{file_digest, link_digest, meta_digest}
+use Rattle.ost_commit.specs.Objects.{IsLinkText}
 use Rattle.ost_commit.specs.declared.row.TreeRow.{TreeRow}
 use Rattle.ost_commit.specs.declared.row.TreeRow.TheVariants as row
 use Rattle.ost_commit.specs.declared.built.BuiltObject.{BuiltObject}
@@ -74,7 +75,8 @@ IsFaultOfTables error.Collision = Collide
 IsFaultOfTables error.TooLarge = Unit {0}
 IsFaultOfTables error.NoMemory = Unit {0}
 
--- the objects of rows, and no others
+-- the objects of rows, which may be used, and whose links have texts that links may have
 pub record AreContents (rows : List TreeRow) (table : List (List ℕ × Object)) : Type 0 where
   pub there : AllByRecursion (HasRow table) rows
   pub usable : AreUsable kinds.File table
+  pub links : (d : List ℕ) (o : Object) → object_in table d ≡ Some o → IsLinkText o

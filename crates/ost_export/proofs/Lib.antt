@@ -2,6 +2,7 @@ mod Exported
 mod Filling
 mod Furnished
 mod Given
+mod Keeping
 mod Listed
 mod Objects
 mod Offering

@@ -1,6 +1,7 @@
 //! Laws of the words that the contracts use, for crates that build on them. Each is the contract of a function that
 //! does nothing.
 ghost use Rattle.std.specs.Prelude.{◌≡◌, ◌≢◌, ℕ, List, None, true, Ok};
+ghost use Rattle.std.specs.List.{AllByRecursion};
 ghost use Rattle.fp_host.specs.Paths.{Elements, absent, IsAbove};
 ghost use Rattle.fp_host.specs.View.{View, IsTree};
 ghost use Rattle.fp_host.specs.Outcome.{Disk};
@@ -21,7 +22,7 @@ ghost use Rattle.ost_commit.specs.Objects.{have_of};
 ghost use Rattle.ost_commit.specs.Built.{BuiltCommit};
 ghost use Rattle.ost_head.specs.Offers.{offered};
 ghost use Rattle.ost_export.specs.Remotes.{held_at};
-ghost use Rattle.ost_export.specs.Staging.{AreWhole};
+ghost use Rattle.ost_export.specs.Staging.{AreWhole, IsKeepableObject};
 ghost use Rattle.ost_export.specs.Storing.{IsNoWork};
 ghost use Rattle.ost_export.specs.Exports.{AreFit, CanExport, Exports, IsOffered, IsSpared, ref_path};
 
@@ -45,6 +46,13 @@ pub fn built_commits_are_whole()
     ensures { (rows : List TreeRow) (r : Ref) (subject : List ℕ) (timestamp : ℕ) (built : Built)
         → BuiltCommit rows r subject timestamp built → AreWhole built.objects
         × (first_fault (have_of built.objects) built.commit ≡ None) }
+{}
+
+/// Each object of a built commit may be kept: a file's permission bits are within 0775, and a link's text is one.
+pub fn built_commits_may_be_kept()
+    ensures { (rows : List TreeRow) (r : Ref) (subject : List ℕ) (timestamp : ℕ) (built : Built)
+        → BuiltCommit rows r subject timestamp built
+        → AllByRecursion IsKeepableObject built.objects }
 {}
 
 /// What is asked of a host can be met: where nothing stands but the root, and where nothing stands at the store's folder.
