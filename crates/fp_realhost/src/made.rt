@@ -32,9 +32,10 @@ impl Made {
         self.files.contains(at)
     }
 
-    // Whether nothing stands there, or at the folder above.
+    // Whether nothing stands there, since it, the folder above or the one above that is known to be absent.
     pub fn is_absent(&self, at: &str) -> bool {
-        self.is_whole && (self.lacks(at) || self.lacks(folder_of(at)))
+        let folder = folder_of(at);
+        self.is_whole && (self.lacks(at) || self.lacks(folder) || self.lacks(folder_of(folder)))
     }
 
     fn lacks(&self, at: &str) -> bool {

@@ -1,14 +1,13 @@
 // Files and folders that are made to last.
-ghost use Rattle.std.specs.Prelude.{◌<◌};
+ghost use Rattle.std.specs.Thread.{IsSync};
 
 use crate::files::open_to_read;
 use fp_system::{Call, Cause, known};
-use std::alloc::Global;
 use std::fs;
 use std::fs::OpenFile;
 use std::io::ErrorKind;
 use std::rt::Files;
-use std::thread::{Threads, map_chunks};
+use std::thread::{Threads, join};
 
 /// What could not be made to last, and why.
 #[derive(Clone, Copy)]
@@ -27,36 +26,71 @@ pub struct Failure {
 // How many threads sync at one time. A disk takes many syncs together in about the time of one.
 const THREADS: usize = 8;
 
-// As many paths at least are worth a thread.
-const LEAST: usize = 16;
+// As many paths at least are cut in halves.
+const LEAST: usize = 32;
 
-// Syncs by several threads where there are many paths.
-pub fn sync_by_threads<R: Files + Threads + Sync>(
-    rt: &R,
-    alloc: Global,
-    paths: &[&str],
-) -> Option<Failure> {
-    let size = (paths.len() / THREADS).saturating_add(1).max(LEAST);
-    let part = |start: usize, paths: &[&str]| -> Option<Failure> { sync_in_turn(rt, start, paths) };
-    match map_chunks(rt, alloc, paths, size, &part) {
-        Ok(met) => first_of(&met),
-        Err(_) => sync_in_turn(rt, 0, paths),
+// What makes the file or folder at a path last.
+trait Syncer {
+    fn sync_path(&self, at: &str) -> Option<Unsynced>;
+}
+
+// The system as it is.
+struct SystemSyncer<'a, R> {
+    rt: &'a R,
+}
+
+impl<R> Drop for SystemSyncer<'_, R> {
+    fn drop(self) {
+        let SystemSyncer { rt: _ } = self;
     }
 }
 
-fn first_of(met: &[Option<Failure>]) -> Option<Failure> {
-    for one in met {
-        if one.is_some() {
-            return *one;
-        }
+impl<R: Files> Syncer for SystemSyncer<'_, R> {
+    fn sync_path(&self, at: &str) -> Option<Unsynced> {
+        sync_plain(self.rt, at)
     }
-    None
+}
+
+// Syncs by several threads where there are many paths, and answers the first that failed.
+pub fn sync_by_threads<R: Files + Threads + Sync>(rt: &R, paths: &[&str]) -> Option<Failure> {
+    let syncer = SystemSyncer { rt };
+    sync_parts(rt, &syncer, 0, paths, paths.len() / THREADS)
+}
+
+// Cuts the paths in halves, down to this length, and each half is synced by a thread of its own. The first path has this place
+// in the list.
+fn sync_parts<R: Threads + Sync, S: Syncer + Sync>(
+    rt: &R,
+    syncer: &S,
+    start: usize,
+    paths: &[&str],
+    most: usize,
+) -> Option<Failure> {
+    if paths.len() < LEAST || paths.len() <= most {
+        return sync_in_turn(syncer, start, paths);
+    }
+    let half = paths.len() / 2;
+    let (front, back) = paths.split_at(half);
+    let next = start.saturating_add(half);
+    let (first, second) = join(
+        rt,
+        || -> Option<Failure>
+            requires { IsSync R.row × IsSync S.row }
+        { sync_parts(rt, syncer, start, front, most) },
+        || -> Option<Failure>
+            requires { IsSync R.row × IsSync S.row }
+        { sync_parts(rt, syncer, next, back, most) },
+    );
+    match first {
+        Some(failure) => Some(failure),
+        None => second,
+    }
 }
 
 // Syncs one after another. The first path has this place in the list.
-pub fn sync_in_turn<R: Files>(rt: &R, start: usize, paths: &[&str]) -> Option<Failure> {
+fn sync_in_turn<S: Syncer>(syncer: &S, start: usize, paths: &[&str]) -> Option<Failure> {
     for (i, at) in paths.iter().enumerate() {
-        if let Some(met) = sync_plain(rt, at) {
+        if let Some(met) = syncer.sync_path(at) {
             return Some(met_at(start, i, met));
         }
     }

@@ -184,7 +184,7 @@ fn sync_set<R: Files + Threads + Sync>(
     refused: &mut String,
 ) -> Result<(), Unsynced> {
     match list_of(alloc, set) {
-        Ok(paths) => answer_of(sync_list(rt, alloc, &paths, spares), &paths, refused),
+        Ok(paths) => answer_of(sync_list(rt, &paths, spares), &paths, refused),
         Err(_) => Err(Unsynced {
             call: Call::Open,
             cause: Cause::NoMemory,
@@ -202,13 +202,8 @@ fn list_of<'a>(alloc: Global, set: &'a BTreeSet<String>) -> Result<Vec<&'a str>,
 
 // What may not be opened as it is, is opened one after another: its permission bits are widened meanwhile, and a file may
 // stand in the list under several names.
-fn sync_list<R: Files + Threads + Sync>(
-    rt: &R,
-    alloc: Global,
-    paths: &[&str],
-    spares: bool,
-) -> Option<Failure> {
-    match sync_by_threads(rt, alloc, paths) {
+fn sync_list<R: Files + Threads + Sync>(rt: &R, paths: &[&str], spares: bool) -> Option<Failure> {
+    match sync_by_threads(rt, paths) {
         Some(met) if is_denied(&met) => sync_rest(rt, paths, met.place, spares),
         met => met,
     }
