@@ -129,6 +129,10 @@ deployed_line row = line_of (ref_text row.name ∷ hex row.commit ∷ row.origin
 abbrev pub refs_text : List RefRow → List ℕ
 refs_text rows = flat_map deployed_line rows
 
+-- what an application exports: its path, escaped, and the ref
+abbrev pub export_line : Elements → Ref → List ℕ
+export_line path name = line_of (escaped (path_text path) ∷ ref_text name ∷ [])
+
 -- a ref that an update passes over
 abbrev pub skipped_text : Ref → List ℕ
 skipped_text name = line_of (codes "skipped" ∷ ref_text name ∷ [])

@@ -2,6 +2,7 @@
 #![tactic(auto)]
 
 mod escaping;
+mod exports;
 mod info;
 mod laws;
 mod lines;
@@ -12,6 +13,7 @@ mod stores;
 pub use escaping::escape;
 pub use info::info_text;
 pub use laws::escapes_tell_texts;
+pub use exports::export_line;
 pub use lines::{digits_of, object_of, op_line, pins_text, refs_text, remotes_text, skipped_line};
 pub use printed_words::{
     frame_rule_word, key_rule_word, kind_word, meta_rule_word, metadata_rule_word, rule_word,

@@ -37,7 +37,8 @@ use Rattle.fl_sandbox.proofs.Refusing.{launch_refuses}
 use Rattle.fl_change.specs.World.{World}
 use Rattle.fl_change.specs.Answer.{Answer, Piece, lines_of, last_of, joined, ops_in, ops_of, text_answer, refusal_answer}
 use Rattle.fl_top.specs.Fsck.{report_text}
-use Rattle.fl_top.specs.Answer.{Given, listed, checked, override_text, shown_by, over, of_batch, answer_over, by_read, by_value, by_type, commit_shown, tree_shown, meta_shown, value_shown, over_input, launch_over, of_launch, on_session, on_system, rules_over, by_rules, of_recording, filtered_by, filter_by}
+use Rattle.fl_export.specs.Exported.{exported}
+use Rattle.fl_top.specs.Answer.{Given, listed, checked, exports_text, override_text, shown_by, over, of_batch, answer_over, by_read, by_value, by_type, commit_shown, tree_shown, meta_shown, value_shown, over_input, launch_over, of_launch, on_session, on_system, rules_over, by_rules, of_recording, filtered_by, filter_by}
 use Rattle.fl_change.specs.Turns.{changing}
 use Rattle.fl_top.specs.Objects.{commit_lines, tree_lines, meta_lines}
 use Rattle.gv_value.specs.Shape.{Shape}
@@ -278,6 +279,7 @@ shown_plain (things.Value of) bytes = value_plain of bytes
 listed_plain : (listing : Listing) (x : World) → IsPlain (listed listing x)
 listed_plain listings.Refs x = told_plain (refs_text x.state.refs)
 listed_plain listings.Pins x = told_plain (pins_text x.state.pins)
+listed_plain listings.Exports x = told_plain (exports_text (exported x.have x.state))
 listed_plain listings.Remotes x = told_plain (remotes_text x.state.remotes)
 listed_plain (listings.Info name) x = λ r is. (known_later name x r is).one
 listed_plain (listings.Launch name options) x = λ r is. (launch_later name options x r is).one

@@ -1,4 +1,5 @@
 -- What a run answers: what it prints, and the operations that this acknowledges.
+use Rattle.std.specs.List.{flat_map}
 use Rattle.std.specs.Prelude.{◌≡◌, ◌⊎◌, ℕ, ◌+◌, List, [], ◌∷◌, ◌++◌, map, length, nat_le, Option, Some, None, Result, Ok, Err, if◌then◌else◌}
 use Rattle.std.specs.Option.{option_map_or}
 use Rattle.fp_host.specs.Paths.{Elements}
@@ -44,7 +45,9 @@ use Rattle.ost_fsck.specs.declared.report.Report.{Report}
 use Rattle.fl_top.specs.Fsck.{report_text}
 use Rattle.fl_top.specs.Input.{input_most}
 use Rattle.fl_change.specs.World.{World, used_of}
-use Rattle.fl_lines.specs.Lines.{refs_text, pins_text, remotes_text, info_text}
+use Rattle.fl_export.specs.declared.rows.ExportRow.{ExportRow}
+use Rattle.fl_export.specs.Exported.{exported}
+use Rattle.fl_lines.specs.Lines.{refs_text, pins_text, remotes_text, info_text, export_line}
 use Rattle.gv_value.specs.Shape.{Shape}
 use Rattle.gv_value.specs.Tree.{Tree}
 use Rattle.gv_value.specs.TypeText.{type_of}
@@ -83,9 +86,14 @@ abbrev pub launched_of : Result LaunchText Refusal → Answer
 launched_of (Ok launch) = text_answer launch.text
 launched_of (Err refusal) = refusal_answer refusal
 
+-- a line for each row that is exported, ascending by path
+abbrev pub exports_text : List ExportRow → List ℕ
+exports_text rows = flat_map (λ (row : ExportRow). export_line row.path row.name) rows
+
 abbrev pub listed : Listing → World → Answer
 listed listings.Refs x = text_answer (refs_text x.state.refs)
 listed listings.Pins x = text_answer (pins_text x.state.pins)
+listed listings.Exports x = text_answer (exports_text (exported x.have x.state))
 listed listings.Remotes x = text_answer (remotes_text x.state.remotes)
 listed (listings.Info name) x = known_of name x
 listed (listings.Launch name options) x = launched_of (launch_in x.have x.state name options)

@@ -13,16 +13,19 @@ ghost use Rattle.dep_states.specs.After.{row_at};
 ghost use Rattle.dep_states.specs.Shown.{at_name, override_key};
 ghost use Rattle.fl_installed.specs.Described.{info_in as info_of};
 ghost use Rattle.fl_sandbox.specs.Launching.{launch_in as launch_over};
-ghost use Rattle.fl_top.specs.Answer.{listed, known_of, told_of, launched_of, override_text as text_of_override};
+ghost use Rattle.fl_export.specs.Exported.{exported};
+ghost use Rattle.fl_top.specs.Answer.{listed, exports_text as text_of_exports, known_of, told_of, launched_of, override_text as text_of_override};
+ghost use Rattle.fl_change.specs.Answer.{text_answer};
 ghost use Rattle.fl_top.specs.Ends.{PrintsOf};
 ghost use Rattle.fl_top.specs.RunsOver.{LooksOver, LookedOver};
 
 use dep_open::read_state;
 use dep_switch::find_ref;
 use fl_change::RunEnd;
+use fl_export::{ExportRow, wanted};
 use fl_installed::{Info, info_in};
 use fl_launch::LaunchText;
-use fl_lines::{info_text, pins_text, refs_text, remotes_text};
+use fl_lines::{export_line, info_text, pins_text, refs_text, remotes_text};
 use fl_sandbox::launch_in;
 use fl_words::Listing;
 use fp_base::Text;
@@ -63,12 +66,37 @@ fn listed_text<H: Host>(
         Listing::Refs => Ok(refs_text(alloc, state.refs.as_slice())?),
         Listing::Remotes => Ok(remotes_text(alloc, state.remotes.as_slice())?),
         Listing::Pins => Ok(pins_text(alloc, state.pins.as_slice())?),
+        Listing::Exports => known_exports(alloc, host, state),
         Listing::Info(name) => known_text(alloc, host, state, &name),
         Listing::Launch { name, options } => {
             launch_text(alloc, host, state, &name, options.as_slice())
         }
         Listing::OverrideShow { name } => Ok(override_text(alloc, state, &name)?),
     }
+}
+
+/// What is exported.
+fn known_exports<H: Host>(alloc: Global, host: &mut H, state: &State) -> Result<Text, RunEnd>
+    ensures unchanged { Unchanged (H.moments host.old) (H.moments host.new) }
+    ensures tells { (have : Have) → Stores repo (H.moments host.old) have
+        → PrintsOf (text_answer (text_of_exports (exported have state.now))) result }
+    ensures fault_has_cause { IsCounted (IsErrOf result RunEnd.Fault)
+        (H.moments host.old) (H.faults host.old) (H.faults host.new) }
+    ensures no_remote_fault { IsErrOf result RunEnd.RemoteFault → ⊥ }
+{
+    let rows = wanted(alloc, host, state)?;
+    Ok(exports_text(alloc, rows.as_slice())?)
+}
+
+/// A line for each row, in the order given.
+fn exports_text(alloc: Global, rows: &[ExportRow]) -> Result<Text, AllocError>
+    ensures { IfOk result (λ t. t ≡ text_of_exports rows.now) }
+{
+    let mut text = String::new(alloc);
+    for row in rows {
+        text.push_str(export_line(alloc, &row.path, &row.name)?.as_str())?;
+    }
+    Ok(Text::from_string(text))
 }
 
 /// What is known of a deployed ref.

@@ -35,6 +35,9 @@ unpin_one = refl
 pub list_pins : command_of (codes "list" ∷ codes "--pins" ∷ []) ≡ Some (Listed listings.Pins)
 list_pins = refl
 
+pub list_exports : command_of (codes "list" ∷ codes "--exports" ∷ []) ≡ Some (Listed listings.Exports)
+list_exports = refl
+
 pub no_words : bad_index [] ≡ 0
 no_words = refl
 

@@ -40,6 +40,7 @@ fpk launch APP OPTION..      prints the sandbox of an application, with all that
 fpk override --show          prints the override for all applications
 fpk override --show ID       prints an application's override
 fpk list --pins              prints the patterns that are pinned
+fpk list --exports           prints what the installed applications export, with the refs
 fpk list --remotes           prints the remotes
 fpk fsck                     looks at each object of the store, and prints what is wrong there
 fpk filter RULE..            prints what the bus filter forwards of a recording
