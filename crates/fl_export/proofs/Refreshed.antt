@@ -261,6 +261,9 @@ cleans_on t cleans = refreshes_by t.tree t.rows_are (brings_cleaned (from_told t
 puts_refresh : {rows : List ExportRow} {s : State} {u v w : View} → Swept rows s u v → PutsRows rows v w → Refreshes s u w
 puts_refresh {s = s} {u = u} q x = refreshes_by q.tree q.rows_are (brings_put (are_of s u q.rows_are) (brings_cleaned q.cleans) x)
 
+pub opens_swept : {rows : List ExportRow} {s : State} {u v : View} → Swept rows s u v → Opens s u → Opens s v
+opens_swept q opens = frame_law exports_spare (cleans_alter q.cleans).follows opens
+
 sync_frame : {b c : Option Moments} {r : Result (Unit {0}) HostError} → IsTold b → Makes (Step syncs r) b c → Frame Nothing (λ q e. ⊥) NoPath b c
 sync_frame told call = frame_sync call (frame_start told) told
 

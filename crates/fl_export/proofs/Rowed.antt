@@ -25,9 +25,9 @@ use Rattle.ost_model.specs.Objects.{Have}
 use Rattle.ost_store.proofs.Lists.{in_none, in_cases, in_one, in_first, in_rest}
 use Rattle.fl_export.specs.declared.rows.ExportRow.{ExportRow}
 use Rattle.fl_export.specs.Rewritten.{rewritten}
-use Rattle.fl_export.specs.Texts.{is_own, is_desktop, desktop_path, icon_path}
+use Rattle.fl_export.specs.Texts.{is_own, is_desktop, desktop_path, icon_path, applications, hicolor}
 use Rattle.fl_export.specs.Trees.{files_in, dirs_in, tree_look, tree_next, is_file, short_content}
-use Rattle.fl_export.specs.Exported.{desktop_row, desktop_of, desktop_files, icon_row, icon_of, icon_files, icons_of, icons, desktops_by, icons_by, exported_by, if_app, exported_at, all_exported, key, by_order, put_in, in_order, exported}
+use Rattle.fl_export.specs.Exported.{desktop_row, desktop_of, desktop_files, icon_row, icon_of, icon_files, icons_of, icons, desktops_by, icons_by, exported_by, if_app, exported_at, all_exported, key, by_order, put_in, in_order, exported, in_export}
 use Rattle.fl_export.specs.Steps.{HasForm, AreRows}
 
 -- ---- where rows come from

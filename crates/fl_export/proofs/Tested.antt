@@ -1,5 +1,5 @@
 -- What stands at a place already.
-use Rattle.std.proofs.Common.{◌≡◌, ℕ, List, Bool, true, false, eqb, length, leb, Option, Some, None, Ok, refl, sym, ◌∙◌, ap, subst, arith}
+use Rattle.std.proofs.Common.{◌≡◌, ℕ, List, Bool, true, false, eqb, Err, length, leb, Option, Some, None, Ok, refl, sym, ◌∙◌, ap, subst, arith}
 use Rattle.std.specs.Prelude.{◌&&◌, ◌==◌, if◌then◌else◌}
 use Rattle.std.specs.Str.{bytes_eq}
 use Rattle.std.proofs.lemmas.Bool.{and_parts, and_from}
@@ -12,6 +12,9 @@ use Rattle.fp_host.specs.declared.host.Stat.{Stat}
 use Rattle.fp_host.specs.declared.host.Stat.TheVariants.{Absent, Dir, File as StatFile, Link}
 use Rattle.fp_host.specs.Moments.{Makes}
 use Rattle.fp_host.specs.Frame.{AtEnd}
+use Rattle.fp_host.specs.declared.host.HostError.{HostError}
+use Rattle.fp_host.specs.declared.host.HostError.TheVariants.{Clash}
+use Rattle.fp_host.proofs.Cause.{clash_reads}
 use Rattle.fp_host.proofs.Framed.{IsTold}
 use Rattle.fp_host.proofs.Goes.{begins, makes_goes}
 use Rattle.fp_host.proofs.Settled.{at_tree}
@@ -147,4 +150,18 @@ pub unload_told : (p : Elements) (bytes : List ℕ) (l : Loaded) {v : View} → 
 unload_told p bytes l {v = v} off loads = unloaded_by bytes l (shows v p) off loads.is
 
 pub text_told : (p : Elements) (bytes : List ℕ) (u v : View) (bits is : Bool) → bits ≡ true → bits ≡ has_bits (shows u p) → v ≡ u → is ≡ has_bytes bytes (shows v p) → is ≡ is_text bytes (shows u p)
-text_told p bytes u v bits is yes at same told = told ∙ ap (λ (x : View). has_bytes bytes (shows x p)) same ∙ ap (λ b. b && has_bytes bytes (shows u p)) (sym yes ∙ at)
+text_told p bytes u v bits is so at same told = told ∙ ap (λ (x : View). has_bytes bytes (shows x p)) same ∙ ap (λ b. b && has_bytes bytes (shows u p)) (sym so ∙ at)
+
+-- ---- links
+
+link_of : (v : View) (e : Slot) → IsStat v e Link → (text : List ℕ) × (e ≡ link text)
+link_of v absent s = absurd (cc s)
+link_of v dir s = absurd (cc s)
+link_of v (link text) s = (text, refl)
+link_of v (file id) s = absurd (cc s.2)
+
+pub stat_link : {p : Elements} {v w : View} → StatOf p (Ok Link) v w → (text : List ℕ) × (v.names p ≡ link text)
+stat_link {p = p} {v = v} stat = link_of v (v.names p) stat.tells.1
+
+pub clash_link : {p : Elements} {e : HostError} {v w : View} → LinkOf p (Err e) v w → e ≡ Clash → (text : List ℕ) × (v.names p ≡ link text) → ⊥
+clash_link {p = p} {e = e} {v = v} step is can = clash_reads {T = List ℕ} ((text : List ℕ) × (v.names p ≡ link text)) (λ text. v.names p ≡ link text) e step.tells is can

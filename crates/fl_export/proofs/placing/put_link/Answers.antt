@@ -57,8 +57,9 @@ returns-in_err-symlink-clause-fault_has_cause g c =
         (λ u v q can. record { none = q.1.gone p (inl refl); dirs = can_fold p can.within q.0 can.folders }) in
     let known = ends_on {Q' = λ u w. CanPut p (what.Link c.args.text.now) u → IsHousedAt p w} (ends_both (ends_frame (t c.clear.new.host) c.make_above.ensures.frame) c.in_ok-make_above.ensures.on_success) clean (t c.clear.new.host)
         (λ u v w tree q s can. housed (q can) s.0 s.1) in
-    call_caused (CanPut p (what.Link c.args.text.now)) (Can (makes_link c.as_str.result.now p)) _ _ _ _ _ (t c.args.host.now) (omega (arith, c.clear.ensures.fault_has_cause.later, c.make_above.ensures.fault_has_cause.later)) known e.step e.fault_has_cause c.from_residual-in_err-symlink.ensures.1 (λ v w step. clash_step step)
-    (λ u v tree q can. can_link c.as_str.result.now (good_text can.text c.as_str.ensures (is_utf8-from_IsUtf8 c.as_str.result.now c.as_str.utf8)) can.clear.no_root tree (q can))
+    let in_tree = ends_in_tree {Q' = λ u v. IsTree v × (CanPut p (what.Link c.args.text.now) u → IsHousedAt p v)} (t c.make_above.new.host) known (λ u w tree q. (tree, q)) in
+    call_caused (CanPut p (what.Link c.args.text.now)) (Can (makes_link c.as_str.result.now p)) _ _ _ _ _ (t c.args.host.now) (omega (arith, c.clear.ensures.fault_has_cause.later, c.make_above.ensures.fault_has_cause.later)) in_tree e.step e.fault_has_cause c.from_residual-in_err-symlink.ensures.1 (λ v w step. clash_step step)
+    (λ u v tree q can. can_link c.as_str.result.now (good_text can.text c.as_str.ensures (is_utf8-from_IsUtf8 c.as_str.result.now c.as_str.utf8)) can.clear.no_root q.0 (q.1 can))
 
 pub returns-clause-any_moment : goal.returns-clause-any_moment
 returns-clause-any_moment g c =

@@ -4,8 +4,7 @@ use Rattle.fp_host.specs.View.{View, IsTree}
 use Rattle.fp_host.specs.Reads.{StatOf, LinkOf}
 use Rattle.fp_host.proofs.Looking.{looks_start, looks_stat, looks_read_link}
 use Rattle.fp_host.proofs.Ending.{ends_call, ends_on, call_caused}
-use Rattle.ost_store.proofs.Gets.{stat_link, clash_link}
-use Rattle.fl_export.proofs.Tested.{tells_of, link_told, no_link_told}
+use Rattle.fl_export.proofs.Tested.{tells_of, link_told, no_link_told, stat_link, clash_link}
 use Rattle.fl_export.proofs.standing.is_link.Goals as goal
 
 pub returns-in_err-stat-clause-unchanged : goal.returns-in_err-stat-clause-unchanged
@@ -44,5 +43,5 @@ returns-in_default g c =
     record {
       unchanged = looks_stat c.stat.ensures.step (looks_start (t c.args.host.now)) (t c.args.host.now);
       tells = tells_of (t c.args.host.now) c.in_ok-stat.ensures.step (λ u w tree s. no_link_told tree c.args.place.now c.args.text.now c.in_ok-stat.field-0 (λ is. c.in_default.not-Link is) s);
-      fault_has_cause = record { later = c.stat.ensures.fault_has_cause.later; fault = λ is. absurd is };
+      fault_has_cause = record { later = c.stat.ensures.fault_has_cause.later; fault = λ is. absurd (cc is) };
     }
