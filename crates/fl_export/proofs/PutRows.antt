@@ -193,10 +193,12 @@ module _ (rows : List ExportRow) (i : ℕ) (row : ExportRow) (low : i < length r
     short_name r has q e (work_name k at) = inr (omega (arith, ap length at))
 
     deep : CanEmpty exports v
-    deep = record { short = λ q above. elim (puts.alters.names q) [
-      | inl same ↦ elim (can.deep.short q above) [ inl none ↦ inl (same ∙ none) | inr short ↦ inr short ]
-      | inr put ↦ short_name put.row put.among q (v.names q) put.is
-    ] }
+    deep = record {
+      short = λ q above. elim (puts.alters.names q) [
+        | inl same ↦ elim (can.deep.short q above) [ inl none ↦ inl (same ∙ none) | inr short ↦ inr short ]
+        | inr put ↦ short_name put.row put.among q (v.names q) put.is
+      ];
+    }
 
     -- a folder above a place stays one, or absent
     free_name : (r : ExportRow) → Contains rows r → (q : Elements) → IsAbove q (place_of row) → (e : Slot) → PutName (place_of r) q e → (e ≡ absent) ⊎ (e ≡ dir)

@@ -268,7 +268,6 @@ sync_frame : {b c : Option Moments} {r : Result (Unit {0}) HostError} → IsTold
 sync_frame told call = frame_sync call (frame_start told) told
 
 module _ {rows : List ExportRow} {s : State} {a b c : Option Moments} where
-
   pub sweep_only : {places : List Elements} → places ≡ places_of rows → IsTold b → Goes a b (Refreshes s) (Told rows s) → Always (Cleans places) b c → Goes a c (Refreshes s) (Refreshes s)
   sweep_only {places = places} at told first second = goes_on told first second (λ u v w t r q x. cleans_on q (at_places u v w x)) (λ u v w t r q x e. cleans_on q (at_places u v w x))
     where

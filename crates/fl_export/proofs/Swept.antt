@@ -68,10 +68,12 @@ module _ {places : List Elements} {path : Elements} where
   only_stale off q is = record { within = is; unwanted = λ has. off (subst (Contains places) is has) }
 
   pub sweeps_one : {u w : View} → (Contains places path → ⊥) → Keeps (GoneAt path) (AbsentAt path) NoPath u w → SweepsAt path places u w
-  sweeps_one off keeps = record { sweeps = λ leaf. record {
-    alters = alters_to (λ q spot h. (only_stale off q h.0, h.1)) (λ q e h. (only_stale off q h.0, h.1)) (alters_kept keeps);
-    idle = λ none. absurd (none.none path refl off leaf);
-  } }
+  sweeps_one off keeps = record {
+    sweeps = λ leaf. record {
+      alters = alters_to (λ q spot h. (only_stale off q h.0, h.1)) (λ q e h. (only_stale off q h.0, h.1)) (alters_kept keeps);
+      idle = λ none. absurd (none.none path refl off leaf);
+    };
+  }
 
   pub one_swept : {w : View} → w.names path ≡ absent → HasNoStaleIn (Only path) places w
   one_swept {w = w} gone = record { none = λ q is off leaf. leaf_absent (ap w.names is ∙ gone) leaf }

@@ -42,12 +42,7 @@ fn make_way<H: Host>(alloc: Global, host: &mut H, place: &Path) -> Result<(), Ho
 }
 
 /// Puts a file with these bytes there.
-fn put_text<H: Host>(
-    alloc: Global,
-    host: &mut H,
-    place: &Path,
-    bytes: &Blob,
-) -> Result<(), HostEnd>
+fn put_text<H: Host>(alloc: Global, host: &mut H, place: &Path, bytes: &Blob) -> Result<(), HostEnd>
     ensures any_moment { Always (PutsAt place.now (what.Text bytes.now))
         (H.moments host.old) (H.moments host.new) }
     ensures on_success { OnOk result (AtEnd (WasPut place.now (what.Text bytes.now))
@@ -60,12 +55,7 @@ fn put_text<H: Host>(
 }
 
 /// Puts a link with this text there.
-fn put_link<H: Host>(
-    alloc: Global,
-    host: &mut H,
-    place: &Path,
-    text: &Text,
-) -> Result<(), HostEnd>
+fn put_link<H: Host>(alloc: Global, host: &mut H, place: &Path, text: &Text) -> Result<(), HostEnd>
     ensures any_moment { Always (PutsAt place.now (what.Link text.now))
         (H.moments host.old) (H.moments host.new) }
     ensures on_success { OnOk result (AtEnd (WasPut place.now (what.Link text.now))
@@ -79,12 +69,7 @@ fn put_link<H: Host>(
 }
 
 /// Puts it there.
-fn put<H: Host>(
-    alloc: Global,
-    host: &mut H,
-    place: &Path,
-    what: &ExportWhat,
-) -> Result<(), HostEnd>
+fn put<H: Host>(alloc: Global, host: &mut H, place: &Path, what: &ExportWhat) -> Result<(), HostEnd>
     ensures any_moment { Always (PutsAt place.now what.now)
         (H.moments host.old) (H.moments host.new) }
     ensures on_success { OnOk result (AtEnd (WasPut place.now what.now)

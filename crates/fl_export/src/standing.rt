@@ -70,12 +70,7 @@ fn is_text<H: Host>(
 }
 
 /// Whether a link with this text is there.
-fn is_link<H: Host>(
-    alloc: Global,
-    host: &mut H,
-    place: &Path,
-    text: &Text,
-) -> Result<bool, HostEnd>
+fn is_link<H: Host>(alloc: Global, host: &mut H, place: &Path, text: &Text) -> Result<bool, HostEnd>
     ensures unchanged { Unchanged (H.moments host.old) (H.moments host.new) }
     ensures tells { IfOk result (λ is. AtEnd
         (λ u w. is ≡ spec.is_link text.now (shows u place.now))

@@ -13,7 +13,6 @@ use Rattle.fl_export.specs.Steps.{PutAt, it_at, CanPut}
 use Rattle.fl_export.proofs.Putting.{LinkName, link_it, link_gone, link_folder, gives_gone, gives_folders, always_link, link_work, linked, IsCleanAt, IsHousedAt, housed, can_fold, can_link, text_good, good_text}
 use Rattle.fl_export.proofs.placing.put_link.Goals as goal
 
-
 pub returns-in_err-clear-clause-any_moment : goal.returns-in_err-clear-clause-any_moment
 returns-in_err-clear-clause-any_moment g c =
     let t = g.met.H.Host.is_tree in
@@ -54,9 +53,9 @@ returns-in_err-symlink-clause-fault_has_cause g c =
     let p = c.args.place.now in
     let e = c.in_err-symlink.ensures in
     let clean = ends_to {Q' = λ u v. CanPut p (what.Link c.args.text.now) u → IsCleanAt p v} (ends_both (ends_frame (t c.args.host.now) c.clear.ensures.frame) c.in_ok-clear.ensures.on_success)
-        (λ u v q can. record { none = q.1.gone p (inl refl); dirs = can_fold p can.within q.0 can.folders }) in
+    (λ u v q can. record { none = q.1.gone p (inl refl); dirs = can_fold p can.within q.0 can.folders }) in
     let known = ends_on {Q' = λ u w. CanPut p (what.Link c.args.text.now) u → IsHousedAt p w} (ends_both (ends_frame (t c.clear.new.host) c.make_above.ensures.frame) c.in_ok-make_above.ensures.on_success) clean (t c.clear.new.host)
-        (λ u v w tree q s can. housed (q can) s.0 s.1) in
+    (λ u v w tree q s can. housed (q can) s.0 s.1) in
     let in_tree = ends_in_tree {Q' = λ u v. IsTree v × (CanPut p (what.Link c.args.text.now) u → IsHousedAt p v)} (t c.make_above.new.host) known (λ u w tree q. (tree, q)) in
     call_caused (CanPut p (what.Link c.args.text.now)) (Can (makes_link c.as_str.result.now p)) _ _ _ _ _ (t c.args.host.now) (omega (arith, c.clear.ensures.fault_has_cause.later, c.make_above.ensures.fault_has_cause.later)) in_tree e.step e.fault_has_cause c.from_residual-in_err-symlink.ensures.1 (λ v w step. clash_step step)
     (λ u v tree q can. can_link c.as_str.result.now (good_text can.text c.as_str.ensures (is_utf8-from_IsUtf8 c.as_str.result.now c.as_str.utf8)) can.clear.no_root q.0 (q.1 can))

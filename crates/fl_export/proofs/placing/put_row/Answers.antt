@@ -34,7 +34,7 @@ returns g c =
     let row = c.args.row.now in
     let at = c.in_ok-place.ensures in
     let off = λ (u : View) (told : c.in_ok-is_there.field-0 ≡ is_exported row.what (shows u c.in_ok-place.place)) (there : IsExported row.what (shows u (place_of row))).
-        false≢true (sym c.if-branch.false ∙ told ∙ there_back row.what (shows u c.in_ok-place.place) (subst (λ (p : Elements). IsExported row.what (shows u p)) (sym at) there)) in
+    false≢true (sym c.if-branch.false ∙ told ∙ there_back row.what (shows u c.in_ok-place.place) (subst (λ (p : Elements). IsExported row.what (shows u p)) (sym at) there)) in
     let looked = goes_known (begins {R' = PutsRows (row ∷ [])} {Q' = λ u w. w ≡ u} (t c.args.host.now) c.is_there.ensures.unchanged.goes (λ u w t same. puts_same same) (λ u w t same q. q.0)) c.in_ok-is_there.ensures.tells in
     record {
       any_moment = goes_on (t c.is_there.new.host) looked c.put.ensures.any_moment

@@ -51,7 +51,7 @@ returns-in_err-put_rows-clause-fault_has_cause g c =
     fault_caused (Opens s) (CanPutRows c.as_slice-2.result.now) _ _ _ _ _ (t c.args.host.now) (omega (arith, c.wanted.ensures.fault_has_cause.later, c.sweep.ensures.fault_has_cause.later)) known c.put_rows.ensures.fault_has_cause
     (same_fault _ _ _ c.in_err-put_rows.was c.from_residual-in_err-put_rows.ensures.1)
     (λ u v tree q opens. subst (λ (l : List ExportRow). CanPutRows l v) (sym c.as_slice-2.ensures)
-        (can_put_rows q.0 (opens_swept q.1 opens) (are_of s u q.1.rows_are) (λ r has. texts_good (store repo (shows u)) s opens r (subst (λ (l : List ExportRow). Contains l r) q.1.rows_are has)) q.1.stale))
+    (can_put_rows q.0 (opens_swept q.1 opens) (are_of s u q.1.rows_are) (λ r has. texts_good (store repo (shows u)) s opens r (subst (λ (l : List ExportRow). Contains l r) q.1.rows_are has)) q.1.stale))
 
 pub returns-in_err-sync-clause-any_moment : goal.returns-in_err-sync-clause-any_moment
 returns-in_err-sync-clause-any_moment g c =
