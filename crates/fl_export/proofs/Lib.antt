@@ -5,3 +5,12 @@ pub mod Looked
 pub mod Quiet
 pub mod Local
 pub mod Samples
+pub mod Alter
+pub mod Spared
+pub mod Swept
+pub mod Tested
+pub mod Putting
+pub mod PutRows
+pub mod Rowed
+pub mod LinkTexts
+pub mod Refreshed

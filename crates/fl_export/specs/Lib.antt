@@ -3,3 +3,5 @@ pub mod Texts
 pub mod Trees
 pub mod Exported
 pub mod Sample
+pub mod Placed
+pub mod Steps

@@ -1,0 +1,63 @@
+-- What stands below the folder `exports`.
+use Rattle.std.specs.Prelude.{◌≡◌, ◌==◌, ◌&&◌, ℕ, Bool, false, List, [], ◌∷◌, ◌++◌, map, codes, Contains}
+use Rattle.std.specs.Str.{bytes_eq}
+use Rattle.fp_host.specs.Paths.{Elements}
+use Rattle.fp_host.specs.Outcome.{Spot, gone, folder, holds, points, Disk}
+use Rattle.fp_small.specs.Clear.{IsWithin}
+use Rattle.fp_small.specs.Move.{IsNew}
+use Rattle.fl_export.specs.declared.rows.ExportRow.{ExportRow}
+use Rattle.fl_export.specs.declared.rows.ExportWhat.{ExportWhat}
+use Rattle.fl_export.specs.declared.rows.ExportWhat.TheVariants as what
+
+abbrev pub exports : Elements
+exports = codes "exports" ∷ []
+
+abbrev pub place_of : ExportRow → Elements
+place_of row = row.path ++ exports
+
+abbrev pub places_of : List ExportRow → List Elements
+places_of rows = map place_of rows
+
+-- the file, with the permission bits 0644, or the link
+abbrev pub IsExported : ExportWhat → Spot → Type 0
+IsExported (what.Text bytes) spot = IsNew bytes spot
+IsExported (what.Link text) spot = spot ≡ points text
+
+-- a file or a link stands there
+abbrev pub IsLeafSpot : Spot → Type 0
+IsLeafSpot (holds id mode bytes) = Unit {0}
+IsLeafSpot (points text) = Unit {0}
+IsLeafSpot gone = ⊥
+IsLeafSpot folder = ⊥
+
+-- The files and links at or below `exports` are exactly these: each of them stands there, and at no other path is one.
+pub record ExportsAre (rows : List ExportRow) (disk : Disk) : Type 0 where
+  pub each : (row : ExportRow) → Contains rows row → IsExported row.what (disk (place_of row))
+  pub only : (q : Elements) → IsWithin exports q → (Contains (places_of rows) q → ⊥) → IsLeafSpot (disk q) → ⊥
+
+-- ---- as tests
+
+abbrev pub has_bits : Spot → Bool
+has_bits (holds id mode bytes) = mode == 420
+has_bits gone = false
+has_bits folder = false
+has_bits (points text) = false
+
+abbrev pub has_bytes : List ℕ → Spot → Bool
+has_bytes bytes (holds id mode found) = bytes_eq found bytes
+has_bytes bytes gone = false
+has_bytes bytes folder = false
+has_bytes bytes (points text) = false
+
+abbrev pub is_text : List ℕ → Spot → Bool
+is_text bytes spot = has_bits spot && has_bytes bytes spot
+
+abbrev pub is_link : List ℕ → Spot → Bool
+is_link text (points found) = bytes_eq found text
+is_link text gone = false
+is_link text folder = false
+is_link text (holds id mode bytes) = false
+
+abbrev pub is_exported : ExportWhat → Spot → Bool
+is_exported (what.Text bytes) spot = is_text bytes spot
+is_exported (what.Link text) spot = is_link text spot

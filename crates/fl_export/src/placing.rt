@@ -1,0 +1,118 @@
+//! Rows that are put at their places.
+ghost use Rattle.std.specs.Prelude.{◌↔◌, ◌∷◌, [], IsTrue, OnOk, IsErrOf};
+ghost use Rattle.fp_host.specs.Causes.{IsCaused};
+ghost use Rattle.fp_host.specs.Frame.{Frame, AtEnd, NoPath};
+ghost use Rattle.fp_host.specs.Moments.{Always};
+ghost use Rattle.fp_small.specs.Clear.{GoneWithin, AbsentWithin, CanClear};
+ghost use Rattle.fp_small.specs.Replace.{IsFreeFile};
+ghost use Rattle.fl_export.specs.declared.rows.ExportWhat.TheVariants as what;
+ghost use Rattle.fl_export.specs.Steps.{MayStay, PutsAt, WasPut, CanPut, PutsRows, WereAllPut, WerePut, CanPutRows};
+
+use crate::places::place_of;
+use crate::rows::{ExportRow, ExportWhat};
+use crate::standing::is_there;
+use fp_base::{Blob, Text};
+use fp_host::{Host, HostEnd, Path, Stat};
+use fp_small::{clear, make_above, replace};
+use std::alloc::Global;
+
+/// Whether a file may be put where this stands: nothing, or a file.
+fn may_stay(stat: &Stat) -> bool
+    ensures { IsTrue result ↔ MayStay stat.now }
+{
+    match stat {
+        Stat::Absent | Stat::File { .. } => true,
+        Stat::Dir | Stat::Link => false,
+    }
+}
+
+/// Takes a folder or a link away that stands at the place, with what is below it.
+fn make_way<H: Host>(alloc: Global, host: &mut H, place: &Path) -> Result<(), HostEnd>
+    ensures frame { Frame (GoneWithin place.now) (AbsentWithin place.now) NoPath
+        (H.moments host.old) (H.moments host.new) }
+    ensures on_success { OnOk result (AtEnd (λ u w. IsFreeFile place.now w)
+        (H.moments host.old) (H.moments host.new)) }
+    ensures fault_has_cause { IsCaused (IsErrOf result HostEnd.Fault) (H.moments host.old)
+        (CanClear place.now) (H.faults host.old) (H.faults host.new) }
+{
+    if may_stay(&host.stat(place)?) {
+        return Ok(());
+    }
+    clear(alloc, host, place)
+}
+
+/// Puts a file with these bytes there.
+fn put_text<H: Host>(alloc: Global, host: &mut H, place: &Path, bytes: &Blob) -> Result<(), HostEnd>
+    ensures any_moment { Always (PutsAt place.now (what.Text bytes.now))
+        (H.moments host.old) (H.moments host.new) }
+    ensures on_success { OnOk result (AtEnd (WasPut place.now (what.Text bytes.now))
+        (H.moments host.old) (H.moments host.new)) }
+    ensures fault_has_cause { IsCaused (IsErrOf result HostEnd.Fault) (H.moments host.old)
+        (CanPut place.now (what.Text bytes.now)) (H.faults host.old) (H.faults host.new) }
+{
+    make_way(alloc, host, place)?;
+    replace(alloc, host, place, bytes.as_slice())
+}
+
+/// Puts a link with this text there.
+fn put_link<H: Host>(alloc: Global, host: &mut H, place: &Path, text: &Text) -> Result<(), HostEnd>
+    ensures any_moment { Always (PutsAt place.now (what.Link text.now))
+        (H.moments host.old) (H.moments host.new) }
+    ensures on_success { OnOk result (AtEnd (WasPut place.now (what.Link text.now))
+        (H.moments host.old) (H.moments host.new)) }
+    ensures fault_has_cause { IsCaused (IsErrOf result HostEnd.Fault) (H.moments host.old)
+        (CanPut place.now (what.Link text.now)) (H.faults host.old) (H.faults host.new) }
+{
+    clear(alloc, host, place)?;
+    make_above(alloc, host, place)?;
+    Ok(host.symlink(text.as_str(), place)?)
+}
+
+/// Puts it there.
+fn put<H: Host>(alloc: Global, host: &mut H, place: &Path, what: &ExportWhat) -> Result<(), HostEnd>
+    ensures any_moment { Always (PutsAt place.now what.now)
+        (H.moments host.old) (H.moments host.new) }
+    ensures on_success { OnOk result (AtEnd (WasPut place.now what.now)
+        (H.moments host.old) (H.moments host.new)) }
+    ensures fault_has_cause { IsCaused (IsErrOf result HostEnd.Fault) (H.moments host.old)
+        (CanPut place.now what.now) (H.faults host.old) (H.faults host.new) }
+{
+    match what {
+        ExportWhat::Text(bytes) => put_text(alloc, host, place, bytes),
+        ExportWhat::Link(text) => put_link(alloc, host, place, text),
+    }
+}
+
+/// Puts the row at its place, where something else stands there.
+fn put_row<H: Host>(alloc: Global, host: &mut H, row: &ExportRow) -> Result<(), HostEnd>
+    ensures any_moment { Always (PutsRows (row.now ∷ []))
+        (H.moments host.old) (H.moments host.new) }
+    ensures on_success { OnOk result (AtEnd (WerePut (row.now ∷ []))
+        (H.moments host.old) (H.moments host.new)) }
+    ensures fault_has_cause { IsCaused (IsErrOf result HostEnd.Fault) (H.moments host.old)
+        (CanPutRows (row.now ∷ [])) (H.faults host.old) (H.faults host.new) }
+{
+    let place = place_of(alloc, &row.path)?;
+    if is_there(alloc, host, &place, &row.what)? {
+        return Ok(());
+    }
+    put(alloc, host, &place, &row.what)
+}
+
+/// Puts each of these rows at its place, where something else stands there.
+pub(crate) fn put_rows<H: Host>(
+    alloc: Global,
+    host: &mut H,
+    rows: &[ExportRow],
+) -> Result<(), HostEnd>
+    ensures any_moment { Always (PutsRows rows.now) (H.moments host.old) (H.moments host.new) }
+    ensures on_success { OnOk result (AtEnd (WereAllPut rows.now)
+        (H.moments host.old) (H.moments host.new)) }
+    ensures fault_has_cause { IsCaused (IsErrOf result HostEnd.Fault) (H.moments host.old)
+        (CanPutRows rows.now) (H.faults host.old) (H.faults host.new) }
+{
+    for row in rows {
+        put_row(alloc, host, row)?;
+    }
+    Ok(())
+}

@@ -1,0 +1,33 @@
+//! The folder `exports`, brought in step with the state.
+ghost use Rattle.std.specs.Prelude.{OnOk, IsErrOf};
+ghost use Rattle.fp_host.specs.Causes.{IsCaused};
+ghost use Rattle.fp_host.specs.Frame.{AtEnd};
+ghost use Rattle.fp_host.specs.Moments.{Always};
+ghost use Rattle.dep_states.specs.Sound.{Opens};
+ghost use Rattle.fl_export.specs.Steps.{Refreshes, WasRefreshed};
+
+use crate::listing::wanted;
+use crate::places::places_of;
+use crate::placing::put_rows;
+use crate::sweeping::sweep;
+use fp_host::{Host, HostEnd};
+use fp_small::State;
+use std::alloc::Global;
+
+/// Makes the files and links at or below `exports` exactly those that are exported: takes those away that are exported no more,
+/// puts those there that are lacking or say something else, and syncs. What stands in the way of one goes, with what is below it;
+/// empty folders stay. Files are replaced as small files are. Where all is right already, no name and no file changes. It is for
+/// an installation that every stop leaves in this state and sound.
+pub fn refresh<H: Host>(alloc: Global, host: &mut H, state: &State) -> Result<(), HostEnd>
+    ensures any_moment { Always (Refreshes state.now) (H.moments host.old) (H.moments host.new) }
+    ensures on_success { OnOk result (AtEnd (WasRefreshed state.now)
+        (H.moments host.old) (H.moments host.new)) }
+    ensures fault_has_cause { IsCaused (IsErrOf result HostEnd.Fault) (H.moments host.old)
+        (Opens state.now) (H.faults host.old) (H.faults host.new) }
+{
+    let rows = wanted(alloc, host, state)?;
+    let places = places_of(alloc, rows.as_slice())?;
+    sweep(alloc, host, &places)?;
+    put_rows(alloc, host, rows.as_slice())?;
+    Ok(host.sync()?)
+}

@@ -1,0 +1,105 @@
+//! What stands at a place already.
+ghost use Rattle.std.specs.Prelude.{◌≡◌, IfOk, IsErrOf};
+ghost use Rattle.fp_host.specs.Causes.{IsCounted};
+ghost use Rattle.fp_host.specs.Frame.{AtEnd, Unchanged};
+ghost use Rattle.fp_host.specs.Outcome.{shows};
+ghost use Rattle.fl_export.specs.Placed as spec;
+
+use crate::rows::ExportWhat;
+use fp_base::{Blob, Text};
+use fp_host::{Host, HostEnd, Path, Stat};
+use fp_small::{Loaded, load};
+use std::alloc::Global;
+
+/// The permission bits of a file that is exported.
+const MODE: u32 = 0o644;
+
+/// Whether a file with these permission bits is there.
+fn has_bits<H: Host>(host: &mut H, place: &Path) -> Result<bool, HostEnd>
+    ensures unchanged { Unchanged (H.moments host.old) (H.moments host.new) }
+    ensures tells { IfOk result (λ has. AtEnd (λ u w. has ≡ spec.has_bits (shows u place.now))
+        (H.moments host.old) (H.moments host.new)) }
+    ensures fault_has_cause { IsCounted (IsErrOf result HostEnd.Fault)
+        (H.moments host.old) (H.faults host.old) (H.faults host.new) }
+{
+    match host.stat(place)? {
+        Stat::File { mode, .. } => Ok(mode == MODE),
+        _ => Ok(false),
+    }
+}
+
+/// Whether a file with these bytes is there.
+fn has_bytes<H: Host>(
+    alloc: Global,
+    host: &mut H,
+    place: &Path,
+    bytes: &Blob,
+) -> Result<bool, HostEnd>
+    ensures unchanged { Unchanged (H.moments host.old) (H.moments host.new) }
+    ensures tells { IfOk result (λ has. AtEnd
+        (λ u w. has ≡ spec.has_bytes bytes.now (shows u place.now))
+        (H.moments host.old) (H.moments host.new)) }
+    ensures fault_has_cause { IsCounted (IsErrOf result HostEnd.Fault)
+        (H.moments host.old) (H.faults host.old) (H.faults host.new) }
+{
+    match load(alloc, host, place, bytes.len() as u64)? {
+        Loaded::Bytes(found) => Ok(found.as_slice() == bytes.as_slice()),
+        _ => Ok(false),
+    }
+}
+
+/// Whether both are so.
+fn is_text<H: Host>(
+    alloc: Global,
+    host: &mut H,
+    place: &Path,
+    bytes: &Blob,
+) -> Result<bool, HostEnd>
+    ensures unchanged { Unchanged (H.moments host.old) (H.moments host.new) }
+    ensures tells { IfOk result (λ is. AtEnd
+        (λ u w. is ≡ spec.is_text bytes.now (shows u place.now))
+        (H.moments host.old) (H.moments host.new)) }
+    ensures fault_has_cause { IsCounted (IsErrOf result HostEnd.Fault)
+        (H.moments host.old) (H.faults host.old) (H.faults host.new) }
+{
+    if has_bits(host, place)? {
+        has_bytes(alloc, host, place, bytes)
+    } else {
+        Ok(false)
+    }
+}
+
+/// Whether a link with this text is there.
+fn is_link<H: Host>(alloc: Global, host: &mut H, place: &Path, text: &Text) -> Result<bool, HostEnd>
+    ensures unchanged { Unchanged (H.moments host.old) (H.moments host.new) }
+    ensures tells { IfOk result (λ is. AtEnd
+        (λ u w. is ≡ spec.is_link text.now (shows u place.now))
+        (H.moments host.old) (H.moments host.new)) }
+    ensures fault_has_cause { IsCounted (IsErrOf result HostEnd.Fault)
+        (H.moments host.old) (H.faults host.old) (H.faults host.new) }
+{
+    match host.stat(place)? {
+        Stat::Link => Ok(host.read_link(alloc, place)? == *text),
+        _ => Ok(false),
+    }
+}
+
+/// Whether it stands there.
+pub(crate) fn is_there<H: Host>(
+    alloc: Global,
+    host: &mut H,
+    place: &Path,
+    what: &ExportWhat,
+) -> Result<bool, HostEnd>
+    ensures unchanged { Unchanged (H.moments host.old) (H.moments host.new) }
+    ensures tells { IfOk result (λ is. AtEnd
+        (λ u w. is ≡ spec.is_exported what.now (shows u place.now))
+        (H.moments host.old) (H.moments host.new)) }
+    ensures fault_has_cause { IsCounted (IsErrOf result HostEnd.Fault)
+        (H.moments host.old) (H.faults host.old) (H.faults host.new) }
+{
+    match what {
+        ExportWhat::Text(bytes) => is_text(alloc, host, place, bytes),
+        ExportWhat::Link(text) => is_link(alloc, host, place, text),
+    }
+}

@@ -1,0 +1,115 @@
+//! Files and links that are exported no more.
+ghost use Rattle.std.specs.Prelude.{◌≡◌, ◌↔◌, IsTrue, OnOk, IsErrOf, Contains};
+ghost use Rattle.fp_host.specs.Paths.{dir, IsAbove};
+ghost use Rattle.fp_host.specs.Calls.{IsNoDir};
+ghost use Rattle.fp_host.specs.Causes.{IsCaused};
+ghost use Rattle.fp_host.specs.Frame.{AtEnd, Only};
+ghost use Rattle.fp_host.specs.Moments.{Always};
+ghost use Rattle.fp_small.specs.Clear.{IsWithin, Reaches};
+ghost use Rattle.fl_export.specs.Placed.{exports};
+ghost use Rattle.fl_export.specs.Steps.{Sweeps, SweepsAt, HasNoStaleIn, Cleans, HasNoStale};
+
+use crate::places::exports_path;
+use fp_host::{Host, HostEnd, Path, Stat};
+use fp_small::take_away;
+use std::alloc::Global;
+
+/// No path below `exports` is so many folders deep: a path of an installation has at most 128 elements.
+const MOST_LEVELS: usize = 127;
+
+/// Whether the path is one of these.
+fn has_path(paths: &[Path], path: &Path) -> bool
+    ensures { IsTrue result ↔ Contains paths.now path.now }
+{
+    for other in paths {
+        if is_same(other, path) {
+            return true;
+        }
+    }
+    false
+}
+
+/// Whether the two paths are one.
+fn is_same(path: &Path, other: &Path) -> bool
+    ensures { IsTrue result ↔ (path.now ≡ other.now) }
+{
+    path.is(other)
+}
+
+/// Takes the file or link at the path away, where that is none of the places.
+fn sweep_path<H: Host>(host: &mut H, places: &[Path], path: &Path) -> Result<(), HostEnd>
+    ensures any_moment { Always (SweepsAt path.now places.now)
+        (H.moments host.old) (H.moments host.new) }
+    ensures on_success { OnOk result (AtEnd (λ u w. HasNoStaleIn (Only path.now) places.now w)
+        (H.moments host.old) (H.moments host.new)) }
+    ensures fault_has_cause { IsCaused (IsErrOf result HostEnd.Fault) (H.moments host.old)
+        (λ v. IsNoDir (v.names path.now)) (H.faults host.old) (H.faults host.new) }
+{
+    if has_path(places, path) {
+        return Ok(());
+    }
+    take_away(host, path)
+}
+
+/// Takes away what is stale at the path, and at most so many folders below it.
+#[cycle(sweep)]
+fn sweep_within<H: Host>(
+    alloc: Global,
+    host: &mut H,
+    places: &[Path],
+    path: &Path,
+    depth: usize,
+) -> Result<(), HostEnd>
+    ensures any_moment { Always (Sweeps (IsWithin path.now) places.now)
+        (H.moments host.old) (H.moments host.new) }
+    ensures on_success { OnOk result (AtEnd (λ u w. HasNoStaleIn (IsWithin path.now) places.now w)
+        (H.moments host.old) (H.moments host.new)) }
+    ensures fault_has_cause { IsCaused (IsErrOf result HostEnd.Fault) (H.moments host.old)
+        (Reaches path.now depth) (H.faults host.old) (H.faults host.new) }
+{
+    match host.stat(path)? {
+        Stat::Absent => Ok(()),
+        Stat::Dir => sweep_names(alloc, host, places, path, depth),
+        _ => sweep_path(host, places, path),
+    }
+}
+
+/// Takes away what is stale in the folder, at most so many folders below it.
+#[cycle(sweep)]
+fn sweep_names<H: Host>(
+    alloc: Global,
+    host: &mut H,
+    places: &[Path],
+    path: &Path,
+    depth: usize,
+) -> Result<(), HostEnd>
+    ensures any_moment { Always (Sweeps (IsAbove path.now) places.now)
+        (H.moments host.old) (H.moments host.new) }
+    ensures on_success { OnOk result (AtEnd (λ u w. HasNoStaleIn (IsAbove path.now) places.now w)
+        (H.moments host.old) (H.moments host.new)) }
+    ensures fault_has_cause { IsCaused (IsErrOf result HostEnd.Fault) (H.moments host.old)
+        (λ v. (v.names path.now ≡ dir) × Reaches path.now depth v)
+        (H.faults host.old) (H.faults host.new) }
+{
+    let names = host.list(alloc, path)?;
+    for name in names.as_slice() {
+        if depth == 0 {
+            return Err(HostEnd::Fault);
+        }
+        let child = path.child(name.as_str())?;
+        sweep_within(alloc, host, places, &child, depth - 1)?;
+    }
+    Ok(())
+}
+
+/// Takes each file and link at or below `exports` away that is at none of the places.
+pub(crate) fn sweep<H: Host>(alloc: Global, host: &mut H, places: &[Path]) -> Result<(), HostEnd>
+    ensures any_moment { Always (Cleans places.now) (H.moments host.old) (H.moments host.new) }
+    ensures on_success { OnOk result (AtEnd (λ u w. HasNoStale places.now w)
+        (H.moments host.old) (H.moments host.new)) }
+    ensures fault_has_cause { IsCaused (IsErrOf result HostEnd.Fault) (H.moments host.old)
+        (Reaches exports 127) (H.faults host.old) (H.faults host.new) }
+{
+    let exports = exports_path(alloc)?;
+    sweep_within(alloc, host, places, &exports, MOST_LEVELS)
+}
