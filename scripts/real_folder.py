@@ -8,7 +8,8 @@ of 1,000 files with `ostree commit`, installs it under a umask of 077, and tries
 - files have their permission bits and folders 0755, whatever the umask,
 - what `show` prints of an object that comes from elsewhere drives no terminal: a control byte of its texts is `\\` and two digits
   everywhere, and a character that turns the direction of text is an escape on a terminal and untouched in a pipe,
-- nothing is said on standard error.
+- nothing is said on standard error,
+- a batch of 50 pins looks at the folders of the store as often as a batch of one: the store is walked once a command.
 
 It prints how many system calls a file the install made, by `strace -c`, and how many of them were syncs. The status is 0
 where nothing was amiss.
@@ -103,6 +104,21 @@ def wrong_files(installation):
     return times, bits
 
 
+def looks_at_the_store(program, environment, trace, batch):
+    """How often a batch asks something of a path in the store."""
+    run = subprocess.run(
+        ["strace", "-f", "-y", "-e", "trace=%file,%desc", "-o", trace, program, "batch"],
+        env=environment,
+        input=batch,
+        capture_output=True,
+        text=True,
+    )
+    if run.returncode != 0:
+        raise SystemExit(f"a batch of pins ended with status {run.returncode}: {run.stdout}{run.stderr}")
+    with open(trace) as file:
+        return sum("repo/objects" in line for line in file)
+
+
 def main():
     program = os.path.abspath(sys.argv[1])
     top = tempfile.mkdtemp()
@@ -141,6 +157,11 @@ def main():
         times, bits = wrong_files(installation)
         see("times that are wrong", times[:3], not times)
         see("permission bits that are wrong", bits[:3], not bits)
+        one, many = (
+            looks_at_the_store(program, environment, trace, "".join(f"pin app/org.x.{name}{i}/*/*\n" for i in range(count)))
+            for name, count in (("One", 1), ("Many", 50))
+        )
+        see("looks at the store in a batch of 1 and of 50 pins", (one, many), 0 < one == many)
         data = commit_with_subject("a\x1b[31m\u202eb".encode())
         shown = on_terminal(program, data)
         see("on a terminal", shown.decode().splitlines()[3], b"subject a\\1b[31m\\u{202e}b\n" in shown)
