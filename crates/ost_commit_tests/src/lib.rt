@@ -1,5 +1,7 @@
-//! Tests of commits that are built from rows.
+//! Tests of commits that are built from rows, and from descriptions.
 #![tactic(auto)]
 
 #[cfg(test)]
 mod commits;
+#[cfg(test)]
+mod descriptions;

@@ -1,0 +1,52 @@
+-- Why rows make no commit, and which line that is.
+use Rattle.std.proofs.Common.{◌≡◌, ℕ, ◌+◌, ◌≤◌, Bool, true, false, List, [], ◌∷◌, ◌++◌, length, Some, None, Option, Ok, Err, Result, sym, ap, subst, arith, length-append}
+use Rattle.std.specs.Prelude.{if◌then◌else◌}
+use Rattle.ost_commit.specs.declared.row.TreeRow.{TreeRow}
+use Rattle.ost_commit.specs.Rows.{says, row_path}
+use Rattle.ost_commit.specs.declared.built.BuildError.{BuildError}
+use Rattle.ost_commit.specs.declared.built.BuildError.TheVariants as errors
+use Rattle.ost_commit.specs.Built.{IsBuildFault}
+use Rattle.ost_commit.specs.Refusals.{is_taken, new_names, refused_behind, first_refused}
+use Rattle.ost_description.specs.declared.description.Description.{Description}
+use Rattle.ost_description.specs.declared.description.DescriptionError.{DescriptionError}
+use Rattle.ost_description.specs.Descriptions.{judged}
+use Rattle.ost_description.specs.Commits.{IsFaultOf}
+
+step : (b : Bool) (o : Option ℕ) (k n m : ℕ) → (o ≡ Some n → n ≤ m) → k ≤ m → (if b then o else Some k) ≡ Some n → n ≤ m
+step true o k n m ih h e = ih e
+step false o k n m ih h e = let s : k ≡ n = cc in omega arith
+
+refused_within : (before : List TreeRow) (names : ℕ) (rs : List TreeRow) (n : ℕ) → refused_behind before names rs ≡ Some n → n ≤ length before + length rs
+refused_within before names [] n e = absurd cc
+refused_within before names (r ∷ rs) n e =
+    let more = names + new_names (says before) (row_path r) in
+    step (is_taken (says before) names r) (refused_behind (before ++ r ∷ []) more rs) (length before + 1) n (length before + length (r ∷ rs))
+    (λ f. omega (arith, refused_within (before ++ r ∷ []) more rs n f, length-append before (r ∷ []))) (omega arith) e
+
+-- the first row that is refused is one of the rows
+pub refused_among : (rs : List TreeRow) (n : ℕ) → first_refused rs ≡ Some n → n ≤ length rs
+refused_among rs n e = let h = refused_within [] 0 rs n e in omega (arith, h)
+
+pub refused_row : (d : Description) (unformed : Option ℕ) (n : ℕ) → first_refused d.rows ≡ Some n → judged d unformed (first_refused d.rows) ≡ Err (n + 2)
+refused_row d unformed n e = ap (judged d unformed) e
+
+pub unformed_line : (d : Description) (n : ℕ) → first_refused d.rows ≡ None → judged d (Some n) (first_refused d.rows) ≡ Err n
+unformed_line d n e = ap (judged d (Some n)) e
+
+pub whole : (d : Description) → first_refused d.rows ≡ None → judged d None (first_refused d.rows) ≡ Ok d
+whole d e = ap (judged d None) e
+
+-- ---- why there is no commit
+
+pub in_front : (d : Description) (unformed : Option ℕ) (reason : DescriptionError) → first_refused d.rows ≡ None → IsFaultOf (judged d unformed None) reason → IsFaultOf (judged d unformed (first_refused d.rows)) reason
+in_front d unformed reason e h = subst (λ (o : Option ℕ). IsFaultOf (judged d unformed o) reason) (sym e) h
+
+pub as_read : (read : Result Description ℕ) (other : Result Description ℕ) (reason : DescriptionError) → read ≡ other → IsFaultOf other reason → IsFaultOf read reason
+as_read read other reason e h = subst (λ (r : Result Description ℕ). IsFaultOf r reason) (sym e) h
+
+pub fault_of : (rows rs : List TreeRow) (reason : BuildError) → rows ≡ rs → IsBuildFault rows reason → IsBuildFault rs reason
+fault_of rows rs reason e f = subst (λ (l : List TreeRow). IsBuildFault l reason) e f
+
+-- a row that is refused is one of the rows
+pub number_within : (rs : List TreeRow) (reason : BuildError) (n : ℕ) → IsBuildFault rs reason → reason ≡ errors.Row n → n ≤ length rs
+number_within rs reason n f is = refused_among rs n (subst (IsBuildFault rs) is f)

@@ -1,0 +1,112 @@
+-- Lines one after another.
+use Rattle.std.proofs.Common.{◌≡◌, ◌==◌, ℕ, ◌+◌, ◌<◌, ◌≤◌, Bool, true, false, List, [], ◌∷◌, length, take, drop, Some, None, Option, refl, ap, ◌∙◌, arith, cond, ltb}
+use Rattle.std.specs.Prelude.{if◌then◌else◌, option_map, is_some}
+use Rattle.std.specs.List.{All, position_or_len}
+use Rattle.std.proofs.lemmas.Bool.{ltb-true, ltb-false}
+use Rattle.std.proofs.lemmas.Option.{some_pair_parts}
+use Rattle.std.proofs.lemmas.List.{length-drop}
+use Rattle.std.proofs.lemmas.List.Sums.{fails_before_first}
+use Rattle.std.proofs.lemmas.List.Splits.{slice_split_none, slice_split_first, length-slice_split}
+use Rattle.ost_commit.specs.declared.row.TreeRow.{TreeRow}
+use Rattle.ost_description.specs.Parts.{parts_at}
+use Rattle.ost_description.specs.Descriptions.{pieces, first_by, row_in, row_before, rows_in, unformed_in}
+
+abbrev is_end : ℕ → Bool
+is_end b = b == 10
+
+abbrev cut_at : List ℕ → ℕ → List ℕ × List ℕ
+cut_at bytes n = (take n bytes, drop (n + 1) bytes)
+
+found_by : (b : Bool) (at : ℕ) (bytes line behind : List ℕ) → option_map (cut_at bytes) (cond b (Some at) None) ≡ Some (line, behind)
+    → (b ≡ true) × (take at bytes ≡ line) × (drop (at + 1) bytes ≡ behind)
+found_by true at bytes line behind e = let parts = some_pair_parts (take at bytes) line (drop (at + 1) bytes) behind e in (refl, parts.0, parts.1)
+found_by false at bytes line behind e = absurd cc
+
+missed_by : (b : Bool) (at : ℕ) (bytes : List ℕ) → option_map (cut_at bytes) (cond b (Some at) None) ≡ None → b ≡ false
+missed_by true at bytes e = absurd cc
+missed_by false at bytes e = refl
+
+found : (bytes line behind : List ℕ) → parts_at 10 bytes ≡ Some (line, behind)
+    → (position_or_len is_end bytes < length bytes) × (take (position_or_len is_end bytes) bytes ≡ line) × (drop (position_or_len is_end bytes + 1) bytes ≡ behind)
+unfolding parts_at
+found bytes line behind e = let parts = found_by (ltb (position_or_len is_end bytes) (length bytes)) (position_or_len is_end bytes) bytes line behind e in (ltb-true _ _ parts.0, parts.1, parts.2)
+
+missed : (bytes : List ℕ) → parts_at 10 bytes ≡ None → length bytes ≤ position_or_len is_end bytes
+unfolding parts_at
+missed bytes e = ltb-false _ _ (missed_by (ltb (position_or_len is_end bytes) (length bytes)) (position_or_len is_end bytes) bytes e)
+
+none_ends : (bytes : List ℕ) → length bytes ≤ position_or_len is_end bytes → All (λ b. is_end b ≡ false) bytes
+none_ends bytes l k d m = fails_before_first is_end bytes k d (omega (arith, l, m))
+
+-- a line, and the pieces behind it
+pub pieces_step : (bytes line behind : List ℕ) → parts_at 10 bytes ≡ Some (line, behind) → pieces bytes ≡ line ∷ pieces behind
+pieces_step bytes line behind e =
+    let f = found bytes line behind e in
+    slice_split_first is_end bytes 0 f.0 ∙ (λ i. f.1 i ∷ pieces (f.2 i))
+
+pub pieces_end : (bytes : List ℕ) → parts_at 10 bytes ≡ None → pieces bytes ≡ bytes ∷ []
+pieces_end bytes e = slice_split_none is_end bytes (none_ends bytes (missed bytes e))
+
+pub some_pieces : (bytes : List ℕ) → 0 < length (pieces bytes)
+some_pieces bytes = omega (arith, length-slice_split is_end bytes)
+
+pub behind_is_shorter : (bytes line behind : List ℕ) → parts_at 10 bytes ≡ Some (line, behind) → length behind < length bytes
+behind_is_shorter bytes line behind e =
+    let f = found bytes line behind e in
+    omega (arith, f.0, ap (λ (l : List ℕ). length l) f.2, length-drop (position_or_len is_end bytes + 1) bytes)
+
+-- ---- the first line
+
+pub first_cons : {A : Type 0} (read : List ℕ → Option A) (line : List ℕ) (lines : List (List ℕ)) → 0 < length lines → first_by read (line ∷ lines) ≡ option_map (λ x. (x, lines)) (read line)
+first_cons read line [] l = absurd (omega arith)
+first_cons read line (next ∷ lines) l = refl
+
+pub first_line : {A : Type 0} (read : List ℕ → Option A) (bytes line behind : List ℕ) → parts_at 10 bytes ≡ Some (line, behind)
+    → first_by read (pieces bytes) ≡ option_map (λ x. (x, pieces behind)) (read line)
+first_line read bytes line behind e = ap (first_by read) (pieces_step bytes line behind e) ∙ first_cons read line (pieces behind) (some_pieces behind)
+
+pub no_line : {A : Type 0} (read : List ℕ → Option A) (bytes : List ℕ) → parts_at 10 bytes ≡ None → first_by read (pieces bytes) ≡ None
+no_line read bytes e = ap (first_by read) (pieces_end bytes e)
+
+pub good_first : {A : Type 0} (read : List ℕ → Option A) (x : A) (bytes line behind : List ℕ) → parts_at 10 bytes ≡ Some (line, behind) → read line ≡ Some x
+    → first_by read (pieces bytes) ≡ Some (x, pieces behind)
+good_first read x bytes line behind e r = first_line read bytes line behind e ∙ ap (option_map (λ x. (x, pieces behind))) r
+
+pub bad_first : {A : Type 0} (read : List ℕ → Option A) (bytes line behind : List ℕ) → parts_at 10 bytes ≡ Some (line, behind) → read line ≡ None
+    → first_by read (pieces bytes) ≡ None
+bad_first read bytes line behind e r = first_line read bytes line behind e ∙ ap (option_map (λ x. (x, pieces behind))) r
+
+-- ---- rows
+
+pub rows_cons : (line : List ℕ) (lines : List (List ℕ)) → 0 < length lines → rows_in (line ∷ lines) ≡ row_before (row_in line) (rows_in lines)
+rows_cons line [] l = absurd (omega arith)
+rows_cons line (next ∷ lines) l = refl
+
+pub unformed_cons : (number : ℕ) (line : List ℕ) (lines : List (List ℕ)) → 0 < length lines
+    → unformed_in number (line ∷ lines) ≡ (if is_some (row_in line) then unformed_in (number + 1) lines else Some number)
+unformed_cons number line [] l = absurd (omega arith)
+unformed_cons number line (next ∷ lines) l = refl
+
+pub rows_step : (bytes line behind : List ℕ) (r : TreeRow) → parts_at 10 bytes ≡ Some (line, behind) → row_in line ≡ Some r
+    → rows_in (pieces bytes) ≡ r ∷ rows_in (pieces behind)
+rows_step bytes line behind r e f = ap rows_in (pieces_step bytes line behind e) ∙ rows_cons line (pieces behind) (some_pieces behind) ∙ ap (λ o. row_before o (rows_in (pieces behind))) f
+
+pub rows_stop : (bytes line behind : List ℕ) → parts_at 10 bytes ≡ Some (line, behind) → row_in line ≡ None → rows_in (pieces bytes) ≡ []
+rows_stop bytes line behind e f = ap rows_in (pieces_step bytes line behind e) ∙ rows_cons line (pieces behind) (some_pieces behind) ∙ ap (λ o. row_before o (rows_in (pieces behind))) f
+
+pub rows_end : (bytes : List ℕ) → parts_at 10 bytes ≡ None → rows_in (pieces bytes) ≡ []
+rows_end bytes e = ap rows_in (pieces_end bytes e)
+
+pub unformed_step : (number : ℕ) (bytes line behind : List ℕ) (r : TreeRow) → parts_at 10 bytes ≡ Some (line, behind) → row_in line ≡ Some r
+    → unformed_in number (pieces bytes) ≡ unformed_in (number + 1) (pieces behind)
+unformed_step number bytes line behind r e f =
+    ap (unformed_in number) (pieces_step bytes line behind e) ∙ unformed_cons number line (pieces behind) (some_pieces behind)
+    ∙ ap (λ (o : Option TreeRow). if is_some o then unformed_in (number + 1) (pieces behind) else Some number) f
+
+pub unformed_stop : (number : ℕ) (bytes line behind : List ℕ) → parts_at 10 bytes ≡ Some (line, behind) → row_in line ≡ None → unformed_in number (pieces bytes) ≡ Some number
+unformed_stop number bytes line behind e f =
+    ap (unformed_in number) (pieces_step bytes line behind e) ∙ unformed_cons number line (pieces behind) (some_pieces behind)
+    ∙ ap (λ (o : Option TreeRow). if is_some o then unformed_in (number + 1) (pieces behind) else Some number) f
+
+pub unformed_end : (number : ℕ) (bytes : List ℕ) → parts_at 10 bytes ≡ None → unformed_in number (pieces bytes) ≡ (if length bytes == 0 then None else Some number)
+unformed_end number bytes e = ap (unformed_in number) (pieces_end bytes e)

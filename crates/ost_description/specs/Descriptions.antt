@@ -1,0 +1,108 @@
+-- Descriptions of trees: what each line says, and what the lines say together.
+use Rattle.std.specs.Prelude.{ℕ, ◌+◌, ◌==◌, if◌then◌else◌, List, [], ◌∷◌, length, codes, Option, Some, None, is_some, option_map, Result, Ok, Err}
+use Rattle.std.specs.List.{slice_split}
+use Rattle.std.specs.Str.{bytes_eq}
+use Rattle.ost_commit.specs.declared.row.TreeRow.{TreeRow}
+use Rattle.ost_commit.specs.declared.row.TreeRow.TheVariants as row
+use Rattle.ost_commit.specs.Refusals.{first_refused}
+use Rattle.ost_description.specs.declared.description.Description.{Description}
+use Rattle.ost_description.specs.Steps.{◌>>=◌, where_it}
+use Rattle.ost_description.specs.Parts.{parts_at, number_in, mode_in, content_in, path_in, text_in, is_subject}
+
+-- what a line says behind this word and a space
+abbrev pub behind_word : List ℕ → List ℕ → Option (List ℕ)
+behind_word word line = parts_at 32 line >>= λ parts. where_it (bytes_eq parts.0 word) parts.1
+
+-- `timestamp` and a number
+unfoldable pub timestamp_in : List ℕ → Option ℕ
+timestamp_in line = behind_word (codes "timestamp") line >>= number_in
+
+-- `subject` and a text
+unfoldable pub subject_in : List ℕ → Option (List ℕ)
+subject_in line = do
+  rest ← behind_word (codes "subject") line
+  text ← text_in rest
+  where_it (is_subject text) text
+
+-- a path
+unfoldable pub folder_in : List ℕ → Option TreeRow
+folder_in rest = option_map row.Dir (path_in rest)
+
+-- a path, permission bits and bytes
+unfoldable pub file_in : List ℕ → Option TreeRow
+file_in rest = do
+  first ← parts_at 32 rest
+  second ← parts_at 32 first.1
+  path ← path_in first.0
+  mode ← mode_in second.0
+  bytes ← content_in second.1
+  Some (row.File path mode bytes)
+
+-- a path, and the text of a link up to the line's end
+unfoldable pub link_in : List ℕ → Option TreeRow
+link_in rest = do
+  parts ← parts_at 32 rest
+  path ← path_in parts.0
+  target ← text_in parts.1
+  Some (row.Link path target)
+
+-- the row of a line that is formed as one
+unfoldable pub row_in : List ℕ → Option TreeRow
+row_in line = do
+  parts ← parts_at 32 line
+  if bytes_eq parts.0 (codes "dir") then folder_in parts.1
+      else (if bytes_eq parts.0 (codes "file") then file_in parts.1
+      else (if bytes_eq parts.0 (codes "link") then link_in parts.1
+      else None))
+
+-- ---- lines
+
+-- the lines, each of which a newline ends, and what stands after the last newline
+abbrev pub pieces : List ℕ → List (List ℕ)
+pieces bytes = slice_split (λ b. b == 10) bytes
+
+abbrev pub row_before : Option TreeRow → List TreeRow → List TreeRow
+row_before None rows = []
+row_before (Some r) rows = r ∷ rows
+
+-- the rows of lines, up to the first line that isn't formed as one
+abbrev pub rows_in : List (List ℕ) → List TreeRow
+rows_in [] = []
+rows_in (last ∷ []) = []
+rows_in (line ∷ next ∷ more) = row_before (row_in line) (rows_in (next ∷ more))
+
+-- the first line that isn't formed as a row, counted from a number; what stands after the last newline is one, unless nothing does
+abbrev pub unformed_in : ℕ → List (List ℕ) → Option ℕ
+unformed_in number [] = None
+unformed_in number (last ∷ []) = if length last == 0 then None else Some number
+unformed_in number (line ∷ next ∷ more) = if is_some (row_in line) then unformed_in (number + 1) (next ∷ more) else Some number
+
+-- ---- the whole
+
+-- The rows begin at line 3. A row that is refused stands before the line that isn't formed as one.
+abbrev pub judged : Description → Option ℕ → Option ℕ → Result Description ℕ
+judged d unformed (Some k) = Err (k + 2)
+judged d (Some number) None = Err number
+judged d None None = Ok d
+
+abbrev pub with_rows : ℕ → List ℕ → List (List ℕ) → Result Description ℕ
+with_rows timestamp subject lines =
+    judged (record { timestamp = timestamp; subject = subject; rows = rows_in lines }) (unformed_in 3 lines) (first_refused (rows_in lines))
+
+abbrev pub or_bad : {A B : Type 0} → ℕ → Option A → (A → Result B ℕ) → Result B ℕ
+or_bad number None next = Err number
+or_bad number (Some x) next = next x
+
+-- what the first line says, by a reader of lines, and the lines after it
+abbrev pub first_by : {A : Type 0} → (List ℕ → Option A) → List (List ℕ) → Option (A × List (List ℕ))
+first_by read [] = None
+first_by read (last ∷ []) = None
+first_by read (line ∷ after ∷ more) = option_map (λ x. (x, after ∷ more)) (read line)
+
+abbrev pub described_by : List (List ℕ) → Result Description ℕ
+described_by lines = or_bad 1 (first_by timestamp_in lines) λ first. or_bad 2 (first_by subject_in first.1) λ second. with_rows first.0 second.0 second.1
+
+-- What bytes describe, or the first line that is bad, counted from 1: one that isn't formed so, or the line of the first row that
+-- is refused. A line that isn't there, and what no newline ends, is bad.
+unfoldable pub described : List ℕ → Result Description ℕ
+described bytes = described_by (pieces bytes)

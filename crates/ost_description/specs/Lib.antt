@@ -1,0 +1,5 @@
+pub mod Steps
+pub mod Parts
+pub mod Descriptions
+pub mod Commits
+pub mod Writing

@@ -1,0 +1,12 @@
+//! Descriptions of trees, line by line, and the commits that are built from them.
+#![tactic(auto)]
+
+mod committing;
+mod description;
+mod laws;
+mod parts;
+mod reading;
+
+pub use committing::commit_description;
+pub use description::{Description, DescriptionError};
+pub use laws::written_descriptions_read_back;

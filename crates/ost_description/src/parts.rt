@@ -1,0 +1,201 @@
+//! The parts of a description's lines.
+
+ghost use Rattle.std.specs.Prelude.{◌≡◌, ◌<◌, ◌==◌, ◌||◌, IfOk, IfSome, true, not};
+ghost use Rattle.std.specs.Char.{is_ascii_digit};
+ghost use Rattle.std.specs.List.{list_all, list_any, position};
+ghost use Rattle.ost_description.specs.Steps.{Gives};
+ghost use Rattle.ost_description.specs.Parts.{parts_at, has_leading_zero, are_digits as are_digits_of, number_in, octal_in, mode_in, is_lower_digit, hex_in, content_in, path_in, text_in, is_control, is_subject as may_be_subject};
+
+use fp_base::Blob;
+use fp_host::{Path, PathFault};
+use hex::FromHexError;
+use std::alloc::{AllocError, Global};
+use std::str;
+
+/// The most bytes of a subject.
+const MOST_SUBJECT: usize = 1_024;
+
+/// The place of the first such byte.
+fn place_of_first(byte: u8, bytes: &[u8]) -> Option<usize>
+    ensures { result ≡ position (λ b. b == byte) bytes.now }
+{
+    bytes.iter().position(|b| *b == byte)
+}
+
+/// What stands before the first such byte, and what stands after it.
+#[tactic(auto, unfolding(crate::specs::Parts::parts_at))]
+pub(crate) fn cut(byte: u8, bytes: &[u8]) -> Option<(&[u8], &[u8])>
+    ensures { Gives (λ p. (p.0.now, p.1.now)) result (parts_at byte bytes.now) }
+{
+    let at = place_of_first(byte, bytes)?;
+    Some((&bytes[..at], &bytes[at + 1..]))
+}
+
+/// Whether a zero stands before other digits.
+fn has_leading_zero(text: &[u8]) -> bool
+    ensures { result ≡ has_leading_zero text.now }
+{
+    text.len() > 1 && text[0] == b'0'
+}
+
+fn is_digit(byte: u8) -> bool
+    ensures { result ≡ is_ascii_digit byte }
+{
+    matches!(byte, b'0'..=b'9')
+}
+
+fn is_all_digits(text: &[u8]) -> bool
+    ensures { result ≡ list_all is_ascii_digit text.now }
+{
+    text.iter().all(|byte| is_digit(*byte))
+}
+
+/// Whether these are decimal digits, one or more, without a leading zero.
+fn are_digits(text: &[u8]) -> bool
+    ensures { result ≡ are_digits_of text.now }
+{
+    !text.is_empty() && !has_leading_zero(text) && is_all_digits(text)
+}
+
+/// The number that decimal digits write, where it is below 2^64.
+fn value(digits: &str) -> Option<u64>
+    requires { are_digits_of digits.now ≡ true }
+    ensures { Gives (λ n. n) result (number_in digits.now) }
+{
+    match digits.parse::<u64>() {
+        Ok(number) => Some(number),
+        Err(_) => None,
+    }
+}
+
+/// A number below 2^64 in decimal digits, without a leading zero.
+#[tactic(auto, unfolding(crate::specs::Parts::number_in))]
+pub(crate) fn number(text: &[u8]) -> Option<u64>
+    ensures { Gives (λ n. n) result (number_in text.now) }
+{
+    if !are_digits(text) {
+        return None;
+    }
+    match str::from_utf8(text) {
+        Ok(digits) => value(digits),
+        Err(_) => None,
+    }
+}
+
+/// The number of an octal digit.
+fn octal_digit(digit: u8) -> Option<u32>
+    ensures digit { Gives (λ n. n) result (octal_in digit) }
+    ensures small { IfSome result (λ n. n < 8) }
+{
+    if digit < b'0' || digit > b'7' {
+        return None;
+    }
+    Some((digit - b'0') as u32)
+}
+
+/// Permission bits, as three octal digits.
+#[tactic(auto, unfolding(crate::specs::Parts::mode_in))]
+pub(crate) fn mode(text: &[u8]) -> Option<u32>
+    ensures { Gives (λ n. n) result (mode_in text.now) }
+{
+    if text.len() != 3 {
+        return None;
+    }
+    let first = octal_digit(text[0])?;
+    let second = octal_digit(text[1])?;
+    let third = octal_digit(text[2])?;
+    Some(first * 64 + second * 8 + third)
+}
+
+fn is_lower_hex_digit(digit: u8) -> bool
+    ensures { result ≡ is_lower_digit digit }
+{
+    matches!(digit, b'0'..=b'9' | b'a'..=b'f')
+}
+
+fn are_lower_hex_digits(text: &[u8]) -> bool
+    ensures { result ≡ list_all is_lower_digit text.now }
+{
+    text.iter().all(|digit| is_lower_hex_digit(*digit))
+}
+
+/// The bytes that lower-case hexadecimal writes, one or more.
+#[tactic(auto, unfolding(crate::specs::Parts::hex_in))]
+fn decoded(alloc: Global, text: &[u8]) -> Result<Option<Vec<u8>>, AllocError>
+    ensures { IfOk result (λ found. Gives (λ v. v.items) found (hex_in text.now)) }
+{
+    if text.is_empty() || !are_lower_hex_digits(text) {
+        return Ok(None);
+    }
+    match hex::decode(alloc, text) {
+        Ok(bytes) => Ok(Some(bytes)),
+        Err(FromHexError::OutOfMemory) => Err(AllocError),
+        Err(_) => Ok(None),
+    }
+}
+
+/// The bytes of a file: a dash where there are none, else lower-case hexadecimal.
+#[tactic(auto, unfolding(crate::specs::Parts::content_in))]
+pub(crate) fn content(alloc: Global, text: &[u8]) -> Result<Option<Blob>, AllocError>
+    ensures { IfOk result (λ found. Gives (λ b. b) found (content_in text.now)) }
+{
+    let found = match text {
+        b"-" => Some(Vec::new(alloc)),
+        _ => decoded(alloc, text)?,
+    };
+    Ok(found.map(Blob::from_vec))
+}
+
+/// Text in UTF-8.
+#[tactic(auto, unfolding(crate::specs::Parts::text_in))]
+pub(crate) fn text(bytes: &[u8]) -> Option<&str>
+    ensures { Gives (λ t. t.now) result (text_in bytes.now) }
+{
+    match str::from_utf8(bytes) {
+        Ok(text) => Some(text),
+        Err(_) => None,
+    }
+}
+
+fn has_space(bytes: &[u8]) -> bool
+    ensures { result ≡ list_any (λ b. b == 32) bytes.now }
+{
+    bytes.iter().any(|byte| *byte == b' ')
+}
+
+/// A path without spaces.
+#[tactic(auto, unfolding(crate::specs::Parts::path_in, crate::specs::Parts::text_in))]
+pub(crate) fn path(alloc: Global, bytes: &[u8]) -> Result<Option<Path>, AllocError>
+    ensures { IfOk result (λ found. Gives (λ p. p) found (path_in bytes.now)) }
+{
+    let Some(text) = text(bytes) else {
+        return Ok(None);
+    };
+    if has_space(bytes) {
+        return Ok(None);
+    }
+    match Path::parse(alloc, text) {
+        Ok(path) => Ok(Some(path)),
+        Err(PathFault::Bad) => Ok(None),
+        Err(PathFault::NoMemory) => Err(AllocError),
+    }
+}
+
+fn is_control(byte: u8) -> bool
+    ensures { result ≡ is_control byte }
+{
+    byte < 0x20 || byte == 0x7f
+}
+
+fn has_no_control(text: &[u8]) -> bool
+    ensures { result ≡ list_all (λ b. not (is_control b)) text.now }
+{
+    text.iter().all(|byte| !is_control(*byte))
+}
+
+/// Whether the text may be a subject: at most 1,024 bytes without control characters.
+pub(crate) fn is_subject(text: &str) -> bool
+    ensures { result ≡ may_be_subject text.now }
+{
+    text.len() <= MOST_SUBJECT && has_no_control(text.as_bytes())
+}

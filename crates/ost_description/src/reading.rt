@@ -1,0 +1,224 @@
+//! Reading a description up to the first line that isn't formed as its place wants.
+
+ghost use Rattle.std.specs.Prelude.{◌≡◌, ◌<◌, ◌≤◌, ◌+◌, ◌^◌, ◌==◌, if◌then◌else◌, length, Some, None, IfOk, IfErr, IfSome};
+ghost use Rattle.ost_commit.specs.Refusals.{first_refused};
+ghost use Rattle.ost_description.specs.Steps.{Gives};
+ghost use Rattle.ost_description.specs.Commits.{IsDescriptionFault};
+ghost use Rattle.ost_description.specs.Descriptions.{behind_word, timestamp_in, subject_in, folder_in, file_in, link_in, row_in, pieces, first_by, rows_in, unformed_in, judged, with_rows, described};
+
+use crate::description::{Description, DescriptionError};
+use crate::parts::{content, cut, is_subject, mode, number, path, text};
+use fp_base::{Items, Text};
+use ost_commit::TreeRow;
+use std::alloc::{AllocError, Global};
+
+/// What a line says behind this word and a space.
+fn behind<'a>(word: &[u8], line: &'a [u8]) -> Option<&'a [u8]>
+    ensures { Gives (λ rest. rest.now) result (behind_word word.now line.now) }
+{
+    let (first, rest) = cut(b' ', line)?;
+    if first == word { Some(rest) } else { None }
+}
+
+/// The number of a line `timestamp T`.
+#[tactic(auto, unfolding(crate::specs::Descriptions::timestamp_in))]
+fn timestamp_of(line: &[u8]) -> Option<u64>
+    ensures { Gives (λ n. n) result (timestamp_in line.now) }
+{
+    number(behind(b"timestamp", line)?)
+}
+
+/// The text of a line `subject TEXT`.
+#[tactic(auto, unfolding(crate::specs::Descriptions::subject_in))]
+fn subject_of(line: &[u8]) -> Option<&str>
+    ensures { Gives (λ t. t.now) result (subject_in line.now) }
+{
+    let subject = text(behind(b"subject", line)?)?;
+    if is_subject(subject) {
+        Some(subject)
+    } else {
+        None
+    }
+}
+
+/// The directory of a line `dir PATH`, behind its first word.
+#[tactic(auto, unfolding(crate::specs::Descriptions::folder_in))]
+fn folder_of(alloc: Global, rest: &[u8]) -> Result<Option<TreeRow>, AllocError>
+    ensures { IfOk result (λ found. Gives (λ r. r) found (folder_in rest.now)) }
+{
+    match path(alloc, rest)? {
+        Some(path) => Ok(Some(TreeRow::Dir(path))),
+        None => Ok(None),
+    }
+}
+
+/// The file of a line `file PATH MODE HEX`, behind its first word.
+#[tactic(auto, unfolding(crate::specs::Descriptions::file_in))]
+fn file_of(alloc: Global, rest: &[u8]) -> Result<Option<TreeRow>, AllocError>
+    ensures { IfOk result (λ found. Gives (λ r. r) found (file_in rest.now)) }
+{
+    let Some((place, rest)) = cut(b' ', rest) else {
+        return Ok(None);
+    };
+    let Some((bits, digits)) = cut(b' ', rest) else {
+        return Ok(None);
+    };
+    let Some(mode) = mode(bits) else {
+        return Ok(None);
+    };
+    let Some(path) = path(alloc, place)? else {
+        return Ok(None);
+    };
+    let Some(bytes) = content(alloc, digits)? else {
+        return Ok(None);
+    };
+    Ok(Some(TreeRow::File { path, mode, bytes }))
+}
+
+/// The link of a line `link PATH TARGET`, behind its first word.
+#[tactic(auto, unfolding(crate::specs::Descriptions::link_in))]
+fn link_of(alloc: Global, rest: &[u8]) -> Result<Option<TreeRow>, AllocError>
+    ensures { IfOk result (λ found. Gives (λ r. r) found (link_in rest.now)) }
+{
+    let Some((place, target)) = cut(b' ', rest) else {
+        return Ok(None);
+    };
+    let Some(target) = text(target) else {
+        return Ok(None);
+    };
+    let Some(path) = path(alloc, place)? else {
+        return Ok(None);
+    };
+    let target = Text::from_str(alloc, target)?;
+    Ok(Some(TreeRow::Link { path, target }))
+}
+
+/// The row of a line that is formed as one.
+#[tactic(auto, unfolding(crate::specs::Descriptions::row_in))]
+fn row_of(alloc: Global, line: &[u8]) -> Result<Option<TreeRow>, AllocError>
+    ensures { IfOk result (λ found. Gives (λ r. r) found (row_in line.now)) }
+{
+    let Some((word, rest)) = cut(b' ', line) else {
+        return Ok(None);
+    };
+    match word {
+        b"dir" => folder_of(alloc, rest),
+        b"file" => file_of(alloc, rest),
+        b"link" => link_of(alloc, rest),
+        _ => Ok(None),
+    }
+}
+
+/// The first two lines, and what stands behind them.
+#[derive(Clone, Copy)]
+struct Heading<'a> {
+    timestamp: u64,
+    subject: &'a str,
+    rest: &'a [u8],
+}
+
+/// Reads the first two lines.
+fn read_heading(bytes: &[u8]) -> Result<Heading, DescriptionError>
+    ensures reads { IfOk result (λ h. described bytes.now
+        ≡ with_rows h.timestamp h.subject.now (pieces h.rest.now)) }
+    ensures shorter { IfOk result (λ h. length h.rest.now < length bytes.now) }
+    ensures bad { IfErr result (IsDescriptionFault bytes.now) }
+{
+    let Some((timestamp, rest)) = timestamp_line(bytes) else {
+        return Err(DescriptionError::Record(1));
+    };
+    let Some((subject, rest)) = subject_line(rest) else {
+        return Err(DescriptionError::Record(2));
+    };
+    Ok(Heading {
+        timestamp,
+        subject,
+        rest,
+    })
+}
+
+/// The number of a first line `timestamp T`, and what stands behind it.
+fn timestamp_line(bytes: &[u8]) -> Option<(u64, &[u8])>
+    ensures line { Gives (λ p. (p.0, pieces p.1.now)) result (first_by timestamp_in (pieces bytes.now)) }
+    ensures shorter { IfSome result (λ p. length p.1.now < length bytes.now) }
+{
+    let (line, rest) = cut(b'\n', bytes)?;
+    Some((timestamp_of(line)?, rest))
+}
+
+/// The text of a first line `subject TEXT`, and what stands behind it.
+fn subject_line(bytes: &[u8]) -> Option<(&str, &[u8])>
+    ensures line { Gives (λ p. (p.0.now, pieces p.1.now)) result (first_by subject_in (pieces bytes.now)) }
+    ensures shorter { IfSome result (λ p. length p.1.now < length bytes.now) }
+{
+    let (line, rest) = cut(b'\n', bytes)?;
+    Some((subject_of(line)?, rest))
+}
+
+/// Rows up to the first line that isn't formed as one, and the number of that line.
+#[derive(Drop)]
+struct Lines {
+    rows: Vec<TreeRow>,
+    unformed: Option<u64>,
+}
+
+/// Reads the lines from the third on.
+fn lines_of(alloc: Global, bytes: &[u8]) -> Result<Lines, AllocError>
+    requires { length bytes.now + 3 < 2 ^ 64 }
+    ensures rows { IfOk result (λ lines. lines.rows.items ≡ rows_in (pieces bytes.now)) }
+    ensures unformed { IfOk result (λ lines. lines.unformed ≡ unformed_in 3 (pieces bytes.now)) }
+    ensures few { IfOk result (λ lines. length lines.rows.items ≤ length bytes.now) }
+{
+    let mut rows = Vec::new(alloc);
+    let mut rest = bytes;
+    let mut number = 3;
+    while let Some((line, behind)) = cut(b'\n', rest) {
+        let Some(row) = row_of(alloc, line)? else {
+            return Ok(Lines {
+                rows,
+                unformed: Some(number),
+            });
+        };
+        rows.push(row)?;
+        rest = behind;
+        number += 1;
+    }
+    Ok(Lines {
+        rows,
+        unformed: leftover(rest, number),
+    })
+}
+
+/// The number of what stands after the last newline, unless nothing does.
+fn leftover(rest: &[u8], number: u64) -> Option<u64>
+    ensures { result ≡ (if length rest.now == 0 then None else Some number) }
+{
+    if rest.is_empty() { None } else { Some(number) }
+}
+
+/// A description up to the first line that isn't formed as its place wants, and the number of that line.
+#[derive(Drop)]
+pub(crate) struct Draft {
+    pub(crate) description: Description,
+    pub(crate) unformed: Option<u64>,
+}
+
+/// Reads a description up to the first row that isn't formed as one.
+pub(crate) fn draft_of(alloc: Global, bytes: &[u8]) -> Result<Draft, DescriptionError>
+    ensures reads { IfOk result (λ d. described bytes.now
+        ≡ judged d.description d.unformed (first_refused d.description.rows)) }
+    ensures few { IfOk result (λ d. length d.description.rows < length bytes.now) }
+    ensures bad { IfErr result (IsDescriptionFault bytes.now) }
+{
+    let heading = read_heading(bytes)?;
+    let subject = Text::from_str(alloc, heading.subject)?;
+    let lines = lines_of(alloc, heading.rest)?;
+    Ok(Draft {
+        description: Description {
+            timestamp: heading.timestamp,
+            subject,
+            rows: Items::from_vec(lines.rows),
+        },
+        unformed: lines.unformed,
+    })
+}
