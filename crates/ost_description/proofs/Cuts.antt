@@ -14,7 +14,7 @@ none_pass : (p : ℕ → Bool) (xs : List ℕ) → list_any p xs ≡ false → A
 none_pass p [] e = All-nil (λ x. p x ≡ false)
 none_pass p (x ∷ xs) e = let parts = or_parts (p x) (list_any p xs) e in All-cons (λ x. p x ≡ false) x xs parts.0 (none_pass p xs parts.1)
 
--- the line, and the pieces of what stands behind its newline
+-- the line, and the pieces of what stands after its newline
 pub pieces_of : (line rest : List ℕ) → list_any is_newline line ≡ false → pieces (line ++ 10 ∷ rest) ≡ line ∷ pieces rest
 pieces_of line rest e = slice_split_at is_newline line 10 rest (none_pass is_newline line e) refl
 
@@ -41,7 +41,7 @@ by_place bytes place n e l =
     ap (λ (m : ℕ). option_map (cut_at bytes) (cond (ltb m (length bytes)) (Some m) None)) e
     ∙ ap (λ (b : Bool). option_map (cut_at bytes) (cond b (Some n) None)) (lt-ltb n (length bytes) l)
 
--- a word, the byte that ends it, and what stands behind
+-- a word, the byte that ends it, and what stands after
 pub parts_of : (byte : ℕ) (word rest : List ℕ) → list_any (λ b. b == byte) word ≡ false → parts_at byte (word ++ byte ∷ rest) ≡ Some (word, rest)
 unfolding parts_at
 parts_of byte word rest e =

@@ -38,7 +38,7 @@ missed bytes e = ltb-false _ _ (missed_by (ltb (position_or_len is_end bytes) (l
 none_ends : (bytes : List ℕ) → length bytes ≤ position_or_len is_end bytes → All (λ b. is_end b ≡ false) bytes
 none_ends bytes l k d m = fails_before_first is_end bytes k d (omega (arith, l, m))
 
--- a line, and the pieces behind it
+-- a line, and the pieces after it
 pub pieces_step : (bytes line behind : List ℕ) → parts_at 10 bytes ≡ Some (line, behind) → pieces bytes ≡ line ∷ pieces behind
 pieces_step bytes line behind e =
     let f = found bytes line behind e in

@@ -9,18 +9,18 @@ use Rattle.ost_description.specs.declared.description.Description.{Description}
 use Rattle.ost_description.specs.Steps.{◌>>=◌, where_it}
 use Rattle.ost_description.specs.Parts.{parts_at, number_in, mode_in, content_in, path_in, text_in, is_subject}
 
--- what a line says behind this word and a space
-abbrev pub behind_word : List ℕ → List ℕ → Option (List ℕ)
-behind_word word line = parts_at 32 line >>= λ parts. where_it (bytes_eq parts.0 word) parts.1
+-- what a line says after this word and a space
+abbrev pub said_after : List ℕ → List ℕ → Option (List ℕ)
+said_after word line = parts_at 32 line >>= λ parts. where_it (bytes_eq parts.0 word) parts.1
 
 -- `timestamp` and a number
 unfoldable pub timestamp_in : List ℕ → Option ℕ
-timestamp_in line = behind_word (codes "timestamp") line >>= number_in
+timestamp_in line = said_after (codes "timestamp") line >>= number_in
 
 -- `subject` and a text
 unfoldable pub subject_in : List ℕ → Option (List ℕ)
 subject_in line = do
-  rest ← behind_word (codes "subject") line
+  rest ← said_after (codes "subject") line
   text ← text_in rest
   where_it (is_subject text) text
 

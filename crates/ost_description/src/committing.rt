@@ -46,7 +46,7 @@ pub fn commit_description(
 }
 
 /// Why there is no commit where rows make none, for this reason, and a line that isn't formed as a row, if there is one, stands
-/// behind them.
+/// after them.
 fn refusal(error: BuildError, unformed: Option<u64>) -> DescriptionError
     requires small { (number : ℕ) → error ≡ errors.Row number → number + 2 < 2 ^ 64 }
     ensures { (d : Description) → IsBuildFault d.rows error

@@ -8,7 +8,7 @@ ghost use Rattle.ost_description.specs.declared.description.Description.{Descrip
 ghost use Rattle.ost_description.specs.Descriptions.{described, judged, row_in};
 ghost use Rattle.ost_description.specs.Writing.{IsWritable, description_text, is_newline};
 
-/// A written description reads back, or is refused at the first row that `commit_tree` refuses. Where a line stands behind it that
+/// A written description reads back, or is refused at the first row that `commit_tree` refuses. Where a line stands after it that
 /// isn't formed as a row, that line is the bad one, unless such a row comes before; so there is a bad description for each line.
 pub fn written_descriptions_read_back()
     ensures reads { (d : Description) → IsWritable d

@@ -4,7 +4,7 @@ ghost use Rattle.std.specs.Prelude.{◌≡◌, ◌<◌, ◌≤◌, ◌+◌, ◌^
 ghost use Rattle.ost_commit.specs.Refusals.{first_refused};
 ghost use Rattle.ost_description.specs.Steps.{Gives};
 ghost use Rattle.ost_description.specs.Commits.{IsDescriptionFault};
-ghost use Rattle.ost_description.specs.Descriptions.{behind_word, timestamp_in, subject_in, folder_in, file_in, link_in, row_in, pieces, first_by, rows_in, unformed_in, judged, with_rows, described};
+ghost use Rattle.ost_description.specs.Descriptions.{said_after, timestamp_in, subject_in, folder_in, file_in, link_in, row_in, pieces, first_by, rows_in, unformed_in, judged, with_rows, described};
 
 use crate::description::{Description, DescriptionError};
 use crate::parts::{content, cut, is_subject, mode, number, path, text};
@@ -12,9 +12,9 @@ use fp_base::{Items, Text};
 use ost_commit::TreeRow;
 use std::alloc::{AllocError, Global};
 
-/// What a line says behind this word and a space.
-fn behind<'a>(word: &[u8], line: &'a [u8]) -> Option<&'a [u8]>
-    ensures { Gives (λ rest. rest.now) result (behind_word word.now line.now) }
+/// What a line says after this word and a space.
+fn rest_after<'a>(word: &[u8], line: &'a [u8]) -> Option<&'a [u8]>
+    ensures { Gives (λ rest. rest.now) result (said_after word.now line.now) }
 {
     let (first, rest) = cut(b' ', line)?;
     if first == word { Some(rest) } else { None }
@@ -25,7 +25,7 @@ fn behind<'a>(word: &[u8], line: &'a [u8]) -> Option<&'a [u8]>
 fn timestamp_of(line: &[u8]) -> Option<u64>
     ensures { Gives (λ n. n) result (timestamp_in line.now) }
 {
-    number(behind(b"timestamp", line)?)
+    number(rest_after(b"timestamp", line)?)
 }
 
 /// The text of a line `subject TEXT`.
@@ -33,7 +33,7 @@ fn timestamp_of(line: &[u8]) -> Option<u64>
 fn subject_of(line: &[u8]) -> Option<&str>
     ensures { Gives (λ t. t.now) result (subject_in line.now) }
 {
-    let subject = text(behind(b"subject", line)?)?;
+    let subject = text(rest_after(b"subject", line)?)?;
     if is_subject(subject) {
         Some(subject)
     } else {
@@ -41,7 +41,7 @@ fn subject_of(line: &[u8]) -> Option<&str>
     }
 }
 
-/// The directory of a line `dir PATH`, behind its first word.
+/// The directory of a line `dir PATH`, after its first word.
 #[tactic(auto, unfolding(crate::specs::Descriptions::folder_in))]
 fn folder_of(alloc: Global, rest: &[u8]) -> Result<Option<TreeRow>, AllocError>
     ensures { IfOk result (λ found. Gives (λ r. r) found (folder_in rest.now)) }
@@ -52,7 +52,7 @@ fn folder_of(alloc: Global, rest: &[u8]) -> Result<Option<TreeRow>, AllocError>
     }
 }
 
-/// The file of a line `file PATH MODE HEX`, behind its first word.
+/// The file of a line `file PATH MODE HEX`, after its first word.
 #[tactic(auto, unfolding(crate::specs::Descriptions::file_in))]
 fn file_of(alloc: Global, rest: &[u8]) -> Result<Option<TreeRow>, AllocError>
     ensures { IfOk result (λ found. Gives (λ r. r) found (file_in rest.now)) }
@@ -75,7 +75,7 @@ fn file_of(alloc: Global, rest: &[u8]) -> Result<Option<TreeRow>, AllocError>
     Ok(Some(TreeRow::File { path, mode, bytes }))
 }
 
-/// The link of a line `link PATH TARGET`, behind its first word.
+/// The link of a line `link PATH TARGET`, after its first word.
 #[tactic(auto, unfolding(crate::specs::Descriptions::link_in))]
 fn link_of(alloc: Global, rest: &[u8]) -> Result<Option<TreeRow>, AllocError>
     ensures { IfOk result (λ found. Gives (λ r. r) found (link_in rest.now)) }
@@ -109,7 +109,7 @@ fn row_of(alloc: Global, line: &[u8]) -> Result<Option<TreeRow>, AllocError>
     }
 }
 
-/// The first two lines, and what stands behind them.
+/// The first two lines, and what stands after them.
 #[derive(Clone, Copy)]
 struct Heading<'a> {
     timestamp: u64,
@@ -137,7 +137,7 @@ fn read_heading(bytes: &[u8]) -> Result<Heading, DescriptionError>
     })
 }
 
-/// The number of a first line `timestamp T`, and what stands behind it.
+/// The number of a first line `timestamp T`, and what stands after it.
 fn timestamp_line(bytes: &[u8]) -> Option<(u64, &[u8])>
     ensures line { Gives (λ p. (p.0, pieces p.1.now)) result (first_by timestamp_in (pieces bytes.now)) }
     ensures shorter { IfSome result (λ p. length p.1.now < length bytes.now) }
@@ -146,7 +146,7 @@ fn timestamp_line(bytes: &[u8]) -> Option<(u64, &[u8])>
     Some((timestamp_of(line)?, rest))
 }
 
-/// The text of a first line `subject TEXT`, and what stands behind it.
+/// The text of a first line `subject TEXT`, and what stands after it.
 fn subject_line(bytes: &[u8]) -> Option<(&str, &[u8])>
     ensures line { Gives (λ p. (p.0.now, pieces p.1.now)) result (first_by subject_in (pieces bytes.now)) }
     ensures shorter { IfSome result (λ p. length p.1.now < length bytes.now) }
@@ -172,7 +172,7 @@ fn lines_of(alloc: Global, bytes: &[u8]) -> Result<Lines, AllocError>
     let mut rows = Vec::new(alloc);
     let mut rest = bytes;
     let mut number = 3;
-    while let Some((line, behind)) = cut(b'\n', rest) {
+    while let Some((line, more)) = cut(b'\n', rest) {
         let Some(row) = row_of(alloc, line)? else {
             return Ok(Lines {
                 rows,
@@ -180,7 +180,7 @@ fn lines_of(alloc: Global, bytes: &[u8]) -> Result<Lines, AllocError>
             });
         };
         rows.push(row)?;
-        rest = behind;
+        rest = more;
         number += 1;
     }
     Ok(Lines {

@@ -6,27 +6,27 @@ use Rattle.ost_description.proofs.reading.lines_of.Goals as goal
 
 pub returns-in_default-2-clause-rows : goal.returns-in_default-2-clause-rows
 returns-in_default-2-clause-rows c =
-    let stop = rows_stop c.loop-line.rest.now c.in-Some.line.now c.in-Some.behind.now (search rules) (search rules) in
+    let stop = rows_stop c.loop-line.rest.now c.in-Some.line.now c.in-Some.more.now (search rules) (search rules) in
     sym (c.loop-line.invariant.rows ∙ ap (λ rs. c.loop-line.rows.items ++ rs) stop ∙ append-nil c.loop-line.rows.items)
 
 pub returns-in_default-2-clause-unformed : goal.returns-in_default-2-clause-unformed
 returns-in_default-2-clause-unformed c =
-    let stop = unformed_stop c.loop-line.number c.loop-line.rest.now c.in-Some.line.now c.in-Some.behind.now (search rules) (search rules) in
+    let stop = unformed_stop c.loop-line.number c.loop-line.rest.now c.in-Some.line.now c.in-Some.more.now (search rules) (search rules) in
     sym (c.loop-line.invariant.unformed ∙ stop)
 
 pub loop-line-smaller : goal.loop-line-smaller
-loop-line-smaller c = behind_is_shorter c.loop-line.rest.now c.in-Some.line.now c.in-Some.behind.now (search rules)
+loop-line-smaller c = behind_is_shorter c.loop-line.rest.now c.in-Some.line.now c.in-Some.more.now (search rules)
 
 pub loop-line-preserved : goal.loop-line-preserved
 loop-line-preserved c =
-    let shorter = behind_is_shorter c.loop-line.rest.now c.in-Some.line.now c.in-Some.behind.now (search rules) in
-    let rows = rows_step c.loop-line.rest.now c.in-Some.line.now c.in-Some.behind.now c.in-Some-2.row (search rules) (search rules) in
-    let unformed = unformed_step c.loop-line.number c.loop-line.rest.now c.in-Some.line.now c.in-Some.behind.now c.in-Some-2.row (search rules) (search rules) in
+    let shorter = behind_is_shorter c.loop-line.rest.now c.in-Some.line.now c.in-Some.more.now (search rules) in
+    let rows = rows_step c.loop-line.rest.now c.in-Some.line.now c.in-Some.more.now c.in-Some-2.row (search rules) (search rules) in
+    let unformed = unformed_step c.loop-line.number c.loop-line.rest.now c.in-Some.line.now c.in-Some.more.now c.in-Some-2.row (search rules) (search rules) in
     let pushed : c.push.new.self.items ≡ c.loop-line.rows.items ++ c.in-Some-2.row ∷ [] = search rules in
     record {
       rows = c.loop-line.invariant.rows ∙ ap (λ rs. c.loop-line.rows.items ++ rs) rows
-          ∙ sym (append_assoc c.loop-line.rows.items (c.in-Some-2.row ∷ []) (rows_in (pieces c.in-Some.behind.now)))
-          ∙ ap (λ rs. rs ++ rows_in (pieces c.in-Some.behind.now)) (sym pushed);
+          ∙ sym (append_assoc c.loop-line.rows.items (c.in-Some-2.row ∷ []) (rows_in (pieces c.in-Some.more.now)))
+          ∙ ap (λ rs. rs ++ rows_in (pieces c.in-Some.more.now)) (sym pushed);
       unformed = c.loop-line.invariant.unformed ∙ unformed;
       few = omega (arith, shorter, c.loop-line.invariant.few, ap (λ rs. length rs) pushed, length-append c.loop-line.rows.items (c.in-Some-2.row ∷ []));
       number = omega (arith, shorter, c.loop-line.invariant.number);
