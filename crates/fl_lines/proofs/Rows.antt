@@ -14,7 +14,7 @@ use Rattle.fp_small.specs.declared.state.RefRow.{RefRow}
 use Rattle.fp_small.specs.declared.refusal.Refusal.TheVariants.{BadWords, PinExists, NoSuchPin, Limit, BadRecord, Damaged, RemoteInUse, WrongMode, NoSuchRef, AlreadyInstalled, NotInstalled, RuntimeMissing, RuntimeInUse, MissingObject, CorruptObject, ModeRefused, BadMetadata, RefBinding, Older, NoPrevious}
 use Rattle.fp_base.specs.declared.what.What.TheVariants.{Pins, Input}
 use Rattle.fp_small.specs.declared.op.Op.TheVariants.{Install, Update, Uninstall, AddPin, DropPin, DropOverride, Migrate, Rollback}
-use Rattle.fl_lines.specs.Lines.{refusal_text, op_text, refs_text, skipped_text, info_text, bad_text, stray_text, fsck_text}
+use Rattle.fl_lines.specs.Lines.{refusal_text, op_text, refs_text, skipped_text, info_text, export_line, bad_text, stray_text, fsck_text}
 
 pub words_line : refusal_text (BadWords 2) ≡ codes "error: words 2\n"
 unfolding digits
@@ -147,6 +147,12 @@ pub info_whole : info_text (deployed (Some (record { commit = replicate 32 34; t
     ≡ codes "ref app/org.x.App/x86_64/stable\ncommit 1111111111111111111111111111111111111111111111111111111111111111\norigin hub\ntimestamp 12\nprevious 2222222222222222222222222222222222222222222222222222222222222222\nruntime runtime/org.x.Platform/x86_64/1\nextension a\\5cb\nextension org.x.App.Locale\n"
 unfolding hex digits
 info_whole = refl
+
+-- ---- exported files
+
+pub exported_line : export_line (codes "org.x.App.desktop" ∷ codes "applications" ∷ codes "share" ∷ []) (record { kind = App; id = codes "org.x.App"; arch = codes "x86_64"; branch = codes "stable" })
+    ≡ codes "share/applications/org.x.App.desktop app/org.x.App/x86_64/stable\n"
+exported_line = refl
 
 -- ---- a store
 

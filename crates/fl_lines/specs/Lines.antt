@@ -157,6 +157,12 @@ extension_line name = line_of (codes "extension" ∷ escaped name ∷ [])
 abbrev pub info_text : RefRow → Option Ref → List (List ℕ) → List ℕ
 info_text row runtime extensions = row_text row ++ (runtime_text runtime ++ flat_map extension_line extensions)
 
+-- ---- what is exported
+
+-- a path below the exported files, and the ref that it comes from; the path has names that the ref's commit gave
+abbrev pub export_line : Elements → Ref → List ℕ
+export_line path name = line_of (escaped (path_text path) ∷ ref_text name ∷ [])
+
 -- ---- what is found in a store
 
 -- an object that isn't what its name says

@@ -2,6 +2,7 @@
 #![tactic(auto)]
 
 mod escaping;
+mod exports;
 mod info;
 mod laws;
 mod lines;
@@ -10,6 +11,7 @@ mod refusals;
 mod stores;
 
 pub use escaping::escape;
+pub use exports::export_line;
 pub use info::info_text;
 pub use laws::escapes_tell_texts;
 pub use lines::{digits_of, object_of, op_line, pins_text, refs_text, remotes_text, skipped_line};

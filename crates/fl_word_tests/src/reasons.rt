@@ -34,6 +34,7 @@ usage: fpk override --reset ID
 usage: fpk list
 usage: fpk list --remotes
 usage: fpk list --pins
+usage: fpk list --exports
 usage: fpk info REF
 usage: fpk launch APP [OPTION..]
 usage: fpk override --show
@@ -127,7 +128,7 @@ const REASONS: [(&[&str], &str); 22] = [
     ),
     (
         &["list", "pins"],
-        "fpk: 'pins' isn't known here\nusage: fpk list\nusage: fpk list --remotes\nusage: fpk list --pins\n",
+        "fpk: 'pins' isn't known here\nusage: fpk list\nusage: fpk list --remotes\nusage: fpk list --pins\nusage: fpk list --exports\n",
     ),
     (
         &["list", "--pins", "x", "y"],

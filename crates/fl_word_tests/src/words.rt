@@ -65,6 +65,7 @@ fn told_listing(alloc: Global, listing: &Listing) -> Result<String, AllocError> 
         Listing::Refs => "ListRefs".to_string(alloc),
         Listing::Remotes => "ListRemotes".to_string(alloc),
         Listing::Pins => "ListPins".to_string(alloc),
+        Listing::Exports => "ListExports".to_string(alloc),
         Listing::Info(name) => spaced(alloc, &["Info", name.as_str()]),
         Listing::Launch { name, options } => told_options(alloc, "Launch", name.as_str(), options),
         Listing::OverrideShow { name } => spaced(alloc, &["OverrideShow", name.as_str()]),
@@ -108,7 +109,7 @@ fn told_remote(alloc: Global, what: &str, row: &RemoteRow) -> Result<String, All
 }
 
 /// Words, and the command that they are, or the place of the first bad one.
-const WORDS: [(&[&str], &str); 68] = [
+const WORDS: [(&[&str], &str); 69] = [
     // remotes
     (
         &["remote-add", "lab", "file:///lab"],
@@ -148,6 +149,7 @@ const WORDS: [(&[&str], &str); 68] = [
     ),
     (&["unpin", "app/*/*/*"], "Unpin app/*/*/*"),
     (&["list", "--pins"], "ListPins"),
+    (&["list", "--exports"], "ListExports"),
     (&[], "bad words at 0"),
     (&[""], "bad words at 0"),
     (&["", "x"], "bad words at 0"),

@@ -16,7 +16,7 @@ use Rattle.fl_words.specs.declared.command.Listing.TheVariants as listings
 use Rattle.fl_words.specs.declared.command.Shown.TheVariants as things
 use Rattle.std.proofs.lemmas.Bool.{and_parts, false≢true}
 use Rattle.fl_words.specs.declared.forms.Form.{Form}
-use Rattle.fl_words.specs.declared.forms.Form.TheVariants.{Pin, Unpin, RemoteAdd, RemoteModify, RemoteDelete, Install, UpdateAll, UpdateOne, Uninstall, UninstallUnused, Rollback, Override, OverrideApp, OverrideReset, OverrideResetApp, ListRefs, ListRemotes, ListPins, Info, Launch, OverrideShow, OverrideShowApp, Filter, FilterFrom, FilterSystemFrom, Batch, Fsck, ShowCommit, ShowDirTree, ShowDirMeta, ShowValue}
+use Rattle.fl_words.specs.declared.forms.Form.TheVariants.{Pin, Unpin, RemoteAdd, RemoteModify, RemoteDelete, Install, UpdateAll, UpdateOne, Uninstall, UninstallUnused, Rollback, Override, OverrideApp, OverrideReset, OverrideResetApp, ListRefs, ListRemotes, ListPins, ListExports, Info, Launch, OverrideShow, OverrideShowApp, Filter, FilterFrom, FilterSystemFrom, Batch, Fsck, ShowCommit, ShowDirTree, ShowDirMeta, ShowValue}
 use Rattle.fl_words.specs.Forms.{literal, pattern, remote, url, ref_name, app, app_id, type_string, permission, permissions, launch_options, filter_rules, from_app, fits, is_app, forms, slots_of, made, reads, command_of}
 use Rattle.fl_options.specs.Options.{is_option, is_launch_option}
 use Rattle.fl_options.proofs.Lines.{uncut_no_option}
@@ -100,6 +100,7 @@ speaks OverrideShow = two (literal (codes "override")) (literal (codes "--show")
 speaks OverrideShowApp = three (literal (codes "override")) (literal (codes "--show")) app_id refl refl refl (Speaks OverrideShowApp) (λ a b i h g k. (id_words (codes "--show") a b i h g k, id_names i k))
 speaks ListRemotes = two (literal (codes "list")) (literal (codes "--remotes")) refl refl (Speaks ListRemotes) (λ a b h g. (both_words (codes "list") (codes "--remotes") a b h g, refl))
 speaks ListPins = two (literal (codes "list")) (literal (codes "--pins")) refl refl (Speaks ListPins) (λ a b h g. (both_words (codes "list") (codes "--pins") a b h g, refl))
+speaks ListExports = two (literal (codes "list")) (literal (codes "--exports")) refl refl (Speaks ListExports) (λ a b h g. (both_words (codes "list") (codes "--exports") a b h g, refl))
 speaks Filter = next (literal (codes "filter")) (filter_rules ∷ []) refl (Speaks Filter) (λ a h ws fit. (ap (λ (x : List ℕ). x ∷ ws) (is_word a (codes "filter") h), all_taken filter_rules ws refl fit))
 speaks FilterFrom = two (literal (codes "filter")) from_app refl refl (Speaks FilterFrom) (λ a r h g. (after_word (codes "filter") a r h ∙ ap (λ (x : List ℕ). codes "filter" ∷ x ∷ []) (from_same r g), from_kept r g))
 speaks FilterSystemFrom = three (literal (codes "filter")) (literal (codes "--system")) from_app refl refl refl (Speaks FilterSystemFrom) (λ a b r h g k. (ap (λ (x : List ℕ). x ∷ b ∷ r ∷ []) (is_word a (codes "filter") h) ∙ ap (λ (x : List ℕ). codes "filter" ∷ x ∷ r ∷ []) (is_word b (codes "--system") g) ∙ ap (λ (x : List ℕ). codes "filter" ∷ codes "--system" ∷ x ∷ []) (from_same r k), from_kept r k))
@@ -183,6 +184,7 @@ written (Listed (listings.Launch name options)) h = launch_written name options 
 written (Listed (listings.OverrideShow name)) h = show_by name (bytes_eq name (codes "global")) refl h
 written (Listed listings.Remotes) h = refl
 written (Listed listings.Pins) h = refl
+written (Listed listings.Exports) h = refl
 written (Showing things.Commit) h = refl
 written (Showing things.DirTree) h = refl
 written (Showing things.DirMeta) h = refl

@@ -32,6 +32,9 @@ pub unpin_one : command_of (codes "unpin" ∷ codes "app/org.x.Y/*/1.0" ∷ []) 
 unfolding is_pin is_id is_branch
 unpin_one = refl
 
+pub list_exports : command_of (codes "list" ∷ codes "--exports" ∷ []) ≡ Some (Listed listings.Exports)
+list_exports = refl
+
 pub list_pins : command_of (codes "list" ∷ codes "--pins" ∷ []) ≡ Some (Listed listings.Pins)
 list_pins = refl
 
@@ -224,7 +227,7 @@ pub bad_pattern : reason_text (codes "pin" ∷ codes "app/*/*" ∷ []) ≡ codes
 unfolding is_pin
 bad_pattern = refl
 
-pub list_shown : reason_text (codes "list" ∷ codes "x" ∷ []) ≡ codes "fpk: 'x' isn't known here\nusage: fpk list\nusage: fpk list --remotes\nusage: fpk list --pins\n"
+pub list_shown : reason_text (codes "list" ∷ codes "x" ∷ []) ≡ codes "fpk: 'x' isn't known here\nusage: fpk list\nusage: fpk list --remotes\nusage: fpk list --pins\nusage: fpk list --exports\n"
 list_shown = refl
 
 pub one_more_word : reason_text (codes "batch" ∷ codes "x" ∷ []) ≡ codes "fpk: 'x' is one word too many\nusage: fpk batch\n"

@@ -21,7 +21,7 @@ use Rattle.fl_words.specs.declared.command.Shown.TheVariants as things
 use Rattle.fl_words.specs.declared.forms.Slot.{Slot}
 use Rattle.fl_words.specs.declared.forms.Slot.TheVariants as slots
 use Rattle.fl_words.specs.declared.forms.Form.{Form}
-use Rattle.fl_words.specs.declared.forms.Form.TheVariants.{Pin, Unpin, RemoteAdd, RemoteModify, RemoteDelete, Install, UpdateAll, UpdateOne, Uninstall, UninstallUnused, Rollback, Override, OverrideApp, OverrideReset, OverrideResetApp, ListRefs, ListRemotes, ListPins, Info, Launch, OverrideShow, OverrideShowApp, Filter, FilterFrom, FilterSystemFrom, Batch, Fsck, ShowCommit, ShowDirTree, ShowDirMeta, ShowValue}
+use Rattle.fl_words.specs.declared.forms.Form.TheVariants.{Pin, Unpin, RemoteAdd, RemoteModify, RemoteDelete, Install, UpdateAll, UpdateOne, Uninstall, UninstallUnused, Rollback, Override, OverrideApp, OverrideReset, OverrideResetApp, ListRefs, ListRemotes, ListPins, ListExports, Info, Launch, OverrideShow, OverrideShowApp, Filter, FilterFrom, FilterSystemFrom, Batch, Fsck, ShowCommit, ShowDirTree, ShowDirMeta, ShowValue}
 use Rattle.fl_words.specs.Types.{is_type_text}
 
 -- ---- places
@@ -95,7 +95,7 @@ forms =
     Pin ∷ Unpin ∷ RemoteAdd ∷ RemoteModify ∷ RemoteDelete
     ∷ Install ∷ UpdateAll ∷ UpdateOne ∷ Uninstall ∷ UninstallUnused ∷ Rollback
     ∷ Override ∷ OverrideApp ∷ OverrideReset ∷ OverrideResetApp
-    ∷ ListRefs ∷ ListRemotes ∷ ListPins ∷ Info ∷ Launch ∷ OverrideShow ∷ OverrideShowApp
+    ∷ ListRefs ∷ ListRemotes ∷ ListPins ∷ ListExports ∷ Info ∷ Launch ∷ OverrideShow ∷ OverrideShowApp
     ∷ Filter ∷ FilterFrom ∷ FilterSystemFrom ∷ Batch ∷ Fsck
     ∷ ShowCommit ∷ ShowDirTree ∷ ShowDirMeta ∷ ShowValue ∷ []
 
@@ -118,6 +118,7 @@ slots_of OverrideResetApp = literal (codes "override") ∷ literal (codes "--res
 slots_of ListRefs = literal (codes "list") ∷ []
 slots_of ListRemotes = literal (codes "list") ∷ literal (codes "--remotes") ∷ []
 slots_of ListPins = literal (codes "list") ∷ literal (codes "--pins") ∷ []
+slots_of ListExports = literal (codes "list") ∷ literal (codes "--exports") ∷ []
 slots_of Info = literal (codes "info") ∷ ref_name ∷ []
 slots_of Launch = literal (codes "launch") ∷ app ∷ launch_options ∷ []
 slots_of OverrideShow = literal (codes "override") ∷ literal (codes "--show") ∷ []
@@ -163,6 +164,7 @@ made OverrideResetApp words = Changing (changes.OverrideReset (word_at 2 words))
 made ListRefs words = Listed listings.Refs
 made ListRemotes words = Listed listings.Remotes
 made ListPins words = Listed listings.Pins
+made ListExports words = Listed listings.Exports
 made Info words = Listed (listings.Info (ref_at (word_at 1 words)))
 made Launch words = Listed (listings.Launch (ref_at (word_at 1 words)) (drop 2 words))
 made OverrideShow words = Listed (listings.OverrideShow (codes "global"))

@@ -10,7 +10,7 @@ use Rattle.fl_words.specs.declared.command.Command.TheVariants.{Change as Changi
 use Rattle.fl_words.specs.declared.command.Change.{Change}
 use Rattle.fl_words.specs.declared.command.Change.TheVariants.{Pin, Unpin, RemoteAdd, RemoteModify, RemoteDelete, Install, UpdateAll, UpdateOne, Uninstall, UninstallUnused, Rollback, OverrideChange, OverrideReset}
 use Rattle.fl_words.specs.declared.command.Listing.{Listing}
-use Rattle.fl_words.specs.declared.command.Listing.TheVariants.{Refs, Remotes, Pins, Info, Launch, OverrideShow}
+use Rattle.fl_words.specs.declared.command.Listing.TheVariants.{Refs, Remotes, Pins, Exports, Info, Launch, OverrideShow}
 use Rattle.fl_words.specs.declared.command.PolicySource.{PolicySource}
 use Rattle.fl_words.specs.declared.command.PolicySource.TheVariants.{Rules, Session, System}
 use Rattle.fl_words.specs.declared.command.Shown.{Shown}
@@ -47,6 +47,7 @@ words_of (Changing (OverrideReset name)) = codes "override" ∷ codes "--reset" 
 words_of (Listed Refs) = codes "list" ∷ []
 words_of (Listed Remotes) = codes "list" ∷ codes "--remotes" ∷ []
 words_of (Listed Pins) = codes "list" ∷ codes "--pins" ∷ []
+words_of (Listed Exports) = codes "list" ∷ codes "--exports" ∷ []
 words_of (Listed (Info name)) = codes "info" ∷ ref_text name ∷ []
 words_of (Listed (Launch name options)) = codes "launch" ∷ ref_text name ∷ options
 words_of (Listed (OverrideShow name)) = codes "override" ∷ codes "--show" ∷ override_word name
@@ -94,6 +95,7 @@ abbrev pub is_listing : Listing → Bool
 is_listing Refs = true
 is_listing Remotes = true
 is_listing Pins = true
+is_listing Exports = true
 is_listing (Info name) = is_ref name
 is_listing (Launch name options) = (is_ref name && is_app name) && list_all is_launch_option options
 is_listing (OverrideShow name) = is_override_name name

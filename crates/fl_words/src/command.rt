@@ -86,6 +86,8 @@ pub enum Listing {
     Remotes,
     /// `list --pins`: the patterns.
     Pins,
+    /// `list --exports`: the exported files.
+    Exports,
     /// `info REF`: what is known of a deployed ref.
     Info(RefName),
     /// `launch APP LAUNCHOPTION..`: what an application is launched with, by options, which are as the words were.

@@ -1,0 +1,18 @@
+//! The lines of exported files.
+ghost use Rattle.std.specs.Prelude.{◌≡◌, IfOk};
+ghost use Rattle.fl_lines.specs.Lines.{export_line as line_of_export};
+
+use crate::escaping::escape;
+use crate::lines::line_of_two;
+use fp_base::Text;
+use fp_host::Path;
+use fp_name::RefName;
+use std::alloc::{AllocError, Global};
+
+/// The line of an exported file: its path below the folder of exported files, and the ref that exports it.
+pub fn export_line(alloc: Global, path: &Path, name: &RefName) -> Result<Text, AllocError>
+    ensures { IfOk result (λ t. t ≡ line_of_export path.now name.now) }
+{
+    let path = escape(alloc, path.text())?;
+    line_of_two(alloc, path.as_str(), name.as_str())
+}
