@@ -34,7 +34,8 @@ use Rattle.fl_change.specs.Says.{Says, WasSaid}
 use Rattle.fl_change.specs.declared.end.RunEnd.{RunEnd}
 use Rattle.fl_change.specs.declared.end.RunEnd.TheVariants as run
 use Rattle.fl_change.proofs.Saying.{says_step, was_said}
-use Rattle.fl_change.proofs.Changing.{change_untouched, same_untouched}
+use Rattle.fl_change.proofs.Changing.{same_untouched}
+use Rattle.fl_top.proofs.Altering.{alter_untouched}
 use Rattle.fl_change.proofs.Working.{is_err}
 use Rattle.fl_top.specs.Answer.{Given, over, checked, IsOver}
 use Rattle.fl_top.specs.Fsck.{report_text, Finds, HasReport, IsListable, IsReportText}
@@ -161,7 +162,7 @@ found_in t m is given gave = elim gave.report [
 runs_checked : (t : Told) (u w : View) → IsFoundIn t u → ChecksOver u w → RunsOn Fsck t u w
 runs_checked t u w found p = record {
   runs = λ given gave shown counts may. p.runs given.report (found given gave) shown counts;
-  changes = λ known. change_untouched p.untouched;
+  changes = λ known. alter_untouched p.untouched;
   untouched = λ why. p.untouched;
 }
 
