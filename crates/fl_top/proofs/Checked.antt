@@ -1,6 +1,6 @@
 -- The store is checked, and what is found is printed.
-use Rattle.std.proofs.Common.{◌≡◌, inl, inr, ◌≤◌, ℕ, List, [], true, false, Option, Some, None, Result, Ok, Err, IsErrAnd, IsErrOf, refl, sym, ◌∙◌, ap, subst, arith}
-use Rattle.fp_host.specs.View.{View, IsTree}
+use Rattle.std.proofs.Common.{◌≡◌, inl, inr, ◌≤◌, ℕ, List, [], true, false, Option, Some, Result, Ok, Err, IsErrAnd, IsErrOf, refl, sym, ◌∙◌, ap, subst}
+use Rattle.fp_host.specs.View.{View}
 use Rattle.fp_host.specs.Paths.{Elements}
 use Rattle.fp_host.specs.Outcome.{shows}
 use Rattle.fp_host.specs.Calls.{says, Step}
@@ -19,10 +19,9 @@ use Rattle.fp_small.specs.Places.{repo}
 use Rattle.fp_small.specs.declared.state.State.{State}
 use Rattle.ost_store.specs.Names.{CanList}
 use Rattle.ost_fsck.specs.declared.report.Report.{Report}
-use Rattle.ost_fsck.specs.Report.{Reports}
 use Rattle.ost_fsck.proofs.Single.{one_report}
 use Rattle.dep_states.specs.Shown.{Shows}
-use Rattle.dep_open.specs.Open.{NotShown, Reads}
+use Rattle.dep_open.specs.Open.{Reads}
 use Rattle.dep_open.specs.declared.open_end.OpenEnd.{OpenEnd}
 use Rattle.dep_open.specs.declared.open_end.OpenEnd.TheVariants as open_end
 use Rattle.fl_words.specs.declared.command.Command.{Command}
@@ -42,7 +41,7 @@ use Rattle.fl_top.specs.Fsck.{report_text, Finds, HasReport, IsListable, IsRepor
 use Rattle.fl_top.specs.Status.{checks_store}
 use Rattle.fl_top.specs.Ends.{end_of_run}
 use Rattle.fl_top.specs.Runs.{Runs, Told, IsGivenTo, Checks}
-use Rattle.fl_top.specs.RunsOver.{Ended, LookedOver, Closed, ChecksOver, CheckedOver, RunsOn, EndedOn, IsGivenBy, IsClosedBy}
+use Rattle.fl_top.specs.RunsOver.{Ended, Closed, ChecksOver, CheckedOver, RunsOn, EndedOn, IsGivenBy, IsClosedBy}
 use Rattle.fl_top.specs.declared.command_end.CommandEnd.{CommandEnd}
 use Rattle.fl_top.proofs.Starting.{look_not_open, halted_look}
 use Rattle.fl_top.proofs.Over.{over_is, counts_shown, not_shown}

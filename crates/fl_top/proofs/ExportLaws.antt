@@ -3,7 +3,7 @@ use Rattle.std.proofs.Common.{◌≡◌, ◌≢◌, inl, inr, ℕ, List, [], ◌
 use Rattle.std.specs.List.{AllByRecursion}
 use Rattle.fp_host.specs.Paths.{Elements, absent}
 use Rattle.fp_host.specs.View.{View, IsTree}
-use Rattle.fp_host.specs.Outcome.{Spot, Disk, Leaves, IsSettled, shows, spot_of}
+use Rattle.fp_host.specs.Outcome.{Spot, Disk, IsSettled, spot_of}
 use Rattle.fp_host.proofs.Settled.{settled_disk}
 use Rattle.fp_small.specs.Clear.{IsWithin}
 use Rattle.fp_small.specs.Places.{repo}
@@ -12,14 +12,14 @@ use Rattle.ost_store.proofs.Lists.{in_none, in_cases, in_first, in_rest}
 use Rattle.dep_states.specs.Samples.{empty_state}
 use Rattle.dep_states.proofs.Images.{bare_opens}
 use Rattle.dep_states.proofs.Rows.{each_at}
-use Rattle.fl_export.specs.Exported.{exported}
+use Rattle.fl_export.specs.Exported.{exported, desktop_row, icon_row}
 use Rattle.fl_export.specs.Placed.{exports, places_of, IsExported, IsLeafSpot, ExportsAre}
 use Rattle.fl_export.specs.Sample as sample
 use Rattle.fl_export.specs.declared.rows.ExportRow.{ExportRow}
 use Rattle.fl_export.proofs.Samples.{stable_exported}
 use Rattle.fl_change.specs.Answer.{text_answer}
 use Rattle.fl_top.specs.Answer.{listed}
-use Rattle.fl_top.specs.Exports.{exports_text, HasExports, LeavesExports}
+use Rattle.fl_top.specs.Exports.{exports_text, LeavesExports}
 use Rattle.fl_top.specs.ExportSample.{desktop_text, desktop_place, icon_place, placed_rows, placed_disk, stale_place, stale_disk, listed_text}
 use Rattle.fl_words.specs.declared.command.Listing.TheVariants as listings
 
@@ -51,19 +51,26 @@ bare_exports v tree settled none disk left = record {
 abbrev rows : List ExportRow
 rows = sample.exports sample.stable desktop_text
 
-pub placed_are : ExportsAre rows placed_disk
-placed_are = record { each = each; only = λ q within no leaf. each_at Apart (λ p no leaf. leaf) placed_rows all q no leaf }
-  where
-    abbrev Apart : Elements → Spot → Type 0
-    Apart p spot = (Contains (places_of rows) p → ⊥) → IsLeafSpot spot → ⊥
+abbrev desktop : ExportRow
+desktop = desktop_row sample.stable (codes "org.x.App.desktop") desktop_text
 
-    all : AllByRecursion (λ row. Apart row.0 row.1) placed_rows
-    all = (λ no leaf. leaf, λ no leaf. no (in_first desktop_place (icon_place ∷ [])), λ no leaf. no (in_rest desktop_place (icon_place ∷ []) icon_place (in_first icon_place [])), tt)
+abbrev icon : ExportRow
+icon = icon_row sample.stable (codes "48x48") (codes "org.x.App.png")
+
+-- elsewhere no file and no link stands
+abbrev IsOther : Elements → Spot → Type 0
+IsOther p spot = (Contains (places_of rows) p → ⊥) → IsLeafSpot spot → ⊥
+
+pub placed_are : ExportsAre rows placed_disk
+placed_are = record { each = each; only = λ q within no leaf. each_at IsOther (λ p no leaf. leaf) placed_rows all q no leaf }
+  where
+    all : AllByRecursion (λ row. IsOther row.0 row.1) placed_rows
+    all = (λ no leaf. leaf, (λ no leaf. no (in_first desktop_place (icon_place ∷ [])), (λ no leaf. no (in_rest desktop_place (icon_place ∷ []) icon_place (in_first icon_place [])), tt)))
 
     each : (row : ExportRow) → Contains rows row → IsExported row.what (placed_disk (row.path ++ exports))
-    each row has = elim (in_cases _ _ row has) [
+    each row has = elim (in_cases desktop (icon ∷ []) row has) [
       | inl first ↦ subst (λ (r : ExportRow). IsExported r.what (placed_disk (r.path ++ exports))) (sym first) (1, refl)
-      | inr more ↦ elim (in_cases _ _ row more) [
+      | inr more ↦ elim (in_cases icon [] row more) [
         | inl second ↦ subst (λ (r : ExportRow). IsExported r.what (placed_disk (r.path ++ exports))) (sym second) refl
         | inr none ↦ absurd (in_none row none)
       ]

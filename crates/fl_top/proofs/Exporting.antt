@@ -2,7 +2,7 @@
 use Rattle.std.proofs.Common.{◌≡◌, ◌≢◌, ◌≤◌, inl, inr, ℕ, List, [], ◌∷◌, ◌++◌, Option, Some, None, Result, Ok, Err, IsErrAnd, IsErrOf, refl, sym, ◌∙◌, ap, subst, codes, arith}
 use Rattle.fp_host.specs.Paths.{Elements, Slot, IsAbove}
 use Rattle.fp_host.specs.View.{View, IsTree}
-use Rattle.fp_host.specs.Outcome.{Disk, Leaves, IsSettled, gone, shows}
+use Rattle.fp_host.specs.Outcome.{Disk, Leaves, gone, shows}
 use Rattle.fp_host.specs.Causes.{IsCaused}
 use Rattle.fp_host.specs.Frame.{AtEnd}
 use Rattle.fp_host.specs.Moments.{Moments, Goes, Always}
@@ -13,7 +13,7 @@ use Rattle.fp_host.proofs.Cause.{Rose-later}
 use Rattle.fp_host.proofs.Ending.{ends_goes, ends_on, goes_known}
 use Rattle.fp_host.proofs.Framed.{IsTold}
 use Rattle.fp_host.proofs.Goes.{goes_on, ends_tree}
-use Rattle.fp_host.proofs.Settled.{at_tree, settled_disk}
+use Rattle.fp_host.proofs.Settled.{settled_disk}
 use Rattle.fp_base.specs.declared.object.ObjKind.{ObjKind}
 use Rattle.fp_name.specs.Hex.{hex}
 use Rattle.fp_name.specs.Kinds.{kind_word}
@@ -29,7 +29,7 @@ use Rattle.dep_states.specs.Names.{config, remotes_conf, pins_file, branch_dir, 
 use Rattle.dep_states.specs.Shown.{Shows, ref_seen}
 use Rattle.dep_states.specs.Sound.{Keeps, IsOld, is_remotes, is_pins, IsSound, Opens}
 use Rattle.dep_states.specs.Settled.{Settled, Used, HasBytes}
-use Rattle.dep_states.specs.After.{Done, after_all}
+use Rattle.dep_states.specs.After.{after_all}
 use Rattle.dep_states.specs.Zones.{outward}
 use Rattle.dep_states.proofs.Deployed.{top, outward_append}
 use Rattle.dep_states.proofs.Law.{ref_same}
@@ -37,12 +37,11 @@ use Rattle.dep_states.proofs.Rows.{head_of, text_apart}
 use Rattle.dep_states.proofs.Single.{one_state}
 use Rattle.dep_states.proofs.Sparing.{word_apart}
 use Rattle.dep_states.proofs.Switching.{second, word_no_repo}
-use Rattle.dep_tidy.proofs.Apart.{work_second, old_no_repo, old_apart, tmp_no_objects, tmp_no_refs, repo_no_config}
 use Rattle.dep_open.specs.Open.{IsOpened}
 use Rattle.fl_export.specs.Placed.{exports}
 use Rattle.fl_export.specs.Steps.{MayRefresh, some_export, some_work, store_folder, work_folder, Refreshes, WasRefreshed}
 use Rattle.fl_export.proofs.PutRows.{same_shows}
-use Rattle.fl_export.proofs.Spared.{exports_top, work_top, no_repo}
+use Rattle.fl_export.proofs.Spared.{outward_is, exports_top, work_top, no_repo}
 use Rattle.fl_change.specs.World.{World}
 use Rattle.fl_change.specs.Answer.{Answer, ops_of}
 use Rattle.fl_change.specs.Ends.{end_of_host}
@@ -76,6 +75,9 @@ place_of (some_work above) = at_work (inr above)
 place_of (store_folder is put) = at_repo is
 place_of (work_folder is put) = at_work (inl is)
 
+work_second : (q : Elements) → IsWithin tmp q → second (outward q) ≡ codes "tmp"
+work_second q within = ap second (outward_is tmp q within).1
+
 -- below `repo`, in another folder than work
 in_repo_off : {p : Elements} {x : List ℕ} → top p ≡ codes "repo" → second (outward p) ≡ x → x ≢ [] → x ≢ codes "tmp" → IsExportPlace p → ⊥
 in_repo_off {p = p} t s some off (at_exports within) = no_repo (sym (exports_top p within) ∙ t)
@@ -83,10 +85,10 @@ in_repo_off t s some off (at_repo e) = some (sym s ∙ ap (λ (q : Elements). se
 in_repo_off {p = p} t s some off (at_work w) = off (sym s ∙ work_second p w)
 
 object_off : (d : List ℕ) (kind : ObjKind) → IsExportPlace (object_path repo d kind) → ⊥
-object_off d kind = in_repo_off {p = object_path repo d kind} {x = codes "objects"} refl refl (λ e. cc e) (λ e. tmp_no_objects (sym e))
+object_off d kind = in_repo_off {p = object_path repo d kind} {x = codes "objects"} refl refl (λ e. cc e) (text_apart (codes "objects") (codes "tmp") refl)
 
 file_off : (origin : List ℕ) (name : Ref) → IsExportPlace (ref_file origin name) → ⊥
-file_off origin name = in_repo_off {p = ref_file origin name} {x = codes "refs"} refl refl (λ e. cc e) (λ e. tmp_no_refs (sym e))
+file_off origin name = in_repo_off {p = ref_file origin name} {x = codes "refs"} refl refl (λ e. cc e) (text_apart (codes "refs") (codes "tmp") refl)
 
 -- elsewhere
 top_off : {p : Elements} → top p ≢ codes "repo" → top p ≢ codes "exports" → IsExportPlace p → ⊥
@@ -99,11 +101,16 @@ in_ref_off name rest =
     let t : top (rest ++ branch_dir name) ≡ kind_word name.kind = ap head_of (outward_append rest (branch_dir name) []) in
     top_off {p = rest ++ branch_dir name} (λ e. word_no_repo name.kind (sym t ∙ e)) (λ e. word_apart name.kind (codes "exports") refl refl (sym t ∙ e))
 
+-- at a path of this one name
+name_off : {p : Elements} {x : List ℕ} → top p ≡ x → x ≢ codes "repo" → x ≢ codes "exports" → IsExportPlace p → ⊥
+name_off is r e = top_off (λ t. r (sym is ∙ t)) (λ t. e (sym is ∙ t))
+
 old_off : {p : Elements} → IsOld p → IsExportPlace p → ⊥
-old_off old = top_off (old_no_repo old) (old_apart old (text_apart (codes "exports") (codes "remotes.conf") refl) (text_apart (codes "exports") (codes "pins") refl))
+old_off (is_remotes same) = name_off {x = codes "remotes.conf"} (ap top same) (text_apart (codes "remotes.conf") (codes "repo") refl) (text_apart (codes "remotes.conf") (codes "exports") refl)
+old_off (is_pins same) = name_off {x = codes "pins"} (ap top same) (text_apart (codes "pins") (codes "repo") refl) (text_apart (codes "pins") (codes "exports") refl)
 
 config_off : IsExportPlace config → ⊥
-config_off = top_off (λ e. repo_no_config (sym e)) (text_apart (codes "config") (codes "exports") refl)
+config_off = name_off {x = codes "config"} refl (text_apart (codes "config") (codes "repo") refl) (text_apart (codes "config") (codes "exports") refl)
 
 -- ---- what is settled stays settled
 

@@ -53,6 +53,7 @@ pub fn exports_can_stand()
 /// What `list --exports` prints of a small application.
 pub fn exports_are_listed()
     ensures { listed listings.Exports (record {
-        state = sample.state (sample.row sample.stable ∷ []);
-        have = sample.have }) ≡ text_answer listed_text }
+      state = sample.state (sample.row sample.stable ∷ []);
+      have = sample.have;
+    }) ≡ text_answer listed_text }
 {}
