@@ -1,6 +1,6 @@
 -- The store is checked, and what is found is printed.
-use Rattle.std.proofs.Common.{◌≡◌, inl, inr, ◌≤◌, ℕ, List, [], true, false, Option, Some, None, Result, Ok, Err, IsErrAnd, IsErrOf, refl, sym, ◌∙◌, ap, subst, arith}
-use Rattle.fp_host.specs.View.{View, IsTree}
+use Rattle.std.proofs.Common.{◌≡◌, inl, inr, ◌≤◌, ℕ, List, [], true, false, Option, Some, Result, Ok, Err, IsErrAnd, IsErrOf, refl, sym, ◌∙◌, ap, subst}
+use Rattle.fp_host.specs.View.{View}
 use Rattle.fp_host.specs.Paths.{Elements}
 use Rattle.fp_host.specs.Outcome.{shows}
 use Rattle.fp_host.specs.Calls.{says, Step}
@@ -19,10 +19,9 @@ use Rattle.fp_small.specs.Places.{repo}
 use Rattle.fp_small.specs.declared.state.State.{State}
 use Rattle.ost_store.specs.Names.{CanList}
 use Rattle.ost_fsck.specs.declared.report.Report.{Report}
-use Rattle.ost_fsck.specs.Report.{Reports}
 use Rattle.ost_fsck.proofs.Single.{one_report}
 use Rattle.dep_states.specs.Shown.{Shows}
-use Rattle.dep_open.specs.Open.{NotShown, Reads}
+use Rattle.dep_open.specs.Open.{Reads}
 use Rattle.dep_open.specs.declared.open_end.OpenEnd.{OpenEnd}
 use Rattle.dep_open.specs.declared.open_end.OpenEnd.TheVariants as open_end
 use Rattle.fl_words.specs.declared.command.Command.{Command}
@@ -34,14 +33,15 @@ use Rattle.fl_change.specs.Says.{Says, WasSaid}
 use Rattle.fl_change.specs.declared.end.RunEnd.{RunEnd}
 use Rattle.fl_change.specs.declared.end.RunEnd.TheVariants as run
 use Rattle.fl_change.proofs.Saying.{says_step, was_said}
-use Rattle.fl_change.proofs.Changing.{change_untouched, same_untouched}
+use Rattle.fl_change.proofs.Changing.{same_untouched}
+use Rattle.fl_top.proofs.Altering.{alter_untouched}
 use Rattle.fl_change.proofs.Working.{is_err}
 use Rattle.fl_top.specs.Answer.{Given, over, checked, IsOver}
 use Rattle.fl_top.specs.Fsck.{report_text, Finds, HasReport, IsListable, IsReportText}
 use Rattle.fl_top.specs.Status.{checks_store}
 use Rattle.fl_top.specs.Ends.{end_of_run}
 use Rattle.fl_top.specs.Runs.{Runs, Told, IsGivenTo, Checks}
-use Rattle.fl_top.specs.RunsOver.{Ended, LookedOver, Closed, ChecksOver, CheckedOver, RunsOn, EndedOn, IsGivenBy, IsClosedBy}
+use Rattle.fl_top.specs.RunsOver.{Ended, Closed, ChecksOver, CheckedOver, RunsOn, EndedOn, IsGivenBy, IsClosedBy}
 use Rattle.fl_top.specs.declared.command_end.CommandEnd.{CommandEnd}
 use Rattle.fl_top.proofs.Starting.{look_not_open, halted_look}
 use Rattle.fl_top.proofs.Over.{over_is, counts_shown, not_shown}
@@ -161,7 +161,7 @@ found_in t m is given gave = elim gave.report [
 runs_checked : (t : Told) (u w : View) → IsFoundIn t u → ChecksOver u w → RunsOn Fsck t u w
 runs_checked t u w found p = record {
   runs = λ given gave shown counts may. p.runs given.report (found given gave) shown counts;
-  changes = λ known. change_untouched p.untouched;
+  changes = λ known. alter_untouched p.untouched;
   untouched = λ why. p.untouched;
 }
 

@@ -30,10 +30,14 @@ use Rattle.fl_sandbox.proofs.Local.{launch_is_local}
 use Rattle.dep_switch.proofs.Named.{at_name-find}
 use Rattle.fl_words.specs.declared.command.Listing.{Listing}
 use Rattle.fl_words.specs.declared.command.Listing.TheVariants as listings
-use Rattle.fl_change.specs.Answer.{Answer, refusal_answer}
+use Rattle.fl_change.specs.Answer.{Answer, text_answer, refusal_answer}
 use Rattle.fl_change.specs.World.{world_in, used_of}
 use Rattle.fl_change.proofs.Worlds.{used_kept}
+use Rattle.fl_export.specs.Exported.{exported}
+use Rattle.fl_export.specs.declared.rows.ExportRow.{ExportRow}
+use Rattle.fl_export.proofs.Local.{exported_is_local}
 use Rattle.fl_top.specs.Answer.{told_of, launched_of, listed}
+use Rattle.fl_top.specs.Exports.{exports_text}
 
 -- ---- lists that are searched
 
@@ -191,11 +195,23 @@ pub launch_world : (name : Ref) (options : List (List ℕ)) (s : State) (have : 
 launch_world name options s have =
     launch_is_local have (used_of s have) s name options (λ other row is. file_same have (used_of s have) row.commit (λ p h. used_kept s have row.commit (row_of_kept s other row is) p h))
 
+-- ---- what is exported
+
+commit_kept : (rows : List RefRow) (row : RefRow) → In rows row → In (kept_of rows) row.commit
+commit_kept [] row none = absurd none
+commit_kept (y ∷ rows) row (inl same) = inl (ap (λ (r : RefRow). r.commit) same)
+commit_kept (y ∷ rows) row (inr more) = in_right (kept_by y) (kept_of rows) row.commit (commit_kept rows row more)
+
+-- what is exported over the world of an image is what is exported over its store
+pub exported_world : (s : State) (have : Have) → exported (used_of s have) s ≡ exported have s
+exported_world s have = exported_is_local have (used_of s have) s (λ row h p inside. used_kept s have row.commit (commit_kept s.refs row h) p inside)
+
 -- what is listed over the world of an image is what is listed over its store
 pub listed_world : (listing : Listing) (s : State) (disk : Disk) → listed listing (world_in s disk) ≡ listed listing (record { state = s; have = store repo disk })
 listed_world listings.Refs s disk = refl
 listed_world listings.Pins s disk = refl
 listed_world listings.Remotes s disk = refl
+listed_world listings.Exports s disk = ap (λ (rows : List ExportRow). text_answer (exports_text rows)) (exported_world s (store repo disk))
 listed_world (listings.Info name) s disk = by_row s (store repo disk) name (row_at s name) refl
 listed_world (listings.Launch name options) s disk = ap launched_of (launch_world name options s (store repo disk))
 listed_world (listings.OverrideShow name) s disk = refl

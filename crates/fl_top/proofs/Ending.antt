@@ -36,7 +36,9 @@ use Rattle.fl_sandbox.specs.Refusals.{MayRefuse}
 use Rattle.fl_sandbox.proofs.Refusing.{launch_refuses}
 use Rattle.fl_change.specs.World.{World}
 use Rattle.fl_change.specs.Answer.{Answer, Piece, lines_of, last_of, joined, ops_in, ops_of, text_answer, refusal_answer}
+use Rattle.fl_export.specs.Exported.{exported}
 use Rattle.fl_top.specs.Fsck.{report_text}
+use Rattle.fl_top.specs.Exports.{exports_text}
 use Rattle.fl_top.specs.Answer.{Given, listed, checked, override_text, shown_by, over, of_batch, answer_over, by_read, by_value, by_type, commit_shown, tree_shown, meta_shown, value_shown, over_input, launch_over, of_launch, on_session, on_system, rules_over, by_rules, of_recording, filtered_by, filter_by}
 use Rattle.fl_change.specs.Turns.{changing}
 use Rattle.fl_top.specs.Objects.{commit_lines, tree_lines, meta_lines}
@@ -59,7 +61,8 @@ use Rattle.dep_states.specs.Names.{config}
 use Rattle.fl_top.specs.Status.{status_of, status_by, IsAnswered}
 use Rattle.fl_change.proofs.Same.{unmoved, same_shown, same_sound, same_settled}
 use Rattle.fl_top.proofs.Starting.{stood, unchanged}
-use Rattle.fl_change.proofs.Changing.{tidied_on, tidied_none, untouched_both, text_on, keeps_files}
+use Rattle.fl_change.proofs.Changing.{untouched_both, text_on, keeps_files}
+use Rattle.fl_top.proofs.Altering.{rest_none, rest_on}
 use Rattle.fl_change.proofs.Turning.{joined-append}
 use Rattle.fl_top.proofs.Refusing.{changing_later, known_later, launch_later}
 
@@ -98,7 +101,7 @@ just_on ops {u = u} follows just disk left =
     record { shown = after_on u ops disk from.0 (unmoved from.2) was.shown; sound = same_sound (unmoved from.2) was.sound }
 
 -- all operations are done, and acknowledged by what was said
-prefix_all : (a : Answer) (said : List Piece) {u : View} {disk : Disk} → ops_in said ≡ ops_of a → IsJust (ops_of a) u disk → IsPrefix a (ops_in said) u disk
+pub prefix_all : (a : Answer) (said : List Piece) {u : View} {disk : Disk} → ops_in said ≡ ops_of a → IsJust (ops_of a) u disk → IsPrefix a (ops_in said) u disk
 prefix_all a said all just = record {
   done = ops_of a;
   undone = [];
@@ -110,7 +113,7 @@ prefix_all a said all just = record {
 }
 
 -- the pieces before the line of the refusal
-before_last : (a : Answer) {u w : View} → w.printed ≡ u.printed ++ joined a.pieces → Printed a a.pieces u w
+pub before_last : (a : Answer) {u w : View} → w.printed ≡ u.printed ++ joined a.pieces → Printed a a.pieces u w
 before_last a printed = record { left = last_of a.refusal; pieces = refl; printed = printed }
 
 -- and all of them
@@ -135,14 +138,14 @@ refusing a r {u = u} {v = v} {w = w} is runs done says = elim (says.printed) [
     said = a.pieces;
     so_far = before_last a (none ∙ done.printed);
     prefix = λ sound disk left. prefix_all a a.pieces refl (just_on (ops_of a) says.follows (done.just sound) disk left);
-    only_tidied = λ none s at. tidied_on (runs.only_tidied none s at) (tidied_none says.untouched.names);
+    only_rests = λ none s at. rest_on (runs.only_rests none s at) (rest_none says.untouched.names);
     untouched = λ why. untouched_on (runs.untouched why) says;
   }
   | inr more ↦ record {
     said = lines_of a;
     so_far = all_lines a (with_last a r u v w is done.printed more);
     prefix = λ sound disk left. prefix_all a (lines_of a) (ops_lines a) (just_on (ops_of a) says.follows (done.just sound) disk left);
-    only_tidied = λ none s at. tidied_on (runs.only_tidied none s at) (tidied_none says.untouched.names);
+    only_rests = λ none s at. rest_on (runs.only_rests none s at) (rest_none says.untouched.names);
     untouched = λ why. untouched_on (runs.untouched why) says;
   }
 ]
@@ -279,6 +282,7 @@ listed_plain : (listing : Listing) (x : World) → IsPlain (listed listing x)
 listed_plain listings.Refs x = told_plain (refs_text x.state.refs)
 listed_plain listings.Pins x = told_plain (pins_text x.state.pins)
 listed_plain listings.Remotes x = told_plain (remotes_text x.state.remotes)
+listed_plain listings.Exports x = told_plain (exports_text (exported x.have x.state))
 listed_plain (listings.Info name) x = λ r is. (known_later name x r is).one
 listed_plain (listings.Launch name options) x = λ r is. (launch_later name options x r is).one
 listed_plain (listings.OverrideShow name) x = told_plain (override_text x.state name)

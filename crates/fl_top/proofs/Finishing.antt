@@ -28,7 +28,7 @@ use Rattle.fl_top.specs.Answer.{Given, answer, answer_to, answer_over, over, ove
 use Rattle.fl_change.specs.Turns.{changing, MayDo}
 use Rattle.fl_top.specs.Asked.{OpsBy, OpsFor}
 use Rattle.fp_small.specs.declared.op.Op.{Op}
-use Rattle.fl_top.specs.Runs.{Runs, Ran, Told, RunsBy, RanBy, IsGiven, IsGivenTo, Looks, IsReady, Serves, HasCauses, MayAnswer, WasTaken}
+use Rattle.fl_top.specs.Runs.{Runs, Ran, Told, RunsBy, RanBy, IsGiven, IsGivenTo, Looks, IsChange, IsReady, Serves, HasCauses, MayAnswer, WasTaken}
 use Rattle.fl_top.specs.RunsOver.{RunsOver, LooksOver, EndedOver, LookedOver, RunsOn, EndedOn, RanOn, Ended, Closed, IsGivenBy, IsClosedBy, Takes, TakenBy}
 use Rattle.fl_change.specs.Says.{Says, Refuses}
 use Rattle.fl_top.specs.Status.{only_looks, reads_input, asks_remotes, IsAnswered, IsOfWords}
@@ -40,9 +40,10 @@ use Rattle.fl_top.specs.declared.input.InputEnd.{InputEnd}
 use Rattle.fl_top.specs.declared.input.InputEnd.TheVariants as input
 use Rattle.fl_top.specs.Input.{input_most, IsWhole, IsTaken, IsDrained, InputStops}
 use Rattle.fl_top.specs.Ends.{end_of_run, end_of_input, end_of_batch}
-use Rattle.fl_change.specs.Changes.{Changes}
 use Rattle.fl_change.specs.Performs.{AsksBy}
-use Rattle.fl_change.proofs.Changing.{change_on, change_to, change_not, change_untouched, not_touched}
+use Rattle.fl_change.proofs.Changing.{not_touched}
+use Rattle.fl_top.specs.Exports.{Alters}
+use Rattle.fl_top.proofs.Altering.{alter_on, alter_to, alter_not, alter_untouched}
 use Rattle.fl_top.proofs.Asked.{asks_to}
 use Rattle.fl_top.proofs.Over.{IsConstant, over_same, counts_same, counts_constant}
 use Rattle.fl_top.proofs.Starting.{begun, stood, unchanged, refused_at_once, IsLate, over_late}
@@ -67,6 +68,10 @@ given_by (run.Refused refusal) by = tt
 given_by run.Fault by = absurd by
 given_by run.RemoteFault by = absurd by
 given_by run.NoMemory by = absurd by
+
+-- a command that only looks changes nothing
+pub not_changes : (command k : Command) → command ≡ k → only_looks k ≡ true → IsChange (Some command) → ⊥
+not_changes command k is looks change = let both : true ≡ false = sym looks ∙ sym (ap only_looks is) ∙ change in cc both
 
 -- the answer to it is this over the world that it works on
 abbrev pub IsAnswer : Command → Told → (Holdings → World → Answer) → Type 0
@@ -107,7 +112,7 @@ runs_change command t May f u w known p = record {
       let is = known.is given gave in
       subst (λ (x : Answer). Runs x u w) (is shown)
       (p.runs (ready_for command (f given.held) given u shown known.changes (known.late given.held) (is shown) may) given.held (holds_told command t given known.asks gave) shown (counts_for command (f given.held) given u shown is counts));
-  changes = λ ready. change_to known.may (p.changes (λ asks. ready (asks_to known.may asks)));
+  changes = λ ready. alter_to known.may (p.changes (λ asks. ready (asks_to known.may asks)));
   untouched = λ why. elim why [ inl looks ↦ absurd (let both : true ≡ false = sym looks ∙ known.changes in cc both) | inr none ↦ p.untouched none ];
 }
 
@@ -141,7 +146,7 @@ IsLook command f = (given : Given) (shown : Result World Elements) → over f sh
 runs_look : (command : Command) (t : Told) (f : World → Answer) (u w : View) → IsLook command f → LooksOver f u w → RunsOn command t u w
 runs_look command t f u w is p = record {
   runs = λ given gave shown counts may. subst (λ (x : Answer). Runs x u w) (is given shown) (p.runs shown (counts_for command f given u shown (is given) counts));
-  changes = λ known. change_untouched p.untouched;
+  changes = λ known. alter_untouched p.untouched;
   untouched = λ why. p.untouched;
 }
 
@@ -232,7 +237,7 @@ caused_after n m k le goes leads cause passes = record {
 
 -- nothing was done
 pub not_begun : (command : Command) (t : Told) (u : View) → RunsOn command t u u
-not_begun command t u = record { runs = λ given gave shown counts may. begun (answer_over command given shown) unchanged (λ why. not_touched); changes = λ known. change_not; untouched = λ why. not_touched }
+not_begun command t u = record { runs = λ given gave shown counts may. begun (answer_over command given shown) unchanged (λ why. not_touched); changes = λ known. alter_not; untouched = λ why. not_touched }
 
 -- What ends a command before the installation is looked at: so it ends whatever the image gives.
 pub record EndsEarly (command : Command) (given : Given) (e : CommandEnd) : Type 0 where
@@ -403,7 +408,7 @@ goes_refused command t r result known_b first second =
     goes_on known_b first second
     (λ u v w tree p q s. record {
       runs = λ given gave shown counts may. let e = q.ended given gave shown counts may in refusing (answer_over command given shown) r e.0 (p.runs given gave shown counts may) e.1 s;
-      changes = λ known. change_on u v w (p.changes known) (change_untouched s.untouched);
+      changes = λ known. alter_on u v w (p.changes known) (alter_untouched s.untouched);
       untouched = λ why. untouched_on (p.untouched why) s;
     })
     (λ u v w tree p q s last. record {
@@ -433,7 +438,7 @@ pub goes_command : {a b : Option Moments} (words : List (List ℕ)) (t : Told) (
 goes_command words t command status known is goes = begins known goes
     (λ u w tree r. record {
       runs = λ given gave shown counts may. subst (λ (a : Answer). Runs a u w) (answer_is words command given is shown) (r.runs given (given_to words command t given is gave) shown (counted u given shown counts) (may_answer words command u given shown is may));
-      changes = λ known. subst (λ (o : Option Command). Changes (OpsFor o t.left) u w) (sym is) (r.changes (λ asks. known (subst (λ (o : Option Command). AsksBy (OpsFor o t.left)) (sym is) asks)));
+      changes = λ known. subst (λ (o : Option Command). Alters (OpsFor o t.left) u w) (sym is) (r.changes (λ asks. known (subst (λ (o : Option Command). AsksBy (OpsFor o t.left)) (sym is) asks)));
       untouched = λ why. r.untouched (elim why [ inl looks ↦ inl (subst Looks is looks) | inr none ↦ inr none ]);
     })
     (λ u w tree r q. record {
@@ -448,7 +453,7 @@ pub goes_no_command : {a b : Option Moments} (words : List (List ℕ)) (t : Told
 goes_no_command words t index result known none is goes = begins known goes
     (λ u w tree s. record {
       runs = λ given gave shown counts may. subst (λ (a : Answer). Runs a u w) (no_answer words index given none is shown) (runs u w s);
-      changes = λ known. change_untouched s.untouched;
+      changes = λ known. alter_untouched s.untouched;
       untouched = λ why. s.untouched;
     })
     (λ u w tree s e. record {
@@ -462,7 +467,7 @@ goes_no_command words t index result known none is goes = begins known goes
 -- out of memory for the words
 pub goes_unread : {a : Option Moments} (words : List (List ℕ)) (t : Told) → IsTold a → Goes a a (RunsBy words t) (RanBy words t 6)
 goes_unread words t known = stays known
-    (λ u. record { runs = λ given gave shown counts may. begun (answer words given shown) unchanged (λ why. not_touched); changes = λ known. change_not; untouched = λ why. not_touched })
+    (λ u. record { runs = λ given gave shown counts may. begun (answer words given shown) unchanged (λ why. not_touched); changes = λ known. alter_not; untouched = λ why. not_touched })
     (λ u tree. record {
       ran = λ given gave shown counts may. ran_halted (answer words given shown) 6 (omega arith) (begun (answer words given shown) unchanged (λ why. not_touched)) (stood (answer words given shown) unchanged);
       given = λ given gave answered. absurd (not_answered 6 (omega arith) answered);

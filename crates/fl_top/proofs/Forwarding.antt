@@ -32,7 +32,8 @@ use Rattle.fl_change.specs.Changes.{IsUntouched}
 use Rattle.fl_change.specs.Performs.{Printed as SaysPieces}
 use Rattle.fl_change.specs.declared.end.RunEnd.{RunEnd}
 use Rattle.fl_change.specs.declared.end.RunEnd.TheVariants as run
-use Rattle.fl_change.proofs.Changing.{tidied_none, same_untouched, change_untouched}
+use Rattle.fl_change.proofs.Changing.{same_untouched}
+use Rattle.fl_top.proofs.Altering.{alter_untouched, rest_none}
 use Rattle.fl_change.proofs.Same.{same_shown, same_settled}
 use Rattle.fl_change.proofs.Working.{is_err}
 use Rattle.fl_top.specs.Answer.{Given, piece_of, forwarding, rules_over, by_rules, of_recording, filtered_by, filter_by, answer_over, IsOver}
@@ -93,7 +94,7 @@ module _ (f : Filtered) where
     prefix = λ sound disk left.
         let just = shows_before (follows_by p.said p.is) sound disk left in
         subst (λ (ops : List Done). IsPrefix a ops u disk) (sym (ops_none p.said)) (record { done = []; undone = ops_of a; prefix = refl; more = []; holds = refl; shown = just.shown; sound = just.sound });
-    only_tidied = λ none s at. tidied_none (untouched_by p.said p.is).names;
+    only_rests = λ none s at. rest_none (untouched_by p.said p.is).names;
     untouched = λ why. untouched_by p.said p.is;
   }
 
@@ -271,7 +272,7 @@ source_answer source t bytes whole given gave shown = read_is (Filtering source)
 runs_told : (command : Command) (t : Told) (by : Result World Elements → Answer) → IsAnswerTo command t by → (u w : View) → LooksBy by u w → RunsOn command t u w
 runs_told command t by is u w looks = record {
   runs = λ given gave shown counts may. subst (λ (x : Answer). Runs x u w) (is given gave shown) (looks.runs shown (over_same by (answer_over command given) (shows u) shown (is given gave) counts));
-  changes = λ known. change_untouched looks.untouched;
+  changes = λ known. alter_untouched looks.untouched;
   untouched = λ why. looks.untouched;
 }
 

@@ -1,4 +1,5 @@
 pub mod Over
+pub mod Altering
 pub mod Starting
 pub mod Opening
 pub mod Described
@@ -7,6 +8,8 @@ pub mod Asked
 pub mod Finishing
 pub mod Joining
 pub mod Ending
+pub mod Exporting
+pub mod ExportLaws
 pub mod Refusing
 pub mod Reading
 pub mod Forwarding

@@ -34,7 +34,8 @@ use Rattle.fl_change.specs.declared.end.RunEnd.{RunEnd}
 use Rattle.fl_change.specs.declared.end.RunEnd.TheVariants as run
 use Rattle.fl_change.proofs.Saying.{says_step, was_said}
 use Rattle.fl_change.proofs.Same.{same_shown, same_settled}
-use Rattle.fl_change.proofs.Changing.{tidied_none, keeps_files, same_untouched}
+use Rattle.fl_change.proofs.Changing.{keeps_files, same_untouched}
+use Rattle.fl_top.proofs.Altering.{rest_none}
 use Rattle.fl_top.proofs.Starting.{Keeping, begun, unchanged, look_not_open, halted_look, shows_before, refused_at_once}
 use Rattle.fl_top.proofs.Described.{listed_world}
 use Rattle.fl_top.proofs.Over.{over_is, counts_shown}
@@ -55,7 +56,7 @@ telling text {u = u} {w = w} says_it = elim (says_it.printed) [
     said = piece_of text ∷ [];
     so_far = told_printed text u w more;
     prefix = λ sound disk left. let just = shows_before says_it.follows sound disk left in record { done = []; undone = []; prefix = refl; more = []; holds = refl; shown = just.shown; sound = just.sound };
-    only_tidied = λ none s at. tidied_none says_it.untouched.names;
+    only_rests = λ none s at. rest_none says_it.untouched.names;
     untouched = λ why. says_it.untouched;
   }
 ]

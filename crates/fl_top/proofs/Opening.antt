@@ -1,11 +1,11 @@
 -- An installation that is opened, and what goes on from there.
-use Rattle.std.proofs.Common.{◌≡◌, ◌≤◌, ℕ, List, [], ◌∷◌, Option, Result, Ok, Err, IsErrAnd, IsErrOf, refl, sym, ◌∙◌, ap, subst, arith}
+use Rattle.std.proofs.Common.{◌≡◌, ◌≤◌, ℕ, List, [], ◌∷◌, Option, Some, Result, Ok, Err, IsErrAnd, IsErrOf, refl, sym, ◌∙◌, ap, subst, arith}
 use Rattle.std.specs.List.{AllByRecursion}
 use Rattle.std.proofs.lemmas.List.{append_cancel_right}
 use Rattle.fp_host.specs.Causes.{IsCaused}
 use Rattle.fp_host.specs.Remote.{Holdings}
 use Rattle.fp_host.specs.View.{View, IsTree}
-use Rattle.fp_host.specs.Outcome.{Nothing}
+use Rattle.fp_host.specs.Outcome.{Nothing, shows}
 use Rattle.fp_host.specs.Moments.{Moments, Since, Goes, Always, views}
 use Rattle.fp_host.specs.Frame.{Frame, AtEnd, NoPath}
 use Rattle.fp_host.proofs.Cause.{Rose-later}
@@ -15,22 +15,25 @@ use Rattle.fp_host.proofs.Ending.{goes_known}
 use Rattle.fp_small.specs.declared.op.Op.{Op}
 use Rattle.fp_small.specs.declared.state.State.{State}
 use Rattle.ost_walk.specs.Ends.{Outside}
-use Rattle.dep_states.specs.Sound.{Opens}
+use Rattle.dep_states.specs.Sound.{IsSound, Opens}
+use Rattle.dep_states.specs.Shown.{Shows}
+use Rattle.dep_states.specs.After.{after_all}
 use Rattle.dep_open.specs.Open.{Opened, NoName, IsOpened, StaysUnread}
 use Rattle.dep_open.specs.declared.open_end.OpenEnd.{OpenEnd}
 use Rattle.dep_open.specs.declared.open_end.OpenEnd.TheVariants as open_ends
 use Rattle.fl_change.specs.World.{World}
-use Rattle.fl_change.specs.Answer.{Answer}
+use Rattle.fl_change.specs.Answer.{Answer, ops_of}
 use Rattle.fl_change.specs.Ends.{end_of_open}
-use Rattle.fl_change.specs.Performs.{PerformsOver, PerformedOver, ChangesFrom, Acts}
+use Rattle.fl_change.specs.Performs.{PerformsOver, PerformedOver, ChangesFrom, OpensBy, Acts}
 use Rattle.fl_change.specs.declared.end.RunEnd.{RunEnd}
 use Rattle.fl_change.specs.declared.end.RunEnd.TheVariants as run
 use Rattle.fl_change.proofs.Both.{goes_both}
 use Rattle.fl_change.proofs.Working.{is_err}
 use Rattle.fl_top.specs.Asked.{AreToldFor}
 use Rattle.fl_top.specs.Runs.{IsReady}
-use Rattle.fl_top.specs.RunsOver.{RunsOver, EndedOver}
-use Rattle.fl_top.proofs.Starting.{Keeping, kept, IsLate, Begun, Working, begun_over, ready_sound, runs_over, done_over, failed_over, ended_open}
+use Rattle.fl_top.specs.RunsOver.{OverView, RunsOver, EndedOver}
+use Rattle.fl_top.proofs.Starting.{Keeping, kept, IsLate, Begun, Working, begun_over, begun_world, ready_sound, runs_over, done_over, failed_over, ended_open}
+use Rattle.fl_top.proofs.Over.{over_is}
 
 -- it was looked at, and perhaps synced
 abbrev Looked : (View → View → Type 0) → View → View → Type 0
@@ -112,10 +115,53 @@ goes_failed {a = a} May f s e r {u = u} {w = w} late known known_b frame unread 
     subst (λ (x : Result (Unit {0}) RunEnd). Goes a w.told (RunsOver u.holdings May f) (EndedOver u.holdings f x)) (sym (is_err r e is))
     (goes_on known_b (opening u.holdings May f late known frame unread tells) (worked May f s works) (λ x y z t p q step. runs_over u.holdings May f s late (begun q) t step) (λ x y z t p q step last. failed_over u.holdings f s e z (begun q) t last.0))
 
-pub goes_opened : {a : Option Moments} (May : Op → Type 0) (f : Holdings → World → Answer) (s t : State) {u w : Outside} → IsLate f → IsTold a → IsTold u.told → Frame Nothing NoName NoPath a u.told → Goes a u.told StaysUnread StaysUnread → AtEnd (IsOpened s) a u.told
-    → Acts (Opens s) May f s (Ok t) u w → Goes a w.told (RunsOver u.holdings May f) (EndedOver u.holdings f (Ok tt))
-goes_opened May f s t {u = u} late known known_b frame unread tells works =
-    goes_on known_b (opening u.holdings May f late known frame unread tells) (worked May f s works) (λ x y z tree p q step. runs_over u.holdings May f s late (begun q) tree step) (λ x y z tree p q step last. done_over u.holdings f s t z (begun q) tree last.0)
+-- ---- what the changes left
+
+-- The changes were made: over an image that showed one state another is left, which is that state after the operations of each
+-- answer that counts.
+pub record Changed (holds : Option Holdings) (May : Op → Type 0) (f : Holdings → World → Answer) (t : State) (u w : View) : Type 0 where
+  pub before : State
+  pub at : Shows (shows u) before
+  pub ended : EndedOver holds f (Ok tt) u w
+  pub after : IsReady u → (held : Holdings) → holds ≡ Some held → OverView (f held) u (λ a. t ≡ after_all before (ops_of a))
+  pub opens : AreToldFor May holds → IsSound u → Opens t w
+
+ends_where : {a b : Option Moments} {R Q T : View → View → Type 0} (F : Type 0) → Goes a b R Q → (F → AtEnd T a b) → Goes a b R (λ u w. Q u w × (F → T u w))
+ends_where {T = T} F one two = record {
+  untold = one.untold;
+  told = λ m is.
+      let first = one.told m is in (
+        first.0,
+        first.1,
+        first.2,
+        (
+          first.3,
+          λ f.
+              let second = (two f).goes.told m is in
+              let same : second.0 ≡ first.0 = cc (first.1, second.1) in
+              subst (λ (n : Moments). T m.now n.now) same second.3,
+        ),
+      );
+}
+
+changed_over : (holds : Option Holdings) (May : Op → Type 0) (f : Holdings → World → Answer) (s t : State) {u v : View} (w : View) → Begun s u v → IsTree v → PerformedOver (Opens s) holds f s (Ok t) v w
+    → (AreToldFor May holds → OpensBy s (Ok t) v w) → Changed holds May f t u w
+changed_over holds May f s t {u = u} {v = v} w begun tree is opens = record {
+  before = s;
+  at = begun.opened.shown;
+  ended = done_over holds f s t w begun tree is;
+  after = λ ready held told shown counts.
+      let opened = begun.opened.opens (ready_sound begun.opened.shown ready) in
+      subst (λ (a : Answer). t ≡ after_all s (ops_of a)) (ap (f held) (begun_world s begun tree) ∙ sym (over_is (f held) (shows u) shown s begun.opened.shown counts)) (is.performed held told opened).1;
+  opens = λ told sound. opens told (begun.opened.opens sound);
+}
+
+pub goes_changed : {a : Option Moments} (May : Op → Type 0) (f : Holdings → World → Answer) (s t : State) {u w : Outside} → IsLate f → IsTold a → IsTold u.told → Frame Nothing NoName NoPath a u.told → Goes a u.told StaysUnread StaysUnread → AtEnd (IsOpened s) a u.told
+    → Acts (Opens s) May f s (Ok t) u w → Goes a w.told (RunsOver u.holdings May f) (Changed u.holdings May f t)
+goes_changed May f s t {u = u} late known known_b frame unread tells works =
+    goes_on known_b (opening u.holdings May f late known frame unread tells) (ends_where (AreToldFor May u.holdings) (worked May f s works) works.opens)
+    (λ x y z tree p q step. runs_over u.holdings May f s late (begun q) tree step)
+    (λ x y z tree p q step last. changed_over u.holdings May f s t z (begun q) tree last.0.0 last.1)
 
 -- ---- the cause of a fault
 

@@ -26,7 +26,7 @@ use Rattle.fl_change.specs.declared.end.RunEnd.{RunEnd}
 use Rattle.fl_change.specs.declared.end.RunEnd.TheVariants as run
 use Rattle.fl_top.specs.declared.command_end.CommandEnd.{CommandEnd}
 use Rattle.fl_top.specs.declared.command_end.CommandEnd.TheVariants.{Fault, RemoteFault}
-use Rattle.fl_change.proofs.Changing.{change_untouched}
+use Rattle.fl_top.proofs.Altering.{alter_untouched}
 use Rattle.fl_top.proofs.Starting.{unchanged, stood}
 use Rattle.fl_top.proofs.Listed.{telling, tells}
 use Rattle.fl_top.proofs.Over.{counts_constant}
@@ -68,7 +68,7 @@ no_fault thing bytes e r shown err fault = of_run e shown (let both : Err (end_o
 runs_shown : (thing : Shown) (t : Told) (bytes text : List ℕ) → IsWhole t.left bytes → shown_by thing bytes ≡ text_answer text → (u w : View) → Says text u w → RunsOn (Showing thing) t u w
 runs_shown thing t bytes text whole shown u w said = record {
   runs = λ given gave image counts may. subst (λ (a : Answer). Runs a u w) (sym shown ∙ shown_is thing t bytes whole given gave image) (telling text said);
-  changes = λ known. change_untouched said.untouched;
+  changes = λ known. alter_untouched said.untouched;
   untouched = λ why. said.untouched;
 }
 

@@ -35,6 +35,7 @@ use Rattle.fl_change.specs.declared.end.RunEnd.TheVariants.{Refused, Fault, Remo
 use Rattle.fl_change.specs.Changes.{IsUntouched, HasText, OnlyTidied}
 use Rattle.fl_change.proofs.Changing.{change_on, change_none, tidied_on, tidied_none, same_untouched}
 use Rattle.fl_change.proofs.Same.{unmoved, same_shown, same_sound, same_settled, now_left}
+use Rattle.fl_top.proofs.Altering.{alter_none, alter_changes, rest_none, rest_tidied}
 use Rattle.fl_top.proofs.Over.{over_is, over_damaged, not_shown, counts_shown, counts_damaged}
 use Rattle.fl_change.proofs.Worlds.{store_same, shows_same, worlds_state}
 use Rattle.fl_change.proofs.Doing.{none_yet}
@@ -66,7 +67,7 @@ prefix_none a just = record { done = []; undone = ops_of a; prefix = refl; more 
 
 pub begun : (a : Answer) {u w : View} → Keeping u w → (IsAtOnce a.refusal → IsUntouched u w) → Runs a u w
 begun a keeping untouched = record {
-  only_tidied = λ none s at. tidied_none keeping.names;
+  only_rests = λ none s at. rest_none keeping.names;
   said = [];
   so_far = none_yet a keeping.printed;
   prefix = λ sound disk left. prefix_none a (shows_before keeping.follows sound disk left);
@@ -84,7 +85,7 @@ over_late f late (Ok x) at_once = late x at_once
 pub begun_over : (holds : Option Holdings) (May : Op → Type 0) (f : Holdings → World → Answer) → IsLate f → {u w : View} → Keeping u w → StaysUnread u w → RunsOver holds May f u w
 begun_over holds May f late {u = u} keeping unread = record {
   runs = λ ready held is shown counts. begun (over (f held) shown) keeping (λ at_once. absurd (over_late (f held) (late held) shown at_once));
-  changes = λ known. change_none keeping.names keeping.files;
+  changes = λ known. alter_none keeping.names keeping.files;
   untouched = λ none. same_untouched (unread none);
 }
 
@@ -115,12 +116,12 @@ begun_seen : {s : State} {u v : View} → Begun s u v → IsTree v → (q : Elem
 begun_seen {u = u} {v = v} begun tree q = shows_same u v begun.before tree begun.keeping.files q (begun.keeping.names q)
 
 -- the world that is worked on is the one that the image shows
-begun_world : (s : State) {u v : View} → Begun s u v → IsTree v → world_at s v ≡ world_at s u
+pub begun_world : (s : State) {u v : View} → Begun s u v → IsTree v → world_at s v ≡ world_at s u
 begun_world s {u = u} {v = v} begun tree = ap (world s) (store_same u v begun.before tree begun.keeping.files (λ d kind. begun.keeping.names (object_path repo d kind)))
 
 runs_opened : (a : Answer) (s : State) {u v w : View} → (IsAtOnce a.refusal → ⊥) → IsOpened s u v → Keeping u v → Performs a s v w → Runs a u w
 runs_opened a s {u = u} {w = w} late opened keeping performs = record {
-  only_tidied = λ none t at. subst (λ (z : State). OnlyTidied z u w) (one_state (shows u) s t opened.shown at) (tidied_on (tidied_none keeping.names) (performs.only_tidied none));
+  only_rests = λ none t at. rest_tidied (subst (λ (z : State). OnlyTidied z u w) (one_state (shows u) s t opened.shown at) (tidied_on (tidied_none keeping.names) (performs.only_tidied none)));
   said = performs.said;
   so_far = moved keeping.printed performs.so_far;
   prefix = λ sound disk left.
@@ -148,7 +149,7 @@ runs_over holds May f s {u = u} {v = v} {w = w} late begun tree work = record {
       let opens = begun.opened.opens (ready_sound begun.opened.shown ready) in
       subst (λ (a : Answer). Runs a u w) (ap (f held) (begun_world s begun tree) ∙ sym (over_is (f held) (shows u) shown s begun.opened.shown counts))
       (runs_opened (f held (world_at s v)) s (late held (world_at s v)) begun.opened begun.keeping (work.performs.performs held is opens));
-  changes = λ known. change_on u v w (change_none begun.keeping.names begun.keeping.files) (work.changes (λ asks. (known asks).0) (λ asks. begun.opened.opens (ready_sound begun.opened.shown (known asks).1)));
+  changes = λ known. alter_changes (change_on u v w (change_none begun.keeping.names begun.keeping.files) (work.changes (λ asks. (known asks).0) (λ asks. begun.opened.opens (ready_sound begun.opened.shown (known asks).1))));
   untouched = λ none. absurd (none s begun.opened.shown);
 }
 

@@ -38,10 +38,12 @@ use Rattle.fl_filter.specs.Filtered.{Filtered, filtered}
 use Rattle.fl_launch.specs.Policies.{session_rules, system_rules}
 use Rattle.fl_launch.specs.declared.launching.LaunchText.{LaunchText}
 use Rattle.fl_sandbox.specs.Launching.{launch_in}
+use Rattle.fl_export.specs.Exported.{exported}
 use Rattle.fl_words.specs.Forms.{command_of, bad_index}
 use Rattle.fl_words.specs.Batch.{batch_of}
 use Rattle.ost_fsck.specs.declared.report.Report.{Report}
 use Rattle.fl_top.specs.Fsck.{report_text}
+use Rattle.fl_top.specs.Exports.{exports_text}
 use Rattle.fl_top.specs.Input.{input_most}
 use Rattle.fl_change.specs.World.{World, used_of}
 use Rattle.fl_lines.specs.Lines.{refs_text, pins_text, remotes_text, info_text}
@@ -87,6 +89,7 @@ abbrev pub listed : Listing → World → Answer
 listed listings.Refs x = text_answer (refs_text x.state.refs)
 listed listings.Pins x = text_answer (pins_text x.state.pins)
 listed listings.Remotes x = text_answer (remotes_text x.state.remotes)
+listed listings.Exports x = text_answer (exports_text (exported x.have x.state))
 listed (listings.Info name) x = known_of name x
 listed (listings.Launch name options) x = launched_of (launch_in x.have x.state name options)
 listed (listings.OverrideShow name) x = text_answer (override_text x.state name)

@@ -1,4 +1,6 @@
 pub mod Fsck
+pub mod Exports
+pub mod ExportSample
 pub mod Answer
 pub mod Status
 pub mod Asked

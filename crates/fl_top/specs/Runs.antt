@@ -18,8 +18,9 @@ use Rattle.fl_change.specs.World.{World}
 use Rattle.fl_change.specs.Answer.{Answer, Piece, lines_of, joined, ops_in, ops_of, set_config, IsIdle}
 use Rattle.fl_top.specs.Answer.{Given, answer, IsOver, IsAtOnce}
 use Rattle.fl_top.specs.Input.{IsDrained}
-use Rattle.fl_change.specs.Changes.{Changes, OnlyTidied, IsUntouched, HasText}
+use Rattle.fl_change.specs.Changes.{IsUntouched, HasText}
 use Rattle.fl_top.specs.Fsck.{Finds, IsListable}
+use Rattle.fl_top.specs.Exports.{Alters, OnlyRests}
 use Rattle.fl_top.specs.Status.{status_at, IsAnswered, only_looks, reads_input, asks_remotes, checks_store}
 use Rattle.fl_change.specs.Performs.{Printed, AsksBy}
 use Rattle.fp_small.specs.declared.op.Op.{Op}
@@ -49,12 +50,13 @@ pub record IsJust (acknowledged : List Done) (u : View) (disk : Disk) : Type 0 w
 
 -- At every moment: the bytes printed since the start are the first pieces of the answer; every stop leaves the installation
 -- after a prefix of its operations that holds those that these pieces acknowledge. Where the answer has no operation and nothing
--- is pulled, names only changed by tidying. Where the words or the input are refused, no name changed, and no file.
+-- is pulled, names only changed by tidying, and where nothing is refused by a refresh of the exported files. Where the words or the
+-- input are refused, no name changed, and no file.
 pub record Runs (a : Answer) (u w : View) : Type 0 where
   pub said : List Piece
   pub so_far : Printed a said u w
   pub prefix : IsSound u → (disk : Disk) → Leaves w disk → IsPrefix a (ops_in said) u disk
-  pub only_tidied : IsIdle a → (s : State) → Shows (shows u) s → OnlyTidied s u w
+  pub only_rests : IsIdle a → (s : State) → Shows (shows u) s → OnlyRests a s u w
   pub untouched : IsAtOnce a.refusal → IsUntouched u w
 
 -- every stop leaves the installation after the acknowledged operations
@@ -84,6 +86,11 @@ pub record Ran (a : Answer) (status : ℕ) (u w : View) : Type 0 where
 abbrev pub Looks : Option Command → Type 0
 Looks None = Unit {0}
 Looks (Some command) = only_looks command ≡ true
+
+-- a command that changes something
+abbrev pub IsChange : Option Command → Type 0
+IsChange None = ⊥
+IsChange (Some command) = only_looks command ≡ false
 
 -- a command that looks at each object of the store
 abbrev pub Checks : Option Command → Type 0
@@ -137,11 +144,11 @@ abbrev pub MayAnswer : Option Command → View → Answer → Type 0
 MayAnswer command v a = Serves command v ⊎ IsAtOnce a.refusal
 
 -- At every moment the run is that of each answer that counts. Whatever the source tells, no name changed but those that the
--- command's operations and tidying change, and each file that was there keeps its mode and its bytes: where a commit may be brought,
--- over remotes that tell what they hold and an installation that is ready. Words that are no command, a command that only looks, and
--- one that sees no state change nothing.
+-- command's operations, tidying and a refresh of the exported files change, and each file that was there keeps its mode and its
+-- bytes: where a commit may be brought, over remotes that tell what they hold and an installation that is ready. Words that are no
+-- command, a command that only looks, and one that sees no state change nothing.
 pub record RunsBy (words : List (List ℕ)) (t : Told) (u w : View) : Type 0 where
-  pub changes : IsKnown (OpsFor (command_of words) t.left) t.holds u → Changes (OpsFor (command_of words) t.left) u w
+  pub changes : IsKnown (OpsFor (command_of words) t.left) t.holds u → Alters (OpsFor (command_of words) t.left) u w
   pub runs : (given : Given) → IsGiven t (command_of words) given → (shown : Result World Elements)
       → IsOver (answer words given) (shows u) shown → MayAnswer (command_of words) u (answer words given shown) → Runs (answer words given shown) u w
   pub untouched : Looks (command_of words) ⊎ NotShown (shows u) → IsUntouched u w

@@ -19,7 +19,8 @@ use Rattle.fl_top.specs.Answer.{Given, over, answer_over, checked, IsOver}
 use Rattle.fl_top.specs.Fsck.{Finds, HasReport}
 use Rattle.fl_top.specs.Asked.{OpsBy}
 use Rattle.fl_top.specs.Runs.{Runs, Ran, Stands, IsJust, Told, IsGivenTo, IsReady, IsKnown, MayAnswer}
-use Rattle.fl_change.specs.Changes.{Changes, IsUntouched, HasText}
+use Rattle.fl_change.specs.Changes.{IsUntouched, HasText}
+use Rattle.fl_top.specs.Exports.{Alters}
 use Rattle.fl_top.specs.Input.{IsDrained}
 use Rattle.fl_top.specs.Status.{IsAnswered, only_looks, reads_input}
 use Rattle.fl_change.specs.declared.end.RunEnd.{RunEnd}
@@ -34,7 +35,7 @@ OverView f u Is = (shown : Result World Elements) → IsOver (over f) (shows u) 
 -- and so much changes
 pub record RunsOver (holds : Option Holdings) (May : Op → Type 0) (f : Holdings → World → Answer) (u w : View) : Type 0 where
   pub runs : IsReady u → (held : Holdings) → holds ≡ Some held → OverView (f held) u (λ a. Runs a u w)
-  pub changes : IsKnown May holds u → Changes May u w
+  pub changes : IsKnown May holds u → Alters May u w
   pub untouched : NotShown (shows u) → IsUntouched u w
 
 -- and nothing changes
@@ -107,7 +108,7 @@ HasAnswer asked t u Where = (given : Given) → IsGivenTo asked t given → Wher
 -- Whatever it is given these are the changes, where what it brings is known; and a command that only looks, or sees no state, changes
 -- nothing.
 pub record RunsOn (asked : Command) (t : Told) (u w : View) : Type 0 where
-  pub changes : IsKnown (OpsBy asked t.left) t.holds u → Changes (OpsBy asked t.left) u w
+  pub changes : IsKnown (OpsBy asked t.left) t.holds u → Alters (OpsBy asked t.left) u w
   pub runs : OverAll asked t u (λ a. Runs a u w)
   pub untouched : (only_looks asked ≡ true) ⊎ NotShown (shows u) → IsUntouched u w
 

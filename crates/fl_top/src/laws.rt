@@ -1,13 +1,19 @@
 //! Laws of runs. Each is the contract of a function that does nothing.
-ghost use Rattle.std.specs.Prelude.{◌≡◌, ℕ, List, None, Result};
-ghost use Rattle.fp_host.specs.Paths.{Elements};
-ghost use Rattle.fp_host.specs.View.{View};
-ghost use Rattle.fp_host.specs.Outcome.{Disk, Leaves, shows};
+ghost use Rattle.std.specs.Prelude.{◌≡◌, ◌∷◌, [], ℕ, List, None, Result};
+ghost use Rattle.fp_host.specs.Paths.{Elements, absent};
+ghost use Rattle.fp_host.specs.View.{View, IsTree};
+ghost use Rattle.fp_host.specs.Outcome.{Disk, Leaves, IsSettled, shows};
 ghost use Rattle.fp_small.specs.declared.state.State.{State};
 ghost use Rattle.dep_states.specs.Shown.{Shows};
 ghost use Rattle.dep_states.specs.Sound.{IsSound};
 ghost use Rattle.fl_words.specs.Forms.{command_of};
-ghost use Rattle.fl_top.specs.Answer.{answer, Given, IsOver};
+ghost use Rattle.fl_words.specs.declared.command.Listing.TheVariants as listings;
+ghost use Rattle.fl_export.specs.Placed.{ExportsAre};
+ghost use Rattle.fl_export.specs.Sample as sample;
+ghost use Rattle.fl_change.specs.Answer.{text_answer};
+ghost use Rattle.fl_top.specs.Answer.{answer, listed, Given, IsOver};
+ghost use Rattle.fl_top.specs.Exports.{LeavesExports};
+ghost use Rattle.fl_top.specs.ExportSample.{desktop_text, placed_disk, stale_disk, listed_text};
 ghost use Rattle.fl_change.specs.World.{World};
 ghost use Rattle.fl_top.specs.History.{Stretch, History, IsReached};
 
@@ -33,4 +39,21 @@ pub fn runs_join()
         IsSound w }
     ensures reached { (u w : View) (stretches : List Stretch) → IsSound u → History u stretches w →
         (disk : Disk) → Leaves w disk → (t : State) → Shows disk t → IsReached u stretches disk t }
+{}
+
+/// What is promised of exported files can be met: where the root stands alone nothing is exported, and nothing stands there. The
+/// files and links of a small application may stand just so; with a link of another application they don't.
+pub fn exports_can_stand()
+    ensures bare { (v : View) → IsTree v → IsSettled v
+        → ((x : List ℕ) (up : Elements) → v.names (x ∷ up) ≡ absent) → LeavesExports v }
+    ensures placed { ExportsAre (sample.exports sample.stable desktop_text) placed_disk }
+    ensures stale { ExportsAre (sample.exports sample.stable desktop_text) stale_disk → ⊥ }
+{}
+
+/// What `list --exports` prints of a small application.
+pub fn exports_are_listed()
+    ensures { listed listings.Exports (record {
+      state = sample.state (sample.row sample.stable ∷ []);
+      have = sample.have;
+    }) ≡ text_answer listed_text }
 {}

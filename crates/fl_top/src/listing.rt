@@ -1,5 +1,5 @@
 //! What is listed of an installation.
-ghost use Rattle.std.specs.Prelude.{◌≡◌, Option, Some, IfOk, IsErrOf};
+ghost use Rattle.std.specs.Prelude.{◌≡◌, ◌++◌, Option, Some, IfOk, OnOk, IsErrOf, string_bytes};
 ghost use Rattle.std.specs.List.{find};
 ghost use Rattle.std.specs.Option.{option_copied};
 ghost use Rattle.std.specs.Str.{bytes_eq};
@@ -11,22 +11,25 @@ ghost use Rattle.ost_model.specs.Objects.{Have};
 ghost use Rattle.ost_model.specs.Remotes.{Stores};
 ghost use Rattle.dep_states.specs.After.{row_at};
 ghost use Rattle.dep_states.specs.Shown.{at_name, override_key};
+ghost use Rattle.fl_export.specs.Exported.{exported};
 ghost use Rattle.fl_installed.specs.Described.{info_in as info_of};
 ghost use Rattle.fl_sandbox.specs.Launching.{launch_in as launch_over};
 ghost use Rattle.fl_top.specs.Answer.{listed, known_of, told_of, launched_of, override_text as text_of_override};
 ghost use Rattle.fl_top.specs.Ends.{PrintsOf};
+ghost use Rattle.fl_top.specs.Exports.{exports_text as text_of_exports, row_line as line_of_row};
 ghost use Rattle.fl_top.specs.RunsOver.{LooksOver, LookedOver};
 
 use dep_open::read_state;
 use dep_switch::find_ref;
 use fl_change::RunEnd;
+use fl_export::{ExportRow, wanted};
 use fl_installed::{Info, info_in};
 use fl_launch::LaunchText;
-use fl_lines::{info_text, pins_text, refs_text, remotes_text};
+use fl_lines::{export_line, info_text, pins_text, refs_text, remotes_text};
 use fl_sandbox::launch_in;
 use fl_words::Listing;
 use fp_base::Text;
-use fp_host::Host;
+use fp_host::{Host, HostEnd};
 use fp_name::RefName;
 use fp_small::{OverrideRow, RefRow, Refusal, State};
 use std::alloc::{AllocError, Global};
@@ -63,12 +66,44 @@ fn listed_text<H: Host>(
         Listing::Refs => Ok(refs_text(alloc, state.refs.as_slice())?),
         Listing::Remotes => Ok(remotes_text(alloc, state.remotes.as_slice())?),
         Listing::Pins => Ok(pins_text(alloc, state.pins.as_slice())?),
+        Listing::Exports => Ok(exports_text(alloc, host, state)?),
         Listing::Info(name) => known_text(alloc, host, state, &name),
         Listing::Launch { name, options } => {
             launch_text(alloc, host, state, &name, options.as_slice())
         }
         Listing::OverrideShow { name } => Ok(override_text(alloc, state, &name)?),
     }
+}
+
+/// The exported files, a line each.
+fn exports_text<H: Host>(alloc: Global, host: &mut H, state: &State) -> Result<Text, HostEnd>
+    ensures unchanged { Unchanged (H.moments host.old) (H.moments host.new) }
+    ensures tells { (have : Have) → Stores repo (H.moments host.old) have
+        → IfOk result (λ t. t ≡ text_of_exports (exported have state.now)) }
+    ensures fault_has_cause { IsCounted (IsErrOf result HostEnd.Fault)
+        (H.moments host.old) (H.faults host.old) (H.faults host.new) }
+{
+    let rows = wanted(alloc, host, state)?;
+    Ok(rows_text(alloc, rows.as_slice())?)
+}
+
+/// A line for each row of what is exported.
+fn rows_text(alloc: Global, rows: &[ExportRow]) -> Result<Text, AllocError>
+    ensures { IfOk result (λ t. t ≡ text_of_exports rows.now) }
+{
+    let mut text = String::new(alloc);
+    for row in rows {
+        push_row(alloc, &mut text, row)?;
+    }
+    Ok(Text::from_string(text))
+}
+
+/// Puts the line of a row of what is exported after a text.
+fn push_row(alloc: Global, text: &mut String, row: &ExportRow) -> Result<(), AllocError>
+    ensures { OnOk result (string_bytes text.new ≡ string_bytes text.old ++ line_of_row row.now) }
+{
+    let line = export_line(alloc, &row.path, &row.name)?;
+    text.push_str(line.as_str())
 }
 
 /// What is known of a deployed ref.

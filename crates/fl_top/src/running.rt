@@ -1,5 +1,5 @@
 //! The run of a command.
-ghost use Rattle.std.specs.Prelude.{◌≡◌, ◌≢◌, ◌≤◌, ◌⊎◌, true, false, Option, Some, map, string_bytes, IfOk, IsErrOf};
+ghost use Rattle.std.specs.Prelude.{◌≡◌, ◌≢◌, ◌≤◌, ◌⊎◌, true, false, Option, Some, map, string_bytes, IfOk, OnOk, IsErrOf};
 ghost use Rattle.fp_host.specs.Causes.{IsCaused, IsCounted};
 ghost use Rattle.fp_host.specs.Frame.{AtEnd, Unchanged};
 ghost use Rattle.fp_host.specs.Moments.{Goes, Rose, Always};
@@ -11,10 +11,12 @@ ghost use Rattle.fl_words.specs.declared.command.Command.TheVariants.{Show as Sh
 ghost use Rattle.fl_change.specs.Says.{Says, SaidBy, Refuses};
 ghost use Rattle.fl_change.specs.Turns.{changing, MayDo};
 ghost use Rattle.fp_host.specs.Outcome.{shows};
+ghost use Rattle.dep_states.specs.Sound.{IsSound};
 ghost use Rattle.fl_top.specs.Fsck.{HasReport};
+ghost use Rattle.fl_top.specs.Exports.{LeavesExports};
 ghost use Rattle.fl_top.specs.Asked.{OpsBy, OpsFor, AreToldFor, AsksRemotes};
 ghost use Rattle.fl_top.specs.RunsOver.{RunsOver, EndedOver, RunsOn, EndedOn, RanOn, Takes, TakenBy, IsClosedBy};
-ghost use Rattle.fl_top.specs.Runs.{RunsBy, RanBy, Checks, told, WasTaken, IsReady, HasCauses};
+ghost use Rattle.fl_top.specs.Runs.{RunsBy, RanBy, Checks, IsChange, told, WasTaken, IsReady, HasCauses};
 ghost use Rattle.fl_top.specs.Status.{IsStatus, IsAnswered, IsOfWords, IsOfCommand, only_looks, reads_input};
 
 use crate::checking::check;
@@ -25,6 +27,7 @@ use crate::listing::list;
 use crate::showing::shown_text;
 use dep_open::open;
 use fl_change::{RunEnd, change_all};
+use fl_export::refresh;
 use fl_lines::refusal_line;
 use fl_words::{Change, Command, PolicySource, Shown, WordsError, read_batch, read_words};
 use fp_base::Text;
@@ -61,6 +64,12 @@ pub fn run<H: Host, R: Remotes, I: Source>(
     // (so that this isn't said of nothing).
     ensures found { Checks (command_of (map string_bytes words.now)) → IsAnswered result → AtEnd
         (λ u w. HasReport (shows u)) (H.moments host.old) (H.moments host.new) }
+    // Where a command that changes something was done, every stop leaves as the files and links at or below `exports` exactly those
+    // that the applications of its state export.
+    ensures exports { IsChange (command_of (map string_bytes words.now)) → result ≡ 0
+        → AreToldFor (OpsFor (command_of (map string_bytes words.now)) (I.left input.old))
+        (R.holds remotes.old) → AtEnd (λ u w. IsSound u → LeavesExports w)
+        (H.moments host.old) (H.moments host.new) }
     // The remotes stay as they are. Where the command brings no commit they aren't asked, and the status isn't 4; else it comes
     // only where their count rose.
     ensures remotes { AsksRemotes (OpsFor (command_of (map string_bytes words.now)) (I.left input.old))
@@ -97,6 +106,9 @@ fn run_command<H: Host, R: Remotes, I: Source>(
         (H.faults host.old) (H.faults host.new) }
     ensures found { Checks (Some command) → IsAnswered result → AtEnd (λ u w. HasReport (shows u))
         (H.moments host.old) (H.moments host.new) }
+    ensures exports { IsChange (Some command) → result ≡ 0 → AreToldFor
+        (OpsBy command (I.left input.old)) (R.holds remotes.old) → AtEnd
+        (λ u w. IsSound u → LeavesExports w) (H.moments host.old) (H.moments host.new) }
     ensures remotes { AsksRemotes (OpsBy command (I.left input.old)) (result ≡ 4)
         (R.holds remotes.old) (R.holds remotes.new) (R.faults remotes.old) (R.faults remotes.new) }
     ensures input { result ≡ 5 → Rose (I.faults input.old) (I.faults input.new) × Unchanged
@@ -130,6 +142,9 @@ fn perform<H: Host, R: Remotes, I: Source>(
         (HasCauses (Some command)) (H.faults host.old) (H.faults host.new) }
     ensures found { Checks (Some command) → IsClosedBy result → AtEnd (λ u w. HasReport (shows u))
         (H.moments host.old) (H.moments host.new) }
+    ensures exports { IsChange (Some command) → OnOk result (AreToldFor
+        (OpsBy command (I.left input.old)) (R.holds remotes.old) → AtEnd
+        (λ u w. IsSound u → LeavesExports w) (H.moments host.old) (H.moments host.new)) }
     ensures remotes { AsksRemotes (OpsBy command (I.left input.old))
         (IsErrOf result CommandEnd.RemoteFault) (R.holds remotes.old) (R.holds remotes.new)
         (R.faults remotes.old) (R.faults remotes.new) }
@@ -207,6 +222,9 @@ fn batch<H: Host, R: Remotes, I: Source>(
     ensures any_moment { Goes (H.moments host.old) (H.moments host.new)
         (RunsOn Batch (told (I.left input.old) (R.holds remotes.old) (H.moments host.old)))
         (EndedOn Batch (told (I.left input.old) (R.holds remotes.old) (H.moments host.old)) result) }
+    ensures exports { OnOk result (AreToldFor (OpsBy Batch (I.left input.old))
+        (R.holds remotes.old) → AtEnd (λ u w. IsSound u → LeavesExports w)
+        (H.moments host.old) (H.moments host.new)) }
     ensures fault_has_cause { IsCaused (AreToldFor (OpsBy Batch (I.left input.old))
         (R.holds remotes.old) × IsErrOf result CommandEnd.Fault) (H.moments host.old) IsReady
         (H.faults host.old) (H.faults host.new) }
@@ -224,7 +242,8 @@ fn batch<H: Host, R: Remotes, I: Source>(
     Ok(make_changes(alloc, host, remotes, changes.as_slice())?)
 }
 
-/// Opens the installation and makes the changes, one after another up to the first refusal.
+/// Opens the installation and makes the changes, one after another up to the first refusal. Where none is refused, the exported
+/// files are brought in step with the state after them.
 fn make_changes<H: Host, R: Remotes>(
     alloc: Global,
     host: &mut H,
@@ -234,6 +253,8 @@ fn make_changes<H: Host, R: Remotes>(
     ensures any_moment { Goes (H.moments host.old) (H.moments host.new)
         (RunsOver (R.holds remotes.old) (MayDo changes.now) (changing changes.now))
         (EndedOver (R.holds remotes.old) (changing changes.now) result) }
+    ensures exports { OnOk result (AreToldFor (MayDo changes.now) (R.holds remotes.old)
+        → AtEnd (λ u w. IsSound u → LeavesExports w) (H.moments host.old) (H.moments host.new)) }
     ensures fault_has_cause { IsCaused (AreToldFor (MayDo changes.now) (R.holds remotes.old)
         × IsErrOf result RunEnd.Fault) (H.moments host.old) IsReady
         (H.faults host.old) (H.faults host.new) }
@@ -241,8 +262,8 @@ fn make_changes<H: Host, R: Remotes>(
         (R.holds remotes.old) (R.holds remotes.new) (R.faults remotes.old) (R.faults remotes.new) }
 {
     let opened = open(alloc, host)?;
-    change_all(alloc, host, remotes, opened, changes)?;
-    Ok(())
+    let changed = change_all(alloc, host, remotes, opened, changes)?;
+    Ok(refresh(alloc, host, changed.state())?)
 }
 
 /// Prints the line of words that are no command.

@@ -1,6 +1,10 @@
 use Rattle.std.proofs.Common.{[], ◌∷◌, Some, Ok, IsErrOf, refl, sym, ap, subst}
+use Rattle.std.specs.Prelude.{OnOk}
 use Rattle.fp_host.specs.Causes.{IsCaused}
+use Rattle.fp_host.specs.Frame.{AtEnd}
 use Rattle.fp_host.specs.Moments.{Goes}
+use Rattle.dep_states.specs.Sound.{IsSound}
+use Rattle.fl_top.specs.Exports.{LeavesExports}
 use Rattle.fl_words.specs.declared.command.Command.{Command}
 use Rattle.fl_words.specs.declared.command.Command.TheVariants.{Change as Changing, List as Listed, Show as Showing, Filter as Filtering, Batch, Fsck}
 use Rattle.fl_top.specs.Asked.{OpsBy, AreToldFor, AsksRemotes}
@@ -17,6 +21,7 @@ use Rattle.fp_host.proofs.Ending.{ends_goes, ends_to}
 use Rattle.fl_top.specs.RunsOver.{IsClosedBy}
 use Rattle.fl_top.proofs.Finishing.{given_by, is_end}
 use Rattle.fl_top.proofs.Checked.{goes_check, goes_not_check, not_checks}
+use Rattle.fl_top.proofs.Finishing.{not_changes}
 use Rattle.fl_top.proofs.running.perform.Goals as goal
 
 pub returns-in_err-make_changes-in-Change-clause-any_moment : goal.returns-in_err-make_changes-in-Change-clause-any_moment
@@ -148,3 +153,29 @@ returns-in-Filter-clause-found g c checks by = absurd (not_checks c.args.command
 
 pub returns-in-Batch-clause-found : goal.returns-in-Batch-clause-found
 returns-in-Batch-clause-found g c checks by = absurd (not_checks c.args.command Batch c.in-Batch.is refl checks)
+
+-- ---- what is exported
+
+pub returns-in_ok-make_changes-in-Change-clause-exports : goal.returns-in_ok-make_changes-in-Change-clause-exports
+returns-in_ok-make_changes-in-Change-clause-exports g c change =
+    let left = g.I.Source.left c.args.input.now in
+    let holds = g.R.Remotes.holds c.args.remotes.now in
+    subst (λ (k : Command). AreToldFor (OpsBy k left) holds → AtEnd (λ u w. IsSound u → LeavesExports w) (g.H.Host.moments c.args.host.now) (g.H.Host.moments c.make_changes.new.host)) (sym c.in-Change.is) c.in_ok-make_changes-in-Change.ensures.exports
+
+pub returns-in_ok-list-in-List-clause-exports : goal.returns-in_ok-list-in-List-clause-exports
+returns-in_ok-list-in-List-clause-exports g c change = absurd (not_changes c.args.command (Listed c.in-List.listing) c.in-List.is refl change)
+
+pub returns-in-Show-clause-exports : goal.returns-in-Show-clause-exports
+returns-in-Show-clause-exports g c change = absurd (not_changes c.args.command (Showing c.in-Show.thing) c.in-Show.is refl change)
+
+pub returns-in-Filter-clause-exports : goal.returns-in-Filter-clause-exports
+returns-in-Filter-clause-exports g c change = absurd (not_changes c.args.command (Filtering c.in-Filter.source) c.in-Filter.is refl change)
+
+pub returns-in_ok-check-in-Fsck-clause-exports : goal.returns-in_ok-check-in-Fsck-clause-exports
+returns-in_ok-check-in-Fsck-clause-exports g c change = absurd (not_changes c.args.command Fsck c.in-Fsck.is refl change)
+
+pub returns-in-Batch-clause-exports : goal.returns-in-Batch-clause-exports
+returns-in-Batch-clause-exports g c change =
+    let left = g.I.Source.left c.args.input.now in
+    let holds = g.R.Remotes.holds c.args.remotes.now in
+    subst (λ (k : Command). OnOk c.batch.result (AreToldFor (OpsBy k left) holds → AtEnd (λ u w. IsSound u → LeavesExports w) (g.H.Host.moments c.args.host.now) (g.H.Host.moments c.batch.new.host))) (sym c.in-Batch.is) c.batch.ensures.exports

@@ -3,9 +3,11 @@ use Rattle.fl_words.specs.Forms.{command_of}
 use Rattle.fp_host.proofs.Ending.{ends_goes, goes_last}
 use Rattle.fl_words.specs.Reading.{IsNoCommand}
 use Rattle.fl_words.specs.declared.command.Command.{Command}
-use Rattle.fl_top.specs.Runs.{WasTaken, Checks, told, HasCauses}
+use Rattle.fl_top.specs.Runs.{WasTaken, Checks, IsChange, told, HasCauses}
 use Rattle.fp_host.specs.Frame.{AtEnd}
 use Rattle.fp_host.specs.Outcome.{shows}
+use Rattle.dep_states.specs.Sound.{IsSound}
+use Rattle.fl_top.specs.Exports.{LeavesExports}
 use Rattle.fl_top.specs.Fsck.{HasReport}
 use Rattle.fl_top.specs.Status.{IsAnswered}
 use Rattle.fl_top.proofs.Ending.{not_answered}
@@ -89,3 +91,15 @@ returns-in-Err-BadWords-clause-found g c checks answered =
 
 pub returns-in-Err-NoMemory-clause-found : goal.returns-in-Err-NoMemory-clause-found
 returns-in-Err-NoMemory-clause-found g c checks answered = absurd (not_answered 6 (omega arith) answered)
+
+pub returns-in-Ok-clause-exports : goal.returns-in-Ok-clause-exports
+returns-in-Ok-clause-exports g c =
+    let left = g.I.Source.left c.args.input.now in
+    let holds = g.R.Remotes.holds c.args.remotes.now in
+    subst (λ (o : Option Command). IsChange o → c.run_command.result ≡ 0 → AreToldFor (OpsFor o left) holds → AtEnd (λ u w. IsSound u → LeavesExports w) (g.H.Host.moments c.args.host.now) (g.H.Host.moments c.run_command.new.host)) (sym c.in-Ok.ensures.ok) c.run_command.ensures.exports
+
+pub returns-in-Err-BadWords-clause-exports : goal.returns-in-Err-BadWords-clause-exports
+returns-in-Err-BadWords-clause-exports g c change done = absurd (elim c.refuse_words.ensures.status [
+  | inl is ↦ omega (arith, done, is)
+  | inr more ↦ elim more [ inl is ↦ omega (arith, done, is) | inr is ↦ omega (arith, done, is) ]
+])

@@ -120,3 +120,14 @@ returns-in-Err-InputFault-clause-found g c checks answered = absurd (not_answere
 
 pub returns-in-Err-NoMemory-clause-found : goal.returns-in-Err-NoMemory-clause-found
 returns-in-Err-NoMemory-clause-found g c checks answered = absurd (not_answered 6 (omega arith) answered)
+
+-- ---- what is exported
+
+pub returns-in-Ok-clause-exports : goal.returns-in-Ok-clause-exports
+returns-in-Ok-clause-exports g c change done = c.in-Ok.ensures.exports change
+
+pub returns-in-Err-Refused-clause-exports : goal.returns-in-Err-Refused-clause-exports
+returns-in-Err-Refused-clause-exports g c change done = absurd (elim c.refuse.ensures.status [
+  | inl is ↦ omega (arith, done, is)
+  | inr more ↦ elim more [ inl is ↦ omega (arith, done, is) | inr is ↦ omega (arith, done, is) ]
+])

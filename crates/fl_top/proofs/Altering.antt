@@ -1,0 +1,70 @@
+-- Which names the parts of a run change, a refresh of the exported files among them.
+use Rattle.std.proofs.Common.{◌≡◌, inl, inr, None, sym, ◌∙◌, subst}
+use Rattle.fp_host.specs.Paths.{Elements, Slot}
+use Rattle.fp_host.specs.View.{View}
+use Rattle.fp_small.specs.Files.{KeepsFiles}
+use Rattle.fp_small.proofs.Keeping.{files_on}
+use Rattle.fp_small.specs.declared.op.Op.{Op}
+use Rattle.fp_small.specs.declared.state.State.{State}
+use Rattle.fl_export.specs.Steps.{Refreshes}
+use Rattle.fl_change.specs.Answer.{Answer}
+use Rattle.fl_change.specs.Changes.{MayHold, operated, tidied, Changes, OnlyTidied, IsUntouched}
+use Rattle.fl_change.proofs.Changing.{keeps_files, not_touched}
+use Rattle.fl_top.specs.Exports.{MayCome, changed, refreshed, Alters, MayRest, tidied_at, refreshed_at, OnlyRests}
+
+pub alter_none : {May : Op → Type 0} {u w : View} → ((q : Elements) → w.names q ≡ u.names q) → KeepsFiles u w → Alters May u w
+alter_none names files = record { names = λ q. inl (names q); files = files }
+
+pub alter_untouched : {May : Op → Type 0} {u w : View} → IsUntouched u w → Alters May u w
+alter_untouched same = alter_none same.names (keeps_files same)
+
+-- nothing is done
+pub alter_not : {May : Op → Type 0} {v : View} → Alters May v v
+alter_not = alter_untouched not_touched
+
+pub alter_on : {May : Op → Type 0} (u v w : View) → Alters May u v → Alters May v w → Alters May u w
+alter_on {May = May} u v w first second = record {
+  names = λ q. elim (second.names q) [
+    | inl same ↦ elim (first.names q) [ inl was ↦ inl (same ∙ was) | inr may ↦ inr (subst (MayCome May q) (sym same) may) ]
+    | inr may ↦ inr may
+  ];
+  files = files_on first.files second.files;
+}
+
+hold_to : {A B : Op → Type 0} {q : Elements} {e : Slot} → ((op : Op) → A op → B op) → MayHold A q e → MayHold B q e
+hold_to wider (operated s op v may put) = operated s op v (wider op may) put
+hold_to wider (tidied s may) = tidied s may
+
+come_to : {A B : Op → Type 0} {q : Elements} {e : Slot} → ((op : Op) → A op → B op) → MayCome A q e → MayCome B q e
+come_to wider (changed may) = changed (hold_to wider may)
+come_to wider (refreshed may) = refreshed may
+
+-- by more operations
+pub alter_to : {A B : Op → Type 0} {u w : View} → ((op : Op) → A op → B op) → Alters A u w → Alters B u w
+alter_to wider alters = record { names = λ q. elim (alters.names q) [ inl same ↦ inl same | inr may ↦ inr (come_to wider may) ]; files = alters.files }
+
+pub alter_changes : {May : Op → Type 0} {u w : View} → Changes May u w → Alters May u w
+alter_changes changes = record { names = λ q. elim (changes.names q) [ inl same ↦ inl same | inr may ↦ inr (changed may) ]; files = changes.files }
+
+pub alter_refreshes : {May : Op → Type 0} {s : State} {u w : View} → Refreshes s u w → Alters May u w
+alter_refreshes refreshes = record { names = λ q. elim (refreshes.names q) [ inl same ↦ inl same | inr may ↦ inr (refreshed may) ]; files = refreshes.files }
+
+-- ---- where no operation is done
+
+pub rest_none : {a : Answer} {s : State} {u w : View} → ((q : Elements) → w.names q ≡ u.names q) → OnlyRests a s u w
+rest_none names = record { names = λ q. inl (names q) }
+
+pub rest_on : {a : Answer} {s : State} {u v w : View} → OnlyRests a s u v → OnlyRests a s v w → OnlyRests a s u w
+rest_on {a = a} {s = s} first second = record {
+  names = λ q. elim (second.names q) [
+    | inl same ↦ elim (first.names q) [ inl was ↦ inl (same ∙ was) | inr may ↦ inr (subst (MayRest a s q) (sym same) may) ]
+    | inr may ↦ inr may
+  ];
+}
+
+pub rest_tidied : {a : Answer} {s : State} {u w : View} → OnlyTidied s u w → OnlyRests a s u w
+rest_tidied only = record { names = λ q. elim (only.names q) [ inl same ↦ inl same | inr may ↦ inr (tidied_at may) ] }
+
+-- where nothing is refused
+pub rest_refreshes : {a : Answer} {s t : State} {u w : View} → a.refusal ≡ None → Refreshes t u w → OnlyRests a s u w
+rest_refreshes none refreshes = record { names = λ q. elim (refreshes.names q) [ inl same ↦ inl same | inr may ↦ inr (refreshed_at none may) ] }

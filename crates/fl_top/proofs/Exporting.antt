@@ -1,0 +1,282 @@
+-- The exported files, brought in step with the state that changes left.
+use Rattle.std.proofs.Common.{◌≡◌, ◌≢◌, ◌≤◌, inl, inr, ℕ, List, [], ◌∷◌, ◌++◌, Option, Some, None, Result, Ok, Err, IsErrAnd, IsErrOf, refl, sym, ◌∙◌, ap, subst, codes, arith}
+use Rattle.fp_host.specs.Paths.{Elements, Slot, IsAbove}
+use Rattle.fp_host.specs.View.{View, IsTree}
+use Rattle.fp_host.specs.Outcome.{Disk, Leaves, gone, shows}
+use Rattle.fp_host.specs.Causes.{IsCaused}
+use Rattle.fp_host.specs.Frame.{AtEnd}
+use Rattle.fp_host.specs.Moments.{Moments, Goes, Always}
+use Rattle.fp_host.specs.Remote.{Holdings}
+use Rattle.fp_host.specs.declared.host.HostEnd.{HostEnd}
+use Rattle.fp_host.specs.declared.host.HostEnd.TheVariants as host
+use Rattle.fp_host.proofs.Cause.{Rose-later}
+use Rattle.fp_host.proofs.Ending.{ends_goes, ends_on, goes_known}
+use Rattle.fp_host.proofs.Framed.{IsTold}
+use Rattle.fp_host.proofs.Goes.{goes_on, ends_tree}
+use Rattle.fp_host.proofs.Settled.{settled_disk}
+use Rattle.fp_base.specs.declared.object.ObjKind.{ObjKind}
+use Rattle.fp_name.specs.Hex.{hex}
+use Rattle.fp_name.specs.Kinds.{kind_word}
+use Rattle.fp_name.specs.Refs.{Ref}
+use Rattle.fp_small.specs.Places.{repo, tmp}
+use Rattle.fp_small.specs.Clear.{IsWithin}
+use Rattle.fp_small.specs.declared.op.Op.{Op}
+use Rattle.fp_small.specs.declared.state.State.{State}
+use Rattle.ost_model.specs.Objects.{object_path, object_at, store}
+use Rattle.ost_model.specs.Order.{In, order}
+use Rattle.ost_walk.specs.Ends.{Outside}
+use Rattle.dep_states.specs.Names.{config, remotes_conf, pins_file, branch_dir, active, text_dir, commit_dir, deploy, ref_file}
+use Rattle.dep_states.specs.Shown.{Shows, ref_seen}
+use Rattle.dep_states.specs.Sound.{Keeps, IsOld, is_remotes, is_pins, IsSound, Opens}
+use Rattle.dep_states.specs.Settled.{Settled, Used, HasBytes}
+use Rattle.dep_states.specs.After.{after_all}
+use Rattle.dep_states.specs.Zones.{outward}
+use Rattle.dep_states.proofs.Deployed.{top, outward_append}
+use Rattle.dep_states.proofs.Law.{ref_same}
+use Rattle.dep_states.proofs.Rows.{head_of, text_apart}
+use Rattle.dep_states.proofs.Single.{one_state}
+use Rattle.dep_states.proofs.Sparing.{word_apart}
+use Rattle.dep_states.proofs.Switching.{second, word_no_repo}
+use Rattle.dep_open.specs.Open.{IsOpened}
+use Rattle.fl_export.specs.Placed.{exports}
+use Rattle.fl_export.specs.Steps.{MayRefresh, some_export, some_work, store_folder, work_folder, Refreshes, WasRefreshed}
+use Rattle.fl_export.proofs.PutRows.{same_shows}
+use Rattle.fl_export.proofs.Spared.{outward_is, exports_top, work_top, no_repo}
+use Rattle.fl_change.specs.World.{World}
+use Rattle.fl_change.specs.Answer.{Answer, ops_of}
+use Rattle.fl_change.specs.Ends.{end_of_host}
+use Rattle.fl_change.specs.Performs.{Acts}
+use Rattle.fl_change.specs.declared.end.RunEnd.{RunEnd}
+use Rattle.fl_change.specs.declared.end.RunEnd.TheVariants as run
+use Rattle.fl_change.proofs.Changing.{text_on}
+use Rattle.fl_change.proofs.Same.{now_left}
+use Rattle.fl_change.proofs.Working.{is_err}
+use Rattle.fl_top.specs.Answer.{over, IsAtOnce}
+use Rattle.fl_top.specs.Asked.{AreToldFor}
+use Rattle.fl_top.specs.Exports.{HasExports, LeavesExports}
+use Rattle.fl_top.specs.Runs.{IsJust, Runs, Stands, IsReady}
+use Rattle.fl_top.specs.RunsOver.{RunsOver, Completes, EndedOver}
+use Rattle.fl_top.proofs.Altering.{alter_on, alter_refreshes, rest_on, rest_refreshes}
+use Rattle.fl_top.proofs.Ending.{prefix_all, before_last}
+use Rattle.fl_top.proofs.Opening.{Changed}
+use Rattle.fl_top.proofs.Over.{counts_shown}
+use Rattle.fl_top.proofs.Starting.{shown_after, ready_sound}
+
+-- ---- where exported files are brought in step
+
+data IsExportPlace (p : Elements) : Type 0 where
+  at_exports : IsWithin exports p → IsExportPlace p
+  at_repo : p ≡ repo → IsExportPlace p
+  at_work : IsWithin tmp p → IsExportPlace p
+
+place_of : {p : Elements} {e : Slot} → MayRefresh p e → IsExportPlace p
+place_of (some_export within) = at_exports within
+place_of (some_work above) = at_work (inr above)
+place_of (store_folder is put) = at_repo is
+place_of (work_folder is put) = at_work (inl is)
+
+work_second : (q : Elements) → IsWithin tmp q → second (outward q) ≡ codes "tmp"
+work_second q within = ap second (outward_is tmp q within).1
+
+-- below `repo`, in another folder than work
+in_repo_off : {p : Elements} {x : List ℕ} → top p ≡ codes "repo" → second (outward p) ≡ x → x ≢ [] → x ≢ codes "tmp" → IsExportPlace p → ⊥
+in_repo_off {p = p} t s some off (at_exports within) = no_repo (sym (exports_top p within) ∙ t)
+in_repo_off t s some off (at_repo e) = some (sym s ∙ ap (λ (q : Elements). second (outward q)) e)
+in_repo_off {p = p} t s some off (at_work w) = off (sym s ∙ work_second p w)
+
+object_off : (d : List ℕ) (kind : ObjKind) → IsExportPlace (object_path repo d kind) → ⊥
+object_off d kind = in_repo_off {p = object_path repo d kind} {x = codes "objects"} refl refl (λ e. cc e) (text_apart (codes "objects") (codes "tmp") refl)
+
+file_off : (origin : List ℕ) (name : Ref) → IsExportPlace (ref_file origin name) → ⊥
+file_off origin name = in_repo_off {p = ref_file origin name} {x = codes "refs"} refl refl (λ e. cc e) (text_apart (codes "refs") (codes "tmp") refl)
+
+-- elsewhere
+top_off : {p : Elements} → top p ≢ codes "repo" → top p ≢ codes "exports" → IsExportPlace p → ⊥
+top_off {p = p} r x (at_exports within) = x (exports_top p within)
+top_off r x (at_repo e) = r (ap top e)
+top_off {p = p} r x (at_work w) = r (work_top p w)
+
+in_ref_off : (name : Ref) (rest : Elements) → IsExportPlace (rest ++ branch_dir name) → ⊥
+in_ref_off name rest =
+    let t : top (rest ++ branch_dir name) ≡ kind_word name.kind = ap head_of (outward_append rest (branch_dir name) []) in
+    top_off {p = rest ++ branch_dir name} (λ e. word_no_repo name.kind (sym t ∙ e)) (λ e. word_apart name.kind (codes "exports") refl refl (sym t ∙ e))
+
+-- at a path of this one name
+name_off : {p : Elements} {x : List ℕ} → top p ≡ x → x ≢ codes "repo" → x ≢ codes "exports" → IsExportPlace p → ⊥
+name_off is r e = top_off (λ t. r (sym is ∙ t)) (λ t. e (sym is ∙ t))
+
+old_off : {p : Elements} → IsOld p → IsExportPlace p → ⊥
+old_off (is_remotes same) = name_off {x = codes "remotes.conf"} (ap top same) (text_apart (codes "remotes.conf") (codes "repo") refl) (text_apart (codes "remotes.conf") (codes "exports") refl)
+old_off (is_pins same) = name_off {x = codes "pins"} (ap top same) (text_apart (codes "pins") (codes "repo") refl) (text_apart (codes "pins") (codes "exports") refl)
+
+config_off : IsExportPlace config → ⊥
+config_off = name_off {x = codes "config"} refl (text_apart (codes "config") (codes "repo") refl) (text_apart (codes "config") (codes "exports") refl)
+
+-- ---- what is settled stays settled
+
+module _ (i j : Disk) (same : (p : Elements) → (IsExportPlace p → ⊥) → j p ≡ i p) where
+  seen_same : (name : Ref) → ref_seen j name ≡ ref_seen i name
+  seen_same name = ref_same i j name (λ good. (same (active name) (in_ref_off name (codes "active" ∷ [])), λ text at. same (deploy (text_dir name text)) (in_ref_off name (codes "deploy" ∷ (text ∷ [])))))
+
+  store_same : store repo j ≡ store repo i
+  store_same = λ k d kind. object_at kind (same (object_path repo d kind) (object_off d kind) k)
+
+  keeps_on : {name : Ref} {commit : List ℕ} → Keeps i name commit → Keeps j name commit
+  keeps_on k = record { row = k.row; shown = seen_same _ ∙ k.shown; of_row = k.of_row }
+
+  used_on : {d : List ℕ} {kind : ObjKind} → Used i d kind → Used j d kind
+  used_on u = record {
+    name = u.name;
+    commit = u.commit;
+    place = u.place;
+    kept = keeps_on u.kept;
+    inside = subst (λ have. In (order have u.commit) u.place) (sym store_same) u.inside;
+    digest_is = u.digest_is;
+    kind_is = u.kind_is;
+  }
+
+  still_there : (p : Elements) → (IsExportPlace p → ⊥) → j p ≢ gone → i p ≢ gone
+  still_there p off some none = some (same p off ∙ none)
+
+  settled_on : ((x : List ℕ) (rest : Elements) → j (rest ++ (x ∷ tmp)) ≡ i (rest ++ (x ∷ tmp))) → Settled i → Settled j
+  settled_on work s = record {
+    no_work = λ x rest. work x rest ∙ s.no_work x rest;
+    used = λ d kind digits some. used_on (s.used d kind digits (still_there (object_path repo d kind) (object_off d kind) some));
+    dirs = λ name commit good digits some. keeps_on (s.dirs name commit good digits (still_there (commit_dir name commit) (in_ref_off name (hex commit ∷ [])) some));
+    ref_files = λ name row is. subst (HasBytes (hex row.commit ++ 10 ∷ [])) (sym (same (ref_file row.origin name) (file_off row.origin name))) (s.ref_files name row (sym (seen_same name) ∙ is));
+    no_other = λ origin name remote good some. let h = s.no_other origin name remote good (still_there (ref_file origin name) (file_off origin name) some) in (h.0, seen_same name ∙ h.1, h.2);
+    no_old = λ some. let h = s.no_old (still_there config config_off some) in (same remotes_conf (old_off (is_remotes refl)) ∙ h.0, same pins_file (old_off (is_pins refl)) ∙ h.1);
+  }
+
+above_work : (x : List ℕ) (rest : Elements) → IsAbove tmp (rest ++ (x ∷ tmp))
+above_work x [] = inl refl
+above_work x (y ∷ rest) = inr (above_work x rest)
+
+settled_refreshed : {t : State} {v w : View} → IsTree v → IsTree w → Refreshes t v w → WasRefreshed t v w → Settled (shows v) → Settled (shows w)
+settled_refreshed {v = v} {w = w} tree next step was settled = settled_on (shows v) (shows w) same (λ x rest. same_shows tree next step.files (rest ++ (x ∷ tmp)) (was.work (rest ++ (x ∷ tmp)) (above_work x rest))) settled
+  where
+    same : (p : Elements) → (IsExportPlace p → ⊥) → shows w p ≡ shows v p
+    same p off = same_shows tree next step.files p (elim (step.names p) [ inl is ↦ is | inr may ↦ absurd (off (place_of may)) ])
+
+config_same : {t : State} {v w : View} → Refreshes t v w → w.names config ≡ v.names config
+config_same step = elim (step.names config) [ inl same ↦ same | inr may ↦ absurd (config_off (place_of may)) ]
+
+-- ---- what is exported stands
+
+exports_left : {t : State} {v w : View} → IsTree w → Opens t w → WasRefreshed t v w → LeavesExports w
+exports_left {t = t} {w = w} tree opens was disk left = subst HasExports (λ k q. (sym (one q)) k) (record { state = t; shown = opens.shown (shows w) (now_left w); are = was.exports_are })
+  where
+    one : (q : Elements) → disk q ≡ shows w q
+    one q = settled_disk w tree was.lasts disk left q ∙ sym (settled_disk w tree was.lasts (shows w) (now_left w) q)
+
+-- ---- the answer that was given
+
+module _ (a : Answer) (before t : State) {u v w : View} (at : Shows (shows u) before) (after : t ≡ after_all before (ops_of a)) (none : a.refusal ≡ None) (done : Completes a u v) (step : Refreshes t v w) (opens : IsSound u → Opens t w) where
+  just_left : IsSound u → (disk : Disk) → Leaves w disk → IsJust (ops_of a) u disk
+  just_left sound disk left = record {
+    shown = shown_after u before (ops_of a) disk at (subst (λ (z : State). Shows disk z) after ((opens sound).shown disk left));
+    sound = (opens sound).sound disk left;
+  }
+
+  runs_left : Runs a u v → Runs a u w
+  runs_left runs = record {
+    said = a.pieces;
+    so_far = before_last a (step.printed ∙ done.printed);
+    prefix = λ sound disk left. prefix_all a a.pieces refl (just_left sound disk left);
+    only_rests = λ idle s is. rest_on (runs.only_rests idle s is) (rest_refreshes none step);
+    untouched = λ at_once. absurd (subst IsAtOnce none at_once);
+  }
+
+  stands_left : Stands a u w
+  stands_left = record { said = a.pieces; so_far = before_last a (step.printed ∙ done.printed); just = just_left }
+
+  completes_left : IsTree v → IsTree w → WasRefreshed t v w → Completes a u w
+  completes_left tree next was = record {
+    printed = step.printed ∙ done.printed;
+    just = just_left;
+    shown = λ sound s is.
+        let one : before ≡ s = one_state (shows u) before s at is in
+        subst (λ (z : State). Shows (shows w) z) (after ∙ ap (λ (z : State). after_all z (ops_of a)) one) ((opens sound).shown (shows w) (now_left w));
+    tidied = λ sound why. settled_refreshed tree next step was (done.tidied sound why);
+    text = λ some s is. text_on (config_same step) step.files (done.text some s is);
+  }
+
+-- ---- over each answer that counts
+
+module _ (holds : Option Holdings) (May : Op → Type 0) (f : Holdings → World → Answer) (t : State) {u v w : View} (changed : Changed holds May f t u v) (step : Refreshes t v w) where
+  opened : (held : Holdings) → holds ≡ Some held → IsSound u → Opens t w
+  opened held is sound = step.opens (changed.opens (λ asks. (held, is)) sound)
+
+  runs_on : RunsOver holds May f u v → RunsOver holds May f u w
+  runs_on runs = record {
+    runs = λ ready held is shown counts.
+        let e = changed.ended.ended ready held is shown counts in
+        runs_left (over (f held) shown) changed.before t changed.at (changed.after ready held is shown counts) e.0 e.1 step (opened held is) (runs.runs ready held is shown counts);
+    changes = λ known. alter_on u v w (runs.changes known) (alter_refreshes step);
+    untouched = λ none. absurd (none changed.before changed.at);
+  }
+
+  ended_on : IsTree v → IsTree w → WasRefreshed t v w → EndedOver holds f (Ok tt) u w
+  ended_on tree next was = record {
+    ended = λ ready held is shown counts.
+        let e = changed.ended.ended ready held is shown counts in
+        (e.0, completes_left (over (f held) shown) changed.before t changed.at (changed.after ready held is shown counts) e.0 e.1 step (opened held is) tree next was);
+    given = λ held by. counts_shown (over (f held)) (shows u) changed.before changed.at;
+  }
+
+  -- the host failed, or there was no memory: all that was acknowledged stands
+  halted_on : (e : HostEnd) → EndedOver holds f (Err (end_of_host e)) u w
+  halted_on host.Fault = record { ended = λ ready held is shown counts. tt; given = λ held by. absurd by }
+  halted_on host.NoMemory = record {
+    ended = λ ready held is shown counts.
+        let e = changed.ended.ended ready held is shown counts in
+        stands_left (over (f held) shown) changed.before t changed.at (changed.after ready held is shown counts) e.0 e.1 step (opened held is);
+    given = λ held by. absurd by;
+  }
+
+-- ---- the refresh as the last part of a change
+
+module _ {a b c : Option Moments} (holds : Option Holdings) (May : Op → Type 0) (f : Holdings → World → Answer) (t : State) (known_b : IsTold b) (known_c : IsTold c)
+    (first : Goes a b (RunsOver holds May f) (Changed holds May f t)) (second : Always (Refreshes t) b c) where
+  in_trees : AtEnd (WasRefreshed t) b c → Goes b c (Refreshes t) (λ v w. IsTree w × (Refreshes t v w × WasRefreshed t v w))
+  in_trees end = ends_tree known_c (goes_known second end) (λ v w tree q. (tree, q))
+
+  pub goes_refreshed : AtEnd (WasRefreshed t) b c → Goes a c (RunsOver holds May f) (EndedOver holds f (Ok tt))
+  goes_refreshed end = goes_on known_b first (in_trees end) (λ u v w tree r q step. runs_on holds May f t q step r) (λ u v w tree r q step last. ended_on holds May f t q step tree last.0 last.1.1)
+
+  pub goes_not_refreshed : (e : HostEnd) (r : Result (Unit {0}) RunEnd) → IsErrAnd r (λ end. end ≡ end_of_host e) → Goes a c (RunsOver holds May f) (EndedOver holds f r)
+  goes_not_refreshed e r is = subst (λ (x : Result (Unit {0}) RunEnd). Goes a c (RunsOver holds May f) (EndedOver holds f x)) (sym (is_err r (end_of_host e) is))
+      (goes_on known_b first second (λ u v w tree q k step. runs_on holds May f t k step q) (λ u v w tree q k step last. halted_on holds May f t k step e))
+
+  pub exports_stand : IsTold a → AtEnd (WasRefreshed t) b c → AreToldFor May holds → AtEnd (λ u w. IsSound u → LeavesExports w) a c
+  exports_stand known_a end told = ends_on (ends_goes known_b (in_trees end)) (ends_goes known_a first) known_b
+      (λ u v w tree q last sound. exports_left last.0 (last.1.0.opens (q.opens told sound)) last.1.1)
+
+-- ---- the cause of its fault
+
+-- the end of a `?`
+fault_of : (e : HostEnd) → end_of_host e ≡ run.Fault → e ≡ host.Fault
+fault_of host.Fault same = refl
+fault_of host.NoMemory same = absurd (cc same)
+
+pub refresh_fault : {A : Type 0} (o : Result A HostEnd) (r : Result (Unit {0}) RunEnd) (e : HostEnd) → o ≡ Err e → IsErrAnd r (λ end. end ≡ end_of_host e) → IsErrOf r run.Fault → IsErrOf o host.Fault
+refresh_fault o r e was is fault = was ∙ ap (λ (x : HostEnd). Err x) (fault_of e (let both : Err (end_of_host e) ≡ Err run.Fault = sym (is_err r (end_of_host e) is) ∙ fault in cc both))
+
+-- and it is none of the remotes
+pub refresh_remote : (r : Result (Unit {0}) RunEnd) (e : HostEnd) → IsErrAnd r (λ end. end ≡ end_of_host e) → IsErrOf r run.RemoteFault → ⊥
+refresh_remote r e is fault = of_host e (let both : Err (end_of_host e) ≡ Err run.RemoteFault = sym (is_err r (end_of_host e) is) ∙ fault in cc both)
+  where
+    of_host : (e : HostEnd) → end_of_host e ≡ run.RemoteFault → ⊥
+    of_host host.Fault same = cc same
+    of_host host.NoMemory same = cc same
+
+pub caused_refresh : {a : Option Moments} {G : Type 0} (May : Op → Type 0) (f : Holdings → World → Answer) (s t : State) (o : Result (Unit {0}) HostEnd) {u w : Outside} (before now : ℕ) → before ≤ u.host_faults → AtEnd (IsOpened s) a u.told
+    → Acts (Opens s) May f s (Ok t) u w → IsCaused (IsErrOf o host.Fault) w.told (Opens t) w.host_faults now → (G → AreToldFor May u.holdings × IsErrOf o host.Fault) → IsCaused G a IsReady before now
+caused_refresh May f s t o {u = u} {w = w} before now later tells works cause passes = record {
+  later = omega (arith, later, works.host.later, cause.later);
+  fault = λ is m told ready.
+      let was = passes is in
+      let opened = tells.goes.told m told in
+      let changed = (works.opens was.0).goes.told opened.0 opened.1 in
+      Rose-later before w.host_faults now (omega (arith, later, works.host.later)) (cause.fault was.1 changed.0 changed.1 (changed.3 (opened.3.opens (ready_sound opened.3.shown ready))));
+}

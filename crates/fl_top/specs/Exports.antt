@@ -1,0 +1,61 @@
+-- What is exported: as it is listed, as it stands, and which names a run changes for it.
+use Rattle.std.specs.Prelude.{◌≡◌, ◌⊎◌, ℕ, List, None, flat_map}
+use Rattle.fp_host.specs.Paths.{Elements, Slot}
+use Rattle.fp_host.specs.View.{View}
+use Rattle.fp_host.specs.Outcome.{Disk, Leaves}
+use Rattle.fp_small.specs.Files.{KeepsFiles}
+use Rattle.fp_small.specs.Places.{repo}
+use Rattle.fp_small.specs.declared.op.Op.{Op}
+use Rattle.fp_small.specs.declared.state.State.{State}
+use Rattle.ost_model.specs.Objects.{store}
+use Rattle.dep_states.specs.Shown.{Shows}
+use Rattle.dep_tidy.specs.Tidy.{MayTidy}
+use Rattle.fl_export.specs.Exported.{exported}
+use Rattle.fl_export.specs.Placed.{ExportsAre}
+use Rattle.fl_export.specs.Steps.{MayRefresh}
+use Rattle.fl_export.specs.declared.rows.ExportRow.{ExportRow}
+use Rattle.fl_lines.specs.Lines.{export_line}
+use Rattle.fl_change.specs.Answer.{Answer}
+use Rattle.fl_change.specs.Changes.{MayHold}
+
+-- ---- what is listed
+
+-- the path of a row, and the ref that it is of
+abbrev pub row_line : ExportRow → List ℕ
+row_line row = export_line row.path row.name
+
+abbrev pub exports_text : List ExportRow → List ℕ
+exports_text rows = flat_map row_line rows
+
+-- ---- what stands
+
+-- The files and links at or below `exports` are exactly those that the applications of the state export that the image shows.
+pub record HasExports (disk : Disk) : Type 0 where
+  pub state : State
+  pub shown : Shows disk state
+  pub are : ExportsAre (exported (store repo disk) state) disk
+
+-- so it is at every stop
+abbrev pub LeavesExports : View → Type 0
+LeavesExports v = (disk : Disk) → Leaves v disk → HasExports disk
+
+-- ---- what changes
+
+-- Names may come to hold what these operations and tidying make of them, and what a refresh of the exported files does.
+pub data MayCome (May : Op → Type 0) (q : Elements) (e : Slot) : Type 0 where
+  changed : MayHold May q e → MayCome May q e
+  refreshed : MayRefresh q e → MayCome May q e
+
+-- Each name holds what it held, or what it may. Each file that was there keeps its mode and its bytes: what is new is in new
+-- files.
+pub record Alters (May : Op → Type 0) (u w : View) : Type 0 where
+  pub names : (q : Elements) → (w.names q ≡ u.names q) ⊎ MayCome May q (w.names q)
+  pub files : KeepsFiles u w
+
+-- Where nothing is done, names may come to hold what tidying makes of them; and where nothing is refused, what a refresh does.
+pub data MayRest (a : Answer) (s : State) (q : Elements) (e : Slot) : Type 0 where
+  tidied_at : MayTidy s q e → MayRest a s q e
+  refreshed_at : a.refusal ≡ None → MayRefresh q e → MayRest a s q e
+
+pub record OnlyRests (a : Answer) (s : State) (u w : View) : Type 0 where
+  pub names : (q : Elements) → (w.names q ≡ u.names q) ⊎ MayRest a s q (w.names q)
