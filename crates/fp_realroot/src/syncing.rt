@@ -1,4 +1,5 @@
 // Files and folders that are made to last.
+ghost use Rattle.std.specs.Prelude.{◌≡◌, ◌↔◌, IsTrue, IsNone, IfSome, IsSomeAnd, Some};
 ghost use Rattle.std.specs.Thread.{IsSync};
 
 use crate::files::open_to_read;
@@ -77,21 +78,36 @@ fn sync_parts<T: Threads + Sync, S: Syncer + Sync>(
 }
 
 // The first failure, but a sync that failed before all others: the system tells that once.
-fn gravest(first: Option<Failure>, second: Option<Failure>) -> Option<Failure> {
+fn gravest(first: Option<Failure>, second: Option<Failure>) -> Option<Failure>
+    ensures is_told { IfSome first (λ early. early.unsynced.call ≡ Call.Sync →
+        IsSomeAnd result (λ met. met.unsynced.call ≡ Call.Sync)) }
+    ensures is_told_late { IfSome second (λ late. late.unsynced.call ≡ Call.Sync →
+        IsSomeAnd result (λ met. met.unsynced.call ≡ Call.Sync)) }
+    ensures is_first { IfSome first (λ early.
+        (IsSomeAnd result (λ met. met.unsynced.call ≡ Call.Sync) → ⊥) → result ≡ Some early) }
+    ensures is_second { IsNone first → result ≡ second }
+{
     match first {
         Some(early) => Some(graver(early, second)),
         None => second,
     }
 }
 
-fn graver(early: Failure, second: Option<Failure>) -> Failure {
+fn graver(early: Failure, second: Option<Failure>) -> Failure
+    ensures is_told { early.unsynced.call ≡ Call.Sync → result.unsynced.call ≡ Call.Sync }
+    ensures is_told_late { IfSome second (λ late. late.unsynced.call ≡ Call.Sync →
+        result.unsynced.call ≡ Call.Sync) }
+    ensures is_first { (result.unsynced.call ≡ Call.Sync → ⊥) → result ≡ early }
+{
     match second {
         Some(late) if is_told_once(late) && !is_told_once(early) => late,
         _ => early,
     }
 }
 
-fn is_told_once(failure: Failure) -> bool {
+fn is_told_once(failure: Failure) -> bool
+    ensures { IsTrue result ↔ failure.unsynced.call ≡ Call.Sync }
+{
     failure.unsynced.call == Call::Sync
 }
 
