@@ -10,11 +10,12 @@ use crate::output::Output;
 use crate::tree::Tree;
 use fp_base::{Items, Text};
 use fp_host::{Host, HostError, Path, Stat};
-use fp_realroot::{Access, System};
+use fp_realroot::{Access, System, Team};
 use fp_system::{Call, Cause, Faults, SystemError};
 use std::alloc::{AllocError, Global};
 use std::marker::Model;
 use std::rt::Files;
+use std::thread::Threads;
 
 /// A folder of the system as a host, and where it prints.
 ///
@@ -34,19 +35,21 @@ use std::rt::Files;
 /// place of a folder above its path. Each folder is looked at once, and remembered until it is removed, and so is what the host
 /// made itself: what another program puts in its place later is followed, or not seen.
 ///
-/// A `sync` makes last each file and each folder that was changed since the last one. While changes wait for it, the lock file
-/// holds the text that Linux gives this start of the machine. Where an earlier run of the same start left that, or the root was
-/// there without a lock file, the first `sync` makes last every file and folder that may be opened. After a sync of a file or
-/// folder that failed no later one succeeds, nor after a change that there was no memory to note.
+/// A `sync` makes last each file and then each folder that was changed since the last one, many of them by several threads.
+/// While changes wait for it, the lock file holds the text that Linux gives this start of the machine. Where an earlier run of
+/// the same start left that, or the root was there without a lock file, the first `sync` makes last every file and folder that
+/// may be opened. After a sync of a file or folder that failed no later one succeeds, nor after a change that there was no
+/// memory to note.
 ///
 /// Contracts see how often it failed, whether nothing waits for a sync, and how many bytes were printed.
-pub struct HostDir<'a, R: Files, O> {
+pub struct HostDir<'a, R: Files, T, O> {
     tree: Tree<'a, R>,
+    team: Team<T>,
     output: Output<'a, O>,
     faults: Faults,
 }
 
-impl<'a, R: Files, O> Model for HostDir<'a, R, O> {
+impl<'a, R: Files, T, O> Model for HostDir<'a, R, T, O> {
     ghost use Rattle.fp_realhost.specs.Seen.{Seen};
 
     ghost Value = { Seen };
@@ -54,38 +57,41 @@ impl<'a, R: Files, O> Model for HostDir<'a, R, O> {
     ghost view = { λ h. record { faults = h.faults; is_settled = h.tree; printed = h.output } };
 }
 
-impl<R: Files, O> Drop for HostDir<'_, R, O> {
+impl<R: Files, T, O> Drop for HostDir<'_, R, T, O> {
     fn drop(self) {
         let HostDir {
             tree: _,
+            team: _,
             output: _,
             faults: _,
         } = self;
     }
 }
 
-impl<'a, R: System, O: Print> HostDir<'a, R, O> {
+impl<'a, R: System, T: Threads, O: Print> HostDir<'a, R, T, O> {
     /// The host over the folder of this name, which prints to this output; the empty name is the current folder. It asks
     /// nothing of the system yet.
     pub fn new(
         rt: &'a R,
+        threads: &T,
         out: &'a O,
         alloc: Global,
         root: &str,
         access: Access,
     ) -> Result<Self, AllocError>
-        ensures untold { IfOk result (λ h. ⟦<HostDir<'a, R, O> as Host>⟧.moments h ≡ None) }
-        ensures faults { IfOk result (λ h. ⟦<HostDir<'a, R, O> as Host>⟧.faults h ≡ 0) }
+        ensures untold { IfOk result (λ h. ⟦<HostDir<'a, R, T, O> as Host>⟧.moments h ≡ None) }
+        ensures faults { IfOk result (λ h. ⟦<HostDir<'a, R, T, O> as Host>⟧.faults h ≡ 0) }
     {
         Ok(HostDir {
             tree: Tree::new(rt, alloc, root, access)?,
+            team: Team::of(threads),
             output: Output::new(out),
             faults: Faults::none(),
         })
     }
 }
 
-impl<'a, R: Files, O> HostDir<'a, R, O> {
+impl<'a, R: Files, T, O> HostDir<'a, R, T, O> {
     /// How often a call has failed; the count stands still at 2^64 - 1.
     pub fn faults(&self) -> u64
         ensures { result ≡ self.now.faults }
@@ -111,7 +117,7 @@ impl<'a, R: Files, O> HostDir<'a, R, O> {
     }
 
     // The answer of a call on a path. Each error is a fault.
-    fn answer<T>(&mut self, call: Call, path: &Path, done: Result<T, Cause>) -> Result<T, HostError>
+    fn answer<A>(&mut self, call: Call, path: &Path, done: Result<A, Cause>) -> Result<A, HostError>
         ensures counts { Counts self.old.faults self.new.faults result }
         ensures needs_no_memory { NeedsNoMemory result }
         ensures same { IfOk result (λ t. done ≡ Ok t) }
@@ -126,12 +132,12 @@ impl<'a, R: Files, O> HostDir<'a, R, O> {
     }
 
     // The same of a call that may answer `NoMemory`.
-    fn answer_or_starve<T>(
+    fn answer_or_starve<A>(
         &mut self,
         call: Call,
         path: &Path,
-        done: Result<T, Cause>,
-    ) -> Result<T, HostError>
+        done: Result<A, Cause>,
+    ) -> Result<A, HostError>
         ensures counts { Counts self.old.faults self.new.faults result }
         ensures same { IfOk result (λ t. done ≡ Ok t) }
     {
@@ -143,7 +149,7 @@ impl<'a, R: Files, O> HostDir<'a, R, O> {
     }
 }
 
-impl<R: System, O> HostDir<'_, R, O> {
+impl<R: System, T, O> HostDir<'_, R, T, O> {
     // Changes what stands at the path.
     fn change(&mut self, call: Call, path: &Path, change: Change<'_>) -> Result<(), HostError>
         ensures counts { Counts self.old.faults self.new.faults result }
@@ -154,7 +160,7 @@ impl<R: System, O> HostDir<'_, R, O> {
     }
 }
 
-impl<R: System, O: Print> Host for HostDir<'_, R, O> {
+impl<R: System, T: Threads, O: Print> Host for HostDir<'_, R, T, O> {
     ghost use Rattle.std.specs.Prelude.{None};
     ghost use Rattle.std.proofs.lemmas.Option.{none-some};
 
@@ -262,7 +268,7 @@ impl<R: System, O: Print> Host for HostDir<'_, R, O> {
         ensures needs_no_memory { NeedsNoMemory result }
         ensures settled { OnOk result (self.new.is_settled ≡ true) }
     {
-        match self.tree.sync() {
+        match self.tree.sync(&self.team) {
             Ok(()) => Ok(()),
             Err(unsynced) => {
                 let refusal = self.tree.unsynced(unsynced);

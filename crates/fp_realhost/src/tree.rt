@@ -10,6 +10,7 @@ use std::alloc::{AllocError, Global};
 use std::marker::Model;
 use std::mem::swap;
 use std::rt::Files;
+use std::thread::Threads;
 
 // The calls of a host over a folder of the system. Contracts see whether nothing waits for a sync.
 pub struct Tree<'a, R: Files> {
@@ -159,19 +160,19 @@ impl<R: System> Tree<'_, R> {
 
 impl<R: System> Tree<'_, R> {
     // Makes all changes last, the first time also what an earlier run may have left.
-    pub fn sync(&mut self) -> Result<(), Unsynced>
+    pub fn sync<T: Threads + Sync>(&mut self, threads: &T) -> Result<(), Unsynced>
         ensures settled { OnOk result (self.new ≡ true) }
     {
         match self.catch_up() {
-            Ok(()) => self.sync_touched(),
+            Ok(()) => self.sync_touched(threads),
             Err(cause) => Err(unsynced_root(self.gate.root(), &mut self.at, cause)),
         }
     }
 
-    fn sync_touched(&mut self) -> Result<(), Unsynced>
+    fn sync_touched<T: Threads + Sync>(&mut self, threads: &T) -> Result<(), Unsynced>
         ensures settled { OnOk result (self.new ≡ true) }
     {
-        match self.notes.touched.sync(self.rt, &mut self.at) {
+        match self.notes.touched.sync(self.rt, threads, &mut self.at) {
             Ok(()) => cleared(self.gate.clear()),
             Err(e) => Err(e),
         }

@@ -1,10 +1,14 @@
 // Files and folders that are made to last.
+ghost use Rattle.std.specs.Prelude.{◌≡◌, ◌↔◌, IsTrue, IsNone, IfSome, IsSomeAnd, Some};
+ghost use Rattle.std.specs.Thread.{IsSync};
+
 use crate::files::open_to_read;
 use fp_system::{Call, Cause, known};
-use std::collections::BTreeSet;
+use std::fs;
 use std::fs::OpenFile;
 use std::io::ErrorKind;
 use std::rt::Files;
+use std::thread::{Threads, join};
 
 /// What could not be made to last, and why.
 #[derive(Clone, Copy)]
@@ -13,25 +17,146 @@ pub struct Unsynced {
     pub cause: Cause,
 }
 
-// Syncs files and folders of ours one after another, up to the first that fails. Its path is kept where there is memory. What may
-// not be opened is spared where others may own it.
-pub fn sync_each<R: Files>(
-    rt: &R,
-    paths: &BTreeSet<String>,
-    spares: bool,
-    refused: &mut String,
-) -> Result<(), Unsynced> {
-    for at in paths {
-        if let Some(met) = sync_at(rt, at.as_str(), spares) {
-            refused.clear();
-            let _kept = refused.push_str(at.as_str());
-            return Err(met);
-        }
-    }
-    Ok(())
+/// The same with the place of its path in a list.
+#[derive(Clone, Copy)]
+pub struct Failure {
+    pub place: usize,
+    pub unsynced: Unsynced,
 }
 
-fn sync_at<R: Files>(rt: &R, at: &str, spares: bool) -> Option<Unsynced> {
+// How many threads sync at one time. A disk takes many syncs together in about the time of one.
+const THREADS: usize = 8;
+
+// As many paths at least are cut in halves.
+const LEAST: usize = 32;
+
+// What makes the file or folder at a path last.
+pub trait Syncer {
+    fn sync_path(&self, at: &str) -> Option<Unsynced>;
+}
+
+impl Syncer for HostRuntime {
+    fn sync_path(&self, at: &str) -> Option<Unsynced> {
+        sync_plain(self, at)
+    }
+}
+
+// Syncs by several threads where there are many paths.
+pub fn sync_by_threads<T: Threads + Sync, S: Syncer + Sync>(
+    threads: &T,
+    syncer: &S,
+    paths: &[&str],
+) -> Option<Failure> {
+    sync_parts(threads, syncer, 0, paths, paths.len() / THREADS)
+}
+
+// Cuts the paths in halves, down to this length, and each half is synced by a thread of its own. The first path has this place
+// in the list.
+fn sync_parts<T: Threads + Sync, S: Syncer + Sync>(
+    threads: &T,
+    syncer: &S,
+    start: usize,
+    paths: &[&str],
+    most: usize,
+) -> Option<Failure> {
+    if paths.len() < LEAST || paths.len() <= most {
+        return sync_part(syncer, start, paths);
+    }
+    let half = paths.len() / 2;
+    let (front, back) = paths.split_at(half);
+    let next = start.saturating_add(half);
+    let (first, second) = join(
+        threads,
+        || -> Option<Failure>
+            requires { IsSync T.row × IsSync S.row }
+        { sync_parts(threads, syncer, start, front, most) },
+        || -> Option<Failure>
+            requires { IsSync T.row × IsSync S.row }
+        { sync_parts(threads, syncer, next, back, most) },
+    );
+    gravest(first, second)
+}
+
+// The first failure, but a sync that failed before all others: the system tells that once.
+fn gravest(first: Option<Failure>, second: Option<Failure>) -> Option<Failure>
+    ensures is_told { IfSome first (λ early. early.unsynced.call ≡ Call.Sync →
+        IsSomeAnd result (λ met. met.unsynced.call ≡ Call.Sync)) }
+    ensures is_told_late { IfSome second (λ late. late.unsynced.call ≡ Call.Sync →
+        IsSomeAnd result (λ met. met.unsynced.call ≡ Call.Sync)) }
+    ensures is_first { IfSome first (λ early.
+        (IsSomeAnd result (λ met. met.unsynced.call ≡ Call.Sync) → ⊥) → result ≡ Some early) }
+    ensures is_second { IsNone first → result ≡ second }
+{
+    match first {
+        Some(early) => Some(graver(early, second)),
+        None => second,
+    }
+}
+
+fn graver(early: Failure, second: Option<Failure>) -> Failure
+    ensures is_told { early.unsynced.call ≡ Call.Sync → result.unsynced.call ≡ Call.Sync }
+    ensures is_told_late { IfSome second (λ late. late.unsynced.call ≡ Call.Sync →
+        result.unsynced.call ≡ Call.Sync) }
+    ensures is_first { (result.unsynced.call ≡ Call.Sync → ⊥) → result ≡ early }
+{
+    match second {
+        Some(late) if is_told_once(late) && !is_told_once(early) => late,
+        _ => early,
+    }
+}
+
+fn is_told_once(failure: Failure) -> bool
+    ensures { IsTrue result ↔ failure.unsynced.call ≡ Call.Sync }
+{
+    failure.unsynced.call == Call::Sync
+}
+
+// Syncs one after another. The first path has this place in the list.
+fn sync_part<S: Syncer>(syncer: &S, start: usize, paths: &[&str]) -> Option<Failure> {
+    for (i, at) in paths.iter().enumerate() {
+        if let Some(unsynced) = syncer.sync_path(at) {
+            return Some(failure_at(start, i, unsynced));
+        }
+    }
+    None
+}
+
+/// Syncs files and folders one after another, as they may be opened, and answers the first that failed.
+pub fn sync_in_turn<R: Files>(rt: &R, paths: &[&str]) -> Option<Failure> {
+    for (i, at) in paths.iter().enumerate() {
+        if let Some(unsynced) = sync_plain(rt, at) {
+            return Some(failure_at(0, i, unsynced));
+        }
+    }
+    None
+}
+
+// The same of what is ours. What may not be opened is spared where others may own it.
+pub fn sync_own<R: Files>(rt: &R, start: usize, paths: &[&str], spares: bool) -> Option<Failure> {
+    for (i, at) in paths.iter().enumerate() {
+        if let Some(unsynced) = sync_at(rt, at, spares) {
+            return Some(failure_at(start, i, unsynced));
+        }
+    }
+    None
+}
+
+fn failure_at(start: usize, i: usize, unsynced: Unsynced) -> Failure {
+    Failure {
+        place: start.saturating_add(i),
+        unsynced,
+    }
+}
+
+fn sync_plain<R: Files>(rt: &R, at: &str) -> Option<Unsynced> {
+    match known(fs::open(rt, at)) {
+        Ok(opened) => sync_opened(&opened),
+        Err(cause) => not_opened(cause, false),
+    }
+}
+
+// A file or folder of ours, or of an earlier run.
+pub fn sync_at<R: Files>(rt: &R, at: &str, spares: bool) -> Option<Unsynced> {
     match open_to_read(rt, at) {
         Ok(opened) => sync_opened(&opened),
         Err(cause) => not_opened(cause, spares),
@@ -57,4 +182,10 @@ fn not_opened(cause: Cause, spares: bool) -> Option<Unsynced> {
         call: Call::Open,
         cause,
     })
+}
+
+// Whether the path may not be opened as it is.
+pub fn is_denied(failure: Failure) -> bool {
+    let Unsynced { call, cause } = failure.unsynced;
+    call == Call::Open && cause.is(ErrorKind::PermissionDenied)
 }

@@ -1,8 +1,12 @@
 // What the adapters need of a system beside what std names.
+ghost use Rattle.std.specs.Thread.{IsSync};
+
+use crate::syncing::{Failure, sync_by_threads};
 use std::fs::{File, TryLockError};
 use std::io;
 use std::io::IsTerminal;
 use std::rt::Files;
+use std::thread::Threads;
 
 /// What an installation is opened for.
 #[derive(Clone, Copy, PartialEq, Eq)]
@@ -21,6 +25,11 @@ pub trait System: Files + Eprint + AllocGlobal {
 
     /// Takes the lock of the open file, and waits while somebody else holds one that is in the way.
     fn lock(&self, file: &Self::File, access: Access) -> io::Result<()>;
+
+    /// Makes the files and folders at these paths last, as they may be opened, and answers the first that failed; but one whose
+    /// sync failed comes before one that could not be opened. What is gone is left out.
+    fn sync_paths<T: Threads + Sync>(&self, threads: &T, paths: &[&str]) -> Option<Failure>
+        requires sync { IsSync T.row };
 
     /// Whether the standard output is a terminal.
     fn prints_to_terminal(&self) -> bool;
@@ -44,6 +53,12 @@ impl System for HostRuntime {
             Access::Look => file.lock_shared(),
             Access::Change => file.lock(),
         }
+    }
+
+    fn sync_paths<T: Threads + Sync>(&self, threads: &T, paths: &[&str]) -> Option<Failure>
+        requires sync { IsSync T.row }
+    {
+        sync_by_threads(threads, self, paths)
     }
 
     fn prints_to_terminal(&self) -> bool {

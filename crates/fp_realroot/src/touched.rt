@@ -1,12 +1,14 @@
 // What was changed since the last sync.
 ghost use Rattle.std.specs.Prelude.{◌≡◌, Bool, true, OnOk};
 
-use crate::syncing::{Unsynced, sync_each};
+use crate::sets::sync_set;
+use crate::syncing::Unsynced;
+use crate::system::System;
 use fp_system::{Call, Cause, folder_of, note};
 use std::alloc::{AllocError, Global};
 use std::collections::BTreeSet;
 use std::marker::Model;
-use std::rt::Files;
+use std::thread::Threads;
 
 // The files that were created or written and the folders whose names changed since the last sync, by their paths. A
 // file stands here under each of its names. Where there is no memory to note a change, no later sync succeeds. Contracts
@@ -119,13 +121,18 @@ impl Touched {
     }
 
     /// Makes all of it last, the files before the folders. On an error it stays as it was, and the path is in the buffer.
-    pub fn sync<R: Files>(&mut self, rt: &R, at: &mut String) -> Result<(), Unsynced>
+    pub fn sync<R: System, T: Threads + Sync>(
+        &mut self,
+        rt: &R,
+        threads: &T,
+        at: &mut String,
+    ) -> Result<(), Unsynced>
         ensures settled { OnOk result (self.new ≡ true) }
     {
         if self.is_settled {
             return Ok(());
         }
-        match self.sync_all(rt, at) {
+        match self.sync_all(rt, threads, at) {
             Ok(()) => {
                 self.settle();
                 Ok(())
@@ -146,7 +153,12 @@ impl Touched {
         self.is_settled = true;
     }
 
-    fn sync_all<R: Files>(&self, rt: &R, at: &mut String) -> Result<(), Unsynced> {
+    fn sync_all<R: System, T: Threads + Sync>(
+        &self,
+        rt: &R,
+        threads: &T,
+        at: &mut String,
+    ) -> Result<(), Unsynced> {
         if self.is_lost {
             at.clear();
             return Err(Unsynced {
@@ -154,8 +166,8 @@ impl Touched {
                 cause: Cause::MayBeLost,
             });
         }
-        sync_each(rt, &self.left, true, at)?;
-        sync_each(rt, &self.files, false, at)?;
-        sync_each(rt, &self.folders, false, at)
+        sync_set(rt, threads, self.alloc, &self.left, true, at)?;
+        sync_set(rt, threads, self.alloc, &self.files, false, at)?;
+        sync_set(rt, threads, self.alloc, &self.folders, false, at)
     }
 }

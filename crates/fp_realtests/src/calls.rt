@@ -34,7 +34,7 @@ const ASKED: [(Step<'static>, &str, &str); 22] = [
 
 // Whether each row shows what it says, and nothing failed.
 fn asked<R: Runtime>(rt: &R) -> Result<bool, Fail> {
-    let mut host = HostDir::new(rt, rt, rt.alloc(), "asked/root", Access::Change)?;
+    let mut host = HostDir::new(rt, rt, rt, rt.alloc(), "asked/root", Access::Change)?;
     let other = first_other(&mut host, rt.alloc(), &ASKED)?;
     Ok(other.is_none() && host.faults() == 0)
 }
@@ -90,7 +90,7 @@ const REFUSED: [Step<'static>; 28] = [
 
 // Whether each row shows what it says, and each call is a fault.
 fn refuse<R: Runtime>(rt: &R) -> Result<bool, Fail> {
-    let mut host = HostDir::new(rt, rt, rt.alloc(), "refused", Access::Change)?;
+    let mut host = HostDir::new(rt, rt, rt, rt.alloc(), "refused", Access::Change)?;
     let other = first_other(&mut host, rt.alloc(), &MADE)?;
     let done = first_done(&mut host, rt.alloc(), &REFUSED);
     let last = "cannot read the link refused/old: Invalid argument (os error 22)";
@@ -107,7 +107,7 @@ fn what_breaks_a_condition_is_a_fault(rt: HostRuntime) -> Result<(), Fail> {
 }
 
 fn is_in_the_way<R: Runtime>(rt: &R) -> Result<bool, Fail> {
-    let mut host = HostDir::new(rt, rt, rt.alloc(), "above/file/root", Access::Look)?;
+    let mut host = HostDir::new(rt, rt, rt, rt.alloc(), "above/file/root", Access::Look)?;
     let failed = host.stat(&Path::root(rt.alloc())) == Err(HostError::Failed);
     let last = "cannot use the folder above/file/root: Not a directory (os error 20)";
     Ok(failed && is_message(rt.alloc(), host.last_error(), last)?)
@@ -140,7 +140,7 @@ fn are_same<H: Host>(host: &mut H, alloc: Global, a: &str, b: &str) -> Result<bo
 // Whether each row shows what it says, and the linked names are one file, and the others not.
 fn linked<R: Runtime>(rt: &R) -> Result<bool, Fail> {
     let alloc = rt.alloc();
-    let mut host = HostDir::new(rt, rt, alloc, "ids", Access::Change)?;
+    let mut host = HostDir::new(rt, rt, rt, alloc, "ids", Access::Change)?;
     let other = first_other(&mut host, alloc, &IDS)?;
     let linked = are_same(&mut host, alloc, "a", "c")?;
     Ok(other.is_none() && linked && !are_same(&mut host, alloc, "a", "b")?)
@@ -176,7 +176,7 @@ fn first_other_piece<H: Host>(host: &mut H, file: &Path) -> Result<Option<u64>, 
 }
 
 fn pieces<R: Runtime>(rt: &R) -> Result<Option<u64>, Fail> {
-    let mut host = HostDir::new(rt, rt, rt.alloc(), "pieces", Access::Look)?;
+    let mut host = HostDir::new(rt, rt, rt, rt.alloc(), "pieces", Access::Look)?;
     let file = path(rt.alloc(), "file")?;
     Ok(first_other_piece(&mut host, &file)?)
 }

@@ -5,12 +5,13 @@ use fp_system::SystemError;
 use std::alloc::Global;
 use std::rt::Files;
 use std::test::Fail;
+use std::thread::Threads;
 use std::{fs, io};
 
 // What a host over a folder needs of a system.
-pub trait Runtime: System + Print {}
+pub trait Runtime: System + Print + Threads + Sync {}
 
-impl<R: System + Print> Runtime for R {}
+impl<R: System + Print + Threads + Sync> Runtime for R {}
 
 // A call, on paths of one element or two.
 #[derive(Clone, Copy)]

@@ -17,7 +17,7 @@ fn is_free<R: Runtime>(rt: &R, at: &str, access: Access) -> Result<bool, Fail> {
 
 // Whether others could look, and change, after this call of a host, while the host is there.
 fn are_free<R: Runtime>(rt: &R, access: Access, step: Step<'_>) -> Result<(bool, bool), Fail> {
-    let mut host = HostDir::new(rt, rt, rt.alloc(), "held", access)?;
+    let mut host = HostDir::new(rt, rt, rt, rt.alloc(), "held", access)?;
     change(&mut host, rt.alloc(), step)?;
     let looks = is_free(rt, "held/.lock", Access::Look)?;
     Ok((looks, is_free(rt, "held/.lock", Access::Change)?))
@@ -77,7 +77,7 @@ const CHANGES: [Step<'static>; 6] = [
 
 // Whether each change is refused, and the last one says why.
 fn refused<R: Runtime>(rt: &R) -> Result<bool, Fail> {
-    let mut host = HostDir::new(rt, rt, rt.alloc(), "looked/root", Access::Look)?;
+    let mut host = HostDir::new(rt, rt, rt, rt.alloc(), "looked/root", Access::Look)?;
     let done = first_done(&mut host, rt.alloc(), &CHANGES);
     let last = "cannot remove the folder looked/root/d: it was opened only to be looked at";
     Ok(done.is_none() && is_message(rt.alloc(), host.last_error(), last)?)
@@ -95,7 +95,7 @@ fn a_look_makes_nothing(rt: HostRuntime) -> Result<(), Fail> {
 // Whether a call of a host that waits notes just this.
 fn notes<R: Runtime>(log: &Log<'_, R>, access: Access, want: &str) -> Result<bool, Fail> {
     let system = Logged { log };
-    let mut host = HostDir::new(&system, &system, log.rt.alloc(), "busy", access)?;
+    let mut host = HostDir::new(&system, log.rt, &system, log.rt.alloc(), "busy", access)?;
     look_twice(&mut host, log.rt.alloc())?;
     Ok(log.lines()?.as_str() == want)
 }

@@ -50,7 +50,7 @@ const SWAPPED: [Step<'static>; 6] = [
 
 // Whether no call follows the symlink, and each is a fault.
 fn followed<R: Runtime>(rt: &R) -> Result<bool, Fail> {
-    let mut host = HostDir::new(rt, rt, rt.alloc(), "links/way", Access::Change)?;
+    let mut host = HostDir::new(rt, rt, rt, rt.alloc(), "links/way", Access::Change)?;
     let done = first_done(&mut host, rt.alloc(), &BELOW);
     let faults = host.faults();
     let last = "cannot remove the folder links/way/repo/tmp: a symlink is in the place of a folder";
@@ -116,7 +116,7 @@ const READS: [Step<'static>; 4] = [
 
 #[test]
 fn reading_makes_nothing(rt: HostRuntime) -> Result<(), Fail> {
-    let mut host = HostDir::new(&rt, &rt, rt.alloc(), "unmade/root", Access::Look)?;
+    let mut host = HostDir::new(&rt, &rt, &rt, rt.alloc(), "unmade/root", Access::Look)?;
     change_all(&mut host, rt.alloc(), &READS)?;
     assert!(rt; !fs::exists(&rt, "unmade")?);
     Ok(())

@@ -1,12 +1,13 @@
 // A system that notes what it is asked to change, in order, as the lines of a file.
 use crate::fixture::Runtime;
-use fp_realroot::{Access, System};
+use fp_realroot::{Access, Failure, System, sync_in_turn};
 use std::alloc::{Alloc, Allocator, Global};
 use std::fmt::Display;
 use std::fs::{FileTimes, Metadata, OpenFile, OpenOptions, Permissions};
 use std::io::{Eprint, Print, Read, Seek, SeekFrom, Write};
 use std::path::PathBuf;
 use std::rt::Files;
+use std::thread::Threads;
 use std::{fs, io};
 
 // The file, and what is other than in the system below it.
@@ -84,8 +85,6 @@ impl<'a, R: Files + AllocGlobal> Log<'a, R> {
         }
         Ok(())
     }
-
-    // Several threads may add a line.
 
     fn add(&self, line: &str) -> io::Result<()> {
         let mut file = OpenOptions::new()
@@ -315,6 +314,10 @@ impl<R: Runtime> System for Logged<'_, R> {
     fn lock(&self, file: &Self::File, access: Access) -> io::Result<()> {
         self.log.note("wait for", &file.at)?;
         self.log.rt.lock(&file.file, access)
+    }
+
+    fn sync_paths<T: Threads + Sync>(&self, _threads: &T, paths: &[&str]) -> Option<Failure> {
+        sync_in_turn(self, paths)
     }
 
     fn prints_to_terminal(&self) -> bool {

@@ -106,7 +106,7 @@ fn first_other<R: Runtime>(
     rows: &[(Step<'_>, &str)],
 ) -> Result<Option<usize>, Fail> {
     let system = Logged { log };
-    let mut host = HostDir::new(&system, &system, log.rt.alloc(), root, access)?;
+    let mut host = HostDir::new(&system, log.rt, &system, log.rt.alloc(), root, access)?;
     Ok(first_call_asked_otherwise(log, &mut host, rows))
 }
 
@@ -157,7 +157,14 @@ fn is_met<R: Runtime>(rt: &R, row: &(&'static str, usize, bool)) -> Result<bool,
     clear(rt, "fails");
     let log = Log::new(rt, "fails.log", fails);
     let system = Logged { log: &log };
-    let mut host = HostDir::new(&system, &system, rt.alloc(), "fails/root", Access::Change)?;
+    let mut host = HostDir::new(
+        &system,
+        rt,
+        &system,
+        rt.alloc(),
+        "fails/root",
+        Access::Change,
+    )?;
     let failure = first_failure(rt, &mut host);
     let synced = host.sync().is_ok();
     clear(rt, "fails");
@@ -296,7 +303,14 @@ fn make_many<H: Host>(host: &mut H, alloc: Global, count: u32) -> Result<(), Fai
 // The files of so many that a sync makes last, and whether it succeeds.
 fn synced<R: Runtime>(log: &Log<'_, R>, root: &str, count: u32) -> Result<(usize, bool), Fail> {
     let system = Logged { log };
-    let mut host = HostDir::new(&system, &system, log.rt.alloc(), root, Access::Change)?;
+    let mut host = HostDir::new(
+        &system,
+        log.rt,
+        &system,
+        log.rt.alloc(),
+        root,
+        Access::Change,
+    )?;
     make_many(&mut host, log.rt.alloc(), count)?;
     log.lines()?;
     let done = host.sync().is_ok();

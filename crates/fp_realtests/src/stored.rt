@@ -19,7 +19,7 @@ const STORED: [Step<'static>; 8] = [
 ];
 
 fn store<R: Runtime>(rt: &R) -> Result<(), HostEnd> {
-    let mut host = HostDir::new(rt, rt, rt.alloc(), "stored", Access::Change)?;
+    let mut host = HostDir::new(rt, rt, rt, rt.alloc(), "stored", Access::Change)?;
     for step in &STORED {
         change(&mut host, rt.alloc(), *step)?;
     }

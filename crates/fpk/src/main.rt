@@ -125,7 +125,7 @@ fn run_on(
         return out_of_memory(rt);
     };
     let screen = Screen::new(rt, alloc, rt.prints_to_terminal());
-    match HostDir::new(rt, &screen, alloc, folder, access) {
+    match HostDir::new(rt, rt, &screen, alloc, folder, access) {
         Ok(mut host) => run_over(rt, alloc, &mut host, words),
         Err(_) => out_of_memory(rt),
     }
@@ -135,7 +135,7 @@ fn run_on(
 fn run_over<R: System + Input + Threads + Sync, O: Print>(
     rt: &R,
     alloc: Global,
-    host: &mut HostDir<'_, R, O>,
+    host: &mut HostDir<'_, R, R, O>,
     words: &[String],
 ) -> u8 {
     let mut remotes = DirRemotes::new(rt, alloc);

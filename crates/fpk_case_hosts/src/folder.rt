@@ -56,9 +56,9 @@ fn own_folder<R: System>(rt: &R, alloc: Global) -> io::Result<String> {
 pub struct FolderStage<'a, 'b, R: Files> {
     alloc: Global,
     capture: &'b Capture<'a, R>,
-    host: HostDir<'b, R, Capture<'a, R>>,
+    host: HostDir<'b, Capture<'a, R>, R, Capture<'a, R>>,
     /// The folder in which the remotes are.
-    around: HostDir<'b, R, Capture<'a, R>>,
+    around: HostDir<'b, Capture<'a, R>, R, Capture<'a, R>>,
     remotes: OwnRemotes<'a, R>,
 }
 
@@ -75,12 +75,12 @@ impl<R: Files> Drop for FolderStage<'_, '_, R> {
 }
 
 impl<'a, 'b, R: System> FolderStage<'a, 'b, R> {
-    /// A new installation in the folder. What is printed is kept.
+    /// A new installation in the folder. What is printed is kept, and nothing waits for the disk.
     pub fn new(rt: &'a R, alloc: Global, capture: &'b Capture<'a, R>) -> io::Result<Self> {
         let folder = own_folder(rt, alloc)?;
         let remotes = OwnRemotes::new(rt, alloc, folder);
-        let host = HostDir::new(rt, capture, alloc, INSTALLATION, Access::Change)?;
-        let around = HostDir::new(rt, capture, alloc, FOLDER, Access::Change)?;
+        let host = HostDir::new(capture, rt, capture, alloc, INSTALLATION, Access::Change)?;
+        let around = HostDir::new(capture, rt, capture, alloc, FOLDER, Access::Change)?;
         Ok(FolderStage {
             alloc,
             capture,

@@ -1,12 +1,16 @@
 //! A system whose output is kept, and whose files are never made last.
+ghost use Rattle.std.specs.Thread.{IsSync};
+
 use crate::unsynced::Unsynced;
+use fp_realroot::{Access, Failure};
 use std::alloc::{Allocator, Global};
 use std::cell::RefCell;
 use std::fmt::Display;
 use std::fs::{Metadata, OpenOptions, Permissions};
-use std::io;
+use std::io::{self, Eprint};
 use std::path::PathBuf;
 use std::rt::Files;
+use std::thread::Threads;
 
 /// The files of a system, and what is printed in place of its output.
 pub struct Capture<'a, R> {
@@ -138,5 +142,34 @@ impl<R: Files> Files for Capture<'_, R> {
 
     fn create_dir_with_mode(&self, path: &str, mode: u32) -> io::Result<()> {
         self.rt.create_dir_with_mode(path, mode)
+    }
+}
+
+impl<R: Eprint> Eprint for Capture<'_, R> {
+    fn eprint<D: Display + Drop>(&self, value: D) -> io::Result<()> {
+        self.rt.eprint(value)
+    }
+
+    fn eprintln<D: Display + Drop>(&self, value: D) -> io::Result<()> {
+        self.rt.eprintln(value)
+    }
+}
+
+impl<R: fp_realroot::System> fp_realroot::System for Capture<'_, R> {
+    fn try_lock(&self, file: &Unsynced<R::File>, access: Access) -> io::Result<bool> {
+        self.rt.try_lock(file.inner(), access)
+    }
+
+    fn lock(&self, file: &Unsynced<R::File>, access: Access) -> io::Result<()> {
+        self.rt.lock(file.inner(), access)
+    }
+
+    /// Nothing is made last.
+    fn sync_paths<T: Threads + Sync>(&self, _threads: &T, _paths: &[&str]) -> Option<Failure> {
+        None
+    }
+
+    fn prints_to_terminal(&self) -> bool {
+        false
     }
 }

@@ -13,6 +13,10 @@ impl<F> Unsynced<F> {
     pub fn new(file: F) -> Self {
         Unsynced { file }
     }
+
+    pub fn inner(&self) -> &F {
+        &self.file
+    }
 }
 
 impl<F: Read> Read for Unsynced<F> {
