@@ -55,7 +55,10 @@ const BAD: &[(&[u8], u64)] = &[
     (b"timestamp 0\nsubject s\nlink a \n", 3),
     (b"timestamp 0\nsubject s\ndir a\nlink a x\nbad\n", 4),
     (b"timestamp 0\nsubject s\ndir a\nbad\nlink a x\n", 4),
-    (b"timestamp 0\nsubject s\ndir a\ndir a\nlink b x\ndir b/c\n", 6),
+    (
+        b"timestamp 0\nsubject s\ndir a\ndir a\nlink b x\ndir b/c\n",
+        6,
+    ),
 ];
 
 /// The place of the first description that isn't refused at its line.
