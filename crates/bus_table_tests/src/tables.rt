@@ -100,14 +100,20 @@ fn opened(alloc: Global) -> Result<Filter, Fail> {
     Ok(Filter::new(alloc, policy, None, &owners)?)
 }
 
+/// Whether all calls go on where none is answered yet, then all returns, and nothing is left.
+fn calls_and_returns_pass(alloc: Global, filter: &mut Filter) -> Result<bool, Fail> {
+    Ok(all_pass(alloc, filter, &CALL)? && all_pass(alloc, filter, &RETURN)? && filter.end().is_ok())
+}
+
+/// Whether a filter at its opening takes many calls, and then their returns.
+fn many_wait(alloc: Global) -> Result<bool, Fail> {
+    let mut filter = opened(alloc)?;
+    calls_and_returns_pass(alloc, &mut filter)
+}
+
 /// The time grows with the number of messages, and not with that of the calls that wait besides.
 #[test]
 fn many_calls_wait(rt: HostRuntime) -> Result<(), Fail> {
-    let mut filter = opened(rt.alloc())?;
-    assert!(rt;
-        all_pass(rt.alloc(), &mut filter, &CALL)?
-            && all_pass(rt.alloc(), &mut filter, &RETURN)?
-            && filter.end().is_ok()
-    );
+    assert!(rt; many_wait(rt.alloc())?);
     Ok(())
 }
