@@ -34,7 +34,7 @@ struct Ends {
     destination: Option<Text>,
 }
 
-fn ends(alloc: Global, step: &str) -> Result<Ends, AllocError> {
+fn ends_of(alloc: Global, step: &str) -> Result<Ends, AllocError> {
     Ok(Ends {
         sender: text(alloc, step, 5)?,
         destination: text(alloc, step, 6)?,
@@ -49,7 +49,7 @@ struct Subject {
     signature: Option<Text>,
 }
 
-fn subject(alloc: Global, step: &str) -> Result<Subject, AllocError> {
+fn subject_of(alloc: Global, step: &str) -> Result<Subject, AllocError> {
     Ok(Subject {
         interface: text(alloc, step, 7)?,
         member: text(alloc, step, 8)?,
@@ -60,8 +60,8 @@ fn subject(alloc: Global, step: &str) -> Result<Subject, AllocError> {
 /// The header of a step with a body of so many bytes.
 fn header(alloc: Global, step: &str, body_len: u64) -> Result<Header, AllocError> {
     let path = Text::from_str(alloc, "/x/y")?;
-    let subject = subject(alloc, step)?;
-    let ends = ends(alloc, step)?;
+    let subject = subject_of(alloc, step)?;
+    let ends = ends_of(alloc, step)?;
     Ok(Header {
         little: true,
         kind: MessageType::from_code(u8::try_from(number(step, 1)).unwrap_or(0)),
