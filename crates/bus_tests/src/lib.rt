@@ -13,3 +13,5 @@ mod proxy;
 mod rules;
 #[cfg(test)]
 mod stream;
+#[cfg(test)]
+mod told;

@@ -1,87 +1,137 @@
 //! Worked policies: levels of names, and what becomes of messages one after another.
 
+use crate::told::word_at;
 use bus_frame::{Flags, Header, MessageType};
 use bus_policy::{Level, Policy, PolicyError, RuleKind, Verdict, Watch};
 use fp_base::{Items, Side, Text};
 use std::alloc::{AllocError, Global};
 use std::test::Fail;
 
-fn some_text(alloc: Global, text: &str) -> Result<Option<Text>, AllocError> {
-    if text.is_empty() {
-        return Ok(None);
+/// A step is a message and what becomes of it, as words: its side, type, flags, serial, the serial that it replies to, sender,
+/// destination, interface, member, signature, body in hexadecimal, and the verdict. Where `-` stands there is none.
+///
+/// The word of a step at this place, or nothing for `-`.
+fn word<'a>(step: &'a str, at: usize) -> Option<&'a str> {
+    let word = word_at(step, at);
+    if word == "-" { None } else { Some(word) }
+}
+
+fn text(alloc: Global, step: &str, at: usize) -> Result<Option<Text>, AllocError> {
+    match word(step, at) {
+        Some(word) => Ok(Some(Text::from_str(alloc, word)?)),
+        None => Ok(None),
     }
-    Ok(Some(Text::from_str(alloc, text)?))
 }
 
-/// A message, and what becomes of it. Empty texts and a reply serial of 0 aren't there.
+fn number(step: &str, at: usize) -> u32 {
+    word_at(step, at).parse::<u32>().unwrap_or(0)
+}
+
+/// Between whom a message goes.
 #[derive(Drop)]
-struct Step {
-    side: Side,
-    kind: u8,
-    flags: u8,
-    serial: u32,
-    reply: u32,
-    sender: &'static str,
-    destination: &'static str,
-    interface: &'static str,
-    member: &'static str,
-    signature: &'static str,
-    body: &'static str,
-    wanted: Verdict,
+struct Ends {
+    sender: Option<Text>,
+    destination: Option<Text>,
 }
 
-/// A call of the client that is forwarded.
-const STEP: Step = Step {
-    side: Side::Client,
-    kind: 1,
-    flags: 0,
-    serial: 1,
-    reply: 0,
-    sender: "",
-    destination: "",
-    interface: "",
-    member: "M",
-    signature: "",
-    body: "",
-    wanted: Verdict::Pass,
-};
-
-fn header(alloc: Global, step: &Step) -> Result<Header, AllocError> {
-    Ok(Header {
-        little: true,
-        kind: MessageType::from_code(step.kind),
-        flags: Flags { bits: step.flags },
-        serial: step.serial,
-        path: some_text(alloc, "/x/y")?,
-        interface: some_text(alloc, step.interface)?,
-        member: some_text(alloc, step.member)?,
-        error_name: None,
-        reply_serial: if step.reply == 0 {
-            None
-        } else {
-            Some(step.reply)
-        },
-        destination: some_text(alloc, step.destination)?,
-        sender: some_text(alloc, step.sender)?,
-        signature: some_text(alloc, step.signature)?,
-        body_at: 0,
-        body_len: step.body.len() as u64,
+fn ends_of(alloc: Global, step: &str) -> Result<Ends, AllocError> {
+    Ok(Ends {
+        sender: text(alloc, step, 5)?,
+        destination: text(alloc, step, 6)?,
     })
 }
 
-/// How many steps go as they are to.
-fn count_steps(alloc: Global, watch: &mut Watch, steps: &[Step]) -> Result<usize, Fail> {
-    let mut right = 0usize;
-    for step in steps {
-        let header = header(alloc, step)?;
-        let message = step.body.as_bytes();
-        let verdict = watch.verdict(step.side, &header, message);
-        watch.note(step.side, &header, message, verdict)?;
-        if verdict == step.wanted {
-            right = right.saturating_add(1);
+/// What a message is about, and the types of its body.
+#[derive(Drop)]
+struct Subject {
+    interface: Option<Text>,
+    member: Option<Text>,
+    signature: Option<Text>,
+}
+
+fn subject_of(alloc: Global, step: &str) -> Result<Subject, AllocError> {
+    Ok(Subject {
+        interface: text(alloc, step, 7)?,
+        member: text(alloc, step, 8)?,
+        signature: text(alloc, step, 9)?,
+    })
+}
+
+/// The header of a step with a body of so many bytes.
+fn header(alloc: Global, step: &str, body_len: u64) -> Result<Header, AllocError> {
+    let path = Text::from_str(alloc, "/x/y")?;
+    let subject = subject_of(alloc, step)?;
+    let ends = ends_of(alloc, step)?;
+    Ok(Header {
+        little: true,
+        kind: MessageType::from_code(u8::try_from(number(step, 1)).unwrap_or(0)),
+        flags: Flags {
+            bits: u8::try_from(number(step, 2)).unwrap_or(0),
+        },
+        serial: number(step, 3),
+        path: Some(path),
+        interface: subject.interface,
+        member: subject.member,
+        error_name: None,
+        reply_serial: word(step, 4).map(|_| number(step, 4)),
+        destination: ends.destination,
+        sender: ends.sender,
+        signature: subject.signature,
+        body_at: 0,
+        body_len,
+    })
+}
+
+fn side(step: &str) -> Side {
+    if step.starts_with("c") {
+        Side::Client
+    } else {
+        Side::Bus
+    }
+}
+
+/// The last word of a step of this verdict.
+fn verdict_word(verdict: Verdict) -> &'static str {
+    match verdict {
+        Verdict::Pass => "Pass",
+        Verdict::FilterNameList => "FilterNameList",
+        Verdict::Deny => "Deny",
+        Verdict::Hide => "Hide",
+        Verdict::Drop => "Drop",
+    }
+}
+
+/// Notes a message of a step, and whether it goes as it is to.
+fn goes_so(
+    watch: &mut Watch,
+    step: &str,
+    header: &Header,
+    body: &[u8],
+) -> Result<bool, AllocError> {
+    let verdict = watch.verdict(side(step), header, body);
+    watch.note(side(step), header, body, verdict)?;
+    Ok(word_at(step, 11) == verdict_word(verdict))
+}
+
+/// Notes a step, and whether it goes as it is to.
+fn goes(alloc: Global, watch: &mut Watch, step: &str) -> Result<bool, Fail> {
+    let body = hex::decode(alloc, word(step, 10).unwrap_or(""))?;
+    let header = header(alloc, step, body.len() as u64)?;
+    Ok(goes_so(watch, step, &header, &body)?)
+}
+
+/// The first of the steps that goes otherwise.
+fn first_other_step<'a>(
+    alloc: Global,
+    watch: &mut Watch,
+    steps: &'a str,
+) -> Result<Option<&'a str>, Fail> {
+    for step in steps.lines() {
+        if !goes(alloc, watch, step)? {
+            return Ok(Some(step));
         }
     }
-    Ok(right)
+    Ok(None)
 }
 
 /// Names that are open at a level, and rules for calls and broadcasts.
@@ -145,10 +195,18 @@ fn first_other_level<'a>(watch: &Watch, names: &'a [(&'a str, Level)]) -> Option
     None
 }
 
+/// The first of the names that is at another level at the opening.
+fn first_other_at_opening<'a>(
+    alloc: Global,
+    names: &'a [(&'a str, Level)],
+) -> Result<Option<&'a str>, Fail> {
+    let watch = watch(alloc)?;
+    Ok(first_other_level(&watch, names))
+}
+
 #[test]
 fn levels(rt: HostRuntime) -> Result<(), Fail> {
-    let watch = watch(rt.alloc())?;
-    assert_eq!(rt; first_other_level(&watch, &NAMES), None);
+    assert_eq!(rt; first_other_at_opening(rt.alloc(), &NAMES)?, None);
     Ok(())
 }
 
@@ -172,541 +230,117 @@ fn first_good<'a>(policy: &mut Policy, alloc: Global, patterns: &'a [&'a str]) -
     None
 }
 
+/// Whether nothing is added at these patterns, or with a bad rule, and a level at a good pattern after that.
+fn bad_are_refused(alloc: Global, policy: &mut Policy) -> Result<bool, Fail> {
+    let are_refused = first_good(policy, alloc, &BAD_PATTERNS).is_none()
+        && is_bad(policy, alloc, "org.*", "a.b")
+        && policy.rules().len() == 6;
+    policy.add(alloc, "org.*", Level::See)?;
+    Ok(are_refused && policy.rules().len() == 7)
+}
+
 #[test]
 fn bad_rules(rt: HostRuntime) -> Result<(), Fail> {
     let mut policy = policy(rt.alloc())?;
-    assert_eq!(rt; first_good(&mut policy, rt.alloc(), &BAD_PATTERNS), None);
-    assert!(rt; is_bad(&mut policy, rt.alloc(), "org.*", "a.b") && policy.rules().len() == 6);
-    policy.add(rt.alloc(), "org.*", Level::See)?;
-    assert!(rt; policy.rules().len() == 7);
+    assert!(rt; bad_are_refused(rt.alloc(), &mut policy)?);
     Ok(())
 }
 
 /// Calls of the client: to a name at talk, see, none; without a reply; by a rule and past it; to the client itself.
-const CALLS: [Step; 13] = [
-    Step {
-        destination: "org.foo.x",
-        ..STEP
-    },
-    Step {
-        destination: "org.bar",
-        wanted: Verdict::Deny,
-        ..STEP
-    },
-    Step {
-        destination: "org.none",
-        wanted: Verdict::Hide,
-        ..STEP
-    },
-    Step {
-        flags: 1,
-        destination: "org.none",
-        wanted: Verdict::Drop,
-        ..STEP
-    },
-    Step {
-        destination: "org.ruled.a",
-        interface: "a.b",
-        member: "C",
-        ..STEP
-    },
-    Step {
-        destination: "org.ruled.a",
-        interface: "a.b",
-        member: "D",
-        wanted: Verdict::Deny,
-        ..STEP
-    },
-    Step {
-        destination: ":1.7",
-        ..STEP
-    },
-    Step {
-        destination: ":1.8",
-        wanted: Verdict::Hide,
-        ..STEP
-    },
-    Step {
-        destination: ":1.1",
-        ..STEP
-    },
-    Step { kind: 4, ..STEP },
-    Step {
-        kind: 4,
-        destination: "org.bar",
-        wanted: Verdict::Drop,
-        ..STEP
-    },
-    Step {
-        kind: 5,
-        destination: "org.foo",
-        wanted: Verdict::Drop,
-        ..STEP
-    },
-    Step {
-        kind: 2,
-        reply: 1,
-        destination: "org.foo",
-        wanted: Verdict::Drop,
-        ..STEP
-    },
-];
+const CALLS: &str = "\
+c 1 0 1 - - org.foo.x - M - - Pass
+c 1 0 1 - - org.bar - M - - Deny
+c 1 0 1 - - org.none - M - - Hide
+c 1 1 1 - - org.none - M - - Drop
+c 1 0 1 - - org.ruled.a a.b C - - Pass
+c 1 0 1 - - org.ruled.a a.b D - - Deny
+c 1 0 1 - - :1.7 - M - - Pass
+c 1 0 1 - - :1.8 - M - - Hide
+c 1 0 1 - - :1.1 - M - - Pass
+c 4 0 1 - - - - M - - Pass
+c 4 0 1 - - org.bar - M - - Drop
+c 5 0 1 - - org.foo - M - - Drop
+c 2 0 1 1 - org.foo - M - - Drop";
 
 /// Calls of the client to the bus.
-const DRIVER_CALLS: [Step; 16] = [
-    Step {
-        destination: "org.freedesktop.DBus",
-        interface: "org.freedesktop.DBus",
-        member: "Hello",
-        ..STEP
-    },
-    Step {
-        member: "GetId",
-        ..STEP
-    },
-    Step {
-        destination: "org.freedesktop.DBus",
-        interface: "org.freedesktop.DBus",
-        member: "AddMatch",
-        signature: "s",
-        body: "\x0d\0\0\0type='signal'\0",
-        ..STEP
-    },
-    Step {
-        destination: "org.freedesktop.DBus",
-        interface: "org.freedesktop.DBus",
-        member: "AddMatch",
-        signature: "s",
-        body: "\x16\0\0\0a='b',eavesdrop='true'\0",
-        wanted: Verdict::Deny,
-        ..STEP
-    },
-    Step {
-        destination: "org.freedesktop.DBus",
-        interface: "org.freedesktop.DBus",
-        member: "AddMatch",
-        signature: "u",
-        body: "\x05\0\0\0",
-        wanted: Verdict::Deny,
-        ..STEP
-    },
-    Step {
-        destination: "org.freedesktop.DBus",
-        interface: "org.freedesktop.DBus",
-        member: "GetNameOwner",
-        signature: "s",
-        body: "\x07\0\0\0org.bar\0",
-        ..STEP
-    },
-    Step {
-        destination: "org.freedesktop.DBus",
-        interface: "org.freedesktop.DBus",
-        member: "GetNameOwner",
-        signature: "s",
-        body: "\x08\0\0\0org.none\0",
-        wanted: Verdict::Hide,
-        ..STEP
-    },
-    Step {
-        destination: "org.freedesktop.DBus",
-        interface: "org.freedesktop.DBus",
-        member: "StartServiceByName",
-        signature: "su",
-        body: "\x07\0\0\0org.foo\0\0\0\0\0",
-        ..STEP
-    },
-    Step {
-        destination: "org.freedesktop.DBus",
-        interface: "org.freedesktop.DBus",
-        member: "StartServiceByName",
-        signature: "su",
-        body: "\x07\0\0\0org.bar\0\0\0\0\0",
-        wanted: Verdict::Deny,
-        ..STEP
-    },
-    Step {
-        destination: "org.freedesktop.DBus",
-        interface: "org.freedesktop.DBus",
-        member: "RequestName",
-        signature: "su",
-        body: "\x07\0\0\0org.own\0\0\0\0\0",
-        ..STEP
-    },
-    Step {
-        destination: "org.freedesktop.DBus",
-        interface: "org.freedesktop.DBus",
-        member: "RequestName",
-        signature: "su",
-        body: "\x07\0\0\0org.foo\0\0\0\0\0",
-        wanted: Verdict::Deny,
-        ..STEP
-    },
-    Step {
-        destination: "org.freedesktop.DBus",
-        interface: "org.freedesktop.DBus",
-        member: "BecomeMonitor",
-        wanted: Verdict::Deny,
-        ..STEP
-    },
-    Step {
-        destination: "org.freedesktop.DBus",
-        interface: "org.freedesktop.DBus.Peer",
-        member: "Ping",
-        ..STEP
-    },
-    Step {
-        destination: "org.freedesktop.DBus",
-        interface: "org.freedesktop.DBus.Peer",
-        member: "Hello",
-        wanted: Verdict::Deny,
-        ..STEP
-    },
-    Step {
-        destination: "org.freedesktop.DBus",
-        interface: "org.freedesktop.DBus.Introspectable",
-        member: "Introspect",
-        ..STEP
-    },
-    Step {
-        destination: "org.freedesktop.DBus",
-        member: "Introspect",
-        wanted: Verdict::Deny,
-        ..STEP
-    },
-];
+const DRIVER_CALLS: &str = "\
+c 1 0 1 - - org.freedesktop.DBus org.freedesktop.DBus Hello - - Pass
+c 1 0 1 - - - - GetId - - Pass
+c 1 0 1 - - org.freedesktop.DBus org.freedesktop.DBus AddMatch s 0d000000747970653d277369676e616c2700 Pass
+c 1 0 1 - - org.freedesktop.DBus org.freedesktop.DBus AddMatch s 16000000613d2762272c656176657364726f703d27747275652700 Deny
+c 1 0 1 - - org.freedesktop.DBus org.freedesktop.DBus AddMatch u 05000000 Deny
+c 1 0 1 - - org.freedesktop.DBus org.freedesktop.DBus GetNameOwner s 070000006f72672e62617200 Pass
+c 1 0 1 - - org.freedesktop.DBus org.freedesktop.DBus GetNameOwner s 080000006f72672e6e6f6e6500 Hide
+c 1 0 1 - - org.freedesktop.DBus org.freedesktop.DBus StartServiceByName su 070000006f72672e666f6f0000000000 Pass
+c 1 0 1 - - org.freedesktop.DBus org.freedesktop.DBus StartServiceByName su 070000006f72672e6261720000000000 Deny
+c 1 0 1 - - org.freedesktop.DBus org.freedesktop.DBus RequestName su 070000006f72672e6f776e0000000000 Pass
+c 1 0 1 - - org.freedesktop.DBus org.freedesktop.DBus RequestName su 070000006f72672e666f6f0000000000 Deny
+c 1 0 1 - - org.freedesktop.DBus org.freedesktop.DBus BecomeMonitor - - Deny
+c 1 0 1 - - org.freedesktop.DBus org.freedesktop.DBus.Peer Ping - - Pass
+c 1 0 1 - - org.freedesktop.DBus org.freedesktop.DBus.Peer Hello - - Deny
+c 1 0 1 - - org.freedesktop.DBus org.freedesktop.DBus.Introspectable Introspect - - Pass
+c 1 0 1 - - org.freedesktop.DBus - Introspect - - Deny";
 
 /// Replies to the client: one for each call that it waits for, and lists of names with fewer names.
-const REPLIES: [Step; 12] = [
-    Step {
-        serial: 5,
-        destination: "org.foo",
-        ..STEP
-    },
-    Step {
-        side: Side::Bus,
-        kind: 2,
-        serial: 9,
-        reply: 5,
-        sender: ":1.7",
-        destination: ":1.1",
-        ..STEP
-    },
-    Step {
-        side: Side::Bus,
-        kind: 2,
-        serial: 10,
-        reply: 5,
-        sender: ":1.7",
-        destination: ":1.1",
-        wanted: Verdict::Drop,
-        ..STEP
-    },
-    Step {
-        side: Side::Bus,
-        kind: 3,
-        serial: 10,
-        reply: 6,
-        sender: ":1.7",
-        destination: ":1.1",
-        wanted: Verdict::Drop,
-        ..STEP
-    },
-    Step {
-        flags: 1,
-        serial: 6,
-        destination: "org.foo",
-        ..STEP
-    },
-    Step {
-        side: Side::Bus,
-        kind: 2,
-        serial: 11,
-        reply: 6,
-        sender: ":1.7",
-        destination: ":1.1",
-        wanted: Verdict::Drop,
-        ..STEP
-    },
-    Step {
-        serial: 7,
-        destination: "org.freedesktop.DBus",
-        interface: "org.freedesktop.DBus",
-        member: "ListNames",
-        ..STEP
-    },
-    Step {
-        side: Side::Bus,
-        kind: 2,
-        serial: 12,
-        reply: 7,
-        sender: "org.freedesktop.DBus",
-        destination: ":1.1",
-        signature: "s",
-        body: "\x07\0\0\0org.bar\0",
-        wanted: Verdict::Drop,
-        ..STEP
-    },
-    Step {
-        side: Side::Bus,
-        kind: 2,
-        serial: 13,
-        reply: 7,
-        sender: "org.freedesktop.DBus",
-        destination: ":1.1",
-        signature: "as",
-        body: "\x0c\0\0\0\x07\0\0\0org.bar\0",
-        wanted: Verdict::FilterNameList,
-        ..STEP
-    },
-    Step {
-        side: Side::Bus,
-        kind: 2,
-        serial: 14,
-        reply: 7,
-        sender: "org.freedesktop.DBus",
-        destination: ":1.1",
-        signature: "as",
-        body: "\0\0\0\0",
-        wanted: Verdict::Drop,
-        ..STEP
-    },
-    Step {
-        serial: 8,
-        destination: "org.freedesktop.DBus",
-        interface: "org.freedesktop.DBus",
-        member: "ListNames",
-        ..STEP
-    },
-    Step {
-        side: Side::Bus,
-        kind: 3,
-        serial: 15,
-        reply: 8,
-        sender: "org.freedesktop.DBus",
-        destination: ":1.1",
-        ..STEP
-    },
-];
+const REPLIES: &str = "\
+c 1 0 5 - - org.foo - M - - Pass
+b 2 0 9 5 :1.7 :1.1 - M - - Pass
+b 2 0 10 5 :1.7 :1.1 - M - - Drop
+b 3 0 10 6 :1.7 :1.1 - M - - Drop
+c 1 1 6 - - org.foo - M - - Pass
+b 2 0 11 6 :1.7 :1.1 - M - - Drop
+c 1 0 7 - - org.freedesktop.DBus org.freedesktop.DBus ListNames - - Pass
+b 2 0 12 7 org.freedesktop.DBus :1.1 - M s 070000006f72672e62617200 Drop
+b 2 0 13 7 org.freedesktop.DBus :1.1 - M as 0c000000070000006f72672e62617200 FilterNameList
+b 2 0 14 7 org.freedesktop.DBus :1.1 - M as 00000000 Drop
+c 1 0 8 - - org.freedesktop.DBus org.freedesktop.DBus ListNames - - Pass
+b 3 0 15 8 org.freedesktop.DBus :1.1 - M - - Pass";
 
 /// Calls to the client, of which each gets one reply.
-const PEER_CALLS: [Step; 8] = [
-    Step {
-        side: Side::Bus,
-        serial: 3,
-        sender: ":1.9",
-        destination: ":1.1",
-        ..STEP
-    },
-    Step {
-        kind: 2,
-        reply: 3,
-        destination: ":1.8",
-        wanted: Verdict::Drop,
-        ..STEP
-    },
-    Step {
-        kind: 2,
-        reply: 4,
-        destination: ":1.9",
-        wanted: Verdict::Drop,
-        ..STEP
-    },
-    Step {
-        kind: 2,
-        reply: 3,
-        wanted: Verdict::Drop,
-        ..STEP
-    },
-    Step {
-        kind: 3,
-        reply: 3,
-        destination: ":1.9",
-        ..STEP
-    },
-    Step {
-        kind: 2,
-        serial: 2,
-        reply: 3,
-        destination: ":1.9",
-        wanted: Verdict::Drop,
-        ..STEP
-    },
-    Step {
-        side: Side::Bus,
-        flags: 1,
-        serial: 4,
-        sender: ":1.9",
-        destination: ":1.1",
-        ..STEP
-    },
-    Step {
-        kind: 2,
-        serial: 3,
-        reply: 4,
-        destination: ":1.9",
-        wanted: Verdict::Drop,
-        ..STEP
-    },
-];
+const PEER_CALLS: &str = "\
+b 1 0 3 - :1.9 :1.1 - M - - Pass
+c 2 0 1 3 - :1.8 - M - - Drop
+c 2 0 1 4 - :1.9 - M - - Drop
+c 2 0 1 3 - - - M - - Drop
+c 3 0 1 3 - :1.9 - M - - Pass
+c 2 0 2 3 - :1.9 - M - - Drop
+b 1 1 4 - :1.9 :1.1 - M - - Pass
+c 2 0 3 4 - :1.9 - M - - Drop";
 
 /// Signals of the bus: by what a peer owns now or owned once, by a rule, and to the client alone.
-const SIGNALS: [Step; 17] = [
-    Step {
-        side: Side::Bus,
-        kind: 4,
-        sender: ":1.7",
-        interface: "c.d",
-        ..STEP
-    },
-    Step {
-        side: Side::Bus,
-        kind: 4,
-        sender: ":1.8",
-        interface: "c.d",
-        wanted: Verdict::Drop,
-        ..STEP
-    },
-    Step {
-        side: Side::Bus,
-        kind: 4,
-        sender: "org.freedesktop.DBus",
-        interface: "org.freedesktop.DBus",
-        member: "NameOwnerChanged",
-        signature: "sss",
-        body: "\x07\0\0\0org.foo\0\x04\0\0\0:1.7\0\0\0\0\0\0\0\0\0",
-        ..STEP
-    },
-    Step {
-        side: Side::Bus,
-        kind: 4,
-        sender: ":1.7",
-        interface: "c.d",
-        ..STEP
-    },
-    Step {
-        side: Side::Bus,
-        kind: 4,
-        sender: "org.freedesktop.DBus",
-        interface: "org.freedesktop.DBus",
-        member: "NameOwnerChanged",
-        signature: "sss",
-        body: "\x08\0\0\0org.none\0\0\0\0\0\0\0\0\0\0\0\0\x04\0\0\0:1.8\0",
-        wanted: Verdict::Drop,
-        ..STEP
-    },
-    Step {
-        side: Side::Bus,
-        kind: 4,
-        sender: ":1.8",
-        interface: "c.d",
-        wanted: Verdict::Drop,
-        ..STEP
-    },
-    Step {
-        side: Side::Bus,
-        kind: 4,
-        sender: "org.freedesktop.DBus",
-        interface: "org.freedesktop.DBus",
-        member: "NameOwnerChanged",
-        signature: "sss",
-        body: "\x09\0\0\0org.foo.b\0\0\0\0\0\0\0\0\0\0\0\x04\0\0\0:1.8\0",
-        ..STEP
-    },
-    Step {
-        side: Side::Bus,
-        kind: 4,
-        sender: ":1.8",
-        interface: "c.d",
-        ..STEP
-    },
-    Step {
-        side: Side::Bus,
-        kind: 4,
-        sender: "org.freedesktop.DBus",
-        interface: "org.freedesktop.DBus",
-        member: "NameOwnerChanged",
-        signature: "sss",
-        body: "\x08\0\0\0org.cast\0\0\0\0\0\0\0\0\0\0\0\0\x04\0\0\0:1.6\0",
-        ..STEP
-    },
-    Step {
-        side: Side::Bus,
-        kind: 4,
-        sender: ":1.6",
-        interface: "c.d",
-        wanted: Verdict::Drop,
-        ..STEP
-    },
-    Step {
-        side: Side::Bus,
-        kind: 4,
-        sender: ":1.6",
-        interface: "a.b",
-        ..STEP
-    },
-    Step {
-        side: Side::Bus,
-        kind: 4,
-        sender: "org.freedesktop.DBus",
-        interface: "org.freedesktop.DBus",
-        member: "NameOwnerChanged",
-        signature: "sss",
-        body: "\x08\0\0\0org.cast\0\0\0\0\x04\0\0\0:1.6\0\0\0\0\0\0\0\0\0",
-        ..STEP
-    },
-    Step {
-        side: Side::Bus,
-        kind: 4,
-        sender: ":1.6",
-        interface: "a.b",
-        ..STEP
-    },
-    Step {
-        side: Side::Bus,
-        kind: 4,
-        sender: "org.freedesktop.DBus",
-        interface: "org.freedesktop.DBus",
-        member: "NameOwnerChanged",
-        signature: "ss",
-        body: "\x07\0\0\0org.foo\0\0\0\0\0\0",
-        wanted: Verdict::Drop,
-        ..STEP
-    },
-    Step {
-        side: Side::Bus,
-        kind: 4,
-        sender: ":1.5",
-        destination: ":1.1",
-        interface: "c.d",
-        ..STEP
-    },
-    Step {
-        destination: ":1.5",
-        wanted: Verdict::Deny,
-        ..STEP
-    },
-    Step {
-        side: Side::Bus,
-        kind: 4,
-        interface: "c.d",
-        wanted: Verdict::Drop,
-        ..STEP
-    },
-];
+const SIGNALS: &str = "\
+b 4 0 1 - :1.7 - c.d M - - Pass
+b 4 0 1 - :1.8 - c.d M - - Drop
+b 4 0 1 - org.freedesktop.DBus - org.freedesktop.DBus NameOwnerChanged sss 070000006f72672e666f6f00040000003a312e37000000000000000000 Pass
+b 4 0 1 - :1.7 - c.d M - - Pass
+b 4 0 1 - org.freedesktop.DBus - org.freedesktop.DBus NameOwnerChanged sss 080000006f72672e6e6f6e65000000000000000000000000040000003a312e3800 Drop
+b 4 0 1 - :1.8 - c.d M - - Drop
+b 4 0 1 - org.freedesktop.DBus - org.freedesktop.DBus NameOwnerChanged sss 090000006f72672e666f6f2e620000000000000000000000040000003a312e3800 Pass
+b 4 0 1 - :1.8 - c.d M - - Pass
+b 4 0 1 - org.freedesktop.DBus - org.freedesktop.DBus NameOwnerChanged sss 080000006f72672e63617374000000000000000000000000040000003a312e3600 Pass
+b 4 0 1 - :1.6 - c.d M - - Drop
+b 4 0 1 - :1.6 - a.b M - - Pass
+b 4 0 1 - org.freedesktop.DBus - org.freedesktop.DBus NameOwnerChanged sss 080000006f72672e6361737400000000040000003a312e36000000000000000000 Pass
+b 4 0 1 - :1.6 - a.b M - - Pass
+b 4 0 1 - org.freedesktop.DBus - org.freedesktop.DBus NameOwnerChanged ss 070000006f72672e666f6f000000000000 Drop
+b 4 0 1 - :1.5 :1.1 c.d M - - Pass
+c 1 0 1 - - :1.5 - M - - Deny
+b 4 0 1 - - - c.d M - - Drop";
 
-/// How many steps go as they are to, from the opening on.
-fn count(alloc: Global, steps: &[Step]) -> Result<usize, Fail> {
-    count_steps(alloc, &mut watch(alloc)?, steps)
+/// Whether all steps go as they are to, from the opening on.
+fn all_go(alloc: Global, steps: &str) -> Result<bool, Fail> {
+    let mut watch = watch(alloc)?;
+    Ok(first_other_step(alloc, &mut watch, steps)?.is_none())
 }
 
 #[test]
 fn verdicts(rt: HostRuntime) -> Result<(), Fail> {
     assert!(rt;
-        count(rt.alloc(), &CALLS)? == 13
-            && count(rt.alloc(), &DRIVER_CALLS)? == 16
-            && count(rt.alloc(), &REPLIES)? == 12
-            && count(rt.alloc(), &PEER_CALLS)? == 8
-            && count(rt.alloc(), &SIGNALS)? == 17
+        all_go(rt.alloc(), CALLS)?
+            && all_go(rt.alloc(), DRIVER_CALLS)?
+            && all_go(rt.alloc(), REPLIES)?
+            && all_go(rt.alloc(), PEER_CALLS)?
+            && all_go(rt.alloc(), SIGNALS)?
     );
     Ok(())
 }
@@ -734,40 +368,26 @@ fn many_owners(alloc: Global, count: usize) -> Result<Items<(Text, Text)>, Fail>
 }
 
 /// Notes so many calls of the client, and whether each was forwarded.
-fn notes_many(alloc: Global, watch: &mut Watch, count: u32) -> Result<bool, Fail> {
+fn all_are_noted(alloc: Global, watch: &mut Watch, count: u32) -> Result<bool, Fail> {
     for number in 0..count {
         let serial = number.saturating_add(1);
-        let step = Step {
-            destination: "org.n1.a",
-            serial,
-            ..STEP
-        };
-        let header = header(alloc, &step)?;
-        let verdict = watch.verdict(Side::Client, &header, b"");
-        watch.note(Side::Client, &header, b"", verdict)?;
-        if verdict != Verdict::Pass {
+        let step = format!(in alloc; "c 1 0 {serial} - - org.n1.a - M - - Pass")?;
+        if !goes(alloc, watch, &step)? {
             return Ok(false);
         }
     }
     Ok(true)
 }
 
+/// The reply to the last of 1,100 calls.
+const REPLY: &str = "b 2 0 1 1100 :2.1 :1.1 - M - - Pass";
+
 /// Whether a watch of so many rules and owners notes 1,100 calls, and forwards the reply to the last.
 fn watches(alloc: Global, rules: usize, owners: usize) -> Result<bool, Fail> {
     let policy = long_policy(alloc, rules)?;
     let owners = many_owners(alloc, owners)?;
     let mut watch = Watch::new(alloc, policy, Some(":1.1"), &owners)?;
-    let forwards = notes_many(alloc, &mut watch, 1_100)?;
-    let reply = Step {
-        side: Side::Bus,
-        kind: 2,
-        reply: 1_100,
-        sender: ":2.1",
-        destination: ":1.1",
-        ..STEP
-    };
-    let steps = [reply];
-    Ok(forwards && count_steps(alloc, &mut watch, &steps)? == 1)
+    Ok(all_are_noted(alloc, &mut watch, 1_100)? && goes(alloc, &mut watch, REPLY)?)
 }
 
 #[test]

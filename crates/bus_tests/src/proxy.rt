@@ -1,103 +1,182 @@
 //! Worked streams through the filter, however they are cut. The messages are spelled by hand after the D-Bus specification.
 
+use crate::told::spelled;
 use bus_policy::{Level, Policy};
-use bus_proxy::{Out, filter};
+use bus_proxy::{Filtered, Out, filter};
 use bus_stream::Recording;
 use fp_base::{Blob, Items, Side};
-use std::alloc::Global;
+use std::alloc::{AllocError, Global};
 use std::test::Fail;
 
-/// A call of `M` at `/a` of `org.bar`, serial 1.
-const CALL: &str = "\
-6c01000100000000010000003000000001016f00020000002f6100000000000003017300010000004d000000000000000601730007000000\
-6f72672e62617200";
-
-/// Its return, from `:1.9` to `:1.1`.
-const RETURN: &str = "\
-6c020001000000000900000025000000050175000100000006017300040000003a312e310000000007017300040000003a312e3900000000";
-
-/// `ServiceUnknown` for the serial 1, to nobody by name.
-const UNKNOWN: &str = "\
-6c03010100000000ffffffff5d00000004017300290000006f72672e667265656465736b746f702e444275732e4572726f722e5365727669\
-6365556e6b6e6f776e00000000000000050175000100000007017300140000006f72672e667265656465736b746f702e4442757300000000";
-
-/// What is sent, and what goes to which side.
+/// The level of `org.bar`, and messages that are sent and that go to a side: each with `c` for the client or `b` for the
+/// bus.
 struct Case {
     level: Level,
-    sent: &'static [(Side, &'static str)],
-    wanted: &'static [(Side, &'static str)],
+    sent: &'static str,
+    wanted: &'static str,
 }
 
-/// A call at talk has one reply; a call of a hidden name is answered; nothing is lost where nothing is sent.
-const CASES: [Case; 3] = [
-    Case {
-        level: Level::Talk,
-        sent: &[
-            (Side::Client, CALL),
-            (Side::Bus, RETURN),
-            (Side::Bus, RETURN),
-        ],
-        wanted: &[(Side::Bus, CALL), (Side::Client, RETURN)],
-    },
-    Case {
-        level: Level::None,
-        sent: &[(Side::Client, CALL)],
-        wanted: &[(Side::Client, UNKNOWN)],
-    },
-    Case {
-        level: Level::Talk,
-        sent: &[],
-        wanted: &[],
-    },
-];
+/// A call of `M` at `/a` of `org.bar` with serial 1 goes to the bus, and one return of it from `:1.9` to the client.
+const TALK: Case = Case {
+    level: Level::Talk,
+    sent: "\
+c:6c01000100000000010000003000000001016f00020000002f6100000000000003017300010000004d000000000000\
+0006017300070000006f72672e62617200 b:6c020001000000000900000025000000050175000100000006017300040\
+000003a312e310000000007017300040000003a312e3900000000 b:6c02000100000000090000002500000005017500\
+0100000006017300040000003a312e310000000007017300040000003a312e3900000000",
+    wanted: "\
+b:6c01000100000000010000003000000001016f00020000002f6100000000000003017300010000004d000000000000\
+0006017300070000006f72672e62617200 c:6c020001000000000900000025000000050175000100000006017300040\
+000003a312e310000000007017300040000003a312e3900000000",
+};
+
+/// Where the name is hidden, the client is told `ServiceUnknown`.
+const HIDDEN: Case = Case {
+    level: Level::None,
+    sent: "\
+c:6c01000100000000010000003000000001016f00020000002f6100000000000003017300010000004d000000000000\
+0006017300070000006f72672e62617200",
+    wanted: "\
+c:6c03010100000000ffffffff5d00000004017300290000006f72672e667265656465736b746f702e444275732e4572\
+726f722e53657276696365556e6b6e6f776e00000000000000050175000100000007017300140000006f72672e667265\
+656465736b746f702e4442757300000000",
+};
+
+/// Nothing is lost where nothing is sent.
+const NOTHING: Case = Case {
+    level: Level::Talk,
+    sent: "",
+    wanted: "",
+};
+
+/// A call of `ListNames`, and of the names `org.bar` and `:1.1` that come back, in big endian, the one that may be seen.
+const NAMES: Case = Case {
+    level: Level::See,
+    sent: "\
+c:6c01000100000000010000007500000001016f00150000002f6f72672f667265656465736b746f702f444275730000\
+0002017300140000006f72672e667265656465736b746f702e444275730000000003017300090000004c6973744e616d\
+65730000000000000006017300140000006f72672e667265656465736b746f702e4442757300000000 b:42020001000\
+0001900000002000000100501750000000001080167000261730000000015000000076f72672e62617200000000043a3\
+12e3100",
+    wanted: "\
+b:6c01000100000000010000007500000001016f00150000002f6f72672f667265656465736b746f702f444275730000\
+0002017300140000006f72672e667265656465736b746f702e444275730000000003017300090000004c6973744e616d\
+65730000000000000006017300140000006f72672e667265656465736b746f702e4442757300000000 c:42020001000\
+000100000000200000010050175000000000108016700026173000000000c000000076f72672e62617200",
+};
+
+/// The same of `org.bar` alone, which may not be seen.
+const NO_NAMES: Case = Case {
+    level: Level::None,
+    sent: "\
+c:6c01000100000000010000007500000001016f00150000002f6f72672f667265656465736b746f702f444275730000\
+0002017300140000006f72672e667265656465736b746f702e444275730000000003017300090000004c6973744e616d\
+65730000000000000006017300140000006f72672e667265656465736b746f702e4442757300000000 b:42020001000\
+000100000000200000010050175000000000108016700026173000000000c000000076f72672e62617200",
+    wanted: "\
+b:6c01000100000000010000007500000001016f00150000002f6f72672f667265656465736b746f702f444275730000\
+0002017300140000006f72672e667265656465736b746f702e444275730000000003017300090000004c6973744e616d\
+65730000000000000006017300140000006f72672e667265656465736b746f702e4442757300000000 c:42020001000\
+0000400000002000000100501750000000001080167000261730000000000",
+};
+
+/// The same of 1,100 names, of which the last may be seen.
+const MANY_NAMES: Case = Case {
+    level: Level::See,
+    sent: "\
+c:6c01000100000000010000007500000001016f00150000002f6f72672f667265656465736b746f702f444275730000\
+0002017300140000006f72672e667265656465736b746f702e444275730000000003017300090000004c6973744e616d\
+65730000000000000006017300140000006f72672e667265656465736b746f702e4442757300000000 b:6c020001943\
+3000002000000100000000501750001000000080167000261730090330000+070000006f72672e62617a00*1099+0700\
+00006f72672e62617200",
+    wanted: "\
+b:6c01000100000000010000007500000001016f00150000002f6f72672f667265656465736b746f702f444275730000\
+0002017300140000006f72672e667265656465736b746f702e444275730000000003017300090000004c6973744e616d\
+65730000000000000006017300140000006f72672e667265656465736b746f702e4442757300000000 c:6c020001100\
+000000200000010000000050175000100000008016700026173000c000000070000006f72672e62617200",
+};
+
+/// The side of this letter.
+fn side(letter: &str) -> Side {
+    if letter == "c" {
+        Side::Client
+    } else {
+        Side::Bus
+    }
+}
+
+/// Adds a message in pieces of at most this many bytes.
+fn push_pieces(
+    pieces: &mut Vec<(Side, Blob)>,
+    alloc: Global,
+    message: &str,
+    most: usize,
+) -> Result<(), Fail> {
+    let (letter, words) = message.split_once(':').ok_or("message")?;
+    for piece in spelled(alloc, words)?.chunks(most.max(1)) {
+        pieces.push((side(letter), Blob::from_slice(alloc, piece)?))?;
+    }
+    Ok(())
+}
 
 /// What is sent, in pieces of at most this many bytes.
-fn pieces(alloc: Global, case: &Case, most: usize) -> Result<Vec<(Side, Blob)>, Fail> {
+fn pieces(alloc: Global, sent: &str, most: usize) -> Result<Vec<(Side, Blob)>, Fail> {
     let mut pieces = Vec::new(alloc);
-    for (side, digits) in case.sent {
-        let bytes = hex::decode(alloc, digits)?;
-        for piece in bytes.chunks(most.max(1)) {
-            pieces.push((*side, Blob::from_slice(alloc, piece)?))?;
-        }
+    for message in sent.split_terminator(' ') {
+        push_pieces(&mut pieces, alloc, message, most)?;
     }
     Ok(pieces)
 }
 
-/// Whether a message is this one, to this side.
-fn is_out(alloc: Global, out: &Out, to: Side, digits: &str) -> Result<bool, Fail> {
-    let bytes = hex::decode(alloc, digits)?;
-    Ok(out.to == to && out.bytes.as_slice() == bytes.as_slice())
+/// Messages as words.
+fn told(alloc: Global, messages: &[Out]) -> Result<String, AllocError> {
+    let mut line = String::new(alloc);
+    for message in messages {
+        if !line.is_empty() {
+            line.push(' ')?;
+        }
+        line.push_str(if message.to == Side::Client {
+            "c:"
+        } else {
+            "b:"
+        })?;
+        line.push_str(&hex::encode(alloc, message.bytes.as_slice())?)?;
+    }
+    Ok(line)
 }
 
-/// Whether these messages are all that is wanted, in order.
-fn are_wanted(alloc: Global, out: &[Out], case: &Case) -> Result<bool, Fail> {
-    for (message, (to, digits)) in out.iter().zip(case.wanted.iter()) {
-        if !is_out(alloc, message, *to, digits)? {
-            return Ok(false);
-        }
-    }
-    Ok(out.len() == case.wanted.len())
+/// What becomes of messages where `org.bar` has a level.
+fn filtered(alloc: Global, level: Level, pieces: Vec<(Side, Blob)>) -> Result<Filtered, Fail> {
+    let mut policy = Policy::new(alloc);
+    policy.add(alloc, "org.bar", level)?;
+    let recording = Recording {
+        client: None,
+        owners: Items::new(alloc),
+        pieces: Items::from_vec(pieces),
+    };
+    Ok(filter(alloc, policy, &recording)?)
 }
 
 /// Whether a case comes to what it has to, cut into pieces of at most this many bytes.
 fn is_filtered(alloc: Global, case: &Case, most: usize) -> Result<bool, Fail> {
-    let mut policy = Policy::new(alloc);
-    policy.add(alloc, "org.bar", case.level)?;
-    let recording = Recording {
-        client: None,
-        owners: Items::new(alloc),
-        pieces: Items::from_vec(pieces(alloc, case, most)?),
-    };
-    let filtered = filter(alloc, policy, &recording)?;
-    Ok(filtered.bad.is_none() && are_wanted(alloc, filtered.out.as_slice(), case)?)
+    let filtered = filtered(alloc, case.level, pieces(alloc, case.sent, most)?)?;
+    let line = told(alloc, filtered.out.as_slice())?;
+    Ok(filtered.bad.is_none() && line.as_str() == case.wanted)
+}
+
+/// Whether so it is with small pieces and with large ones.
+fn is_filtered_cut(alloc: Global, case: &Case) -> Result<bool, Fail> {
+    Ok(
+        is_filtered(alloc, case, 1)?
+            && is_filtered(alloc, case, 7)?
+            && is_filtered(alloc, case, 1000)?,
+    )
 }
 
 #[test]
 fn worked_streams(rt: HostRuntime) -> Result<(), Fail> {
-    for case in &CASES {
-        for most in [1, 7, 1000] {
-            assert!(rt; is_filtered(rt.alloc(), case, most)?);
-        }
+    for case in &[TALK, HIDDEN, NOTHING, NAMES, NO_NAMES, MANY_NAMES] {
+        assert!(rt; is_filtered_cut(rt.alloc(), case)?);
     }
     Ok(())
 }

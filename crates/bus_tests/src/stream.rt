@@ -1,111 +1,48 @@
 //! What no contract says: messages of the real bus, and worked streams and recordings.
 
 use crate::captured::{CAPTURED, CASES, CHANGED, DIFFERENT, PING};
-use crate::frame::message;
-use bus_frame::{FrameError, Header, ReadFrame, read_frame};
+use crate::frame::first_other_front;
+use crate::told::{front_line, spelled, with_byte, word};
+use bus_frame::FrameError;
 use bus_stream::{Cut, Cutter, RecordError, Recording, read_recording};
-use fp_base::{FrameRule, Side, Text};
+use fp_base::{FrameRule, Side};
 use std::alloc::{AllocError, Global};
 use std::test::Fail;
-
-fn word(text: &Option<Text>) -> &str {
-    match text {
-        Some(text) => text.as_str(),
-        None => "-",
-    }
-}
-
-/// A header as one line.
-fn described(alloc: Global, header: &Header) -> Result<String, AllocError> {
-    let reply = match header.reply_serial {
-        Some(serial) => format!(in alloc; "{serial}")?,
-        None => String::from_str(alloc, "-")?,
-    };
-    let mut line = format!(in alloc;
-        "{} {} {}",
-        header.kind.code(),
-        header.flags.bits,
-        header.serial
-    )?;
-    for part in [
-        word(&header.path),
-        word(&header.interface),
-        word(&header.member),
-        word(&header.error_name),
-        reply.as_str(),
-        word(&header.destination),
-        word(&header.sender),
-        word(&header.signature),
-    ] {
-        line.push_str(" ")?;
-        line.push_str(part)?;
-    }
-    let body = format!(in alloc; " {}", header.body_len)?;
-    line.push_str(body.as_str())?;
-    Ok(line)
-}
-
-/// The header of bytes that are one message, as a line.
-fn header_line(alloc: Global, bytes: &[u8]) -> Result<String, Fail> {
-    match read_frame(alloc, bytes)? {
-        ReadFrame::Frame(header, len) if len == bytes.len() as u64 => {
-            Ok(described(alloc, &header)?)
-        }
-        _ => Err(Fail::from("no frame")),
-    }
-}
-
-/// The first of the lines whose message is read otherwise.
-fn first_other_line<'a>(alloc: Global, table: &'a str) -> Result<Option<&'a str>, Fail> {
-    for line in table.lines() {
-        let (digits, wanted) = line.split_once(' ').ok_or("line")?;
-        let message = hex::decode(alloc, digits)?;
-        if header_line(alloc, &message)?.as_str() != wanted {
-            return Ok(Some(line));
-        }
-    }
-    Ok(None)
-}
 
 /// Real messages read as the libraries of GDBus and libdbus read them.
 #[test]
 fn real_messages(rt: HostRuntime) -> Result<(), Fail> {
-    assert_eq!(rt; first_other_line(rt.alloc(), CAPTURED)?, None);
+    assert_eq!(rt; first_other_front(rt.alloc(), CAPTURED)?, None);
     Ok(())
 }
 
-/// What becomes of a stream of these bytes: `.` where they are whole messages, `?` where more is to come, `x` where they
-/// break a rule, and `L` where it is the rule of lengths.
-fn verdict(alloc: Global, bytes: &[u8]) -> Result<u8, Fail> {
+/// What the next answer of a stream means, where it ends the stream: `.` for whole messages, `?` where more is to come, `x`
+/// for a broken rule, `L` for the rule of lengths, and `m` without memory.
+fn mark(next: &Result<Cut, FrameError>, pending: u64) -> Option<u8> {
+    match next {
+        Ok(Cut::Message(_, _)) => None,
+        Ok(Cut::NotYet) => Some(if pending > 0 { b'?' } else { b'.' }),
+        Err(FrameError::Bad(FrameRule::Length)) => Some(b'L'),
+        Err(FrameError::Bad(_)) => Some(b'x'),
+        Err(FrameError::NoMemory) => Some(b'm'),
+    }
+}
+
+fn next_mark(cutter: &mut Cutter) -> Option<u8> {
+    let next = cutter.next();
+    mark(&next, cutter.pending())
+}
+
+/// What becomes of a stream of these bytes, as a mark.
+fn verdict(alloc: Global, bytes: &[u8]) -> Result<u8, AllocError> {
     let mut cutter = Cutter::new(alloc)?;
     cutter.feed(bytes)?;
     for _ in 0..bytes.len() {
-        match cutter.next() {
-            Ok(Cut::Message(_, _)) => {}
-            Ok(Cut::NotYet) if cutter.pending() > 0 => return Ok(b'?'),
-            Ok(Cut::NotYet) => return Ok(b'.'),
-            Err(FrameError::Bad(FrameRule::Length)) => return Ok(b'L'),
-            Err(FrameError::Bad(_)) => return Ok(b'x'),
-            Err(FrameError::NoMemory) => return Err(Fail::from("memory")),
+        if let Some(mark) = next_mark(&mut cutter) {
+            return Ok(mark);
         }
     }
     Ok(b'.')
-}
-
-/// A message with one byte changed, and more after it.
-fn with_change(
-    alloc: Global,
-    message: &[u8],
-    at: usize,
-    byte: u8,
-    more: &[u8],
-) -> Result<Vec<u8>, AllocError> {
-    let mut bytes = Vec::from_slice(alloc, message)?;
-    if let Some(place) = bytes.get_mut(at) {
-        *place = byte;
-    }
-    bytes.extend_from_slice(more)?;
-    Ok(bytes)
 }
 
 /// The changes of a byte in order: 0, 1, 127, 255, and its top bit.
@@ -119,19 +56,25 @@ fn change(number: usize, byte: u8) -> u8 {
     }
 }
 
+/// What becomes of bytes with more after them, as a mark.
+fn verdict_before(alloc: Global, bytes: &[u8], more: &[u8]) -> Result<u8, AllocError> {
+    let mut all = Vec::from_slice(alloc, bytes)?;
+    all.extend_from_slice(more)?;
+    verdict(alloc, &all)
+}
+
+/// What the daemon does with who sends bytes of this mark.
+fn daemon_mark(mark: u8) -> u8 {
+    if mark == b'L' { b'x' } else { mark }
+}
+
 /// How many lines of a table are as the daemon says.
-fn count_agreed(alloc: Global, table: &str) -> Result<usize, Fail> {
-    let ping = hex::decode(alloc, PING)?;
+fn count_agreed(alloc: Global, table: &str, ping: &[u8]) -> Result<usize, Fail> {
     let mut agreed = 0usize;
     for line in table.lines() {
         let (digits, rest) = line.split_once(' ').ok_or("line")?;
-        let mut bytes = hex::decode(alloc, digits)?;
-        bytes.extend_from_slice(&ping)?;
-        let ours = match verdict(alloc, &bytes)? {
-            b'L' => b'x',
-            other => other,
-        };
-        if rest.as_bytes().first() == Some(&ours) {
+        let mark = verdict_before(alloc, &hex::decode(alloc, digits)?, ping)?;
+        if rest.as_bytes().first() == Some(&daemon_mark(mark)) {
             agreed = agreed.saturating_add(1);
         }
     }
@@ -141,20 +84,42 @@ fn count_agreed(alloc: Global, table: &str) -> Result<usize, Fail> {
 /// The daemon disconnects for messages that break a rule, and for no others but those that are listed apart.
 #[test]
 fn broken_messages(rt: HostRuntime) -> Result<(), Fail> {
-    assert_eq!(rt; count_agreed(rt.alloc(), CASES)?, CASES.lines().count());
-    assert_eq!(rt; count_agreed(rt.alloc(), DIFFERENT)?, 0);
+    let ping = hex::decode(rt.alloc(), PING)?;
+    assert!(rt;
+        count_agreed(rt.alloc(), CASES, &ping)? == CASES.lines().count()
+            && count_agreed(rt.alloc(), DIFFERENT, &ping)? == 0
+    );
     Ok(())
 }
 
-/// How many changes of a message are as the daemon says. It waits for longer messages.
-fn count_changes(alloc: Global, message: &[u8], marks: &str) -> Result<usize, Fail> {
-    let ping = hex::decode(alloc, PING)?;
+/// Whether a change of a message is as the daemon says, which waits for longer messages.
+fn is_agreed(ours: u8, mark: u8) -> bool {
+    ours == mark || (ours == b'L' && mark != b'.')
+}
+
+/// What becomes of a message with one of its bytes in the change of this number, and more after it.
+fn mark_of_change(
+    alloc: Global,
+    message: &[u8],
+    number: usize,
+    more: &[u8],
+) -> Result<u8, AllocError> {
+    let at = number / 5;
+    let byte = message.get(at).copied().unwrap_or(0);
+    let changed = with_byte(alloc, message, at, change(number % 5, byte))?;
+    verdict_before(alloc, &changed, more)
+}
+
+/// How many changes of a message are as the daemon says.
+fn count_changes(
+    alloc: Global,
+    message: &[u8],
+    marks: &str,
+    ping: &[u8],
+) -> Result<usize, AllocError> {
     let mut agreed = 0usize;
-    for (i, mark) in marks.bytes().enumerate() {
-        let byte = message.get(i / 5).copied().unwrap_or(0);
-        let bytes = with_change(alloc, message, i / 5, change(i % 5, byte), &ping)?;
-        let ours = verdict(alloc, &bytes)?;
-        if ours == mark || (ours == b'L' && mark != b'.') {
+    for (number, mark) in marks.bytes().enumerate() {
+        if is_agreed(mark_of_change(alloc, message, number, ping)?, mark) {
             agreed = agreed.saturating_add(1);
         }
     }
@@ -162,11 +127,15 @@ fn count_changes(alloc: Global, message: &[u8], marks: &str) -> Result<usize, Fa
 }
 
 /// The first of the lines of which a change is taken otherwise.
-fn first_other_change<'a>(alloc: Global, table: &'a str) -> Result<Option<&'a str>, Fail> {
+fn first_other_change<'a>(
+    alloc: Global,
+    table: &'a str,
+    ping: &[u8],
+) -> Result<Option<&'a str>, Fail> {
     for line in table.lines() {
         let (digits, marks) = line.split_once(' ').ok_or("line")?;
         let message = hex::decode(alloc, digits)?;
-        if count_changes(alloc, &message, marks)? != marks.len() {
+        if count_changes(alloc, &message, marks, ping)? != marks.len() {
             return Ok(Some(line));
         }
     }
@@ -176,39 +145,35 @@ fn first_other_change<'a>(alloc: Global, table: &'a str) -> Result<Option<&'a st
 /// So it is with each byte changed.
 #[test]
 fn changed_bytes(rt: HostRuntime) -> Result<(), Fail> {
-    assert_eq!(rt; first_other_change(rt.alloc(), CHANGED)?, None);
+    let ping = hex::decode(rt.alloc(), PING)?;
+    assert_eq!(rt; first_other_change(rt.alloc(), CHANGED, &ping)?, None);
     Ok(())
 }
 
-/// How many bytes lack, of a message that goes on.
-fn lacking(alloc: Global, bytes: &[u8]) -> Result<u64, Fail> {
-    match read_frame(alloc, bytes)? {
-        ReadFrame::Need(count) => Ok(count),
-        ReadFrame::Frame(_, _) => Err(Fail::from("a message")),
-    }
+/// Whether of a message that ends here so many bytes lack as they must.
+fn is_cut(alloc: Global, message: &[u8], at: usize) -> Result<bool, AllocError> {
+    let goal = if at < 16 { 16 } else { message.len() };
+    let wanted = format!(in alloc; "lacks {}", goal.saturating_sub(at))?;
+    let line = front_line(alloc, message.get(..at).unwrap_or(&[]))?;
+    Ok(line.as_str() == wanted.as_str())
 }
 
 /// Reads a message with one byte changed, whatever it is then.
-fn reads_changed(alloc: Global, message: &[u8], at: usize) -> Result<(), Fail> {
+fn read_changed(alloc: Global, message: &[u8], at: usize) -> Result<(), AllocError> {
     let byte = message.get(at).copied().unwrap_or(0);
     for number in 0..5 {
-        let bytes = with_change(alloc, message, at, change(number, byte), &[])?;
-        if let Err(FrameError::NoMemory) = read_frame(alloc, &bytes) {
-            return Err(Fail::from("memory"));
-        }
+        front_line(alloc, &with_byte(alloc, message, at, change(number, byte))?)?;
     }
     Ok(())
 }
 
 /// The first place where a message that ends there lacks other bytes.
-fn first_other_end(alloc: Global, message: &[u8]) -> Result<Option<usize>, Fail> {
-    let total = message.len();
-    for at in 0..total {
-        let goal = if at < 16 { 16 } else { total };
-        if lacking(alloc, &message[..at])? != goal.saturating_sub(at) as u64 {
+fn first_other_end(alloc: Global, message: &[u8]) -> Result<Option<usize>, AllocError> {
+    for at in 0..message.len() {
+        if !is_cut(alloc, message, at)? {
             return Ok(Some(at));
         }
-        reads_changed(alloc, message, at)?;
+        read_changed(alloc, message, at)?;
     }
     Ok(None)
 }
@@ -217,8 +182,7 @@ fn first_other_end(alloc: Global, message: &[u8]) -> Result<Option<usize>, Fail>
 fn first_cut_otherwise<'a>(alloc: Global, table: &'a str) -> Result<Option<&'a str>, Fail> {
     for line in table.lines() {
         let (digits, _) = line.split_once(' ').ok_or("line")?;
-        let message = hex::decode(alloc, digits)?;
-        if first_other_end(alloc, &message)?.is_some() {
+        if first_other_end(alloc, &hex::decode(alloc, digits)?)?.is_some() {
             return Ok(Some(line));
         }
     }
@@ -237,21 +201,25 @@ const CALL: &str =
     "6c01000100000000010000003000000001016f00020000002f6100000000000003017300010000004d000000000000000601730007000000\
 6f72672e62617200";
 
+/// Whether these are the bytes of a message that came.
+fn is_message(next: &Result<Cut, FrameError>, wanted: &[u8]) -> bool {
+    match next {
+        Ok(Cut::Message(_, bytes)) => bytes.as_slice() == wanted,
+        _ => false,
+    }
+}
+
 /// Whether the next message is there, and these are its bytes.
-fn comes(cutter: &mut Cutter, wanted: &[u8]) -> Result<bool, Fail> {
-    Ok(match cutter.next()? {
-        Cut::Message(_, bytes) => bytes.as_slice() == wanted,
-        Cut::NotYet => false,
-    })
+fn comes(cutter: &mut Cutter, wanted: &[u8]) -> bool {
+    let next = cutter.next();
+    is_message(&next, wanted)
 }
 
 /// The first byte after which the message is there or isn't, other than it should.
 fn first_early(cutter: &mut Cutter, message: &[u8]) -> Result<Option<usize>, Fail> {
     for (i, byte) in message.iter().enumerate() {
         cutter.feed(&[*byte])?;
-        if cutter.pending() != (i as u64).saturating_add(1)
-            || comes(cutter, message)? != (i == 63)
-        {
+        if cutter.pending() != (i as u64).saturating_add(1) || comes(cutter, message) != (i == 63) {
             return Ok(Some(i));
         }
     }
@@ -268,29 +236,36 @@ fn byte_by_byte(rt: HostRuntime) -> Result<(), Fail> {
     Ok(())
 }
 
-/// How many messages come of so many at once.
-fn count_cut(alloc: Global, message: &[u8], count: usize) -> Result<usize, Fail> {
-    let mut cutter = Cutter::new(alloc)?;
-    let mut bytes = Vec::new(alloc);
-    for _ in 0..count {
-        bytes.extend_from_slice(message)?;
-    }
-    cutter.feed(&bytes)?;
+/// How many of so many messages come of a stream.
+fn count_cut(cutter: &mut Cutter, message: &[u8], count: usize) -> usize {
     for at in 0..count {
-        if !comes(&mut cutter, message)? {
-            return Ok(at);
+        if !comes(cutter, message) {
+            return at;
         }
     }
-    Ok(if cutter.pending() == 0 { count } else { 0 })
+    count
 }
+
+/// Whether so many messages come where they are fed at once, and nothing is left.
+fn are_cut(alloc: Global, message: &[u8], count: usize) -> Result<bool, AllocError> {
+    let mut cutter = Cutter::new(alloc)?;
+    cutter.feed(&message.repeat(alloc, count)?)?;
+    Ok(count_cut(&mut cutter, message, count) == count && cutter.pending() == 0)
+}
+
+/// A call whose body of bytes has a mebibyte.
+const LONG: &str = "\
+6c01000100001000010000007800000001016f00020000002f610000000000000201730003000000612e620000000000\
+03017300010000004d000000000000000401730009000000612e622e4572726f72000000000000000601730007000000\
+6f72672e6261720007017300040000003a312e310000000005017500090000000801670002617900+00*1048576";
 
 /// A message of a mebibyte comes, and 1,100 messages at once.
 #[test]
 fn long_streams(rt: HostRuntime) -> Result<(), Fail> {
-    let alloc = rt.alloc();
-    let long = message(alloc, 1, "/a", "ay", &vec![in alloc; 0u8; 1 << 20]?)?;
-    assert!(rt; count_cut(alloc, &long, 1)? == 1);
-    assert!(rt; count_cut(alloc, &hex::decode(alloc, CALL)?, 1_100)? == 1_100);
+    assert!(rt;
+        are_cut(rt.alloc(), &spelled(rt.alloc(), LONG)?, 1)?
+            && are_cut(rt.alloc(), &spelled(rt.alloc(), CALL)?, 1_100)?
+    );
     Ok(())
 }
 
