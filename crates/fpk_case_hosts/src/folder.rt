@@ -79,8 +79,8 @@ impl<'a, 'b, R: System> FolderStage<'a, 'b, R> {
     pub fn new(rt: &'a R, alloc: Global, capture: &'b Capture<'a, R>) -> io::Result<Self> {
         let folder = own_folder(rt, alloc)?;
         let remotes = OwnRemotes::new(rt, alloc, folder);
-        let host = HostDir::new(capture, rt, capture, alloc, INSTALLATION, Access::Change)?;
-        let around = HostDir::new(capture, rt, capture, alloc, FOLDER, Access::Change)?;
+        let host = host_in(rt, alloc, capture, capture, INSTALLATION)?;
+        let around = host_in(rt, alloc, capture, capture, FOLDER)?;
         Ok(FolderStage {
             alloc,
             capture,
@@ -124,6 +124,17 @@ impl<'a, 'b, R: System> FolderStage<'a, 'b, R> {
         let answer = find(self.alloc, &mut self.host, path);
         Ok(unless_fault(answer)?.unwrap_or(PathState::Other))
     }
+}
+
+/// A host over the folder of this name, which is changed, and where it prints.
+fn host_in<'a, 'b, R: System>(
+    rt: &R,
+    alloc: Global,
+    capture: &'b Capture<'a, R>,
+    out: &'b Capture<'a, R>,
+    root: &str,
+) -> Result<HostDir<'b, Capture<'a, R>, R, Capture<'a, R>>, AllocError> {
+    HostDir::new(capture, rt, out, alloc, root, Access::Change)
 }
 
 /// Lays the remotes out below a folder.
