@@ -1,0 +1,14 @@
+//! Made remotes: what the generator's stores hold, and the commands that are run over them.
+#![tactic(auto)]
+
+mod commands;
+mod copying;
+mod filling;
+mod naming;
+mod remotes;
+mod series;
+mod store;
+mod trees;
+
+pub use commands::exercise_commands;
+pub use remotes::GenRemotes;
