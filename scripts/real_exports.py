@@ -7,7 +7,7 @@ both, each in a folder of its own. Of each exported file it is asked:
 - Both have it, or the difference is one of KNOWN.
 - It has the same keys with the same values, but for those of KNOWN, and `Exec` starts the same command.
 - `desktop-file-validate` passes over it where it passes over the application's own.
-- GLib's own launcher (Gio.DesktopAppInfo) starts `fpk launch REF`, with `--command=WORD` behind it where the application's own command
+- GLib's own launcher (Gio.DesktopAppInfo) starts `fpk launch REF`, with `--command=WORD` after it where the application's own command
   was a plain word, and no word more: also where `Exec` begins with `%i`, a quote, `$` or a backslash. A program in the place of fpk
   writes its words down. A desktop file that hands `%i` on is launched too, and has to add words, so that the question can be lost.
 
