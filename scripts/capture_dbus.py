@@ -235,7 +235,7 @@ class Relay:
                 (daemon if source is program else program).sendall(data)
 
     def messages(self):
-        """Both sides' messages behind the lines of authentication."""
+        """Both sides' messages after the lines of authentication."""
         for data in (self.sent[0].split(b"BEGIN\r\n", 1)[1], self.sent[1][self.sent[1].rfind(b"\r\n") + 2:] if b"AGREE" not in self.sent[1] else self.sent[1].split(b"AGREE_UNIX_FD\r\n", 1)[1]):
             while whole_len(data):
                 n = whole_len(data)
@@ -511,7 +511,7 @@ def report():
     table("DIFFERENT", ["The same, where this project does otherwise."], [row for label, row in rows if is_different(label)])
     table("CHANGED", ["Messages in hexadecimal, and for each of their bytes changed to 0, 1, 127, 255 and in its top bit, in this order, what the",
                       "daemon does with who sends that and then a ping."], [m.hex() + " " + "".join(map(keeps, changed(m))) for _, m in bases()])
-    table("PING", ["What the daemon is sent behind each."], [PING.hex()])
+    table("PING", ["What the daemon is sent after each."], [PING.hex()])
 
 
 if __name__ == "__main__":

@@ -42,7 +42,7 @@ def a_type(rng, room):
 
 
 def members(text):
-    """The types that stand one behind the other in a text."""
+    """The types that stand one after the other in a text."""
     found = []
     while text:
         end = 0

@@ -7,7 +7,7 @@ use Rattle.std.proofs.lemmas.Option.{cond_some}
 use Rattle.std.proofs.lemmas.List.{length-append, append-nil, take-append-drop}
 use Rattle.std.proofs.lemmas.Slice.Eq.{bytes_eq-Decides}
 use Rattle.bus_frame.specs.declared.header.Header.{Header}
-use Rattle.bus_frame.specs.Steps.{◌>>=◌, Gives, first_of, behind_byte}
+use Rattle.bus_frame.specs.Steps.{◌>>=◌, Gives, first_of, remainder_byte}
 use Rattle.bus_frame.specs.Places.{Place, bytes_at, long_text_at}
 use Rattle.bus_frame.specs.Types.{basic}
 use Rattle.bus_frame.specs.Values.{array_head_at}
@@ -28,8 +28,8 @@ gives_is view None read e = sym e
 
 pub body_fits : (h : Header) (message : List ℕ) → IsBytes message → IsBytes (body_bytes h message)
 body_fits h message fits =
-    let behind = IsBytes-right (take h.body_at message) (drop h.body_at message) (subst IsBytes (sym (take-append-drop h.body_at message)) fits) in
-    IsBytes-left (take h.body_len (drop h.body_at message)) (drop h.body_len (drop h.body_at message)) (subst IsBytes (sym (take-append-drop h.body_len (drop h.body_at message))) behind)
+    let remainder = IsBytes-right (take h.body_at message) (drop h.body_at message) (subst IsBytes (sym (take-append-drop h.body_at message)) fits) in
+    IsBytes-left (take h.body_len (drop h.body_at message)) (drop h.body_len (drop h.body_at message)) (subst IsBytes (sym (take-append-drop h.body_len (drop h.body_at message))) remainder)
 
 -- ---- texts one after another
 
@@ -94,9 +94,9 @@ texts_again little (suc n) at (t ∷ ts) bytes le are =
 
 -- ---- the first text
 
-behind_takes : (bytes rest : List ℕ) (b : ℕ) → behind_byte b bytes ≡ Some rest → bytes ≡ b ∷ rest
-behind_takes [] rest b e = absurd cc
-behind_takes (c ∷ bytes) rest b e =
+remainder_takes : (bytes rest : List ℕ) (b : ℕ) → remainder_byte b bytes ≡ Some rest → bytes ≡ b ∷ rest
+remainder_takes [] rest b e = absurd cc
+remainder_takes (c ∷ bytes) rest b e =
     let both = cond_some (eqb c b) bytes rest e in
     ap (λ (x : ℕ). x ∷ bytes) (eqb-true c b both.0) ∙ ap (λ (l : List ℕ). b ∷ l) both.1
 
@@ -104,12 +104,12 @@ first_takes : (h : Header) (message text : List ℕ) → IsBytes message → fir
 unfolding first_text
 first_takes h message text fits e =
     let p = body_place h message in
-    let a = bind_some (behind_byte 115 (signature_text h)) (λ types. long_text_at h.little p >>= λ t. Some t.0) text e in
+    let a = bind_some (remainder_byte 115 (signature_text h)) (λ types. long_text_at h.little p >>= λ t. Some t.0) text e in
     let t = bind_some (long_text_at h.little p) (λ t. Some t.0) text a.2 in
     let x = long_text_takes h.little p t.0.0 t.0.1 (body_fits h message fits) t.1 in
     record {
       types = a.0;
-      typed = behind_takes (signature_text h) a.0 115 a.1;
+      typed = remainder_takes (signature_text h) a.0 115 a.1;
       first = x.0;
       rest = t.0.1.rest;
       parts = x.1.parts;
@@ -120,7 +120,7 @@ first_again : (h : Header) (message text : List ℕ) → BeginsWithText h messag
 unfolding first_text
 first_again h message text is =
     let p = body_place h message in
-    ap (λ (s : List ℕ). behind_byte 115 s >>= λ types. long_text_at h.little p >>= λ t. Some t.0) is.typed
+    ap (λ (s : List ℕ). remainder_byte 115 s >>= λ types. long_text_at h.little p >>= λ t. Some t.0) is.typed
     ∙ bind_is (long_text_at h.little p) (λ t. Some t.0) (text, place (h.body_at + length is.first) is.rest) (long_text_again h.little p text is.first is.rest is.parts is.is)
 
 pub first_law : (h : Header) (message : List ℕ) (found : Option (List ℕ)) → IsBytes message → found ≡ first_text h message → (text : List ℕ) → (found ≡ Some text → BeginsWithText h message text) × (BeginsWithText h message text → found ≡ Some text)

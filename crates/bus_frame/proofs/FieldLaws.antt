@@ -15,7 +15,7 @@ use Rattle.bus_frame.proofs.Taking.{place, Takes, Takes-then, bind_some, bind_is
 use Rattle.bus_frame.proofs.Spelled.{IsBytes, Takes-bytes, number_takes, number_again, long_text_takes, long_text_again, short_text_takes, short_text_again}
 use Rattle.bus_frame.proofs.TypeLaws.{chosen, none_of}
 use Rattle.bus_frame.proofs.ValueTakes.{map_some, variant_type_takes, value_takes}
-use Rattle.bus_frame.proofs.ValueAgain.{map_is, behind_both, at_yes, at_no, variant_type_again, value_again}
+use Rattle.bus_frame.proofs.ValueAgain.{map_is, remainder_both, at_yes, at_no, variant_type_again, value_again}
 
 -- ---- what a type begins with
 
@@ -270,4 +270,4 @@ field_again little p f x rest parts is =
     ∙ bind_is (byte_at q1) (λ code. variant_type_at code.1 >>= λ types. content_at little types.0 types.1 >>= λ c. Some (record { code = code.0; content = c.0 }, c.1)) (f.code, q2) (byte_again q1 f.code (is.text ++ later) refl)
     ∙ bind_is (variant_type_at q2) (λ types. content_at little types.0 types.1 >>= λ c. Some (record { code = f.code; content = c.0 }, c.1)) (type_text is.held, q4) types
     ∙ bind_is (content_at little (type_text is.held) q4) (λ c. Some (record { code = f.code; content = c.0 }, c.1)) (f.content, q5) content
-    ∙ ap (λ (r : Place). Some (f, r)) (behind_both p.at head is.value x rest is.spelled)
+    ∙ ap (λ (r : Place). Some (f, r)) (remainder_both p.at head is.value x rest is.spelled)

@@ -388,8 +388,8 @@ pub added : (k : Known) (before : List Field) (f : Field) → Tied k before → 
 unfolding add_field Added
 added k before f t = by_zero (eqb f.code 0) refl
   where
-    behind_zero : Option FrameRule
-    behind_zero = cond (ltb 9 f.code) None (cond (is_some (given f.code before)) (Some Double) (cond (not (is_kind f.code f.content)) (Some Kind) (cond (not (is_good f.code f.content)) (Some Value) None)))
+    remainder_zero : Option FrameRule
+    remainder_zero = cond (ltb 9 f.code) None (cond (is_some (given f.code before)) (Some Double) (cond (not (is_kind f.code f.content)) (Some Kind) (cond (not (is_good f.code f.content)) (Some Value) None)))
 
     by_above : (b : Bool) → ltb 9 f.code ≡ b → 1 ≤ f.code → Added k before f (cond b None (cond (is_some (given f.code before)) (Some Double) (cond (not (is_kind f.code f.content)) (Some Kind) (cond (not (is_good f.code f.content)) (Some Value) None))))
     by_above true e low = let lt = ltb-true 9 f.code e in (k, above k f lt, tied_above k before f t lt)

@@ -72,11 +72,11 @@ parts_read m array gap body p =
     let t = take 16 m in
     let t_len : length t ≡ 16 = length-take-le 16 m p.head in
     let whole_is : m ≡ t ++ (array ++ (gap ++ body)) = p.spelled ∙ append_assoc (t ++ array) gap body ∙ append_assoc t array (gap ++ body) in
-    let behind_head : drop 16 m ≡ array ++ (gap ++ body) = ap (drop 16) whole_is ∙ drop_at t (array ++ (gap ++ body)) 16 t_len in
-    let behind_array : drop (array_end f) m ≡ gap ++ body = sym (drop-drop f.array_len 16 m) ∙ ap (drop f.array_len) behind_head ∙ drop_at array (gap ++ body) f.array_len p.array_len in
+    let remainder_head : drop 16 m ≡ array ++ (gap ++ body) = ap (drop 16) whole_is ∙ drop_at t (array ++ (gap ++ body)) 16 t_len in
+    let remainder_array : drop (array_end f) m ≡ gap ++ body = sym (drop-drop f.array_len 16 m) ∙ ap (drop f.array_len) remainder_head ∙ drop_at array (gap ++ body) f.array_len p.array_len in
     let gap_count : body_start f - array_end f ≡ padding 8 (array_end f) = omega arith in (
-      ap (take f.array_len) behind_head ∙ take_at array (gap ++ body) f.array_len p.array_len,
-      ap (take (body_start f - array_end f)) behind_array ∙ take_at gap body (body_start f - array_end f) (p.gap_len ∙ sym gap_count),
+      ap (take f.array_len) remainder_head ∙ take_at array (gap ++ body) f.array_len p.array_len,
+      ap (take (body_start f - array_end f)) remainder_array ∙ take_at gap body (body_start f - array_end f) (p.gap_len ∙ sym gap_count),
       ap (λ (l : List ℕ). length l) whole_is ∙ length-append t (array ++ (gap ++ body)) ∙ omega (arith, t_len, length-append array (gap ++ body), length-append gap body, p.array_len, p.gap_len, p.body_len),
     )
 
@@ -229,8 +229,8 @@ rest_breaks m rule fits head sound len known =
 
 array_bytes : (m : List ℕ) (n : ℕ) → IsBytes m → IsBytes (take n (drop 16 m))
 array_bytes m n fits =
-    let behind = IsBytes-right (take 16 m) (drop 16 m) (subst IsBytes (sym (take-append-drop 16 m)) fits) in
-    IsBytes-left (take n (drop 16 m)) (drop n (drop 16 m)) (subst IsBytes (sym (take-append-drop n (drop 16 m))) behind)
+    let remainder = IsBytes-right (take 16 m) (drop 16 m) (subst IsBytes (sym (take-append-drop 16 m)) fits) in
+    IsBytes-left (take n (drop 16 m)) (drop n (drop 16 m)) (subst IsBytes (sym (take-append-drop n (drop 16 m))) remainder)
 
 stop_bad : (m : List ℕ) (before : List Field) (at : ℕ) (rest : List ℕ) (rule : FrameRule) → IsBytes m → FineUpTo m before at rest → Why (is_little (fixed_of m)) before at rest rule → frame_of m ≡ bad rule
 unfolding known_in

@@ -5,7 +5,7 @@ use Rattle.std.specs.Prelude.{◌&&◌, ◌||◌, ◌⊎◌}
 use Rattle.std.proofs.lemmas.Bool.{ltb-true, lt-ltb, eqb-true, eqb-false, eq-eqb, ne_eqb, and_parts, and_from, or_cases, cases_Bool, false≢true}
 use Rattle.std.proofs.lemmas.Option.{cond_some, some_pair_parts}
 use Rattle.std.proofs.lemmas.List.{length-append, append-nil, nil_from_length}
-use Rattle.bus_frame.specs.Steps.{◌>>=◌, or_else, first_of, behind_byte}
+use Rattle.bus_frame.specs.Steps.{◌>>=◌, or_else, first_of, remainder_byte}
 use Rattle.bus_frame.specs.Types.{Ty, Tys, basic, variant, array, struct, entry, none, more, type_text, types_text, is_basic, is_type, are_types, entry_after, element_after, members_after, type_step, type_after, whole_type_after, is_one_type}
 use Rattle.bus_frame.proofs.Taking.{bind_some, bind_is, none_if}
 use Rattle.bus_frame.proofs.TypeSteps.{step}
@@ -20,17 +20,17 @@ code_apart c b false e basic_c other_b = refl
 pub basic_apart : (c b : ℕ) → is_basic c ≡ true → is_basic b ≡ false → eqb c b ≡ false
 basic_apart c b basic_c other_b = code_apart c b (eqb c b) refl basic_c other_b
 
-pub behind_takes : (b : ℕ) (types rest : List ℕ) → behind_byte b types ≡ Some rest → types ≡ b ∷ rest
-behind_takes b [] rest e = absurd cc
-behind_takes b (c ∷ types) rest e =
+pub remainder_takes : (b : ℕ) (types rest : List ℕ) → remainder_byte b types ≡ Some rest → types ≡ b ∷ rest
+remainder_takes b [] rest e = absurd cc
+remainder_takes b (c ∷ types) rest e =
     let t = cond_some (eqb c b) types rest e in
     ap (λ (x : ℕ). x ∷ types) (eqb-true c b t.0) ∙ ap (λ (xs : List ℕ). b ∷ xs) t.1
 
-pub behind_again : (b : ℕ) (rest : List ℕ) → behind_byte b (b ∷ rest) ≡ Some rest
-behind_again b rest = rw (eq-eqb b b refl) refl
+pub remainder_again : (b : ℕ) (rest : List ℕ) → remainder_byte b (b ∷ rest) ≡ Some rest
+remainder_again b rest = rw (eq-eqb b b refl) refl
 
 -- the text of a type begins with a code that closes nothing
-pub not_closing : (e : Bool) (t : Ty) (a s : ℕ) (b : ℕ) (rest : List ℕ) → is_type e t a s ≡ true → is_basic b ≡ false → eqb 118 b ≡ false → eqb 97 b ≡ false → eqb 40 b ≡ false → eqb 123 b ≡ false → behind_byte b (type_text t ++ rest) ≡ None
+pub not_closing : (e : Bool) (t : Ty) (a s : ℕ) (b : ℕ) (rest : List ℕ) → is_type e t a s ≡ true → is_basic b ≡ false → eqb 118 b ≡ false → eqb 97 b ≡ false → eqb 40 b ≡ false → eqb 123 b ≡ false → remainder_byte b (type_text t ++ rest) ≡ None
 not_closing e (basic c) a s b rest good nb nv na ns ne = rw (basic_apart c b good nb) refl
 not_closing e variant a s b rest good nb nv na ns ne = rw nv refl
 not_closing e (array t) a s b rest good nb nv na ns ne = rw na refl
@@ -63,15 +63,15 @@ members_again one a s zero t ts rest lt first others good = absurd (omega arith)
 members_again one a s (suc n) t none rest lt first others good =
     let grouped : (type_text t ++ []) ++ 41 ∷ rest ≡ type_text t ++ 41 ∷ rest = ap (λ (l : List ℕ). l ++ 41 ∷ rest) (append-nil (type_text t)) in
     let read : one ((type_text t ++ []) ++ 41 ∷ rest) ≡ Some (41 ∷ rest) = ap one grouped ∙ first (41 ∷ rest) in
-    bind_is (one ((type_text t ++ []) ++ 41 ∷ rest)) (λ r. or_else (behind_byte 41 r) (members_after one n r)) (41 ∷ rest) read
+    bind_is (one ((type_text t ++ []) ++ 41 ∷ rest)) (λ r. or_else (remainder_byte 41 r) (members_after one n r)) (41 ∷ rest) read
 members_again one a s (suc n) t (more u us) rest lt first others good =
     let goods = and_parts (is_type false u a s) (are_types us a s) good in
     let after = (type_text u ++ types_text us) ++ 41 ∷ rest in
     let after_is : after ≡ type_text u ++ (types_text us ++ 41 ∷ rest) = append_assoc (type_text u) (types_text us) (41 ∷ rest) in
     let grouped : (type_text t ++ (type_text u ++ types_text us)) ++ 41 ∷ rest ≡ type_text t ++ after = append_assoc (type_text t) (type_text u ++ types_text us) (41 ∷ rest) in
     let read : one ((type_text t ++ (type_text u ++ types_text us)) ++ 41 ∷ rest) ≡ Some after = ap one grouped ∙ first after in
-    let unclosed : behind_byte 41 after ≡ None = ap (behind_byte 41) after_is ∙ not_closing false u a s 41 (types_text us ++ 41 ∷ rest) goods.0 refl refl refl refl refl in
-    bind_is (one ((type_text t ++ (type_text u ++ types_text us)) ++ 41 ∷ rest)) (λ r. or_else (behind_byte 41 r) (members_after one n r)) after read
+    let unclosed : remainder_byte 41 after ≡ None = ap (remainder_byte 41) after_is ∙ not_closing false u a s 41 (types_text us ++ 41 ∷ rest) goods.0 refl refl refl refl refl in
+    bind_is (one ((type_text t ++ (type_text u ++ types_text us)) ++ 41 ∷ rest)) (λ r. or_else (remainder_byte 41 r) (members_after one n r)) after read
     ∙ ap (λ (o : Option (List ℕ)). or_else o (members_after one n after)) unclosed
     ∙ members_again one a s n u us rest (omega arith) others.0 others.1 goods.1
 
@@ -152,11 +152,11 @@ members_take : (one : List ℕ → Option (List ℕ)) (P : Ty → Type 0) → So
     → (t : Ty) × (ts : Tys) × P t × AllTys P ts × (types ≡ (type_text t ++ types_text ts) ++ 41 ∷ rest)
 members_take one P sound zero types rest e = absurd cc
 members_take one P sound (suc n) types rest e =
-    let a = bind_some (one types) (λ r. or_else (behind_byte 41 r) (members_after one n r)) rest e in
+    let a = bind_some (one types) (λ r. or_else (remainder_byte 41 r) (members_after one n r)) rest e in
     let first = sound types a.0 a.1 in
-    elim (or_else_some (behind_byte 41 a.0) (members_after one n a.0) rest a.2) [
+    elim (or_else_some (remainder_byte 41 a.0) (members_after one n a.0) rest a.2) [
       | inl closed ↦
-          let end = behind_takes 41 a.0 rest closed in
+          let end = remainder_takes 41 a.0 rest closed in
           (first.0, none, first.1, tt, first.2 ∙ ap (λ (l : List ℕ). type_text first.0 ++ l) end ∙ ap (λ (l : List ℕ). l ++ 41 ∷ rest) (sym (append-nil (type_text first.0))))
       | inr goes_on ↦
           let others = members_take one P sound n a.0 rest goes_on in
@@ -180,11 +180,11 @@ entry_takes : (one : List ℕ → Option (List ℕ)) (a s : ℕ) → Sound one (
     → (t : Ty) × (is_type true t a s ≡ true) × (123 ∷ types ≡ type_text t ++ rest)
 entry_takes one a s sound [] rest e = absurd cc
 entry_takes one a s sound (key ∷ value) rest e =
-    elim (chosen (is_basic key) (one value >>= behind_byte 125) None (Some rest) e) [
+    elim (chosen (is_basic key) (one value >>= remainder_byte 125) None (Some rest) e) [
       | inl g ↦
-          let v = bind_some (one value) (behind_byte 125) rest g.1 in
+          let v = bind_some (one value) (remainder_byte 125) rest g.1 in
           let held = sound value v.0 v.1 in
-          let end = behind_takes 125 v.0 rest v.2 in
+          let end = remainder_takes 125 v.0 rest v.2 in
           let value_is : value ≡ (type_text held.0 ++ 125 ∷ []) ++ rest = held.2 ∙ ap (λ (l : List ℕ). type_text held.0 ++ l) end ∙ sym (append_assoc (type_text held.0) (125 ∷ []) rest) in
           (entry key held.0, and_from (is_basic key) (is_type false held.0 a s) g.0 held.1, ap (λ (l : List ℕ). 123 ∷ key ∷ l) value_is)
       | inr g ↦ absurd cc

@@ -29,8 +29,8 @@ pub map_is : {A B : Type 0} (o : Option A) (f : A → B) (x : A) → o ≡ Some 
 map_is {A} o f x e = ap (λ (r : Option A). option_map f r) e
 
 -- a place after two pieces
-pub behind_both : (at : ℕ) (x y z rest : List ℕ) → z ≡ x ++ y → place ((at + length x) + length y) rest ≡ place (at + length z) rest
-behind_both at x y z rest e = ap (λ (k : ℕ). place k rest) (omega (arith, length-append x y, ap (λ (l : List ℕ). length l) e))
+pub remainder_both : (at : ℕ) (x y z rest : List ℕ) → z ≡ x ++ y → place ((at + length x) + length y) rest ≡ place (at + length z) rest
+remainder_both at x y z rest e = ap (λ (k : ℕ). place k rest) (omega (arith, length-append x y, ap (λ (l : List ℕ). length l) e))
 
 -- ---- basic types
 
@@ -44,7 +44,7 @@ fixed_again size p v rest parts is =
     let d = bytes_again q is.digits rest size refl is.size_is in
     bind_is (aligned_at size p) (λ r. bytes_at size r >>= λ b. Some b.1) q a
     ∙ bind_is (bytes_at size q) (λ b. Some b.1) (is.digits, place ((p.at + length z) + length is.digits) rest) d
-    ∙ ap (λ (r : Place). Some r) (behind_both p.at z is.digits v rest is.spelled)
+    ∙ ap (λ (r : Place). Some r) (remainder_both p.at z is.digits v rest is.spelled)
 
 truth_again : (little : Bool) → ReadsAt (truth_at little) (IsTruth little)
 unfolding truth_at
@@ -147,7 +147,7 @@ members_again one P b a s left close (suc n) t (more u us) again good lt p v res
     bind_is (one types p) (λ r. or_else (option_map (λ (l : List ℕ). (l, r.1)) (closed r.0)) (members_at one n r.0 r.1)) (after, q) read
     ∙ ap (λ (o : Option (List ℕ)). or_else (option_map (λ (l : List ℕ). (l, q)) o) (members_at one n after q)) unclosed
     ∙ members_again one P b a s left close n u us again.1 goods.1 (omega arith) q later rest refl is.4
-    ∙ ap (λ (r : Place). Some (left, r)) (behind_both p.at first later v rest is.2)
+    ∙ ap (λ (r : Place). Some (left, r)) (remainder_both p.at first later v rest is.2)
 
 -- ---- containers
 
@@ -168,7 +168,7 @@ array_head_again little t left p n rest parts le =
     ∙ bind_is (first_of types) (λ c. aligned_at (alignment c.0) q >>= λ x. cond (ltb 67108864 n) None (Some (n, x))) (code.0, code.1) code.2
     ∙ bind_is (aligned_at (alignment code.0) q) (λ x. cond (ltb 67108864 n) None (Some (n, x))) r b
     ∙ at_no (ltb 67108864 n) None (Some (n, r)) (le-ltb 67108864 n le)
-    ∙ ap (λ (x : Place). Some (n, x)) (behind_both p.at count pad (count ++ pad) rest refl)
+    ∙ ap (λ (x : Place). Some (n, x)) (remainder_both p.at count pad (count ++ pad) rest refl)
 
 array_row : (one : List ℕ → Place → Option Ended) (P : ℕ → List ℕ → Type 0) (t : Ty) (left : List ℕ) → CompleteAt one (type_text t ++ left) left P → ((at : ℕ) (v : List ℕ) → P at v → 0 < length v) → element_after whole_type_after (type_text t ++ left) ≡ Some left
     → (at : ℕ) (elements : List (List ℕ)) → AreInRow P at elements → array_type_after one (type_text t ++ left) at (concat elements) ≡ Some left
@@ -198,7 +198,7 @@ array_again little one P t left again some skipped p v rest parts is =
     bind_is (array_head_at little types p) (λ h. bytes_at h.0 h.1 >>= λ bs. array_type_after one types h.1.at bs.0 >>= λ l. Some (l, bs.1)) (n, q) a
     ∙ bind_is (bytes_at n q) (λ bs. array_type_after one types (p.at + length head) bs.0 >>= λ l. Some (l, bs.1)) (body, r) b
     ∙ bind_is (array_type_after one types (p.at + length head) body) (λ l. Some (l, r)) left d
-    ∙ ap (λ (x : Place). Some (left, x)) (behind_both p.at head body v rest is.spelled)
+    ∙ ap (λ (x : Place). Some (left, x)) (remainder_both p.at head body v rest is.spelled)
 
 struct_again : (one : List ℕ → Place → Option Ended) (P : Ty → ℕ → List ℕ → Type 0) (b a s : ℕ) (t : Ty) (ts : Tys) (left : List ℕ) → closing b → CompleteAll one P (more t ts) → are_types ts a s ≡ true → CompleteAt (struct_at one) ((type_text t ++ types_text ts) ++ b ∷ left) left (IsStruct P (more t ts))
 unfolding struct_at
@@ -210,7 +210,7 @@ struct_again one P b a s t ts left close again good p v rest parts is =
     let enough : count ts < length types = omega (arith, length-append (type_text t ++ types_text ts) (b ∷ left), length-append (type_text t) (types_text ts), count_le ts, text_some t) in
     bind_is (aligned_at 8 p) (λ x. members_at one (length types) types x) q (aligned_again 8 p (is.members ++ rest) grouped)
     ∙ members_again one P b a s left close (length types) t ts again good enough q is.members rest refl is.each
-    ∙ ap (λ (x : Place). Some (left, x)) (behind_both p.at z is.members v rest is.spelled)
+    ∙ ap (λ (x : Place). Some (left, x)) (remainder_both p.at z is.members v rest is.spelled)
 
 pub variant_type_again : (p : Place) (t : Ty) (x rest : List ℕ) → p.rest ≡ x ++ rest → IsTypeText t x → variant_type_at p ≡ Some (type_text t, place (p.at + length x) rest)
 unfolding variant_type_at
@@ -237,7 +237,7 @@ variant_again one P again p v rest parts is =
     let r = place ((p.at + length is.text) + length is.value) rest in
     bind_is (variant_type_at p) (λ types. one types.0 types.1 >>= λ x. Some x.1) (type_text is.held, q) (variant_type_again p is.held is.text (is.value ++ rest) grouped is.typed)
     ∙ bind_is (one (type_text is.held) q) (λ x. Some x.1) ([], r) (again is.held is.typed.complete q is.value rest refl is.holds)
-    ∙ ap (λ (x : Place). Some x) (behind_both p.at is.text is.value v rest is.spelled)
+    ∙ ap (λ (x : Place). Some x) (remainder_both p.at is.text is.value v rest is.spelled)
 
 -- ---- all values
 

@@ -2,7 +2,7 @@
 use Rattle.std.specs.Prelude.{◌≡◌, ◌≤◌, ℕ, zero, suc, ◌+◌, ◌-◌, Bool, ◌==◌, nat_lt, if◌then◌else◌, List, [], ◌∷◌, ◌++◌, length, take, drop, codes, Option, Some, None, option_map, unwrap_or}
 use Rattle.std.specs.Str.{bytes_eq}
 use Rattle.bus_frame.specs.declared.header.Header.{Header}
-use Rattle.bus_frame.specs.Steps.{◌>>=◌, first_of, behind_byte}
+use Rattle.bus_frame.specs.Steps.{◌>>=◌, first_of, remainder_byte}
 use Rattle.bus_frame.specs.Places.{Place, bytes_at, long_text_at}
 use Rattle.bus_frame.specs.Values.{array_head_at}
 use Rattle.bus_frame.specs.Grammar.{IsLongText, array_head}
@@ -56,7 +56,7 @@ pub record AreNames (h : Header) (message : List ℕ) (names : List (List ℕ)) 
 -- the text at the start of a body whose signature begins with `s`
 unfoldable pub first_text : Header → List ℕ → Option (List ℕ)
 first_text h message = do
-  types ← behind_byte 115 (signature_text h)
+  types ← remainder_byte 115 (signature_text h)
   text ← long_text_at h.little (body_place h message)
   Some text.0
 

@@ -21,5 +21,5 @@ first_of [] = None
 first_of (byte ∷ rest) = Some (byte, rest)
 
 -- what follows this byte
-abbrev pub behind_byte : ℕ → List ℕ → Option (List ℕ)
-behind_byte byte bytes = first_of bytes >>= λ b. if b.0 == byte then Some b.1 else None
+abbrev pub remainder_byte : ℕ → List ℕ → Option (List ℕ)
+remainder_byte byte bytes = first_of bytes >>= λ b. if b.0 == byte then Some b.1 else None

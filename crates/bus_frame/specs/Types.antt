@@ -1,7 +1,7 @@
 -- Complete types and signatures, after the D-Bus specification's "Type System".
 use Rattle.std.specs.Prelude.{ℕ, zero, suc, ◌-◌, Bool, true, false, ◌&&◌, ◌||◌, ◌==◌, nat_lt, nat_le, if◌then◌else◌, List, [], ◌∷◌, ◌++◌, length, Option, Some, None}
 use Rattle.std.specs.Option.{option_map_or}
-use Rattle.bus_frame.specs.Steps.{◌>>=◌, or_else, first_of, behind_byte}
+use Rattle.bus_frame.specs.Steps.{◌>>=◌, or_else, first_of, remainder_byte}
 
 -- the code of a basic type: y b n q i u x t d s o g h
 abbrev pub is_basic : ℕ → Bool
@@ -53,7 +53,7 @@ abbrev mutual
 abbrev pub entry_after : (List ℕ → Option (List ℕ)) → List ℕ → Option (List ℕ)
 entry_after one types = do
   key ← first_of types
-  if is_basic key.0 then one key.1 >>= behind_byte 125 else None
+  if is_basic key.0 then one key.1 >>= remainder_byte 125 else None
 
 abbrev pub element_after : (List ℕ → Option (List ℕ)) → List ℕ → Option (List ℕ)
 element_after one types = do
@@ -65,7 +65,7 @@ abbrev pub members_after : (List ℕ → Option (List ℕ)) → ℕ → List ℕ
 members_after one zero types = None
 members_after one (suc n) types = do
   rest ← one types
-  or_else (behind_byte 41 rest) (members_after one n rest)
+  or_else (remainder_byte 41 rest) (members_after one n rest)
 
 -- with room for so many containers, and what reads the types within
 abbrev pub type_step : (all arrays structs : ℕ) → (ℕ → ℕ → List ℕ → Option (List ℕ)) → List ℕ → Option (List ℕ)

@@ -62,10 +62,10 @@ fn three<'m>(little: bool, place: Cursor<'m>) -> Option<(&'m str, &'m str, &'m s
     ensures { Gives (λ t. (t.0.now, t.1.now, t.2.now)) result
         (three_texts_at little (place_of place.entry)) }
 {
-    let (first, behind) = place.long_text(little)?;
-    let (second, behind) = behind.long_text(little)?;
-    let (third, behind) = behind.long_text(little)?;
-    if !behind.rest.is_empty() {
+    let (first, remainder) = place.long_text(little)?;
+    let (second, remainder) = remainder.long_text(little)?;
+    let (third, remainder) = remainder.long_text(little)?;
+    if !remainder.rest.is_empty() {
         return None;
     }
     Some((first, second, third))
@@ -98,8 +98,8 @@ fn elements<'m>(little: bool, place: Cursor<'m>) -> Option<Cursor<'m>>
     ensures { Gives place_of result (elements_place little (place_of place.entry)) }
 {
     let (count, first) = array_head(little, b"s", place)?;
-    let (rest, behind) = first.bytes(count)?;
-    if !behind.rest.is_empty() {
+    let (rest, remainder) = first.bytes(count)?;
+    if !remainder.rest.is_empty() {
         return None;
     }
     Some(Cursor { at: first.at, rest })
@@ -124,10 +124,10 @@ fn are_texts(little: bool, place: Cursor<'_>) -> bool
         if next.rest.is_empty() {
             return true;
         }
-        let Some((_, behind)) = next.long_text(little) else {
+        let Some((_, remainder)) = next.long_text(little) else {
             return false;
         };
-        next = behind;
+        next = remainder;
     }
     next.rest.is_empty()
 }
@@ -142,11 +142,11 @@ fn texts(alloc: Global, little: bool, place: Cursor<'_>) -> Result<Option<Vec<Te
         if next.rest.is_empty() {
             return Ok(Some(texts));
         }
-        let Some((text, behind)) = next.long_text(little) else {
+        let Some((text, remainder)) = next.long_text(little) else {
             return Ok(None);
         };
         texts.push(Text::from_str(alloc, text)?)?;
-        next = behind;
+        next = remainder;
     }
     if !next.rest.is_empty() {
         return Ok(None);

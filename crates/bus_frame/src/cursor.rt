@@ -62,11 +62,11 @@ impl<'a> Cursor<'a> {
             return None;
         }
         let (front, rest) = self.rest.split_at(count);
-        let behind = Cursor {
+        let remainder = Cursor {
             at: self.at + count,
             rest,
         };
-        Some((front, behind))
+        Some((front, remainder))
     }
 
     /// A byte, and the place after it.
@@ -74,11 +74,11 @@ impl<'a> Cursor<'a> {
         ensures { Gives (λ x. (x.0, place_of x.1)) result (byte_at (place_of self.entry)) }
     {
         let (byte, rest) = first_byte(self.rest)?;
-        let behind = Cursor {
+        let remainder = Cursor {
             at: self.at + 1,
             rest,
         };
-        Some((byte, behind))
+        Some((byte, remainder))
     }
 
     /// The next multiple of `alignment`, up to which bytes are zero.
@@ -88,11 +88,11 @@ impl<'a> Cursor<'a> {
         ensures { Gives place_of result (aligned_at alignment (place_of self.entry)) }
     {
         let padding = (alignment - self.at % alignment) % alignment;
-        let (zeros, behind) = self.bytes(padding)?;
+        let (zeros, remainder) = self.bytes(padding)?;
         if !all_zero(zeros) {
             return None;
         }
-        Some(behind)
+        Some(remainder)
     }
 
     /// A number of 32 bits.
@@ -100,8 +100,8 @@ impl<'a> Cursor<'a> {
     pub fn number(self, little: bool) -> Option<(u32, Cursor<'a>)>
         ensures { Gives (λ x. (x.0, place_of x.1)) result (number_at little (place_of self.entry)) }
     {
-        let (digits, behind) = self.aligned(4)?.bytes(4)?;
-        Some((number(little, digits), behind))
+        let (digits, remainder) = self.aligned(4)?.bytes(4)?;
+        Some((number(little, digits), remainder))
     }
 
     /// A text of so many bytes, and a zero byte.
@@ -110,13 +110,13 @@ impl<'a> Cursor<'a> {
         ensures { Gives (λ x. (x.0.now, place_of x.1)) result
             (text_at count (place_of self.entry)) }
     {
-        let (bytes, behind) = self.bytes(count)?;
-        let (end, behind) = behind.byte()?;
+        let (bytes, remainder) = self.bytes(count)?;
+        let (end, remainder) = remainder.byte()?;
         let text = text(bytes)?;
         if end != 0 {
             return None;
         }
-        Some((text, behind))
+        Some((text, remainder))
     }
 
     /// A text after a number of 32 bits.
@@ -125,8 +125,8 @@ impl<'a> Cursor<'a> {
         ensures { Gives (λ x. (x.0.now, place_of x.1)) result
             (long_text_at little (place_of self.entry)) }
     {
-        let (count, behind) = self.number(little)?;
-        behind.text(count as usize)
+        let (count, remainder) = self.number(little)?;
+        remainder.text(count as usize)
     }
 
     /// A text after a byte.
@@ -135,7 +135,7 @@ impl<'a> Cursor<'a> {
         ensures { Gives (λ x. (x.0.now, place_of x.1)) result
             (short_text_at (place_of self.entry)) }
     {
-        let (count, behind) = self.byte()?;
-        behind.text(usize::from(count))
+        let (count, remainder) = self.byte()?;
+        remainder.text(usize::from(count))
     }
 }

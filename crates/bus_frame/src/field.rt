@@ -39,16 +39,16 @@ fn content<'a>(
     let (code, _) = first_byte(types)?;
     match code {
         b's' | b'o' => {
-            let (text, behind) = place.long_text(little)?;
-            Some((RawContent::Word(code, text), behind))
+            let (text, remainder) = place.long_text(little)?;
+            Some((RawContent::Word(code, text), remainder))
         }
         b'g' => {
-            let (text, behind) = place.short_text()?;
-            Some((RawContent::Word(code, text), behind))
+            let (text, remainder) = place.short_text()?;
+            Some((RawContent::Word(code, text), remainder))
         }
         b'u' => {
-            let (number, behind) = place.number(little)?;
-            Some((RawContent::Number(number), behind))
+            let (number, remainder) = place.number(little)?;
+            Some((RawContent::Number(number), remainder))
         }
         _ => {
             let room = Room {
@@ -56,8 +56,8 @@ fn content<'a>(
                 arrays: 32,
                 structs: 32,
             };
-            let (_, behind) = value(room, little, types, place)?;
-            Some((RawContent::Other, behind))
+            let (_, remainder) = value(room, little, types, place)?;
+            Some((RawContent::Other, remainder))
         }
     }
 }
@@ -68,8 +68,8 @@ pub fn field<'a>(little: bool, place: Cursor<'a>) -> Option<(RawField<'a>, Curso
     ensures { Gives (λ x. (field_of x.0, place_of x.1)) result
         (field_at little (place_of place.entry)) }
 {
-    let (code, behind) = place.aligned(8)?.byte()?;
-    let (types, behind) = variant_type(behind)?;
-    let (content, behind) = content(little, types, behind)?;
-    Some((RawField { code, content }, behind))
+    let (code, remainder) = place.aligned(8)?.byte()?;
+    let (types, remainder) = variant_type(remainder)?;
+    let (content, remainder) = content(little, types, remainder)?;
+    Some((RawField { code, content }, remainder))
 }

@@ -140,11 +140,11 @@ pub fn known_fields<'a>(little: bool, place: Cursor<'a>) -> Result<RawKnown<'a>,
         if next.rest.is_empty() {
             return Ok(known);
         }
-        let Some((field, behind)) = field(little, next) else {
+        let Some((field, remainder)) = field(little, next) else {
             return Err(FrameRule::Fields);
         };
         known = with_field(known, field)?;
-        next = behind;
+        next = remainder;
     }
     if !next.rest.is_empty() {
         return Err(FrameRule::Fields);

@@ -1,6 +1,6 @@
 //! The smallest steps of reading.
 
-ghost use Rattle.bus_frame.specs.Steps.{Gives, first_of, behind_byte};
+ghost use Rattle.bus_frame.specs.Steps.{Gives, first_of, remainder_byte};
 
 /// The first byte and those after it.
 pub fn first_byte(bytes: &[u8]) -> Option<(u8, &[u8])>
@@ -14,7 +14,7 @@ pub fn first_byte(bytes: &[u8]) -> Option<(u8, &[u8])>
 
 /// What follows this byte, where it stands first.
 pub fn after_byte(byte: u8, bytes: &[u8]) -> Option<&[u8]>
-    ensures { Gives (λ rest. rest.now) result (behind_byte byte bytes.now) }
+    ensures { Gives (λ rest. rest.now) result (remainder_byte byte bytes.now) }
 {
     let (first, rest) = first_byte(bytes)?;
     if first != byte {

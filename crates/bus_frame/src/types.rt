@@ -19,14 +19,14 @@ fn is_basic_type(code: u8) -> bool
 /// What follows the complete type that stands at the front, where there is one.
 #[cycle(types)]
 #[tactic(auto, using(crate::proofs::TypeSteps::step))]
-pub fn behind_type(room: Room, types: &[u8]) -> Option<&[u8]>
+pub fn after_type(room: Room, types: &[u8]) -> Option<&[u8]>
     ensures { Gives (λ rest. rest.now) result (type_after room.containers room.arrays room.structs
         types.now) }
 {
     let (code, rest) = first_byte(types)?;
     match code {
-        b'a' => behind_element(room.in_array()?, rest),
-        b'(' => behind_members(room.in_struct()?, rest),
+        b'a' => after_element(room.in_array()?, rest),
+        b'(' => after_members(room.in_struct()?, rest),
         _ if code == b'v' || is_basic_type(code) => Some(rest),
         _ => None,
     }
@@ -34,29 +34,29 @@ pub fn behind_type(room: Room, types: &[u8]) -> Option<&[u8]>
 
 /// What follows the type of an array's elements, which may be dictionary entries.
 #[cycle(types)]
-pub fn behind_element(room: Room, types: &[u8]) -> Option<&[u8]>
+pub fn after_element(room: Room, types: &[u8]) -> Option<&[u8]>
     ensures { Gives (λ rest. rest.now) result (element_after
         (type_after room.containers room.arrays room.structs) types.now) }
 {
     let (code, rest) = first_byte(types)?;
     if code != b'{' {
-        return behind_type(room, types);
+        return after_type(room, types);
     }
     let (key, value) = first_byte(rest)?;
     if !is_basic_type(key) {
         return None;
     }
-    after_byte(b'}', behind_type(room, value)?)
+    after_byte(b'}', after_type(room, value)?)
 }
 
 #[cycle(types)]
-fn behind_members(room: Room, types: &[u8]) -> Option<&[u8]>
+fn after_members(room: Room, types: &[u8]) -> Option<&[u8]>
     ensures { Gives (λ rest. rest.now) result (members_after
         (type_after room.containers room.arrays room.structs) (length types.now) types.now) }
 {
     let mut rest = types;
     for _ in 0..types.len() {
-        rest = behind_type(room, rest)?;
+        rest = after_type(room, rest)?;
         if let Some(after) = after_byte(b')', rest) {
             return Some(after);
         }
@@ -68,7 +68,7 @@ fn behind_members(room: Room, types: &[u8]) -> Option<&[u8]>
 pub fn is_complete_type(types: &[u8]) -> bool
     ensures { result ≡ is_one_type types.now }
 {
-    match behind_type(Room::WHOLE, types) {
+    match after_type(Room::WHOLE, types) {
         Some(rest) => rest.is_empty(),
         None => false,
     }
@@ -90,7 +90,7 @@ fn are_complete_types(types: &[u8]) -> bool
         if rest.is_empty() {
             return true;
         }
-        match behind_type(Room::WHOLE, rest) {
+        match after_type(Room::WHOLE, rest) {
             Some(after) => rest = after,
             None => return false,
         }

@@ -9,7 +9,7 @@ ghost use Rattle.bus_frame.specs.Values.{fixed_size, alignment, fixed_at, truth_
 use crate::cursor::Cursor;
 use crate::room::Room;
 use crate::steps::first_byte;
-use crate::types::{behind_element, is_complete_type};
+use crate::types::{after_element, is_complete_type};
 
 const MAX_ARRAY: u32 = 67_108_864;
 
@@ -41,19 +41,19 @@ fn fixed(size: usize, place: Cursor<'_>) -> Option<Cursor<'_>>
     requires { 0 < size }
     ensures { Gives place_of result (fixed_at size (place_of place.entry)) }
 {
-    let (_, behind) = place.aligned(size)?.bytes(size)?;
-    Some(behind)
+    let (_, remainder) = place.aligned(size)?.bytes(size)?;
+    Some(remainder)
 }
 
 #[tactic(auto, unfolding(crate::specs::Values::truth_at))]
 fn truth(little: bool, place: Cursor<'_>) -> Option<Cursor<'_>>
     ensures { Gives place_of result (truth_at little (place_of place.entry)) }
 {
-    let (number, behind) = place.number(little)?;
+    let (number, remainder) = place.number(little)?;
     if number > 1 {
         return None;
     }
-    Some(behind)
+    Some(remainder)
 }
 
 /// Where a value of a basic type ends.
@@ -63,12 +63,12 @@ fn basic(little: bool, code: u8, place: Cursor<'_>) -> Option<Cursor<'_>>
 {
     match code {
         b's' | b'o' => {
-            let (_, behind) = place.long_text(little)?;
-            Some(behind)
+            let (_, remainder) = place.long_text(little)?;
+            Some(remainder)
         }
         b'g' => {
-            let (_, behind) = place.short_text()?;
-            Some(behind)
+            let (_, remainder) = place.short_text()?;
+            Some(remainder)
         }
         b'b' => truth(little, place),
         _ => {
@@ -87,9 +87,9 @@ pub fn array_head<'m>(little: bool, types: &[u8], place: Cursor<'m>) -> Option<(
     ensures { Gives (λ x. (x.0, place_of x.1)) result (array_head_at little types.now
         (place_of place.entry)) }
 {
-    let (count, behind) = place.number(little)?;
+    let (count, remainder) = place.number(little)?;
     let (code, _) = first_byte(types)?;
-    let first = behind.aligned(alignment_of(code))?;
+    let first = remainder.aligned(alignment_of(code))?;
     if count > MAX_ARRAY {
         return None;
     }
@@ -101,17 +101,17 @@ pub fn array_head<'m>(little: bool, types: &[u8], place: Cursor<'m>) -> Option<(
 pub fn variant_type<'m>(place: Cursor<'m>) -> Option<(&'m [u8], Cursor<'m>)>
     ensures { Gives (λ x. (x.0.now, place_of x.1)) result (variant_type_at (place_of place.entry)) }
 {
-    let (count, behind) = place.byte()?;
-    let (types, behind) = behind.bytes(usize::from(count))?;
-    let (end, behind) = behind.byte()?;
+    let (count, remainder) = place.byte()?;
+    let (types, remainder) = remainder.bytes(usize::from(count))?;
+    let (end, remainder) = remainder.byte()?;
     if end != 0 || !is_complete_type(types) {
         return None;
     }
-    Some((types, behind))
+    Some((types, remainder))
 }
 
 /// What follows the bracket that closes a struct or a dictionary entry.
-fn behind_closing(types: &[u8]) -> Option<&[u8]>
+fn after_closing(types: &[u8]) -> Option<&[u8]>
     ensures { Gives (λ rest. rest.now) result (closed types.now) }
 {
     let (code, rest) = first_byte(types)?;
@@ -150,8 +150,8 @@ fn variant(room: Room, little: bool, place: Cursor<'_>) -> Option<Cursor<'_>>
         (variant_at (value_at little room.containers room.arrays room.structs) (place_of place.entry)) }
 {
     let (types, first) = variant_type(place)?;
-    let (_, behind) = value(room, little, types, first)?;
-    Some(behind)
+    let (_, remainder) = value(room, little, types, first)?;
+    Some(remainder)
 }
 
 #[cycle(values)]
@@ -182,12 +182,12 @@ fn members<'t, 'm>(
     let mut left = types;
     let mut next = place;
     for _ in 0..types.len() {
-        let (rest, behind) = value(room, little, left, next)?;
-        if let Some(after) = behind_closing(rest) {
-            return Some((after, behind));
+        let (rest, remainder) = value(room, little, left, next)?;
+        if let Some(after) = after_closing(rest) {
+            return Some((after, remainder));
         }
         left = rest;
-        next = behind;
+        next = remainder;
     }
     None
 }
@@ -204,21 +204,21 @@ fn array<'t, 'm>(
         (array_at little (value_at little room.containers room.arrays room.structs) types.now (place_of place.entry)) }
 {
     let (count, first) = array_head(little, types, place)?;
-    let (body, behind) = first.bytes(count)?;
+    let (body, remainder) = first.bytes(count)?;
     let elements = Cursor {
         at: first.at,
         rest: body,
     };
     let rest = if count == 0 {
-        behind_element(Room::WHOLE, types)?
+        after_element(Room::WHOLE, types)?
     } else {
-        behind_elements(room, little, types, elements)?
+        after_elements(room, little, types, elements)?
     };
-    Some((rest, behind))
+    Some((rest, remainder))
 }
 
 #[cycle(values)]
-fn behind_elements<'t>(
+fn after_elements<'t>(
     room: Room,
     little: bool,
     types: &'t [u8],
@@ -229,11 +229,11 @@ fn behind_elements<'t>(
 {
     let mut next = place;
     for _ in 0..place.rest.len() {
-        let (rest, behind) = value(room, little, types, next)?;
-        if behind.rest.is_empty() {
+        let (rest, remainder) = value(room, little, types, next)?;
+        if remainder.rest.is_empty() {
             return Some(rest);
         }
-        next = behind;
+        next = remainder;
     }
     None
 }

@@ -15,8 +15,8 @@ ended_at side index rule = Some (side, index, rule)
 pub arrived-cons : (side : Side) (m : Message) (later : List Message) → arrived side (m ∷ later) ≡ arrived side later ++ event_of side m ∷ []
 arrived-cons side m later = reverse-append (event_of side m ∷ []) (map (event_of side) later)
 
-pub arrived_behind : (side : Side) (m : Message) (later : List Message) (taken : List Event) → arrived side (m ∷ later) ++ taken ≡ arrived side later ++ event_of side m ∷ taken
-arrived_behind side m later taken =
+pub arrived_remainder : (side : Side) (m : Message) (later : List Message) (taken : List Event) → arrived side (m ∷ later) ++ taken ≡ arrived side later ++ event_of side m ∷ taken
+arrived_remainder side m later taken =
     ap (λ (l : List Event). l ++ taken) (arrived-cons side m later) ∙ append_assoc (arrived side later) (event_of side m ∷ []) taken
 
 none_of : (l : List Message) → length l ≡ 0 → l ≡ []

@@ -8,7 +8,7 @@ use Rattle.fp_base.specs.declared.side.Side.{Side}
 use Rattle.fp_base.specs.declared.side.Side.TheVariants as side
 use Rattle.bus_frame.specs.Reading.{Read, need, bad, whole, frame_of}
 use Rattle.bus_frame.proofs.Frames.{has_body, stays_whole, stays_bad}
-use Rattle.bus_stream.specs.Stream.{Message, first_taken, taken_in, messages_in, rule_behind, broken_behind, broken_in}
+use Rattle.bus_stream.specs.Stream.{Message, first_taken, taken_in, messages_in, rule_remainder, broken_remainder, broken_in}
 use Rattle.bus_policy.specs.Events.{Event}
 use Rattle.bus_proxy.proofs.Fronts.{same}
 use Rattle.bus_proxy.proofs.Arriving.{ended_at}
@@ -48,25 +48,25 @@ one_on m before now rule later g = record {
   stays = λ r e. let s = g.stays r e in (ap (λ (l : List Message). m ∷ l) s.0, s.1);
 }
 
-grows_from : (n m : ℕ) (x y : List ℕ) → length x ≤ n → length (x ++ y) ≤ m → Grows (taken_in n x) (taken_in m (x ++ y)) (broken_behind n x) (broken_behind m (x ++ y))
-grows_from zero m x y le also = from_nothing (taken_in m (x ++ y)) (broken_behind m (x ++ y))
+grows_from : (n m : ℕ) (x y : List ℕ) → length x ≤ n → length (x ++ y) ≤ m → Grows (taken_in n x) (taken_in m (x ++ y)) (broken_remainder n x) (broken_remainder m (x ++ y))
+grows_from zero m x y le also = from_nothing (taken_in m (x ++ y)) (broken_remainder m (x ++ y))
 grows_from (suc n) zero x y le also =
     let fuel = same (suc n) zero x le (omega (arith, also, length-append x y)) in
     moved _ _ _ _ _ _ _ _ fuel.messages refl fuel.rule refl (from_nothing [] None)
 grows_from (suc n) (suc m) x y le also = by_read (frame_of x) refl (λ k less more. grows_from n m (drop k x) y less more)
   where
     by_read : (r : Read) → frame_of x ≡ r
-        → ((k : ℕ) → length (drop k x) ≤ n → length (drop k x ++ y) ≤ m → Grows (taken_in n (drop k x)) (taken_in m (drop k x ++ y)) (broken_behind n (drop k x)) (broken_behind m (drop k x ++ y)))
-        → Grows (taken_in (suc n) x) (taken_in (suc m) (x ++ y)) (broken_behind (suc n) x) (broken_behind (suc m) (x ++ y))
+        → ((k : ℕ) → length (drop k x) ≤ n → length (drop k x ++ y) ≤ m → Grows (taken_in n (drop k x)) (taken_in m (drop k x ++ y)) (broken_remainder n (drop k x)) (broken_remainder m (drop k x ++ y)))
+        → Grows (taken_in (suc n) x) (taken_in (suc m) (x ++ y)) (broken_remainder (suc n) x) (broken_remainder (suc m) (x ++ y))
     by_read (need k) e rest_grows =
-        moved _ [] _ (taken_in (suc m) (x ++ y)) _ None _ (broken_behind (suc m) (x ++ y))
-        (ap (λ (r : Read). first_taken r x (taken_in n)) e) refl (ap (λ (r : Read). rule_behind r x (broken_behind n)) e) refl
-        (from_nothing (taken_in (suc m) (x ++ y)) (broken_behind (suc m) (x ++ y)))
+        moved _ [] _ (taken_in (suc m) (x ++ y)) _ None _ (broken_remainder (suc m) (x ++ y))
+        (ap (λ (r : Read). first_taken r x (taken_in n)) e) refl (ap (λ (r : Read). rule_remainder r x (broken_remainder n)) e) refl
+        (from_nothing (taken_in (suc m) (x ++ y)) (broken_remainder (suc m) (x ++ y)))
     by_read (bad rule) e rest_grows =
         let all = stays_bad x y rule e in
         moved _ [] _ [] _ (Some rule) _ (Some rule)
         (ap (λ (r : Read). first_taken r x (taken_in n)) e) (ap (λ (r : Read). first_taken r (x ++ y) (taken_in m)) all)
-        (ap (λ (r : Read). rule_behind r x (broken_behind n)) e) (ap (λ (r : Read). rule_behind r (x ++ y) (broken_behind m)) all)
+        (ap (λ (r : Read). rule_remainder r x (broken_remainder n)) e) (ap (λ (r : Read). rule_remainder r (x ++ y) (broken_remainder m)) all)
         (from_broken rule)
     by_read (whole h k) e rest_grows =
         let body = has_body x h k e in
@@ -77,13 +77,13 @@ grows_from (suc n) (suc m) x y le also = by_read (frame_of x) refl (λ k less mo
         let rest = length-drop k x in
         let others = rest_grows k (omega (arith, rest, body.start, body.end, le)) (omega (arith, rest, body.start, body.end, le_x, also, length-append x y, length-append (drop k x) y)) in
         let one : Message = record { header = h; bytes = take k x } in
-        moved _ (one ∷ taken_in n (drop k x)) _ (one ∷ taken_in m (drop k x ++ y)) _ (broken_behind n (drop k x)) _ (broken_behind m (drop k x ++ y))
+        moved _ (one ∷ taken_in n (drop k x)) _ (one ∷ taken_in m (drop k x ++ y)) _ (broken_remainder n (drop k x)) _ (broken_remainder m (drop k x ++ y))
         (ap (λ (r : Read). first_taken r x (taken_in n)) e)
         (ap (λ (r : Read). first_taken r (x ++ y) (taken_in m)) all
         ∙ ap (λ (b : List ℕ). record { header = h; bytes = b } ∷ taken_in m (drop k (x ++ y))) front
         ∙ ap (λ (l : List ℕ). one ∷ taken_in m l) back)
-        (ap (λ (r : Read). rule_behind r x (broken_behind n)) e)
-        (ap (λ (r : Read). rule_behind r (x ++ y) (broken_behind m)) all ∙ ap (broken_behind m) back)
+        (ap (λ (r : Read). rule_remainder r x (broken_remainder n)) e)
+        (ap (λ (r : Read). rule_remainder r (x ++ y) (broken_remainder m)) all ∙ ap (broken_remainder m) back)
         (one_on one _ _ _ _ others)
 
 pub grows : (x y : List ℕ) → Grows (messages_in x) (messages_in (x ++ y)) (broken_in x) (broken_in (x ++ y))

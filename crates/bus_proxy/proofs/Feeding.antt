@@ -10,7 +10,7 @@ use Rattle.bus_proxy.specs.declared.stream.Stream.{Stream}
 use Rattle.bus_proxy.specs.declared.streams.Streams.{Streams}
 use Rattle.bus_proxy.specs.Arrivals.{Pieces, End, other_side, same_side, bytes_of, event_of, arrived, counted, breach, broken_end, first_of, events, news}
 use Rattle.bus_proxy.specs.Streaming.{StreamAt, StreamsAt, NoneWaits, stream_of, messages_of, Fed}
-use Rattle.bus_proxy.proofs.Fronts.{behind, more_fed}
+use Rattle.bus_proxy.proofs.Fronts.{remainder, more_fed}
 use Rattle.bus_proxy.proofs.Arriving.{none_arrived}
 
 -- ---- nothing waits
@@ -28,7 +28,7 @@ none_waits s fed taken at all side =
 -- the messages of a side are those taken
 pub messages_taken : (s : Streams) (fed : Pieces) (taken : List Event) → StreamsAt s fed taken → events fed ≡ taken → (side : Side) → messages_in (bytes_of side fed) ≡ messages_of side taken
 messages_taken s fed taken at all side =
-    (behind _ _ _ (at.each side).cut).messages
+    (remainder _ _ _ (at.each side).cut).messages
     ∙ ap (λ (l : List Message). messages_of side taken ++ l) (none_waits s fed taken at all side)
     ∙ append-nil (messages_of side taken)
 
@@ -57,7 +57,7 @@ each_fed old new fed taken side.Bus piece at f side.Bus = more _ _ _ _ _ (at.eac
 pub all_news : (cutter before now : List ℕ) (given : List Message) → messages_in before ≡ given → CutterAt cutter now given → news before now ≡ messages_in cutter
 all_news cutter before now given taken at =
     ap (λ (l : List Message). drop (length l) (messages_in now)) taken
-    ∙ ap (drop (length given)) (behind cutter now given at).messages
+    ∙ ap (drop (length given)) (remainder cutter now given at).messages
     ∙ drop_at given (messages_in cutter) (length given) refl
 
 unbroken : (o : Option End) (a b : List Event) → o ≡ None → (if is_some o then a else b) ≡ b

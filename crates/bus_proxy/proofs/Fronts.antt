@@ -8,16 +8,16 @@ use Rattle.bus_frame.specs.Reading.{Read, need, bad, whole, frame_of}
 use Rattle.bus_frame.specs.Answers.{IsWhole}
 use Rattle.bus_frame.proofs.Frames.{has_body, reads_bad, stays_whole}
 use Rattle.bus_frame.proofs.MessageLaws.{frame_whole}
-use Rattle.bus_stream.specs.Stream.{Message, IsMessage, joined, CutterAt, first_taken, taken_in, messages_in, rule_behind, broken_behind, broken_in}
+use Rattle.bus_stream.specs.Stream.{Message, IsMessage, joined, CutterAt, first_taken, taken_in, messages_in, rule_remainder, broken_remainder, broken_in}
 use Rattle.bus_stream.proofs.Streams.{all_push, joined-push}
 
 -- ---- how often bytes are looked at doesn't matter, if often enough
 
 pub record Same (n m : ℕ) (bytes : List ℕ) : Type 0 where
   pub messages : taken_in n bytes ≡ taken_in m bytes
-  pub rule : broken_behind n bytes ≡ broken_behind m bytes
+  pub rule : broken_remainder n bytes ≡ broken_remainder m bytes
 
-nothing_in : (m : ℕ) (bytes : List ℕ) → length bytes ≤ 0 → (taken_in m bytes ≡ []) × (broken_behind m bytes ≡ None)
+nothing_in : (m : ℕ) (bytes : List ℕ) → length bytes ≤ 0 → (taken_in m bytes ≡ []) × (broken_remainder m bytes ≡ None)
 unfolding frame_of
 nothing_in zero bytes le = (refl, refl)
 nothing_in (suc m) [] le = (refl, refl)
@@ -35,11 +35,11 @@ same (suc n) (suc m) bytes le also = by_read (frame_of bytes) refl (λ k less mo
     by_read : (r : Read) → frame_of bytes ≡ r → ((k : ℕ) → length (drop k bytes) ≤ n → length (drop k bytes) ≤ m → Same n m (drop k bytes)) → Same (suc n) (suc m) bytes
     by_read (need k) e later = record {
       messages = ap (λ (r : Read). first_taken r bytes (taken_in n)) e ∙ sym (ap (λ (r : Read). first_taken r bytes (taken_in m)) e);
-      rule = ap (λ (r : Read). rule_behind r bytes (broken_behind n)) e ∙ sym (ap (λ (r : Read). rule_behind r bytes (broken_behind m)) e);
+      rule = ap (λ (r : Read). rule_remainder r bytes (broken_remainder n)) e ∙ sym (ap (λ (r : Read). rule_remainder r bytes (broken_remainder m)) e);
     }
     by_read (bad rule) e later = record {
       messages = ap (λ (r : Read). first_taken r bytes (taken_in n)) e ∙ sym (ap (λ (r : Read). first_taken r bytes (taken_in m)) e);
-      rule = ap (λ (r : Read). rule_behind r bytes (broken_behind n)) e ∙ sym (ap (λ (r : Read). rule_behind r bytes (broken_behind m)) e);
+      rule = ap (λ (r : Read). rule_remainder r bytes (broken_remainder n)) e ∙ sym (ap (λ (r : Read). rule_remainder r bytes (broken_remainder m)) e);
     }
     by_read (whole h k) e later =
         let body = has_body bytes h k e in
@@ -51,18 +51,18 @@ same (suc n) (suc m) bytes le also = by_read (frame_of bytes) refl (λ k less mo
               ∙ ap (λ (l : List Message). record { header = h; bytes = take k bytes } ∷ l) others.messages
               ∙ sym (ap (λ (r : Read). first_taken r bytes (taken_in m)) e);
           rule =
-              ap (λ (r : Read). rule_behind r bytes (broken_behind n)) e
+              ap (λ (r : Read). rule_remainder r bytes (broken_remainder n)) e
               ∙ others.rule
-              ∙ sym (ap (λ (r : Read). rule_behind r bytes (broken_behind m)) e);
+              ∙ sym (ap (λ (r : Read). rule_remainder r bytes (broken_remainder m)) e);
         }
 
 -- ---- what stands after messages
 
-pub record Behind (given : List Message) (all rest : List ℕ) : Type 0 where
+pub record Remainder (given : List Message) (all rest : List ℕ) : Type 0 where
   pub messages : messages_in all ≡ given ++ messages_in rest
   pub rule : broken_in all ≡ broken_in rest
 
-one_front : (m : Message) (later : List ℕ) → IsMessage m → Behind (m ∷ []) (m.bytes ++ later) later
+one_front : (m : Message) (later : List ℕ) → IsMessage m → Remainder (m ∷ []) (m.bytes ++ later) later
 unfolding messages_in broken_in
 one_front m later is =
     let n = length m.bytes in
@@ -82,12 +82,12 @@ one_front m later is =
           ∙ ap (λ (l : List Message). m ∷ l) fuel.messages;
       rule =
           longer.rule
-          ∙ ap (λ (r : Read). rule_behind r stream (broken_behind len)) read
-          ∙ ap (broken_behind len) back
+          ∙ ap (λ (r : Read). rule_remainder r stream (broken_remainder len)) read
+          ∙ ap (broken_remainder len) back
           ∙ fuel.rule;
     }
 
-all_front : (given : List Message) (rest : List ℕ) → AllByRecursion IsMessage given → Behind given (joined given ++ rest) rest
+all_front : (given : List Message) (rest : List ℕ) → AllByRecursion IsMessage given → Remainder given (joined given ++ rest) rest
 all_front [] rest all = record { messages = refl; rule = refl }
 all_front (m ∷ given) rest all =
     let grouped : joined (m ∷ given) ++ rest ≡ m.bytes ++ (joined given ++ rest) = append_assoc m.bytes (joined given) rest in
@@ -98,8 +98,8 @@ all_front (m ∷ given) rest all =
       rule = ap broken_in grouped ∙ first.rule ∙ others.rule;
     }
 
-pub behind : (cutter fed : List ℕ) (given : List Message) → CutterAt cutter fed given → Behind given fed cutter
-behind cutter fed given at =
+pub remainder : (cutter fed : List ℕ) (given : List Message) → CutterAt cutter fed given → Remainder given fed cutter
+remainder cutter fed given at =
     let front = all_front given cutter at.each in
     record { messages = ap messages_in at.parts ∙ front.messages; rule = ap broken_in at.parts ∙ front.rule }
 

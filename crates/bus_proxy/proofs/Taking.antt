@@ -18,8 +18,8 @@ use Rattle.bus_proxy.specs.declared.stream.Stream.{Stream}
 use Rattle.bus_proxy.specs.declared.streams.Streams.{Streams}
 use Rattle.bus_proxy.specs.Arrivals.{Pieces, End, other_side, bytes_of, event_of, arrived, counted, end_at, breach, broken_end, events}
 use Rattle.bus_proxy.specs.Streaming.{message, StreamAt, StreamsAt, NoneWaits, TookOne, StreamGave, IfArrived, Keeps, stream_of, messages_of}
-use Rattle.bus_proxy.proofs.Fronts.{behind, one_more}
-use Rattle.bus_proxy.proofs.Arriving.{ended_at, arrived_behind, counted-push}
+use Rattle.bus_proxy.proofs.Fronts.{remainder, one_more}
+use Rattle.bus_proxy.proofs.Arriving.{ended_at, arrived_remainder, counted-push}
 use Rattle.bus_proxy.proofs.Feeding.{messages_taken}
 
 -- ---- a message
@@ -50,8 +50,8 @@ took_at old new fed before h bytes at one keeps =
     let rest = messages_in (stream_of new of).cutter in
     let waiting : events fed ≡ arrived of rest ++ event of h bytes ∷ before =
     at.waiting
-    ∙ ap (λ (l : List Message). arrived of l ++ before) (behind _ _ _ one.cut).messages
-    ∙ arrived_behind of (message h bytes) rest before in
+    ∙ ap (λ (l : List Message). arrived of l ++ before) (remainder _ _ _ one.cut).messages
+    ∙ arrived_remainder of (message h bytes) rest before in
     record {
       each = each_taken old new fed before of h bytes at one keeps.other;
       waiting = subst (λ (s : Side). events fed ≡ arrived s (messages_in (stream_of new s).cutter) ++ event of h bytes ∷ before) (sym keeps.latest) waiting;
@@ -82,7 +82,7 @@ all_taken s fed before at none = at.waiting ∙ ap (λ (l : List Message). arriv
 pub unbroken : (s : Streams) (fed : Pieces) (before : List Event) → StreamsAt s fed before → broken_in (stream_of s s.latest).cutter ≡ None → breach fed ≡ None
 unbroken s fed before at sound =
     let bytes = bytes_of s.latest fed in
-    at.broken ∙ ap (option_map (end_at s.latest bytes)) ((behind _ _ _ (at.each s.latest).cut).rule ∙ sound)
+    at.broken ∙ ap (option_map (end_at s.latest bytes)) ((remainder _ _ _ (at.each s.latest).cut).rule ∙ sound)
 
 pub broken : (s : Streams) (fed : Pieces) (before : List Event) (rule : FrameRule) → StreamsAt s fed before → NoneWaits (stream_of s s.latest) → broken_in (stream_of s s.latest).cutter ≡ Some rule
     → breach fed ≡ Some (s.latest, (stream_of s s.latest).count, rule)
@@ -92,7 +92,7 @@ broken s fed before rule at none breaks =
     let index : counted (length (messages_in bytes)) ≡ (stream_of s of).count =
     ap (λ (l : List Message). counted (length l)) (messages_taken s fed before at (all_taken s fed before at none) of) ∙ sym (at.each of).count in
     at.broken
-    ∙ ap (option_map (end_at of bytes)) ((behind _ _ _ (at.each of).cut).rule ∙ breaks)
+    ∙ ap (option_map (end_at of bytes)) ((remainder _ _ _ (at.each of).cut).rule ∙ breaks)
     ∙ ap (λ (n : ℕ). ended_at of n rule) index
 
 -- ---- the beginning

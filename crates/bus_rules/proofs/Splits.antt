@@ -135,6 +135,6 @@ split_at c text at lt is =
     sym (take-append-drop at text) ∙ ap (λ (l : List ℕ). take at text ++ l) (drop-cons text at 0 lt)
     ∙ ap (λ (b : ℕ). take at text ++ b ∷ drop (suc at) text) is ∙ ap (λ (n : ℕ). take at text ++ c ∷ drop n text) (sym (add-one at))
 
-pub misses_behind : (c : ℕ) (text : List ℕ) (at : ℕ) → at < length text → ((i : ℕ) → at < i → i < length text → get_or text i 0 ≢ c) → Misses c (drop (at + 1) text)
-misses_behind c text at lt later = λ i l is.
+pub misses_remainder : (c : ℕ) (text : List ℕ) (at : ℕ) → at < length text → ((i : ℕ) → at < i → i < length text → get_or text i 0 ≢ c) → Misses c (drop (at + 1) text)
+misses_remainder c text at lt later = λ i l is.
     later (at + 1 + i) (omega arith) (omega (arith, l, length-drop (at + 1) text)) (sym (get_or-drop (at + 1) text i 0) ∙ is)

@@ -25,19 +25,19 @@ lines_cons number r line (next ∷ lines) l = refl
 abbrev cut_at : List ℕ → ℕ → List ℕ × List ℕ
 cut_at bytes n = (take n bytes, drop (n + 1) bytes)
 
-found_by : (b : Bool) (at : ℕ) (bytes line behind : List ℕ) → option_map (cut_at bytes) (cond b (Some at) None) ≡ Some (line, behind)
-    → (b ≡ true) × (take at bytes ≡ line) × (drop (at + 1) bytes ≡ behind)
-found_by true at bytes line behind e = let parts = some_pair_parts (take at bytes) line (drop (at + 1) bytes) behind e in (refl, parts.0, parts.1)
-found_by false at bytes line behind e = absurd cc
+found_by : (b : Bool) (at : ℕ) (bytes line remainder : List ℕ) → option_map (cut_at bytes) (cond b (Some at) None) ≡ Some (line, remainder)
+    → (b ≡ true) × (take at bytes ≡ line) × (drop (at + 1) bytes ≡ remainder)
+found_by true at bytes line remainder e = let parts = some_pair_parts (take at bytes) line (drop (at + 1) bytes) remainder e in (refl, parts.0, parts.1)
+found_by false at bytes line remainder e = absurd cc
 
 missed_by : (b : Bool) (at : ℕ) (bytes : List ℕ) → option_map (cut_at bytes) (cond b (Some at) None) ≡ None → b ≡ false
 missed_by true at bytes e = absurd cc
 missed_by false at bytes e = refl
 
-found : (bytes line behind : List ℕ) → parts_at 10 bytes ≡ Some (line, behind)
-    → (position_or_len is_end bytes < length bytes) × (take (position_or_len is_end bytes) bytes ≡ line) × (drop (position_or_len is_end bytes + 1) bytes ≡ behind)
+found : (bytes line remainder : List ℕ) → parts_at 10 bytes ≡ Some (line, remainder)
+    → (position_or_len is_end bytes < length bytes) × (take (position_or_len is_end bytes) bytes ≡ line) × (drop (position_or_len is_end bytes + 1) bytes ≡ remainder)
 unfolding parts_at
-found bytes line behind e = let parts = found_by (ltb (position_or_len is_end bytes) (length bytes)) (position_or_len is_end bytes) bytes line behind e in (ltb-true _ _ parts.0, parts.1, parts.2)
+found bytes line remainder e = let parts = found_by (ltb (position_or_len is_end bytes) (length bytes)) (position_or_len is_end bytes) bytes line remainder e in (ltb-true _ _ parts.0, parts.1, parts.2)
 
 missed : (bytes : List ℕ) → parts_at 10 bytes ≡ None → length bytes ≤ position_or_len is_end bytes
 unfolding parts_at
@@ -46,10 +46,10 @@ missed bytes e = ltb-false _ _ (missed_by (ltb (position_or_len is_end bytes) (l
 none_ends : (bytes : List ℕ) → length bytes ≤ position_or_len is_end bytes → All (λ b. is_end b ≡ false) bytes
 none_ends bytes l k d m = fails_before_first is_end bytes k d (omega (arith, l, m))
 
-pub lines_step : (number : ℕ) (r : Recording) (bytes line behind : List ℕ) → parts_at 10 bytes ≡ Some (line, behind)
-    → with_lines number r (slice_split (λ b. b == 10) bytes) ≡ or_bad number (with_line r line) (λ s. with_lines (number + 1) s (slice_split (λ b. b == 10) behind))
-lines_step number r bytes line behind e =
-    let f = found bytes line behind e in
+pub lines_step : (number : ℕ) (r : Recording) (bytes line remainder : List ℕ) → parts_at 10 bytes ≡ Some (line, remainder)
+    → with_lines number r (slice_split (λ b. b == 10) bytes) ≡ or_bad number (with_line r line) (λ s. with_lines (number + 1) s (slice_split (λ b. b == 10) remainder))
+lines_step number r bytes line remainder e =
+    let f = found bytes line remainder e in
     ap (with_lines number r) (slice_split_first is_end bytes 0 f.0)
     ∙ lines_cons number r _ _ (omega (arith, length-slice_split is_end (drop (position_or_len is_end bytes + 1) bytes)))
     ∙ (λ i. or_bad number (with_line r (f.1 i)) (λ s. with_lines (number + 1) s (slice_split (λ b. b == 10) (f.2 i))))
@@ -63,9 +63,9 @@ nothing_left number r bytes e l = lines_end number r bytes true e l
 pub no_newline : (number : ℕ) (r : Recording) (bytes : List ℕ) → parts_at 10 bytes ≡ None → (length bytes == 0) ≡ false → with_lines number r (slice_split (λ b. b == 10) bytes) ≡ Err number
 no_newline number r bytes e l = lines_end number r bytes false e l
 
-pub behind_is_shorter : (bytes line behind : List ℕ) → parts_at 10 bytes ≡ Some (line, behind) → length behind < length bytes
-behind_is_shorter bytes line behind e =
-    let f = found bytes line behind e in
+pub remainder_is_shorter : (bytes line remainder : List ℕ) → parts_at 10 bytes ≡ Some (line, remainder) → length remainder < length bytes
+remainder_is_shorter bytes line remainder e =
+    let f = found bytes line remainder e in
     omega (arith, f.0, ap (λ (l : List ℕ). length l) f.2, length-drop (position_or_len is_end bytes + 1) bytes)
 
 after_good : {A : Type 0} (number : ℕ) (o : Option Recording) (new : Draft) (next : Recording → Result A ℕ) → Took true new o → Knows new × (or_bad number o next ≡ next (said new))
@@ -76,16 +76,16 @@ after_bad : {A : Type 0} (number : ℕ) (o : Option Recording) (new : Draft) (ne
 after_bad number (Some r) new next t = absurd cc
 after_bad number None new next t = refl
 
-pub good_line : (number : ℕ) (old new : Draft) (bytes line behind : List ℕ) → parts_at 10 bytes ≡ Some (line, behind) → Took true new (with_line (said old) line)
-    → Knows new × (with_lines number (said old) (slice_split (λ b. b == 10) bytes) ≡ with_lines (number + 1) (said new) (slice_split (λ b. b == 10) behind))
-good_line number old new bytes line behind e t =
-    let good = after_good number (with_line (said old) line) new (λ s. with_lines (number + 1) s (slice_split is_end behind)) t in
-    (good.0, lines_step number (said old) bytes line behind e ∙ good.1)
+pub good_line : (number : ℕ) (old new : Draft) (bytes line remainder : List ℕ) → parts_at 10 bytes ≡ Some (line, remainder) → Took true new (with_line (said old) line)
+    → Knows new × (with_lines number (said old) (slice_split (λ b. b == 10) bytes) ≡ with_lines (number + 1) (said new) (slice_split (λ b. b == 10) remainder))
+good_line number old new bytes line remainder e t =
+    let good = after_good number (with_line (said old) line) new (λ s. with_lines (number + 1) s (slice_split is_end remainder)) t in
+    (good.0, lines_step number (said old) bytes line remainder e ∙ good.1)
 
-pub bad_line : (number : ℕ) (old new : Draft) (bytes line behind : List ℕ) → parts_at 10 bytes ≡ Some (line, behind) → Took false new (with_line (said old) line)
+pub bad_line : (number : ℕ) (old new : Draft) (bytes line remainder : List ℕ) → parts_at 10 bytes ≡ Some (line, remainder) → Took false new (with_line (said old) line)
     → with_lines number (said old) (slice_split (λ b. b == 10) bytes) ≡ Err number
-bad_line number old new bytes line behind e t =
-    lines_step number (said old) bytes line behind e ∙ after_bad number (with_line (said old) line) new (λ s. with_lines (number + 1) s (slice_split is_end behind)) t
+bad_line number old new bytes line remainder e t =
+    lines_step number (said old) bytes line remainder e ∙ after_bad number (with_line (said old) line) new (λ s. with_lines (number + 1) s (slice_split is_end remainder)) t
 
 one_more : (w b : Bool) → cond w true b ≡ (b || (w || false))
 one_more true true = refl

@@ -15,7 +15,7 @@ use Rattle.bus_frame.proofs.Frames.{has_body, reads_bad, stays_whole, stays_bad}
 use Rattle.bus_frame.proofs.MessageLaws.{found, found_broken, frame_whole, breaks_bad}
 use Rattle.bus_stream.specs.declared.cutter.Cut.{Cut}
 use Rattle.bus_stream.specs.declared.cutter.Cut.TheVariants as cut
-use Rattle.bus_stream.specs.Stream.{Message, IsMessage, joined, CutterAt, NothingYet, first_taken, taken_in, messages_in, rule_behind, broken_behind, broken_in}
+use Rattle.bus_stream.specs.Stream.{Message, IsMessage, joined, CutterAt, NothingYet, first_taken, taken_in, messages_in, rule_remainder, broken_remainder, broken_in}
 use Rattle.bus_stream.specs.Fronts.{IsNeed}
 use Rattle.bus_stream.specs.Cuts.{AnswersCut, with_given, AreAll, IsNotYet}
 
@@ -143,7 +143,7 @@ some_len m is = let body = has_body m.bytes m.header (length m.bytes) (frame_who
 pub record Front (given : List Message) (rest : List ℕ) (n : ℕ) : Type 0 where
   pub left : ℕ
   pub messages : taken_in n (joined given ++ rest) ≡ given ++ taken_in left rest
-  pub rule : broken_behind n (joined given ++ rest) ≡ broken_behind left rest
+  pub rule : broken_remainder n (joined given ++ rest) ≡ broken_remainder left rest
   pub enough : length rest ≤ left
 
 taken_front : (given : List Message) (rest : List ℕ) (n : ℕ) → AllByRecursion IsMessage given → length (joined given ++ rest) ≤ n → Front given rest n
@@ -168,21 +168,21 @@ taken_front (m ∷ given) rest (suc n) all le =
           ∙ ap (λ (l : List ℕ). m ∷ taken_in n l) back
           ∙ ap (λ (l : List Message). m ∷ l) others.messages;
       rule =
-          ap (λ (r : Read). rule_behind r stream (broken_behind n)) read
-          ∙ ap (broken_behind n) back
+          ap (λ (r : Read). rule_remainder r stream (broken_remainder n)) read
+          ∙ ap (broken_remainder n) back
           ∙ others.rule;
       enough = others.enough;
     }
 
-need_ends : (n : ℕ) (bytes : List ℕ) (r : Read) → frame_of bytes ≡ r → IsNeed r → (taken_in n bytes ≡ []) × (broken_behind n bytes ≡ None)
+need_ends : (n : ℕ) (bytes : List ℕ) (r : Read) → frame_of bytes ≡ r → IsNeed r → (taken_in n bytes ≡ []) × (broken_remainder n bytes ≡ None)
 need_ends zero bytes r e is = (refl, refl)
-need_ends (suc n) bytes (need k) e is = (ap (λ (r : Read). first_taken r bytes (taken_in n)) e, ap (λ (r : Read). rule_behind r bytes (broken_behind n)) e)
+need_ends (suc n) bytes (need k) e is = (ap (λ (r : Read). first_taken r bytes (taken_in n)) e, ap (λ (r : Read). rule_remainder r bytes (broken_remainder n)) e)
 need_ends (suc n) bytes (bad rule) e is = elim is [ ]
 need_ends (suc n) bytes (whole h k) e is = elim is [ ]
 
-bad_ends : (n : ℕ) (bytes : List ℕ) (rule : FrameRule) → 16 ≤ length bytes → length bytes ≤ n → frame_of bytes ≡ bad rule → (taken_in n bytes ≡ []) × (broken_behind n bytes ≡ Some rule)
+bad_ends : (n : ℕ) (bytes : List ℕ) (rule : FrameRule) → 16 ≤ length bytes → length bytes ≤ n → frame_of bytes ≡ bad rule → (taken_in n bytes ≡ []) × (broken_remainder n bytes ≡ Some rule)
 bad_ends zero bytes rule head le e = absurd (omega (arith, head, le))
-bad_ends (suc n) bytes rule head le e = (ap (λ (r : Read). first_taken r bytes (taken_in n)) e, ap (λ (r : Read). rule_behind r bytes (broken_behind n)) e)
+bad_ends (suc n) bytes rule head le e = (ap (λ (r : Read). first_taken r bytes (taken_in n)) e, ap (λ (r : Read). rule_remainder r bytes (broken_remainder n)) e)
 
 pub all_given : (r : Result Cut FrameError) (old new fed : List ℕ) (given : List Message) → AnswersCut r old new → CutterAt old fed given → AreAll r fed given
 unfolding messages_in broken_in
@@ -191,13 +191,13 @@ all_given (Ok cut.NotYet) old new fed given is at =
     let front = taken_front given old (length fed) at.each (omega (arith, ap (λ (l : List ℕ). length l) at.parts)) in
     let ends = need_ends front.left old (frame_of old) refl is.0 in (
       ap (taken_in (length fed)) at.parts ∙ front.messages ∙ ap (λ (l : List Message). given ++ l) ends.0 ∙ append-nil given,
-      ap (broken_behind (length fed)) at.parts ∙ front.rule ∙ ends.1,
+      ap (broken_remainder (length fed)) at.parts ∙ front.rule ∙ ends.1,
     )
 all_given (Err (Bad rule)) old new fed given is at =
     let front = taken_front given old (length fed) at.each (omega (arith, ap (λ (l : List ℕ). length l) at.parts)) in
     let broken = reads_bad old rule is.0 in
     let ends = bad_ends front.left old rule broken.head front.enough is.0 in (
       ap (taken_in (length fed)) at.parts ∙ front.messages ∙ ap (λ (l : List Message). given ++ l) ends.0 ∙ append-nil given,
-      ap (broken_behind (length fed)) at.parts ∙ front.rule ∙ ends.1,
+      ap (broken_remainder (length fed)) at.parts ∙ front.rule ∙ ends.1,
     )
 all_given (Err NoMemory) old new fed given is at = tt

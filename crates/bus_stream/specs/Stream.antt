@@ -42,14 +42,14 @@ unfoldable pub messages_in : List ℕ → List Message
 messages_in bytes = taken_in (length bytes) bytes
 
 -- the rule that the stream breaks after its whole messages
-abbrev pub rule_behind : Read → List ℕ → (List ℕ → Option FrameRule) → Option FrameRule
-rule_behind (need n) bytes others = None
-rule_behind (bad rule) bytes others = Some rule
-rule_behind (whole header len) bytes others = others (drop len bytes)
+abbrev pub rule_remainder : Read → List ℕ → (List ℕ → Option FrameRule) → Option FrameRule
+rule_remainder (need n) bytes others = None
+rule_remainder (bad rule) bytes others = Some rule
+rule_remainder (whole header len) bytes others = others (drop len bytes)
 
-abbrev pub broken_behind : ℕ → List ℕ → Option FrameRule
-broken_behind zero bytes = None
-broken_behind (suc n) bytes = rule_behind (frame_of bytes) bytes (broken_behind n)
+abbrev pub broken_remainder : ℕ → List ℕ → Option FrameRule
+broken_remainder zero bytes = None
+broken_remainder (suc n) bytes = rule_remainder (frame_of bytes) bytes (broken_remainder n)
 
 unfoldable pub broken_in : List ℕ → Option FrameRule
-broken_in bytes = broken_behind (length bytes) bytes
+broken_in bytes = broken_remainder (length bytes) bytes

@@ -155,11 +155,11 @@ pub fn read_recording(alloc: Global, bytes: &[u8]) -> Result<Recording, RecordEr
     };
     let mut rest = bytes;
     let mut number = 1;
-    while let Some((line, behind)) = cut(b'\n', rest) {
+    while let Some((line, remainder)) = cut(b'\n', rest) {
         if !draft.add_line(alloc, line)? {
             return Err(RecordError::BadRecord(number));
         }
-        rest = behind;
+        rest = remainder;
         number += 1;
     }
     if !rest.is_empty() {

@@ -54,7 +54,7 @@ module _ {A : Type 0} (name : A → List ℕ) where
           | inl here ↦ let off : bytes_eq (name a) t ≡ false = ap (bytes_eq (name a)) (sym (bytes_eq-is (name y) t here)) ∙ bytes_eq-differ (name y) (name a) n.0 in rw (before, here, off) refl
           | inr other ↦ rw (before, other) (at_inserted ys a t n.1)
         ]
-        | inr behind ↦ rw behind refl
+        | inr remainder ↦ rw remainder refl
       ]
 
   pub at_replaced : (xs : List A) (a : A) (t : List ℕ) → at_name name (replaced name xs a) t ≡ (if bytes_eq (name a) t then Some a else at_name name xs t)

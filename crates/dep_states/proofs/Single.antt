@@ -148,7 +148,7 @@ one_path disk p q a b = elim (a.first q b.damages) [
   | inl e ↦ sym e
   | inr before ↦ elim (b.first p a.damages) [
     | inl e ↦ e
-    | inr behind ↦ absurd (both_ways (comes_before (path_text p) (path_text p)) (not_before_itself (path_text p)) (before_on (path_text p) (path_text q) (path_text p) before behind))
+    | inr remainder ↦ absurd (both_ways (comes_before (path_text p) (path_text p)) (not_before_itself (path_text p)) (before_on (path_text p) (path_text q) (path_text p) before remainder))
   ]
 ]
 

@@ -44,13 +44,13 @@ at_header : (g : Group) (r : Ref) → IsNamed g.name (map name_of (point_of r g)
 unfolding point_of
 at_header g r =
     elim (cases_Bool (starts_with nat_eq g.name (codes "Extension "))) [
-      | inl e ↦ rw e (behind (is_empty (drop 10 g.name)) ((starts_is Decides-eqb g.name (codes "Extension ") (starts_with nat_eq g.name (codes "Extension ")) refl).0 e))
+      | inl e ↦ rw e (remainder (is_empty (drop 10 g.name)) ((starts_is Decides-eqb g.name (codes "Extension ") (starts_with nat_eq g.name (codes "Extension ")) refl).0 e))
       | inr e ↦ rw e (inl refl)
     ]
   where
-    behind : (b : Bool) → g.name ≡ header (drop 10 g.name) → IsNamed g.name (map name_of (flat_map (point_named g r) (cond b [] (drop 10 g.name ∷ []))))
-    behind true is = inl refl
-    behind false is = subst (λ (ps : List Point). IsNamed g.name (map name_of ps)) (sym (append-nil (point_named g r (drop 10 g.name)))) (at_name g r (drop 10 g.name) is)
+    remainder : (b : Bool) → g.name ≡ header (drop 10 g.name) → IsNamed g.name (map name_of (flat_map (point_named g r) (cond b [] (drop 10 g.name ∷ []))))
+    remainder true is = inl refl
+    remainder false is = subst (λ (ps : List Point). IsNamed g.name (map name_of ps)) (sym (append-nil (point_named g r (drop 10 g.name)))) (at_name g r (drop 10 g.name) is)
 
 joined : (r : Ref) (g : Group) (file : List Group) → map name_of (flat_map (point_of r) (g ∷ file)) ≡ map name_of (point_of r g) ++ map name_of (flat_map (point_of r) file)
 joined r g file = map-append name_of (point_of r g) (flat_map (point_of r) file)

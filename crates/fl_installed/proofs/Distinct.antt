@@ -27,13 +27,13 @@ IsNamed group names = (names ≡ []) ⊎ ((name : List ℕ) × (names ≡ name �
 at_header : (g : Group) → IsNamed g.name (extension_of g)
 at_header g =
     elim (cases_Bool (starts_with nat_eq g.name (codes "Extension "))) [
-      | inl e ↦ rw e (behind (is_empty (drop 10 g.name)) ((starts_is Decides-eqb g.name (codes "Extension ") (starts_with nat_eq g.name (codes "Extension ")) refl).0 e))
+      | inl e ↦ rw e (remainder (is_empty (drop 10 g.name)) ((starts_is Decides-eqb g.name (codes "Extension ") (starts_with nat_eq g.name (codes "Extension ")) refl).0 e))
       | inr e ↦ rw e (inl refl)
     ]
   where
-    behind : (b : Bool) → g.name ≡ header (drop 10 g.name) → IsNamed g.name (cond b [] (drop 10 g.name ∷ []))
-    behind true is = inl refl
-    behind false is = inr (drop 10 g.name, refl, is)
+    remainder : (b : Bool) → g.name ≡ header (drop 10 g.name) → IsNamed g.name (cond b [] (drop 10 g.name ∷ []))
+    remainder true is = inl refl
+    remainder false is = inr (drop 10 g.name, refl, is)
 
 -- no extension has a name whose header isn't there
 lacks_name : (file : List Group) (name : List ℕ) → list_any (bytes_eq (header name)) (names_of file) ≡ false → list_any (bytes_eq name) (flat_map extension_of file) ≡ false

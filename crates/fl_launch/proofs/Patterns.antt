@@ -106,8 +106,8 @@ id_elements id h =
     let b = and_parts (leb 3 (length (slice_split is_dot id))) (are_elements (slice_split is_dot id)) a.1 in
     elements_of_id (slice_split is_dot id) b.1
 
-behind : (n : ℕ) (xs ys : List ℕ) → n ≡ length xs → drop n (xs ++ ys) ≡ ys
-behind n xs ys e = rw e (all xs)
+remainder : (n : ℕ) (xs ys : List ℕ) → n ≡ length xs → drop n (xs ++ ys) ≡ ys
+remainder n xs ys e = rw e (all xs)
   where
     all : (zs : List ℕ) → drop (length zs) (zs ++ ys) ≡ ys
     all [] = refl
@@ -130,7 +130,7 @@ longer (x ∷ xs) = let more = longer xs in let two = at_least xs in omega (arit
 
 pub own_pattern : (id : List ℕ) → is_id id ≡ true → levels.is_pattern (id ++ codes ".*") ≡ true
 own_pattern id h =
-    open_pattern (id ++ codes ".*") (rw (behind (length (id ++ codes ".*") - 2) id (codes ".*") (longer id)) refl)
+    open_pattern (id ++ codes ".*") (rw (remainder (length (id ++ codes ".*") - 2) id (codes ".*") (longer id)) refl)
     (rw (before (length (id ++ codes ".*") - 2) id (codes ".*") (longer id)) (elements id (id_elements id h)))
 
 pub portal_pattern : levels.is_pattern (codes "org.freedesktop.portal.*") ≡ true

@@ -1,4 +1,4 @@
--- Texts that are pushed one behind another.
+-- Texts that are pushed one after another.
 use Rattle.std.proofs.Common.{◌≡◌, ◌++◌, ℕ, List, append_assoc, ap, ◌∙◌}
 
 onto : (o p t a rest : List ℕ) → p ≡ o ++ a → t ≡ p ++ rest → t ≡ o ++ (a ++ rest)

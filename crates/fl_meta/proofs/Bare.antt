@@ -3,7 +3,7 @@ use Rattle.std.proofs.Common.{◌≡◌, ℕ, Bool, true, false, cond, eqb, List
 use Rattle.std.specs.List.{slice_split, onto_first, list_all}
 use Rattle.std.proofs.lemmas.Bool.{false≢true, cases_Bool, eqb-true, false_from_ne_true, and_parts, and_from}
 use Rattle.std.proofs.lemmas.List.Folds.{list_all-append}
-use Rattle.fl_meta.specs.Entries.{is_colon, is_empty, is_ending, are_endings, without_endings, last_word, access_behind}
+use Rattle.fl_meta.specs.Entries.{is_colon, is_empty, is_ending, are_endings, without_endings, last_word, access_remainder}
 use Rattle.fl_meta.specs.Cuts.{HasNoEnding}
 use Rattle.fl_meta.proofs.Endings.{Parts, Parts-split, onto_first-append, is_empty-cons, without_endings-none}
 
@@ -69,16 +69,16 @@ IsFront-without_endings (b ∷ bs) =
 -- ---- no ending is left
 
 -- a text has an ending only where what is after its first byte has one, or it is nothing but endings
-end-by : (b : Bool) (x : ℕ) (first : List ℕ) (others : List (List ℕ)) → is_some (access_behind (last_word (first ∷ others))) ≡ false → is_some (access_behind (last_word (cond b ([] ∷ first ∷ others) (onto_first x (first ∷ others))))) ≡ true → are_endings (cond b ([] ∷ first ∷ others) (onto_first x (first ∷ others))) ≡ true
+end-by : (b : Bool) (x : ℕ) (first : List ℕ) (others : List (List ℕ)) → is_some (access_remainder (last_word (first ∷ others))) ≡ false → is_some (access_remainder (last_word (cond b ([] ∷ first ∷ others) (onto_first x (first ∷ others))))) ≡ true → are_endings (cond b ([] ∷ first ∷ others) (onto_first x (first ∷ others))) ≡ true
 end-by true x first [] h k = rw k refl
 end-by true x first (v ∷ others) h k = absurd (false≢true (sym h ∙ k))
 end-by false x first others h k = absurd (false≢true (sym h ∙ k))
 
-all_endings : (x : ℕ) (t : List ℕ) → HasNoEnding t → is_some (access_behind (last_word (slice_split is_colon (x ∷ t)))) ≡ true → are_endings (slice_split is_colon (x ∷ t)) ≡ true
+all_endings : (x : ℕ) (t : List ℕ) → HasNoEnding t → is_some (access_remainder (last_word (slice_split is_colon (x ∷ t)))) ≡ true → are_endings (slice_split is_colon (x ∷ t)) ≡ true
 all_endings x t h k =
     let p = Parts-split is_colon t in
     let step : slice_split is_colon (x ∷ t) ≡ cond (is_colon x) ([] ∷ p.first ∷ p.others) (onto_first x (p.first ∷ p.others)) = ap (λ ps. cond (is_colon x) ([] ∷ ps) (onto_first x ps)) p.is in
-    ap are_endings step ∙ end-by (is_colon x) x p.first p.others (sym (ap (λ ps. is_some (access_behind (last_word ps))) p.is) ∙ h) (sym (ap (λ ps. is_some (access_behind (last_word ps))) step) ∙ k)
+    ap are_endings step ∙ end-by (is_colon x) x p.first p.others (sym (ap (λ ps. is_some (access_remainder (last_word ps))) p.is) ∙ h) (sym (ap (λ ps. is_some (access_remainder (last_word ps))) step) ∙ k)
 
 pub HasNoEnding-without_endings : (text : List ℕ) → HasNoEnding (without_endings text)
 unfolding without_endings

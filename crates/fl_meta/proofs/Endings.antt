@@ -4,7 +4,7 @@ use Rattle.std.specs.List.{slice_split, onto_first, list_all, All}
 use Rattle.std.proofs.lemmas.List.Splits.{slice_split-cons_yes, slice_split-cons_no, slice_split_none}
 use Rattle.std.proofs.lemmas.List.Folds.{list_all-append}
 use Rattle.std.proofs.lemmas.Bool.{false≢true, ne_eqb}
-use Rattle.fl_meta.specs.Entries.{is_colon, is_empty, is_ending, are_endings, without_endings, last_of, behind_first, last_word, access_behind}
+use Rattle.fl_meta.specs.Entries.{is_colon, is_empty, is_ending, are_endings, without_endings, last_of, remainder_first, last_word, access_remainder}
 use Rattle.fl_meta.specs.Cuts.{CutsEnding, HasNoEnding}
 
 -- there is a first part
@@ -107,22 +107,22 @@ pub is_empty-cons : (x : ℕ) (xs : List ℕ) → is_empty (x ∷ xs) ≡ false
 is_empty-cons x xs = ne_eqb (length (x ∷ xs)) 0 (λ e. omega arith)
 
 -- a text that is nothing but endings has one at its end
-endings_end : (b : Bool) (x : ℕ) (first : List ℕ) (others : List (List ℕ)) → are_endings (cond b ([] ∷ first ∷ others) (onto_first x (first ∷ others))) ≡ true → is_some (access_behind (last_word (cond b ([] ∷ first ∷ others) (onto_first x (first ∷ others))))) ≡ true
+endings_end : (b : Bool) (x : ℕ) (first : List ℕ) (others : List (List ℕ)) → are_endings (cond b ([] ∷ first ∷ others) (onto_first x (first ∷ others))) ≡ true → is_some (access_remainder (last_word (cond b ([] ∷ first ∷ others) (onto_first x (first ∷ others))))) ≡ true
 endings_end true x first others h = all_to_last first others h
 endings_end false x first others h = absurd (false≢true (sym (ap (λ b. b && list_all is_ending others) (is_empty-cons x first)) ∙ h))
 
-endings_have_one : (x : ℕ) (xs : List ℕ) → are_endings (slice_split is_colon (x ∷ xs)) ≡ true → is_some (access_behind (last_word (slice_split is_colon (x ∷ xs)))) ≡ true
+endings_have_one : (x : ℕ) (xs : List ℕ) → are_endings (slice_split is_colon (x ∷ xs)) ≡ true → is_some (access_remainder (last_word (slice_split is_colon (x ∷ xs)))) ≡ true
 endings_have_one x xs h =
     let p = Parts-split is_colon xs in
     let step : slice_split is_colon (x ∷ xs) ≡ cond (is_colon x) ([] ∷ p.first ∷ p.others) (onto_first x (p.first ∷ p.others)) = ap (λ ps. cond (is_colon x) ([] ∷ ps) (onto_first x ps)) p.is in
-    ap (λ ps. is_some (access_behind (last_word ps))) step ∙ endings_end (is_colon x) x p.first p.others (sym (ap are_endings step) ∙ h)
+    ap (λ ps. is_some (access_remainder (last_word ps))) step ∙ endings_end (is_colon x) x p.first p.others (sym (ap are_endings step) ∙ h)
 
 not_true : (b : Bool) → (b ≡ true → ⊥) → b ≡ false
 not_true true h = absurd (h refl)
 not_true false h = refl
 
 -- what is after the first byte has no ending either
-tail_word : (b : Bool) (x : ℕ) (first : List ℕ) (others : List (List ℕ)) → is_some (access_behind (last_word (cond b ([] ∷ first ∷ others) (onto_first x (first ∷ others))))) ≡ false → is_some (access_behind (last_word (first ∷ others))) ≡ false
+tail_word : (b : Bool) (x : ℕ) (first : List ℕ) (others : List (List ℕ)) → is_some (access_remainder (last_word (cond b ([] ∷ first ∷ others) (onto_first x (first ∷ others))))) ≡ false → is_some (access_remainder (last_word (first ∷ others))) ≡ false
 tail_word true x first [] h = refl
 tail_word true x first (v ∷ others) h = h
 tail_word false x first others h = h
@@ -131,7 +131,7 @@ tail_none : (x : ℕ) (xs : List ℕ) → HasNoEnding (x ∷ xs) → HasNoEnding
 tail_none x xs h =
     let p = Parts-split is_colon xs in
     let step : slice_split is_colon (x ∷ xs) ≡ cond (is_colon x) ([] ∷ p.first ∷ p.others) (onto_first x (p.first ∷ p.others)) = ap (λ ps. cond (is_colon x) ([] ∷ ps) (onto_first x ps)) p.is in
-    ap (λ ps. is_some (access_behind (last_word ps))) p.is ∙ tail_word (is_colon x) x p.first p.others (sym (ap (λ ps. is_some (access_behind (last_word ps))) step) ∙ h)
+    ap (λ ps. is_some (access_remainder (last_word ps))) p.is ∙ tail_word (is_colon x) x p.first p.others (sym (ap (λ ps. is_some (access_remainder (last_word ps))) step) ∙ h)
 
 pub without_endings-none : (text : List ℕ) → HasNoEnding text → without_endings text ≡ text
 unfolding without_endings

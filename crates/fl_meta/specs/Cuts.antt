@@ -1,7 +1,7 @@
 -- A text that is cut at its last colon.
 use Rattle.std.specs.Prelude.{◌≡◌, ℕ, true, false, List, ◌∷◌, ◌++◌, Option, is_some}
 use Rattle.std.specs.List.{slice_split, All}
-use Rattle.fl_meta.specs.Entries.{is_colon, is_ending, last_word, access_behind}
+use Rattle.fl_meta.specs.Entries.{is_colon, is_ending, last_word, access_remainder}
 
 -- the text is front, a colon and an ending
 pub record CutsEnding (text front : List ℕ) : Type 0 where
@@ -12,4 +12,4 @@ pub record CutsEnding (text front : List ℕ) : Type 0 where
 
 -- it has no ending
 abbrev pub HasNoEnding : List ℕ → Type 0
-HasNoEnding text = is_some (access_behind (last_word (slice_split is_colon text))) ≡ false
+HasNoEnding text = is_some (access_remainder (last_word (slice_split is_colon text))) ≡ false

@@ -42,21 +42,21 @@ abbrev pub last_of : List ℕ → List (List ℕ) → List ℕ
 last_of last [] = last
 last_of last (next ∷ words) = last_of next words
 
-abbrev pub behind_first : List (List ℕ) → Option (List ℕ)
-behind_first [] = None
-behind_first (word ∷ words) = Some (last_of word words)
+abbrev pub remainder_first : List (List ℕ) → Option (List ℕ)
+remainder_first [] = None
+remainder_first (word ∷ words) = Some (last_of word words)
 
 abbrev pub last_word : List (List ℕ) → Option (List ℕ)
 last_word [] = None
-last_word (front ∷ words) = behind_first words
+last_word (front ∷ words) = remainder_first words
 
 -- what the last ending says; without one it is rw
-abbrev pub access_behind : Option (List ℕ) → Option Value
-access_behind None = None
-access_behind (Some word) = access_of word
+abbrev pub access_remainder : Option (List ℕ) → Option Value
+access_remainder None = None
+access_remainder (Some word) = access_of word
 
 unfoldable pub access_at : List ℕ → Value
-access_at text = unwrap_or (access_behind (last_word (slice_split is_colon text))) values.Rw
+access_at text = unwrap_or (access_remainder (last_word (slice_split is_colon text))) values.Rw
 
 -- ---- an entry
 

@@ -31,11 +31,11 @@ abbrev pub runtime_of : List ℕ → Option Ref
 runtime_of text = ref_of (kind_word refs.Runtime ++ 47 ∷ text)
 
 -- the name after `Extension `, which isn't empty
-abbrev pub name_behind : List ℕ → List (List ℕ)
-name_behind name = if is_empty name then [] else name ∷ []
+abbrev pub name_remainder : List ℕ → List (List ℕ)
+name_remainder name = if is_empty name then [] else name ∷ []
 
 abbrev pub extension_of : Group → List (List ℕ)
-extension_of g = if starts_with nat_eq g.name (codes "Extension ") then name_behind (drop 10 g.name) else []
+extension_of g = if starts_with nat_eq g.name (codes "Extension ") then name_remainder (drop 10 g.name) else []
 
 unfoldable pub extensions_of : List Group → List (List ℕ)
 extensions_of file = flat_map extension_of file

@@ -27,7 +27,7 @@ use Rattle.fl_meta.specs.declared.mentions.Source.{Source}
 use Rattle.fl_meta.specs.declared.mentions.Source.TheVariants as sources
 use Rattle.fl_meta.specs.Names.{is_among, shared_names, socket_names, device_names, feature_names, list_with, list_of_key, list_of_unknown_key, level_of, access_of}
 use Rattle.fl_meta.specs.Patterns.{is_pattern}
-use Rattle.fl_meta.specs.Entries.{is_semicolon, is_colon, is_mark, is_empty, is_off, without_mark, is_ending, without_endings, last_word, access_behind, access_at, name_in, value_in, mention_of, named, mentions_in, list_mentions}
+use Rattle.fl_meta.specs.Entries.{is_semicolon, is_colon, is_mark, is_empty, is_off, without_mark, is_ending, without_endings, last_word, access_remainder, access_at, name_in, value_in, mention_of, named, mentions_in, list_mentions}
 use Rattle.fl_meta.specs.Cuts.{HasNoEnding}
 use Rattle.fl_meta.specs.Mentions.{or_unknown, list_at, context_mentions, pair_name, can_stand, odd_pair, bus_with, bus_mentions, pair_mentions, group_mentions, file_mentions}
 use Rattle.fl_meta.proofs.Endings.{last_word-cut, without_endings-cut, is_empty-cons}
@@ -312,7 +312,7 @@ access_cond : (b : Bool) (v : Value) (o : Option Value) → IsAccess v → IsAcc
 access_cond true v o h k = h
 access_cond false v o h k = k
 
-access_word : (o : Option (List ℕ)) → IsAccess (unwrap_or (access_behind o) values.Rw)
+access_word : (o : Option (List ℕ)) → IsAccess (unwrap_or (access_remainder o) values.Rw)
 access_word None = may_write
 access_word (Some word) =
     access_cond (bytes_eq word (codes "ro")) values.Ro _ may_read (access_cond (bytes_eq word (codes "rw")) values.Rw _ may_write (access_cond (bytes_eq word (codes "create")) values.Create None may_create may_write))
@@ -333,17 +333,17 @@ ends_ro = record { plain = record { utf8 = utf8_ascii _ refl; bytes = refl }; wh
 ends_create : IsEnding (codes "create") values.Create
 ends_create = record { plain = record { utf8 = utf8_ascii _ refl; bytes = refl }; whole = (refl, (refl, (refl, (refl, (refl, (refl, tt)))))); says = refl }
 
-some_behind : (o : Option Value) (v : Value) → o ≡ Some v → is_some o ≡ true
-some_behind o v e = ap is_some e
+some_remainder : (o : Option Value) (v : Value) → o ≡ Some v → is_some o ≡ true
+some_remainder o v e = ap is_some e
 
 ended_name : (name word : List ℕ) (v : Value) → IsEnding word v → without_endings (name ++ 58 ∷ word) ≡ without_endings name
 ended_name name word v h =
-    without_endings-cut (name ++ 58 ∷ word) name (record { word = word; whole = All-from_recursion (λ b. is_colon b ≡ false) word h.whole; ending = some_behind (access_of word) v h.says; text_is = refl })
+    without_endings-cut (name ++ 58 ∷ word) name (record { word = word; whole = All-from_recursion (λ b. is_colon b ≡ false) word h.whole; ending = some_remainder (access_of word) v h.says; text_is = refl })
 
 ended_access : (name word : List ℕ) (v : Value) → IsEnding word v → access_at (name ++ 58 ∷ word) ≡ v
 unfolding access_at
 ended_access name word v h =
-    ap (λ w. unwrap_or (access_behind w) values.Rw) (last_word-cut name word (name ++ 58 ∷ word) refl (All-from_recursion (λ b. is_colon b ≡ false) word h.whole)) ∙ ap (λ o. unwrap_or o values.Rw) h.says
+    ap (λ w. unwrap_or (access_remainder w) values.Rw) (last_word-cut name word (name ++ 58 ∷ word) refl (All-from_recursion (λ b. is_colon b ≡ false) word h.whole)) ∙ ap (λ o. unwrap_or o values.Rw) h.says
 
 none_left : (o : Option Value) → is_some o ≡ false → unwrap_or o values.Rw ≡ values.Rw
 none_left None h = refl

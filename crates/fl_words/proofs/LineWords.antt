@@ -32,8 +32,8 @@ use Rattle.fl_words.proofs.ReadBack.{found}
 
 -- ---- where the first space stands
 
-words_behind : (b : ℕ) (bytes : List ℕ) (end : ℕ) → eqb b 32 ≡ false → words_in bytes ≡ take end bytes ∷ words_in (drop (end + 1) bytes) → words_in (b ∷ bytes) ≡ take (suc end) (b ∷ bytes) ∷ words_in (drop (suc end + 1) (b ∷ bytes))
-words_behind b bytes end e h =
+words_remainder : (b : ℕ) (bytes : List ℕ) (end : ℕ) → eqb b 32 ≡ false → words_in bytes ≡ take end bytes ∷ words_in (drop (end + 1) bytes) → words_in (b ∷ bytes) ≡ take (suc end) (b ∷ bytes) ∷ words_in (drop (suc end + 1) (b ∷ bytes))
+words_remainder b bytes end e h =
     let one : suc end + 1 ≡ suc (end + 1) = omega arith in
     rw (one, e, h) refl
 
@@ -42,7 +42,7 @@ words_at [] end h = absurd cc
 words_at (b ∷ bytes) end h =
     elim (at_place (λ x. eqb x 32) b bytes end h) [
       | inl here ↦ rw (here.1, here.0) refl
-      | inr next ↦ rw next.1.is (words_behind b bytes next.1.before next.0 (words_at bytes next.1.before next.1.place))
+      | inr next ↦ rw next.1.is (words_remainder b bytes next.1.before next.0 (words_at bytes next.1.before next.1.place))
     ]
 
 -- where there is none

@@ -217,9 +217,9 @@ pub two_spaces : batch_of (codes "pin  app/*/*/*\n") ≡ Err 1
 unfolding batch_of batch_change is_pin
 two_spaces = refl
 
-pub space_behind : batch_of (codes "pin app/*/*/* \n") ≡ Err 1
+pub space_remainder : batch_of (codes "pin app/*/*/* \n") ≡ Err 1
 unfolding batch_of batch_change is_pin
-space_behind = refl
+space_remainder = refl
 
 -- ---- reasons
 

@@ -103,14 +103,14 @@ differs a b ne = elim (eqb_tells a b) [ inl t ↦ absurd (ne t.1) | inr f ↦ f.
 pub at_last : (text : List ℕ) (k : ℕ) → k < length text → get_or text k 0 ≡ 47 → text ≡ take k text ++ 47 ∷ drop (suc k) text
 at_last text k low slash = sym (take-append-drop k text) ∙ ap (λ (l : List ℕ). take k text ++ l) (drop-cons text k 0 low ∙ ap (λ b. b ∷ drop (suc k) text) slash)
 
-behind : (text : List ℕ) (k : ℕ) → ((i : ℕ) → k < i → i < length text → get_or text i 0 ≢ 47) → All (λ b. is_slash b ≡ false) (drop (suc k) text)
-behind text k none j d low =
+remainder : (text : List ℕ) (k : ℕ) → ((i : ℕ) → k < i → i < length text → get_or text i 0 ≢ 47) → All (λ b. is_slash b ≡ false) (drop (suc k) text)
+remainder text k none j d low =
     let inside : suc k + j < length text = omega (arith, length-drop (suc k) text) in
     let same : get_or (drop (suc k) text) j d ≡ get_or text (suc k + j) 0 = get_or-drop (suc k) text j d ∙ get_or_default text (suc k + j) d 0 inside in
     subst (λ b. is_slash b ≡ false) (sym same) (differs (get_or text (suc k + j) 0) 47 (none (suc k + j) (omega arith) inside))
 
 pub cut_last : (text : List ℕ) (k : ℕ) → k < length text → get_or text k 0 ≡ 47 → ((i : ℕ) → k < i → i < length text → get_or text i 0 ≢ 47) → cut text ≡ drop (suc k) text ∷ cut (take k text)
-cut_last text k low slash none = ap cut (at_last text k low slash) ∙ cut-append (take k text) (drop (suc k) text) 47 refl (behind text k none)
+cut_last text k low slash none = ap cut (at_last text k low slash) ∙ cut-append (take k text) (drop (suc k) text) 47 refl (remainder text k none)
 
 pub no_slash : (text : List ℕ) → ((i : ℕ) → i < length text → get_or text i 0 ≢ 47) → All (λ b. is_slash b ≡ false) text
 no_slash text none j d low = subst (λ b. is_slash b ≡ false) (get_or_default text j 0 d low) (differs (get_or text j 0) 47 (none j low))

@@ -23,8 +23,8 @@ split_once_is c bs (Some x) h lt =
     let p = split_parts c bs (Some x) h lt in
     ap (split_at c) p.0 ∙ split_at_found c x.0.now x.1.now (none_by_index c x.0.now p.1)
 
-lines_of-behind : (b : ℕ) (bytes : List ℕ) (end : ℕ) → eqb b 10 ≡ false → lines_of bytes ≡ take end bytes ∷ lines_of (drop (end + 1) bytes) → lines_of (b ∷ bytes) ≡ take (suc end) (b ∷ bytes) ∷ lines_of (drop (suc end + 1) (b ∷ bytes))
-lines_of-behind b bytes end e h =
+lines_of-remainder : (b : ℕ) (bytes : List ℕ) (end : ℕ) → eqb b 10 ≡ false → lines_of bytes ≡ take end bytes ∷ lines_of (drop (end + 1) bytes) → lines_of (b ∷ bytes) ≡ take (suc end) (b ∷ bytes) ∷ lines_of (drop (suc end + 1) (b ∷ bytes))
+lines_of-remainder b bytes end e h =
     let one : suc end + 1 ≡ suc (end + 1) = omega arith in
     rw (one, e, h) refl
 
@@ -34,7 +34,7 @@ lines_of-at [] end h = absurd cc
 lines_of-at (b ∷ bytes) end h =
     elim (at_place (λ x. eqb x 10) b bytes end h) [
       | inl here ↦ rw (here.1, here.0) refl
-      | inr next ↦ rw next.1.is (lines_of-behind b bytes next.1.before next.0 (lines_of-at bytes next.1.before next.1.place))
+      | inr next ↦ rw next.1.is (lines_of-remainder b bytes next.1.before next.0 (lines_of-at bytes next.1.before next.1.place))
     ]
 
 -- where there is none
@@ -53,11 +53,11 @@ header_found bs name rest cut good blank = sym (ap header_at cut ∙ rw (good, b
 pub header_refused : (bs name rest : List ℕ) → split_at 93 bs ≡ Some (name, rest) → (is_name name && list_all is_blank rest) ≡ false → Err rules.Group ≡ header_of bs
 header_refused bs name rest cut bad = sym (ap header_at cut ∙ rw bad refl)
 
-pub entry_found : (bs before behind key value : List ℕ) → split_at 61 bs ≡ Some (before, behind) → key ≡ trimmed_end is_blank before → value ≡ trimmed_front is_blank behind → is_key key ≡ true → Ok (entry key value) ≡ entry_of bs
-entry_found bs before behind key value cut k v good = sym (ap entry_at cut ∙ rw (← k, ← v, good) refl)
+pub entry_found : (bs before remainder key value : List ℕ) → split_at 61 bs ≡ Some (before, remainder) → key ≡ trimmed_end is_blank before → value ≡ trimmed_front is_blank remainder → is_key key ≡ true → Ok (entry key value) ≡ entry_of bs
+entry_found bs before remainder key value cut k v good = sym (ap entry_at cut ∙ rw (← k, ← v, good) refl)
 
-pub entry_refused : (bs before behind key : List ℕ) → split_at 61 bs ≡ Some (before, behind) → key ≡ trimmed_end is_blank before → is_key key ≡ false → Err rules.Key ≡ entry_of bs
-entry_refused bs before behind key cut k bad = sym (ap entry_at cut ∙ rw (← k, bad) refl)
+pub entry_refused : (bs before remainder key : List ℕ) → split_at 61 bs ≡ Some (before, remainder) → key ≡ trimmed_end is_blank before → is_key key ≡ false → Err rules.Key ≡ entry_of bs
+entry_refused bs before remainder key cut k bad = sym (ap entry_at cut ∙ rw (← k, bad) refl)
 
 -- ---- a whole line
 

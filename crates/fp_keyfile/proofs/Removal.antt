@@ -128,6 +128,6 @@ pub without_pair_last : (file : List Group) (name key : List ℕ) (at : ℕ) (g 
 without_pair_last file name key at g u value h some is none =
     let left : length (without_key g.pairs key) ≡ 0 = subst (λ (v : Group). length v.pairs ≡ 0) is none in
     let front : take at (set file at u) ≡ take at file = take-set file at u in
-    let behind : drop (suc at) (set file at u) ≡ drop (suc at) file = drop-set-lt (suc at) file at u (omega arith) in
+    let remainder : drop (suc at) (set file at u) ≡ drop (suc at) file = drop-set-lt (suc at) file at u (omega arith) in
     after_taken file name key at g value h some ∙ ap (λ (gs : List Group). take at file ++ gs) (with_rest_none g.name (without_key g.pairs key) (drop (suc at) file) left)
-    ∙ ap (λ (gs : List Group). gs ++ drop (suc at) file) (sym front) ∙ ap (λ (gs : List Group). take at (set file at u) ++ gs) (sym behind)
+    ∙ ap (λ (gs : List Group). gs ++ drop (suc at) file) (sym front) ∙ ap (λ (gs : List Group). take at (set file at u) ++ gs) (sym remainder)

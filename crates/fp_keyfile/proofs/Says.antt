@@ -53,14 +53,14 @@ good_header_at bs (Some parts) u h =
     good_header_with bs parts.0 parts.1 (Texts.utf8_before parts.0 93 parts.1 (omega arith) (subst (λ (w : List ℕ). is_utf8 w ≡ true) s.whole u))
 
 -- what stands before and after the first `=` of a line
-good_entry_with : (before behind : List ℕ) → IsLineText (before ++ (61 ∷ behind)) → SaysGood (entry_with (trimmed_end is_blank before) (trimmed_front is_blank behind))
-good_entry_with before behind t =
+good_entry_with : (before remainder : List ℕ) → IsLineText (before ++ (61 ∷ remainder)) → SaysGood (entry_with (trimmed_end is_blank before) (trimmed_front is_blank remainder))
+good_entry_with before remainder t =
     let key = trimmed_end is_blank before in
-    let value = trimmed_front is_blank behind in
-    let f = Texts.BeginsIn-trimmed_front is_blank behind in
-    let key_text : is_utf8 key ≡ true = Texts.utf8_kept_end is_blank Texts.ascii_blank before key (Texts.EndsIn-trimmed_end is_blank before) (Texts.utf8_before before 61 behind (omega arith) t.text) in
-    let value_text : is_utf8 value ≡ true = Texts.utf8_kept_front is_blank Texts.ascii_blank behind value f (Texts.utf8_after before 61 behind (omega arith) t.text) in
-    let value_good : is_value value ≡ true = good_value before behind f t in
+    let value = trimmed_front is_blank remainder in
+    let f = Texts.BeginsIn-trimmed_front is_blank remainder in
+    let key_text : is_utf8 key ≡ true = Texts.utf8_kept_end is_blank Texts.ascii_blank before key (Texts.EndsIn-trimmed_end is_blank before) (Texts.utf8_before before 61 remainder (omega arith) t.text) in
+    let value_text : is_utf8 value ≡ true = Texts.utf8_kept_front is_blank Texts.ascii_blank remainder value f (Texts.utf8_after before 61 remainder (omega arith) t.text) in
+    let value_good : is_value value ≡ true = good_value before remainder f t in
     elim (cases_Bool (is_key key)) [
       | inl e ↦ rw e (good_pair_from (record { key = key; value = value }) (record { key = e; value = value_good; key_text = key_text; value_text = value_text }))
       | inr e ↦ rw e tt
@@ -73,14 +73,14 @@ good_entry_with before behind t =
     none_in : (p : ℕ → Bool) (front value : List ℕ) → list_any p (front ++ value) ≡ false → list_any p value ≡ false
     none_in p front value h = (or_parts (list_any p front) (list_any p value) (sym (list_any-append p front value) ∙ h)).1
 
-    good_value : (before behind : List ℕ) → Texts.BeginsIn is_blank behind (trimmed_front is_blank behind) → IsLineText (before ++ (61 ∷ behind)) → is_value (trimmed_front is_blank behind) ≡ true
-    good_value before behind f t =
-        let value = trimmed_front is_blank behind in
-        let whole : before ++ (61 ∷ behind) ≡ (before ++ (61 ∷ f.front)) ++ value = ap (λ (w : List ℕ). before ++ (61 ∷ w)) f.parts ∙ sym (append_assoc before (61 ∷ f.front) value) in
+    good_value : (before remainder : List ℕ) → Texts.BeginsIn is_blank remainder (trimmed_front is_blank remainder) → IsLineText (before ++ (61 ∷ remainder)) → is_value (trimmed_front is_blank remainder) ≡ true
+    good_value before remainder f t =
+        let value = trimmed_front is_blank remainder in
+        let whole : before ++ (61 ∷ remainder) ≡ (before ++ (61 ∷ f.front)) ++ value = ap (λ (w : List ℕ). before ++ (61 ∷ w)) f.parts ∙ sym (append_assoc before (61 ∷ f.front) value) in
         let newline : list_any (λ b. eqb b 10) value ≡ false = none_in (λ b. eqb b 10) (before ++ (61 ∷ f.front)) value (ap (list_any (λ b. eqb b 10)) (sym whole) ∙ t.newline) in
         let zeros : list_any (λ b. eqb b 0) value ≡ false = none_in (λ b. eqb b 0) (before ++ (61 ∷ f.front)) value (ap (list_any (λ b. eqb b 0)) (sym whole) ∙ t.zeros) in
         let ends : ends_so is_return value ≡ false = ends_value (before ++ (61 ∷ f.front)) value (ap (ends_so is_return) (sym whole) ∙ t.ends) in
-        rw (value_bytes value newline zeros, Texts.begins_so-trimmed_front is_blank behind, ends) refl
+        rw (value_bytes value newline zeros, Texts.begins_so-trimmed_front is_blank remainder, ends) refl
 
 good_entry_at : (bs : List ℕ) (found : Option (List ℕ × List ℕ)) → IsLineText bs → split_at 61 bs ≡ found → SaysGood (entry_at found)
 good_entry_at bs None t h = tt

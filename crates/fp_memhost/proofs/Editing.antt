@@ -117,16 +117,16 @@ all_from p (x ∷ xs) each = and_from (p x) (list_all p xs) (each 0 x (omega ari
 
 pub ascends_insert : (xs : List Name) (i : ℕ) (y : Name) → i ≤ length xs → ascends xs ≡ true → ((k : ℕ) (d : Name) → k < i → compare (text_at xs k d) (path_text y.path) ≡ Less)
     → ((k : ℕ) (d : Name) → i ≤ k → k < length xs → compare (text_at xs k d) (path_text y.path) ≡ Greater) → ascends (insert xs i y) ≡ true
-ascends_insert xs zero y low asc before behind = and_from (list_all (comes_before y) xs) (ascends xs) (all_from (comes_before y) xs (λ k d lt. ap is_lt (back (text_at xs k d) (path_text y.path) (behind k d (omega arith) lt)))) asc
+ascends_insert xs zero y low asc before remainder = and_from (list_all (comes_before y) xs) (ascends xs) (all_from (comes_before y) xs (λ k d lt. ap is_lt (back (text_at xs k d) (path_text y.path) (remainder k d (omega arith) lt)))) asc
   where
     back : (a b : List ℕ) → compare a b ≡ Greater → compare b a ≡ Less
     back a b is = flip a b is
-ascends_insert [] (suc i) y low asc before behind = absurd (omega arith)
-ascends_insert (x ∷ xs) (suc i) y low asc before behind =
+ascends_insert [] (suc i) y low asc before remainder = absurd (omega arith)
+ascends_insert (x ∷ xs) (suc i) y low asc before remainder =
     let parts = and_parts (list_all (comes_before x) xs) (ascends xs) asc in
     and_from (list_all (comes_before x) (insert xs i y)) (ascends (insert xs i y))
     (all_insert (comes_before x) xs i y parts.0 (ap is_lt (before 0 x (omega arith))))
-    (ascends_insert xs i y (omega arith) parts.1 (λ k d lt. before (suc k) d (omega arith)) (λ k d le lt. behind (suc k) d (omega arith) (omega arith)))
+    (ascends_insert xs i y (omega arith) parts.1 (λ k d lt. before (suc k) d (omega arith)) (λ k d le lt. remainder (suc k) d (omega arith) (omega arith)))
 
 pub room_here : (names : List Name) (p : Elements) (name : Name) (n : ℕ) → name_at names p ≡ Some name → HasRoom names p n → vec_len name.earlier + n ≤ vec_capacity name.earlier
 room_here names p name n is room = subst (λ (o : Option Name). room_in o n) is room.room
@@ -181,7 +181,7 @@ module _ (names xs : List Name) (p : Elements) (text : List ℕ) (i : ℕ) (name
   pub add_ascends : IsAscending names → IsAscending (insert names i name)
   add_ascends asc =
       let text_is : text ≡ path_text name.path = sym (ap path_text (path ∙ sym of) ∙ text_back text) in
-      record { each = ascends_insert names i name gap.low asc.each (λ k d lt. subst (λ (t : List ℕ). compare (text_at names k d) t ≡ Less) text_is (gap.before k d lt)) (λ k d le lt. subst (λ (t : List ℕ). compare (text_at names k d) t ≡ Greater) text_is (gap.behind k d le lt)) }
+      record { each = ascends_insert names i name gap.low asc.each (λ k d lt. subst (λ (t : List ℕ). compare (text_at names k d) t ≡ Less) text_is (gap.before k d lt)) (λ k d le lt. subst (λ (t : List ℕ). compare (text_at names k d) t ≡ Greater) text_is (gap.remainder k d le lt)) }
 
   pub add_same : slot_of name.entry ≡ absent → name.earlier.items ≡ [] → SameNames names (insert names i name)
   add_same e l = edited_same add_edit (e ∙ sym (ap slot_in was_missing)) (ap (λ (h : List (Option Entry)). map slot_of h) l ∙ sym (ap held_in was_missing))

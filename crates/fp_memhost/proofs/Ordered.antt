@@ -56,7 +56,7 @@ lower names text asc m low is k d lt = elim (cases_lt k m) [
 
 pub higher : (names : List Name) (text : List ℕ) → IsAscending names → (m : ℕ) → ((d : Name) → compare (text_at names m d) text ≡ Greater) → (k : ℕ) (d : Name) → m ≤ k → k < length names → compare (text_at names k d) text ≡ Greater
 higher names text asc m is k d le low = elim (cases_lt m k) [
-  | inl behind ↦ flip_less text (text_at names k d) (nat_list_cmp_total.trans text (text_at names m d) (text_at names k d) (flip (text_at names m d) text (is d)) (in_order names asc.each m k d d behind low))
+  | inl remainder ↦ flip_less text (text_at names k d) (nat_list_cmp_total.trans text (text_at names m d) (text_at names k d) (flip (text_at names m d) text (is d)) (in_order names asc.each m k d d remainder low))
   | inr here ↦ subst (λ j. compare (text_at names j d) text ≡ Greater) (omega arith) (is d)
 ]
 
@@ -81,7 +81,7 @@ none_before names p text i of low before = find_none (is_at p) (take i names) (�
 
 -- where a name would stand, none is
 pub none_at : (names : List Name) (p : Elements) (text : List ℕ) (i : ℕ) → p ≡ elements_of text → IsPlace names text i → name_at names p ≡ None
-none_at names p text i of place = find_none (is_at p) names (λ k d low. other_text p (get_or names k d) text of (elim (cases_lt k i) [ inl lt ↦ less_no _ (place.before k d lt) | inr le ↦ greater_no _ (place.behind k d le low) ]))
+none_at names p text i of place = find_none (is_at p) names (λ k d low. other_text p (get_or names k d) text of (elim (cases_lt k i) [ inl lt ↦ less_no _ (place.before k d lt) | inr le ↦ greater_no _ (place.remainder k d le low) ]))
 
 -- what was read of one name
 pub read_at : (names : List Name) (m : ℕ) (name : Name) (t text : List ℕ) (o : Ordering) → m < length names → t ≡ text_at names m name → o ≡ compare t text → (d : Name) → compare (text_at names m d) text ≡ o

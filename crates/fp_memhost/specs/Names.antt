@@ -58,7 +58,7 @@ pub record IsAt (names : List Name) (p : Elements) (i : ℕ) : Type 0 where
 pub record IsPlace (names : List Name) (text : List ℕ) (i : ℕ) : Type 0 where
   pub low : i ≤ length names
   pub before : (k : ℕ) (d : Name) → k < i → slice_cmp nat_cmp (path_text (slice_index_or names k d).path) text ≡ Less
-  pub behind : (k : ℕ) (d : Name) → i ≤ k → k < length names → slice_cmp nat_cmp (path_text (slice_index_or names k d).path) text ≡ Greater
+  pub remainder : (k : ℕ) (d : Name) → i ≤ k → k < length names → slice_cmp nat_cmp (path_text (slice_index_or names k d).path) text ≡ Greater
 
 abbrev pub room_in : Option Name → ℕ → Type 0
 room_in None n = ⊥

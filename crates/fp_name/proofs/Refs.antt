@@ -23,7 +23,7 @@ use Rattle.fp_name.specs.declared.kind.RefKind.TheVariants.{App, Runtime}
 use Rattle.fp_name.specs.Kinds.{kind_word, kind_of}
 use Rattle.fp_name.specs.Bytes.{is_slash}
 use Rattle.fp_name.specs.Grammar.{is_id, is_arch, is_branch}
-use Rattle.fp_name.specs.Refs.{Ref, ref_with, is_ref, ref_text, behind_kind, of_parts, parts_of, if_ref, ref_of, ref_at}
+use Rattle.fp_name.specs.Refs.{Ref, ref_with, is_ref, ref_text, remainder_kind, of_parts, parts_of, if_ref, ref_of, ref_at}
 use Rattle.fp_name.proofs.Bytes.{dotted_id, dotted_arch, dotted_branch, Ascii-from_dotted, NoSlash-from_dotted}
 
 -- the parts of a good ref, each in its grammar
@@ -65,7 +65,7 @@ cut_back kind id arch branch i a b =
 pub parts_back : (r : Ref) → AreParts r → parts_of (ref_text r) ≡ Some r
 parts_back r good =
     ap of_parts (cut_back r.kind r.id r.arch r.branch (NoSlash-from_dotted r.id (dotted_id r.id good.id)) (NoSlash-from_dotted r.arch (dotted_arch r.arch good.arch)) (NoSlash-from_dotted r.branch (dotted_branch r.branch good.branch)))
-    ∙ ap (option_and_then (behind_kind (r.id ∷ r.arch ∷ r.branch ∷ []))) (kind_back r.kind)
+    ∙ ap (option_and_then (remainder_kind (r.id ∷ r.arch ∷ r.branch ∷ []))) (kind_back r.kind)
 
 -- The text of a good ref reads as it.
 pub ref_of-ref_text : (r : Ref) → is_ref r ≡ true → ref_of (ref_text r) ≡ Some r
@@ -74,14 +74,14 @@ ref_of-ref_text r good = ap (option_and_then if_ref) (parts_back r (parts_good r
 
 -- ---- from a text to the ref and back
 
-behind_is : (parts : List (List ℕ)) (kind : RefKind) (r : Ref) → behind_kind parts kind ≡ Some r → (kind ≡ r.kind) × (parts ≡ r.id ∷ r.arch ∷ r.branch ∷ [])
-behind_is [] kind r h = cc h
-behind_is (id ∷ []) kind r h = cc h
-behind_is (id ∷ arch ∷ []) kind r h = cc h
-behind_is (id ∷ arch ∷ branch ∷ []) kind r h =
+remainder_is : (parts : List (List ℕ)) (kind : RefKind) (r : Ref) → remainder_kind parts kind ≡ Some r → (kind ≡ r.kind) × (parts ≡ r.id ∷ r.arch ∷ r.branch ∷ [])
+remainder_is [] kind r h = cc h
+remainder_is (id ∷ []) kind r h = cc h
+remainder_is (id ∷ arch ∷ []) kind r h = cc h
+remainder_is (id ∷ arch ∷ branch ∷ []) kind r h =
     let e : ref_with kind id arch branch ≡ r = cc h in
     (ap (λ (s : Ref). s.kind) e, ap (λ (s : Ref). s.id ∷ s.arch ∷ s.branch ∷ []) e)
-behind_is (id ∷ arch ∷ branch ∷ more ∷ parts) kind r h = cc h
+remainder_is (id ∷ arch ∷ branch ∷ more ∷ parts) kind r h = cc h
 
 word_is : (a b : Bool) (word : List ℕ) (kind : RefKind) → bytes_eq word (codes "app") ≡ a → bytes_eq word (codes "runtime") ≡ b
     → cond a (Some App) (cond b (Some Runtime) None) ≡ Some kind → word ≡ kind_word kind
@@ -95,9 +95,9 @@ kind_is word kind h = word_is (bytes_eq word (codes "app")) (bytes_eq word (code
 pub parts_are : (parts : List (List ℕ)) (r : Ref) → of_parts parts ≡ Some r → parts ≡ kind_word r.kind ∷ r.id ∷ r.arch ∷ r.branch ∷ []
 parts_are [] r h = cc h
 parts_are (word ∷ parts) r h =
-    option_and_then_some (behind_kind parts) (kind_of word) r h (λ kind is_kind is_ref.
-    let behind = behind_is parts kind r is_ref in
-    ap (λ w. w ∷ parts) (kind_is word kind is_kind ∙ ap kind_word behind.0) ∙ ap (λ ps. kind_word r.kind ∷ ps) behind.1)
+    option_and_then_some (remainder_kind parts) (kind_of word) r h (λ kind is_kind is_ref.
+    let remainder = remainder_is parts kind r is_ref in
+    ap (λ w. w ∷ parts) (kind_is word kind is_kind ∙ ap kind_word remainder.0) ∙ ap (λ ps. kind_word r.kind ∷ ps) remainder.1)
 
 -- The text that reads as a ref is the ref's text, and the ref is good.
 pub ref_of-some : (text : List ℕ) (r : Ref) → ref_of text ≡ Some r → (text ≡ ref_text r) × (is_ref r ≡ true)
@@ -132,11 +132,11 @@ parts_of-some text r h =
     option_and_then_some if_ref (parts_of text) r h (λ s read kept. read ∙ ap Some (cond_some (is_ref s) s r kept).1)
 
 -- a kind, and ID/ARCH/BRANCH after it
-pub ref_of_kind : (kind : RefKind) (text : List ℕ) → ref_of (kind_word kind ++ 47 ∷ text) ≡ option_and_then if_ref (behind_kind (slice_split is_slash text) kind)
+pub ref_of_kind : (kind : RefKind) (text : List ℕ) → ref_of (kind_word kind ++ 47 ∷ text) ≡ option_and_then if_ref (remainder_kind (slice_split is_slash text) kind)
 unfolding ref_of
 ref_of_kind kind text =
     ap (λ ps. option_and_then if_ref (of_parts ps)) (slice_split_at is_slash (kind_word kind) 47 text (word_no_slash kind) refl)
-    ∙ ap (λ k. option_and_then if_ref (option_and_then (behind_kind (slice_split is_slash text)) k)) (kind_back kind)
+    ∙ ap (λ k. option_and_then if_ref (option_and_then (remainder_kind (slice_split is_slash text)) k)) (kind_back kind)
 
 -- ---- texts that are kept as refs
 

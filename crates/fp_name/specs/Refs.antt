@@ -25,13 +25,13 @@ abbrev pub ref_text : Ref → List ℕ
 ref_text r = join_with_byte 47 (kind_word r.kind ∷ r.id ∷ r.arch ∷ r.branch ∷ [])
 
 -- ID, ARCH and BRANCH after a kind, whatever stands in them
-abbrev pub behind_kind : List (List ℕ) → RefKind → Option Ref
-behind_kind (id ∷ arch ∷ branch ∷ []) kind = Some (ref_with kind id arch branch)
-behind_kind _ kind = None
+abbrev pub remainder_kind : List (List ℕ) → RefKind → Option Ref
+remainder_kind (id ∷ arch ∷ branch ∷ []) kind = Some (ref_with kind id arch branch)
+remainder_kind _ kind = None
 
 abbrev pub of_parts : List (List ℕ) → Option Ref
 of_parts [] = None
-of_parts (word ∷ parts) = option_and_then (behind_kind parts) (kind_of word)
+of_parts (word ∷ parts) = option_and_then (remainder_kind parts) (kind_of word)
 
 -- what the slashes of a text part, where these are four parts and the first is a kind's word
 abbrev pub parts_of : List ℕ → Option Ref

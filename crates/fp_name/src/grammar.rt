@@ -83,12 +83,12 @@ fn has_elements(text: &str) -> bool
 {
     let mut dots: usize = 0;
     let mut rest = text;
-    while let Some((element, behind)) = rest.split_once('.') {
+    while let Some((element, remainder)) = rest.split_once('.') {
         if !is_inner_element(element) {
             return false;
         }
         dots += 1;
-        rest = behind;
+        rest = remainder;
     }
     dots >= FEWEST_DOTS && is_end_element(rest)
 }

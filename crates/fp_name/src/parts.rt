@@ -3,7 +3,7 @@
 ghost use Rattle.std.specs.Prelude.{◌≡◌, Some, option_map, is_some, IfOk};
 ghost use Rattle.std.specs.List.{slice_split};
 ghost use Rattle.fp_name.specs.Bytes.{is_slash};
-ghost use Rattle.fp_name.specs.Refs.{is_ref, ref_text, behind_kind, parts_of, ref_of};
+ghost use Rattle.fp_name.specs.Refs.{is_ref, ref_text, remainder_kind, parts_of, ref_of};
 ghost use Rattle.fp_name.specs.Parts.{ref_in};
 ghost use Rattle.fp_name.specs.Pins.{are_pin_parts, is_pin, part_matches, parts_match};
 
@@ -69,8 +69,8 @@ fn matches_part(pattern: &str, part: &str) -> bool
 }
 
 /// ID/ARCH/BRANCH after a kind: three parts, which slashes separate.
-pub fn parts_behind(kind: RefKind, text: &str) -> Option<Parts<'_>>
-    ensures { option_map ref_in result ≡ behind_kind (slice_split is_slash text.now) kind }
+pub fn parts_remainder(kind: RefKind, text: &str) -> Option<Parts<'_>>
+    ensures { option_map ref_in result ≡ remainder_kind (slice_split is_slash text.now) kind }
 {
     let (id, rest) = text.split_once('/')?;
     let (arch, branch) = rest.split_once('/')?;
@@ -91,7 +91,7 @@ pub fn parts_of(text: &str) -> Option<Parts<'_>>
 {
     let (word, rest) = text.split_once('/')?;
     let kind = RefKind::of_word(word)?;
-    parts_behind(kind, rest)
+    parts_remainder(kind, rest)
 }
 
 /// Whether a text is that of a ref.

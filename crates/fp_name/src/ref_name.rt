@@ -12,7 +12,7 @@ ghost use Rattle.fp_name.specs.Refs.{ref_of};
 use crate::app_id::AppId;
 use crate::fault::NameFault;
 use crate::kind::RefKind;
-use crate::parts::{Parts, is_ref, parts_behind, parts_of};
+use crate::parts::{Parts, is_ref, parts_of, parts_remainder};
 use fp_base::Text;
 use std::alloc::{AllocError, Global};
 use std::cmp::Ordering;
@@ -93,7 +93,7 @@ impl RefName {
         ensures bad { IsErrOf result NameFault.Bad ↔ (ref_of (kind_word kind ++ 47 ∷ text.now) ≡
             None) }
     {
-        let Some(parts) = parts_behind(kind, text) else {
+        let Some(parts) = parts_remainder(kind, text) else {
             return Err(NameFault::Bad);
         };
         RefName::new(alloc, parts.kind, parts.id, parts.arch, parts.branch)

@@ -40,8 +40,8 @@ unquoted header h =
     let e : is_quoted header ≡ false = and_left (leb 9 (length header) && bytes_eq (take 8 header) remote_front) (bytes_eq (drop (length header - 1) header) (codes "\"")) (and_right (leb 9 (length header)) (bytes_eq (take 8 header) remote_front) h) in
     rw e refl
 
-unquoted_behind : (header : List ℕ) → (9 ≤ length header → bytes_eq (drop (length header - 1) header) (codes "\"") ≡ false) → quoted_name header ≡ None
-unquoted_behind header h =
+unquoted_remainder : (header : List ℕ) → (9 ≤ length header → bytes_eq (drop (length header - 1) header) (codes "\"") ≡ false) → quoted_name header ≡ None
+unquoted_remainder header h =
     elim (cases_lt (length header) 9) [
       | inl short ↦
           let e : is_quoted header ≡ false = and_left (leb 9 (length header) && bytes_eq (take 8 header) remote_front) (bytes_eq (drop (length header - 1) header) (codes "\"")) (and_left (leb 9 (length header)) (bytes_eq (take 8 header) remote_front) (lt-leb 9 (length header) short)) in
@@ -51,14 +51,14 @@ unquoted_behind header h =
           rw e refl
     ]
 
-pub record IsBehind (header x : List ℕ) : Type 0 where
+pub record IsRemainder (header x : List ℕ) : Type 0 where
   pub front : bytes_eq (take 8 header) remote_front ≡ true
   pub is : x ≡ drop 8 header
   pub long : length x + 8 ≡ length header
 
-pub quoted_is : (header x : List ℕ) (r : Option (Bor (List ℕ))) → IsBehind header x
+pub quoted_is : (header x : List ℕ) (r : Option (Bor (List ℕ))) → IsRemainder header x
     → MatchOption r (bytes_eq (drop (length x - 1) x) (codes "\"") ≡ false) (λ y. (bytes_eq (drop (length x - 1) x) (codes "\"") ≡ true) × (y.now ≡ take (length x - 1) x) × (length y.now + 1 ≡ length x)) → option_copied r ≡ quoted_name header
-quoted_is header x None h none = sym (unquoted_behind header (λ long. rw (here long) at none))
+quoted_is header x None h none = sym (unquoted_remainder header (λ long. rw (here long) at none))
   where
     here : 9 ≤ length header → drop (length x - 1) x ≡ drop (length header - 1) header
     here long = ap (λ (k : ℕ). drop k x) (omega (arith, h.long)) ∙ ap (λ (y : List ℕ). drop (length header - 9) y) h.is ∙ last_byte header long
@@ -79,8 +79,8 @@ quoted_name-is header name h =
           let b = and_parts (leb 9 (length header)) (bytes_eq (take 8 header) remote_front) a.0 in
           let long : 9 ≤ length header = leb-true 9 (length header) b.0 in
           let named : take (length header - 9) (drop 8 header) ≡ name = named_by (rw e at h) in
-          let behind : drop 8 header ≡ name ++ codes "\"" = sym (take-append-drop (length header - 9) (drop 8 header)) ∙ ap (λ (y : List ℕ). y ++ drop (length header - 9) (drop 8 header)) named ∙ ap (λ (y : List ℕ). name ++ y) (last_byte header long ∙ bytes_eq-is (drop (length header - 1) header) (codes "\"") a.1) in
-          sym (take-append-drop 8 header) ∙ ap (λ (y : List ℕ). y ++ drop 8 header) (bytes_eq-is (take 8 header) remote_front b.1) ∙ ap (λ (y : List ℕ). remote_front ++ y) behind
+          let remainder : drop 8 header ≡ name ++ codes "\"" = sym (take-append-drop (length header - 9) (drop 8 header)) ∙ ap (λ (y : List ℕ). y ++ drop (length header - 9) (drop 8 header)) named ∙ ap (λ (y : List ℕ). name ++ y) (last_byte header long ∙ bytes_eq-is (drop (length header - 1) header) (codes "\"") a.1) in
+          sym (take-append-drop 8 header) ∙ ap (λ (y : List ℕ). y ++ drop 8 header) (bytes_eq-is (take 8 header) remote_front b.1) ∙ ap (λ (y : List ℕ). remote_front ++ y) remainder
       | inr e ↦ absurd (none_some (rw e at h))
     ]
   where

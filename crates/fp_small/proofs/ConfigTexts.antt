@@ -181,11 +181,11 @@ pin_text pin h = utf8_by is_pin_byte pin pin_ascii (pin_bytes pin h)
 
 -- ---- names that ascend are distinct
 
-apart_behind : (x : List ℕ) (xs : List (List ℕ)) → comes_first x xs ≡ true → is_ascending xs ≡ true → list_any (bytes_eq x) xs ≡ false
-apart_behind x [] first h = refl
-apart_behind x (y ∷ ys) first h =
+apart_remainder : (x : List ℕ) (xs : List (List ℕ)) → comes_first x xs ≡ true → is_ascending xs ≡ true → list_any (bytes_eq x) xs ≡ false
+apart_remainder x [] first h = refl
+apart_remainder x (y ∷ ys) first h =
     let a = and_parts (comes_first y ys) (is_ascending ys) h in
-    or_from (bytes_eq x y) (list_any (bytes_eq x) ys) (bytes_eq-differ y x (before_differs x y first)) (apart_behind x ys (next ys first a.0) a.1)
+    or_from (bytes_eq x y) (list_any (bytes_eq x) ys) (bytes_eq-differ y x (before_differs x y first)) (apart_remainder x ys (next ys first a.0) a.1)
   where
     next : (zs : List (List ℕ)) → comes_before x y ≡ true → comes_first y zs ≡ true → comes_first x zs ≡ true
     next [] b f = refl
@@ -195,7 +195,7 @@ pub distinct-ascending : (xs : List (List ℕ)) → is_ascending xs ≡ true →
 distinct-ascending [] h = refl
 distinct-ascending (x ∷ xs) h =
     let a = and_parts (comes_first x xs) (is_ascending xs) h in
-    and_from (not (list_any (bytes_eq x) xs)) (are_distinct xs) (not_from_false (list_any (bytes_eq x) xs) (apart_behind x xs a.0 a.1)) (distinct-ascending xs a.1)
+    and_from (not (list_any (bytes_eq x) xs)) (are_distinct xs) (not_from_false (list_any (bytes_eq x) xs) (apart_remainder x xs a.0 a.1)) (distinct-ascending xs a.1)
 
 -- ---- the name in a header that is written
 
@@ -245,9 +245,9 @@ keys_back : (pins : List (List ℕ)) → keys_of (map pin_pair pins) ≡ pins
 keys_back [] = refl
 keys_back (pin ∷ pins) = ap (λ (ps : List (List ℕ)). pin ∷ ps) (keys_back pins)
 
-pins_behind : (rows : List RemoteRow) (file : List Group) → group_at (map remote_group rows ++ file) (codes "pins") ≡ group_at file (codes "pins")
-pins_behind [] file = refl
-pins_behind (row ∷ rows) file = pins_behind rows file
+pins_remainder : (rows : List RemoteRow) (file : List Group) → group_at (map remote_group rows ++ file) (codes "pins") ≡ group_at file (codes "pins")
+pins_remainder [] file = refl
+pins_remainder (row ∷ rows) file = pins_remainder rows file
 
 keys_here : (pins : List (List ℕ)) → keys_at (pins_groups pins) (codes "pins") ≡ pins
 unfolding keys_at
@@ -256,7 +256,7 @@ keys_here (pin ∷ pins) = keys_back (pin ∷ pins)
 
 pins_back : (s : Settings) → pins_in (config_file s) ≡ s.pins
 unfolding keys_at
-pins_back s = rw (pins_behind s.remotes (pins_groups s.pins)) (keys_here s.pins)
+pins_back s = rw (pins_remainder s.remotes (pins_groups s.pins)) (keys_here s.pins)
 
 -- ---- each part is one
 

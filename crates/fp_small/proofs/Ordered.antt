@@ -206,11 +206,11 @@ before_all name (y ∷ z ∷ ys) x xs h =
     let zx = (and_parts (comes_before (name z) (name x)) (list_all (λ w. comes_before (name w) (name x)) ys) rest).0 in
     and_from (comes_before (name y) (name x)) (list_all (λ w. comes_before (name w) (name x)) (z ∷ ys)) (before_on (name y) (name z) (name x) a.0 zx) rest
 
-inserted_behind : {A : Type 0} (name : A → List ℕ) (ys : List A) (x : A) → list_all (λ y. comes_before (name y) (name x)) ys ≡ true → inserted name ys x ≡ ys ++ x ∷ []
-inserted_behind name [] x h = refl
-inserted_behind {A} name (y ∷ ys) x h =
+inserted_remainder : {A : Type 0} (name : A → List ℕ) (ys : List A) (x : A) → list_all (λ y. comes_before (name y) (name x)) ys ≡ true → inserted name ys x ≡ ys ++ x ∷ []
+inserted_remainder name [] x h = refl
+inserted_remainder {A} name (y ∷ ys) x h =
     let a = and_parts (comes_before (name y) (name x)) (list_all (λ w. comes_before (name w) (name x)) ys) h in
-    rw a.0 (ap (λ (zs : List A). y ∷ zs) (inserted_behind name ys x a.1))
+    rw a.0 (ap (λ (zs : List A). y ∷ zs) (inserted_remainder name ys x a.1))
 
 sorted_onto-ascending : {A : Type 0} (name : A → List ℕ) (ys xs : List A) → is_ascending (map name (ys ++ xs)) ≡ true → sorted_onto name ys xs ≡ ys ++ xs
 sorted_onto-ascending name ys [] h = sym (append-none ys)
@@ -219,7 +219,7 @@ sorted_onto-ascending name ys [] h = sym (append-none ys)
     append-none [] = refl
     append-none {A} (z ∷ zs) = ap (λ (ws : List A). z ∷ ws) (append-none zs)
 sorted_onto-ascending {A} name ys (x ∷ xs) h =
-    let e : inserted name ys x ≡ ys ++ x ∷ [] = inserted_behind name ys x (before_all name ys x xs h) in
+    let e : inserted name ys x ≡ ys ++ x ∷ [] = inserted_remainder name ys x (before_all name ys x xs h) in
     let again : (ys ++ x ∷ []) ++ xs ≡ ys ++ x ∷ xs = append_assoc ys (x ∷ []) xs in
     ap (λ (zs : List A). sorted_onto name zs xs) e ∙ sorted_onto-ascending name (ys ++ x ∷ []) xs (subst (λ (zs : List A). is_ascending (map name zs) ≡ true) (sym again) h) ∙ again
 

@@ -33,8 +33,8 @@ fn patterns_of(alloc: Global, bytes: &[u8]) -> Result<Vec<PinPattern>, ConfigFau
     let mut pins = Vec::new(alloc);
     let mut rest = bytes;
     while !rest.is_empty() {
-        let (line, behind) = first_line(rest);
-        rest = behind;
+        let (line, remainder) = first_line(rest);
+        rest = remainder;
         pins.push(PinPattern::parse(alloc, line)?)?;
     }
     Ok(pins)

@@ -1,7 +1,7 @@
 //! Where the children of a container stand, and its offsets.
 ghost use Rattle.std.specs.Prelude.{◌≡◌, ◌≤◌, ◌<◌, ◌+◌, ◌-◌, ◌*◌, ◌/◌, ◌^◌, ◌==◌, ◌&&◌, if◌then◌else◌, IsTrue, length, drop, take, Some, None, IfOk};
 ghost use Rattle.gv_value.specs.Bytes.{le_value, all_zero as all_are_zero};
-ghost use Rattle.gv_value.specs.Framing.{child_at as child_from, offsets_behind, width_in, offset_count as offset_count_of, member_end as member_end_of};
+ghost use Rattle.gv_value.specs.Framing.{child_at as child_from, offsets_remainder, width_in, offset_count as offset_count_of, member_end as member_end_of};
 ghost use Rattle.gv_value.specs.Layout.{padding as padding_of};
 ghost use Rattle.gv_value.specs.Plans.{are_plans, plan_shapes};
 ghost use Rattle.gv_decode.specs.Decoded.{Gives, IsFrame, IsWhole, offsets_of, offsets_left};
@@ -54,7 +54,7 @@ pub fn offset_width(bytes: &[u8]) -> usize
 pub fn take_apart(bytes: &[u8], before: usize, count: usize) -> Result<Frame<'_>, DecodeError>
     requires short { length bytes.now ≤ 2 ^ 24 }
     requires few { count ≤ length bytes.now }
-    ensures offsets { Gives offsets_of result (offsets_behind before count bytes.now) }
+    ensures offsets { Gives offsets_of result (offsets_remainder before count bytes.now) }
     ensures frame { IfOk result (λ f. IsFrame f bytes.now before count) }
 {
     let width_here = offset_width(bytes);
@@ -130,7 +130,7 @@ pub fn open_frame<'a>(plans: &[Plan], bytes: &'a [u8]) -> Result<Frame<'a>, Deco
     requires planned { IsTrue (are_plans plans.now) }
     requires short { length bytes.now ≤ 2 ^ 24 }
     ensures offsets { Gives offsets_of result
-        (offsets_behind (length bytes.now - offset_count_of (plan_shapes plans.now) * width_in (length bytes.now)) (offset_count_of (plan_shapes plans.now)) bytes.now) }
+        (offsets_remainder (length bytes.now - offset_count_of (plan_shapes plans.now) * width_in (length bytes.now)) (offset_count_of (plan_shapes plans.now)) bytes.now) }
     ensures frame { IfOk result (λ f. IsFrame f bytes.now
         (length bytes.now - offset_count_of (plan_shapes plans.now) * width_in (length bytes.now)) (offset_count_of (plan_shapes plans.now))) }
 {

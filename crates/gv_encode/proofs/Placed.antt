@@ -9,7 +9,7 @@ use Rattle.gv_encode.specs.declared.error.EncodeError.{EncodeError}
 use Rattle.gv_encode.specs.Encoded.{IsAdded, Fails}
 use Rattle.gv_encode.proofs.Steps.{fails-longer}
 
--- Behind what was there stand the first of some parts, and the rest are still to come. Of the ends some are noted.
+-- After what was there stand the first of some parts, and the rest are still to come. Of the ends some are noted.
 pub record Placing (before : List ℕ) (all : List Part) (total out : List ℕ) (rest : List Part) (kept : List ℕ → List ℕ) (noted : List ℕ) : Type 0 where
   pub body : List ℕ
   pub is : out ≡ before ++ body

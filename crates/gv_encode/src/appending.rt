@@ -8,7 +8,7 @@ use byteorder::{ByteOrder, LittleEndian};
 use gv_value::MAX_BYTES;
 
 /// How many bytes may still be added.
-pub fn room_behind(out: &Vec<u8>) -> usize
+pub fn room_remainder(out: &Vec<u8>) -> usize
     requires { vec_len out.now ≤ 2 ^ 24 }
     ensures { result + vec_len out.now ≡ 2 ^ 24 }
 {
@@ -20,7 +20,7 @@ pub fn append(out: &mut Vec<u8>, bytes: &[u8]) -> Result<(), EncodeError>
     requires { vec_len out.old ≤ 2 ^ 24 }
     ensures { Adds result out.old.items out.new.items bytes.now }
 {
-    if bytes.len() > room_behind(out) {
+    if bytes.len() > room_remainder(out) {
         return Err(EncodeError::TooLong);
     }
     out.extend_from_slice(bytes)?;
@@ -32,7 +32,7 @@ pub fn append_zeros(out: &mut Vec<u8>, count: usize) -> Result<(), EncodeError>
     requires { vec_len out.old ≤ 2 ^ 24 }
     ensures { Adds result out.old.items out.new.items (zeros count) }
 {
-    if count > room_behind(out) {
+    if count > room_remainder(out) {
         return Err(EncodeError::TooLong);
     }
     let end = out.len() + count;

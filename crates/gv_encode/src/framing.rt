@@ -6,7 +6,7 @@ ghost use Rattle.gv_value.specs.Layout.{size_of};
 ghost use Rattle.gv_value.specs.Plans.{is_plan, plan_shape};
 ghost use Rattle.gv_encode.specs.Encoded.{Adds, offset_bytes, closing};
 
-use crate::appending::{append_number, append_zeros, room_behind};
+use crate::appending::{append_number, append_zeros, room_remainder};
 use crate::error::EncodeError;
 use gv_value::{Plan, width};
 use std::alloc::AllocError;
@@ -18,7 +18,7 @@ pub fn append_offsets(out: &mut Vec<u8>, start: usize, offsets: &[usize]) -> Res
     ensures { Adds result out.old.items out.new.items (offset_bytes (vec_len out.old - start)
         offsets.now) }
 {
-    if offsets.len() > room_behind(out) {
+    if offsets.len() > room_remainder(out) {
         return Err(EncodeError::TooLong);
     }
     let size = width(out.len() - start, offsets.len());

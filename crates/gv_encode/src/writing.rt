@@ -174,7 +174,7 @@ fn write_placed(
     write(alloc, out, plan, item, room)
 }
 
-/// Adds a maybe. Behind a child of variable size stands a zero byte.
+/// Adds a maybe. After a child of variable size stands a zero byte.
 #[cycle(write)]
 fn write_maybe(
     alloc: Global,

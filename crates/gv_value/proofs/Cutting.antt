@@ -21,11 +21,11 @@ child_at-placed before pad child rest body e =
     let len : end ≡ start + length child = omega (arith, length-append before (zeros pad ++ child), length-append (zeros pad) child, length-zeros pad) in
     let whole : length body ≡ end + length rest = ap length e ∙ length-append (before ++ (zeros pad ++ child)) rest in
     let parts : body ≡ before ++ (zeros pad ++ (child ++ rest)) = e ∙ simp append_assoc in
-    let behind : drop at body ≡ zeros pad ++ (child ++ rest) = ap (drop at) parts ∙ drop_at before (zeros pad ++ (child ++ rest)) at refl in
+    let remainder : drop at body ≡ zeros pad ++ (child ++ rest) = ap (drop at) parts ∙ drop_at before (zeros pad ++ (child ++ rest)) at refl in
     let gap : slice_range body at start ≡ zeros pad =
-    ap (take (start - at)) behind ∙ take_at (zeros pad) (child ++ rest) (start - at) (omega (arith, length-zeros pad)) in
+    ap (take (start - at)) remainder ∙ take_at (zeros pad) (child ++ rest) (start - at) (omega (arith, length-zeros pad)) in
     let later : drop start body ≡ child ++ rest =
-    sym (drop-drop pad at body) ∙ ap (drop pad) behind ∙ drop_at (zeros pad) (child ++ rest) pad (length-zeros pad) in
+    sym (drop-drop pad at body) ∙ ap (drop pad) remainder ∙ drop_at (zeros pad) (child ++ rest) pad (length-zeros pad) in
     let found : slice_range body start end ≡ child =
     ap (take (end - start)) later ∙ take_at child rest (end - start) (omega arith) in
     let ordered : leb start end ≡ true = le-leb start end (omega arith) in
@@ -82,22 +82,22 @@ abbrev pub children_of : List Part → List (List ℕ)
 children_of = map (λ part. part.1)
 
 -- what stands after a body once parts are laid after it
-abbrev pub behind : List ℕ → List Part → List ℕ
-behind body [] = []
-behind body (part ∷ parts) = (zeros (padding (length body) part.0) ++ part.1) ++ behind (placed body part) parts
+abbrev pub remainder : List ℕ → List Part → List ℕ
+remainder body [] = []
+remainder body (part ∷ parts) = (zeros (padding (length body) part.0) ++ part.1) ++ remainder (placed body part) parts
 
-pub laid-behind : (body : List ℕ) (parts : List Part) → laid body parts ≡ body ++ behind body parts
-laid-behind body [] = sym (append-nil body)
-laid-behind body (part ∷ parts) = laid-behind (placed body part) parts ∙ append_assoc body (zeros (padding (length body) part.0) ++ part.1) (behind (placed body part) parts)
+pub laid-remainder : (body : List ℕ) (parts : List Part) → laid body parts ≡ body ++ remainder body parts
+laid-remainder body [] = sym (append-nil body)
+laid-remainder body (part ∷ parts) = laid-remainder (placed body part) parts ∙ append_assoc body (zeros (padding (length body) part.0) ++ part.1) (remainder (placed body part) parts)
 
 pub length-laid : (body : List ℕ) (parts : List Part) → length body ≤ length (laid body parts)
-length-laid body parts = omega (arith, ap length (laid-behind body parts), length-append body (behind body parts))
+length-laid body parts = omega (arith, ap length (laid-remainder body parts), length-append body (remainder body parts))
 
 cut_from : (whole body : List ℕ) (parts : List Part) → whole ≡ laid body parts → cut whole (length body) (marked body parts) ≡ Some (children_of parts)
 cut_from whole body [] e = rw (eq-eqb (length body) (length whole) (ap length (sym e))) refl
 cut_from whole body (part ∷ parts) e =
-    let child = child_at-placed body (padding (length body) part.0) part.1 (behind (placed body part) parts) whole
-    (e ∙ laid-behind (placed body part) parts) in
+    let child = child_at-placed body (padding (length body) part.0) part.1 (remainder (placed body part) parts) whole
+    (e ∙ laid-remainder (placed body part) parts) in
     let rest = cut_from whole (placed body part) parts e in
     rw (child, rest) refl
 

@@ -54,13 +54,13 @@ module _ (one : TypeReader) where
       ap (option_and_then (λ p. members_from one (members_at one n) text p.0 p.1)) e ∙ members_from-open one (members_at one n) text s rest h
       ∙ ap (option_and_then (λ p. type_map (shape p.0) (members_at one n p.1))) f
 
-  pub member_more : (n : ℕ) (text : List ℕ) (s : Sign) (rest : List ℕ) (t : Shape) (behind : List ℕ) → 0 < n → sign_at text ≡ Some (s, rest) → opens s ≡ true →
-      one text ≡ Some (t, behind) → members_at one n text ≡ type_map (shape t) (members_at one (n - 1) behind)
-  member_more zero text s rest t behind h e o f = absurd (omega arith)
-  member_more (suc n) text s rest t behind h e o f =
+  pub member_more : (n : ℕ) (text : List ℕ) (s : Sign) (rest : List ℕ) (t : Shape) (remainder : List ℕ) → 0 < n → sign_at text ≡ Some (s, rest) → opens s ≡ true →
+      one text ≡ Some (t, remainder) → members_at one n text ≡ type_map (shape t) (members_at one (n - 1) remainder)
+  member_more zero text s rest t remainder h e o f = absurd (omega arith)
+  member_more (suc n) text s rest t remainder h e o f =
       let k : n ≡ suc n - 1 = omega arith in
       ap (option_and_then (λ p. members_from one (members_at one n) text p.0 p.1)) e ∙ members_from-open one (members_at one n) text s rest o
-      ∙ ap (option_and_then (λ p. type_map (shape p.0) (members_at one n p.1))) f ∙ ap (λ (m : ℕ). type_map (shape t) (members_at one m behind)) k
+      ∙ ap (option_and_then (λ p. type_map (shape p.0) (members_at one n p.1))) f ∙ ap (λ (m : ℕ). type_map (shape t) (members_at one m remainder)) k
 
 pub some_letter : (text : List ℕ) (s : Sign) (rest : List ℕ) → sign_at text ≡ Some (s, rest) → 0 < length text
 some_letter [] s rest e = absurd cc
@@ -90,12 +90,12 @@ all_members room text members fuel left rest so_far enough sign =
     so_far ∙ ap (type_map (shapes_before members)) (members_end (type_at room) fuel left rest (omega (arith, some_letter left signs.TupleClose rest sign)) sign)
     ∙ ap (λ (ts : Shapes). Some (ts, rest)) (shapes_before-none members)
 
-pub more_members : (room : ℕ) (text : List ℕ) (members : List GvType) (fuel : ℕ) (left : List ℕ) (s : Sign) (rest : List ℕ) (t : GvType) (behind : List ℕ) → SoFar room text members fuel left →
-    length left ≤ fuel → sign_at left ≡ Some (s, rest) → opens s ≡ true → type_at room left ≡ Some (shape_of t, behind) →
-    SoFar room text (members ++ t ∷ []) (fuel - 1) behind
-more_members room text members fuel left s rest t behind so_far enough sign open_sign found =
-    so_far ∙ ap (type_map (shapes_before members)) (member_more (type_at room) fuel left s rest (shape_of t) behind (omega (arith, some_letter left s rest sign)) sign open_sign found)
-    ∙ one_more members t (members_at (type_at room) (fuel - 1) behind)
+pub more_members : (room : ℕ) (text : List ℕ) (members : List GvType) (fuel : ℕ) (left : List ℕ) (s : Sign) (rest : List ℕ) (t : GvType) (remainder : List ℕ) → SoFar room text members fuel left →
+    length left ≤ fuel → sign_at left ≡ Some (s, rest) → opens s ≡ true → type_at room left ≡ Some (shape_of t, remainder) →
+    SoFar room text (members ++ t ∷ []) (fuel - 1) remainder
+more_members room text members fuel left s rest t remainder so_far enough sign open_sign found =
+    so_far ∙ ap (type_map (shapes_before members)) (member_more (type_at room) fuel left s rest (shape_of t) remainder (omega (arith, some_letter left s rest sign)) sign open_sign found)
+    ∙ one_more members t (members_at (type_at room) (fuel - 1) remainder)
 
 pub opens-not : (s : Sign) → (s ≡ signs.TupleClose → ⊥) → opens s ≡ true
 opens-not signs.TupleClose h = absurd (h refl)

@@ -44,27 +44,27 @@ module _ (R : List ℕ → List ℕ → Type 0) (step : (text : List ℕ) (s : S
     key-leads signs.EntryOpen text rest e = absurd cc
     key-leads signs.EntryClose text rest e = absurd cc
 
-    element-leads : (text : List ℕ) (s : Sign) (behind rest : List ℕ) → R text behind → after_element one text s behind ≡ Some rest → R text rest
-    element-leads text signs.EntryOpen behind rest h e =
-        let a = then_some (λ p. after_key one p.0 p.1) (sign_at behind) rest e in
-        both_ways text behind rest h (both_ways behind a.0.1 rest (step behind a.0.0 a.0.1 a.1) (key-leads a.0.0 a.0.1 rest a.2))
-    element-leads text (signs.Basic b) behind rest h e = leads text rest e
-    element-leads text signs.Variant behind rest h e = leads text rest e
-    element-leads text signs.Array behind rest h e = leads text rest e
-    element-leads text signs.Maybe behind rest h e = leads text rest e
-    element-leads text signs.TupleOpen behind rest h e = leads text rest e
-    element-leads text signs.TupleClose behind rest h e = leads text rest e
-    element-leads text signs.EntryClose behind rest h e = leads text rest e
+    element-leads : (text : List ℕ) (s : Sign) (remainder rest : List ℕ) → R text remainder → after_element one text s remainder ≡ Some rest → R text rest
+    element-leads text signs.EntryOpen remainder rest h e =
+        let a = then_some (λ p. after_key one p.0 p.1) (sign_at remainder) rest e in
+        both_ways text remainder rest h (both_ways remainder a.0.1 rest (step remainder a.0.0 a.0.1 a.1) (key-leads a.0.0 a.0.1 rest a.2))
+    element-leads text (signs.Basic b) remainder rest h e = leads text rest e
+    element-leads text signs.Variant remainder rest h e = leads text rest e
+    element-leads text signs.Array remainder rest h e = leads text rest e
+    element-leads text signs.Maybe remainder rest h e = leads text rest e
+    element-leads text signs.TupleOpen remainder rest h e = leads text rest e
+    element-leads text signs.TupleClose remainder rest h e = leads text rest e
+    element-leads text signs.EntryClose remainder rest h e = leads text rest e
 
-    member-leads : (more : After) → Leads R more → (text : List ℕ) (s : Sign) (behind rest : List ℕ) → R text behind → after_member more text s behind ≡ Some rest → R text rest
-    member-leads more others text signs.TupleClose behind rest h e = subst (R text) (same_Some behind rest e) h
-    member-leads more others text (signs.Basic b) behind rest h e = others text rest e
-    member-leads more others text signs.Variant behind rest h e = others text rest e
-    member-leads more others text signs.Array behind rest h e = others text rest e
-    member-leads more others text signs.Maybe behind rest h e = others text rest e
-    member-leads more others text signs.TupleOpen behind rest h e = others text rest e
-    member-leads more others text signs.EntryOpen behind rest h e = others text rest e
-    member-leads more others text signs.EntryClose behind rest h e = others text rest e
+    member-leads : (more : After) → Leads R more → (text : List ℕ) (s : Sign) (remainder rest : List ℕ) → R text remainder → after_member more text s remainder ≡ Some rest → R text rest
+    member-leads more others text signs.TupleClose remainder rest h e = subst (R text) (same_Some remainder rest e) h
+    member-leads more others text (signs.Basic b) remainder rest h e = others text rest e
+    member-leads more others text signs.Variant remainder rest h e = others text rest e
+    member-leads more others text signs.Array remainder rest h e = others text rest e
+    member-leads more others text signs.Maybe remainder rest h e = others text rest e
+    member-leads more others text signs.TupleOpen remainder rest h e = others text rest e
+    member-leads more others text signs.EntryOpen remainder rest h e = others text rest e
+    member-leads more others text signs.EntryClose remainder rest h e = others text rest e
 
     members-lead : (n : ℕ) → Leads R (after_members one n)
     members-lead zero text rest e = absurd cc

@@ -9,7 +9,7 @@ use Rattle.gv_value.specs.Shape.{Shape, basic, variant, array, maybe, tuple, ent
 use Rattle.gv_value.specs.Signs.{letter_of, sign_among, all_signs, sign_of, sign_at}
 use Rattle.gv_value.specs.Texts.{has_zero}
 use Rattle.gv_value.specs.TypeText.{type_text, type_texts, TypeReader, type_map, members_from, members_at, entry_closed, entry_from, type_from, flat_type, type_at, if_whole, type_of}
-use Rattle.gv_value.specs.Reading.{parted_behind, parted}
+use Rattle.gv_value.specs.Reading.{parted_remainder, parted}
 use Rattle.gv_value.proofs.Lists.{then_some, map_some}
 
 -- ---- letters
@@ -127,11 +127,11 @@ module _ (one : TypeReader) (n : ℕ) (again : (t : Shape) (rest : List ℕ) →
   entry_again : (k v : Shape) (rest : List ℕ) → is_basic k ≡ true → nests_within n v ≡ true →
       option_and_then (λ p. entry_from one p.0 p.1) (sign_at ((type_text k ++ (type_text v ++ letter_of signs.EntryClose ∷ [])) ++ rest)) ≡ Some (entry k v, rest)
   entry_again (basic b) v rest key fits =
-      let behind = letter_of signs.EntryClose ∷ rest in
-      let grouped : (type_text v ++ letter_of signs.EntryClose ∷ []) ++ rest ≡ type_text v ++ behind = append_assoc (type_text v) (letter_of signs.EntryClose ∷ []) rest in
+      let remainder = letter_of signs.EntryClose ∷ rest in
+      let grouped : (type_text v ++ letter_of signs.EntryClose ∷ []) ++ rest ≡ type_text v ++ remainder = append_assoc (type_text v) (letter_of signs.EntryClose ∷ []) rest in
       ap (option_and_then (λ p. entry_from one p.0 p.1)) (sign_at-letter (signs.Basic b) ((type_text v ++ letter_of signs.EntryClose ∷ []) ++ rest))
       ∙ ap (λ (xs : List ℕ). option_and_then (λ x. option_and_then (λ p. entry_closed (entry (basic b) x.0) p.0 p.1) (sign_at x.1)) (one xs)) grouped
-      ∙ ap (option_and_then (λ x. option_and_then (λ p. entry_closed (entry (basic b) x.0) p.0 p.1) (sign_at x.1))) (again v behind fits)
+      ∙ ap (option_and_then (λ x. option_and_then (λ p. entry_closed (entry (basic b) x.0) p.0 p.1) (sign_at x.1))) (again v remainder fits)
   entry_again variant v rest key fits = absurd cc
   entry_again (array t) v rest key fits = absurd cc
   entry_again (maybe t) v rest key fits = absurd cc
@@ -199,18 +199,18 @@ module _ (one : TypeReader) (n : ℕ) (takes : (text : List ℕ) (t : Shape) (re
         nest = and_from (nests_within n a.0.0) (all_shapes (nests_within n) b.0.0) first.nests others.nest;
       })
 
-  members_from-takes : (more : List ℕ → Option (Shapes × List ℕ)) (text : List ℕ) (s : Sign) (behind : List ℕ) (ts : Shapes) (rest : List ℕ) →
+  members_from-takes : (more : List ℕ → Option (Shapes × List ℕ)) (text : List ℕ) (s : Sign) (remainder : List ℕ) (ts : Shapes) (rest : List ℕ) →
       ((after : List ℕ) (us : Shapes) (left : List ℕ) → more after ≡ Some (us, left) → TakesAll n after us left) →
-      text ≡ letter_of s ∷ behind → members_from one more text s behind ≡ Some (ts, rest) → TakesAll n text ts rest
-  members_from-takes more text signs.TupleClose behind ts rest more_takes is e =
-      pair_parts no_shapes ts behind rest (TakesAll n text) (some_pair no_shapes ts behind rest e) (record { is = is; nest = refl })
-  members_from-takes more text (signs.Basic b) behind ts rest more_takes is e = member_takes more text ts rest more_takes e
-  members_from-takes more text signs.Variant behind ts rest more_takes is e = member_takes more text ts rest more_takes e
-  members_from-takes more text signs.Array behind ts rest more_takes is e = member_takes more text ts rest more_takes e
-  members_from-takes more text signs.Maybe behind ts rest more_takes is e = member_takes more text ts rest more_takes e
-  members_from-takes more text signs.TupleOpen behind ts rest more_takes is e = member_takes more text ts rest more_takes e
-  members_from-takes more text signs.EntryOpen behind ts rest more_takes is e = member_takes more text ts rest more_takes e
-  members_from-takes more text signs.EntryClose behind ts rest more_takes is e = member_takes more text ts rest more_takes e
+      text ≡ letter_of s ∷ remainder → members_from one more text s remainder ≡ Some (ts, rest) → TakesAll n text ts rest
+  members_from-takes more text signs.TupleClose remainder ts rest more_takes is e =
+      pair_parts no_shapes ts remainder rest (TakesAll n text) (some_pair no_shapes ts remainder rest e) (record { is = is; nest = refl })
+  members_from-takes more text (signs.Basic b) remainder ts rest more_takes is e = member_takes more text ts rest more_takes e
+  members_from-takes more text signs.Variant remainder ts rest more_takes is e = member_takes more text ts rest more_takes e
+  members_from-takes more text signs.Array remainder ts rest more_takes is e = member_takes more text ts rest more_takes e
+  members_from-takes more text signs.Maybe remainder ts rest more_takes is e = member_takes more text ts rest more_takes e
+  members_from-takes more text signs.TupleOpen remainder ts rest more_takes is e = member_takes more text ts rest more_takes e
+  members_from-takes more text signs.EntryOpen remainder ts rest more_takes is e = member_takes more text ts rest more_takes e
+  members_from-takes more text signs.EntryClose remainder ts rest more_takes is e = member_takes more text ts rest more_takes e
 
   members_take : (fuel : ℕ) (text : List ℕ) (ts : Shapes) (rest : List ℕ) → members_at one fuel text ≡ Some (ts, rest) → TakesAll n text ts rest
   members_take zero text ts rest e = absurd cc
@@ -218,23 +218,23 @@ module _ (one : TypeReader) (n : ℕ) (takes : (text : List ℕ) (t : Shape) (re
       let a = then_some (λ p. members_from one (members_at one fuel) text p.0 p.1) (sign_at text) (ts, rest) e in
       members_from-takes (members_at one fuel) text a.0.0 a.0.1 ts rest (members_take fuel) (sign_takes text a.0.0 a.0.1 a.1) a.2
 
-  closed_takes : (t u : Shape) (s : Sign) (behind rest : List ℕ) → entry_closed t s behind ≡ Some (u, rest) →
-      (s ≡ signs.EntryClose) × ◌≡◌ {A = Shape × List ℕ} (t, behind) (u, rest)
-  closed_takes t u signs.EntryClose behind rest e = (refl, some_pair t u behind rest e)
-  closed_takes t u (signs.Basic b) behind rest e = absurd cc
-  closed_takes t u signs.Variant behind rest e = absurd cc
-  closed_takes t u signs.Array behind rest e = absurd cc
-  closed_takes t u signs.Maybe behind rest e = absurd cc
-  closed_takes t u signs.TupleOpen behind rest e = absurd cc
-  closed_takes t u signs.TupleClose behind rest e = absurd cc
-  closed_takes t u signs.EntryOpen behind rest e = absurd cc
+  closed_takes : (t u : Shape) (s : Sign) (remainder rest : List ℕ) → entry_closed t s remainder ≡ Some (u, rest) →
+      (s ≡ signs.EntryClose) × ◌≡◌ {A = Shape × List ℕ} (t, remainder) (u, rest)
+  closed_takes t u signs.EntryClose remainder rest e = (refl, some_pair t u remainder rest e)
+  closed_takes t u (signs.Basic b) remainder rest e = absurd cc
+  closed_takes t u signs.Variant remainder rest e = absurd cc
+  closed_takes t u signs.Array remainder rest e = absurd cc
+  closed_takes t u signs.Maybe remainder rest e = absurd cc
+  closed_takes t u signs.TupleOpen remainder rest e = absurd cc
+  closed_takes t u signs.TupleClose remainder rest e = absurd cc
+  closed_takes t u signs.EntryOpen remainder rest e = absurd cc
 
-  entry_takes : (text : List ℕ) (s : Sign) (behind : List ℕ) (t : Shape) (rest : List ℕ) → text ≡ letter_of s ∷ behind →
-      entry_from one s behind ≡ Some (t, rest) → Takes (suc n) (letter_of signs.EntryOpen ∷ text) t rest
-  entry_takes text (signs.Basic b) behind t rest is e =
-      let a = then_some (λ v. option_and_then (λ p. entry_closed (entry (basic b) v.0) p.0 p.1) (sign_at v.1)) (one behind) (t, rest) e in
+  entry_takes : (text : List ℕ) (s : Sign) (remainder : List ℕ) (t : Shape) (rest : List ℕ) → text ≡ letter_of s ∷ remainder →
+      entry_from one s remainder ≡ Some (t, rest) → Takes (suc n) (letter_of signs.EntryOpen ∷ text) t rest
+  entry_takes text (signs.Basic b) remainder t rest is e =
+      let a = then_some (λ v. option_and_then (λ p. entry_closed (entry (basic b) v.0) p.0 p.1) (sign_at v.1)) (one remainder) (t, rest) e in
       let c = then_some (λ p. entry_closed (entry (basic b) a.0.0) p.0 p.1) (sign_at a.0.1) (t, rest) a.2 in
-      let value = takes behind a.0.0 a.0.1 a.1 in
+      let value = takes remainder a.0.0 a.0.1 a.1 in
       let closing = closed_takes (entry (basic b) a.0.0) t c.0.0 c.0.1 rest c.2 in
       let close : a.0.1 ≡ letter_of signs.EntryClose ∷ c.0.1 = sign_takes a.0.1 c.0.0 c.0.1 c.1 ∙ ap (λ (x : Sign). letter_of x ∷ c.0.1) closing.0 in
       pair_parts (entry (basic b) a.0.0) t c.0.1 rest (Takes (suc n) (letter_of signs.EntryOpen ∷ text)) closing.1 (record {
@@ -242,50 +242,50 @@ module _ (one : TypeReader) (n : ℕ) (takes : (text : List ℕ) (t : Shape) (re
             (value.is ∙ ap (λ (xs : List ℕ). type_text a.0.0 ++ xs) close ∙ sym (append_assoc (type_text a.0.0) (letter_of signs.EntryClose ∷ []) c.0.1)));
         nests = value.nests;
       })
-  entry_takes text signs.Variant behind t rest is e = absurd cc
-  entry_takes text signs.Array behind t rest is e = absurd cc
-  entry_takes text signs.Maybe behind t rest is e = absurd cc
-  entry_takes text signs.TupleOpen behind t rest is e = absurd cc
-  entry_takes text signs.TupleClose behind t rest is e = absurd cc
-  entry_takes text signs.EntryOpen behind t rest is e = absurd cc
-  entry_takes text signs.EntryClose behind t rest is e = absurd cc
+  entry_takes text signs.Variant remainder t rest is e = absurd cc
+  entry_takes text signs.Array remainder t rest is e = absurd cc
+  entry_takes text signs.Maybe remainder t rest is e = absurd cc
+  entry_takes text signs.TupleOpen remainder t rest is e = absurd cc
+  entry_takes text signs.TupleClose remainder t rest is e = absurd cc
+  entry_takes text signs.EntryOpen remainder t rest is e = absurd cc
+  entry_takes text signs.EntryClose remainder t rest is e = absurd cc
 
-  from_takes : (s : Sign) (behind : List ℕ) (t : Shape) (rest : List ℕ) → type_from one s behind ≡ Some (t, rest) → Takes (suc n) (letter_of s ∷ behind) t rest
-  from_takes (signs.Basic b) behind t rest e = basic_takes (suc n) b behind rest t e
-  from_takes signs.Variant behind t rest e =
-      pair_parts variant t behind rest (Takes (suc n) (letter_of signs.Variant ∷ behind)) (some_pair variant t behind rest e) (record { is = refl; nests = refl })
-  from_takes signs.Array behind t rest e =
-      let a = map_some (λ p. (array p.0, p.1)) (one behind) (t, rest) e in
-      let element = takes behind a.0.0 a.0.1 a.1 in
-      pair_parts (array a.0.0) t a.0.1 rest (Takes (suc n) (letter_of signs.Array ∷ behind)) a.2
+  from_takes : (s : Sign) (remainder : List ℕ) (t : Shape) (rest : List ℕ) → type_from one s remainder ≡ Some (t, rest) → Takes (suc n) (letter_of s ∷ remainder) t rest
+  from_takes (signs.Basic b) remainder t rest e = basic_takes (suc n) b remainder rest t e
+  from_takes signs.Variant remainder t rest e =
+      pair_parts variant t remainder rest (Takes (suc n) (letter_of signs.Variant ∷ remainder)) (some_pair variant t remainder rest e) (record { is = refl; nests = refl })
+  from_takes signs.Array remainder t rest e =
+      let a = map_some (λ p. (array p.0, p.1)) (one remainder) (t, rest) e in
+      let element = takes remainder a.0.0 a.0.1 a.1 in
+      pair_parts (array a.0.0) t a.0.1 rest (Takes (suc n) (letter_of signs.Array ∷ remainder)) a.2
       (record { is = ap (λ (xs : List ℕ). letter_of signs.Array ∷ xs) element.is; nests = element.nests })
-  from_takes signs.Maybe behind t rest e =
-      let a = map_some (λ p. (maybe p.0, p.1)) (one behind) (t, rest) e in
-      let child = takes behind a.0.0 a.0.1 a.1 in
-      pair_parts (maybe a.0.0) t a.0.1 rest (Takes (suc n) (letter_of signs.Maybe ∷ behind)) a.2
+  from_takes signs.Maybe remainder t rest e =
+      let a = map_some (λ p. (maybe p.0, p.1)) (one remainder) (t, rest) e in
+      let child = takes remainder a.0.0 a.0.1 a.1 in
+      pair_parts (maybe a.0.0) t a.0.1 rest (Takes (suc n) (letter_of signs.Maybe ∷ remainder)) a.2
       (record { is = ap (λ (xs : List ℕ). letter_of signs.Maybe ∷ xs) child.is; nests = child.nests })
-  from_takes signs.TupleOpen behind t rest e =
-      let a = map_some (λ p. (tuple p.0, p.1)) (members_at one (length behind) behind) (t, rest) e in
-      let members = members_take (length behind) behind a.0.0 a.0.1 a.1 in
-      pair_parts (tuple a.0.0) t a.0.1 rest (Takes (suc n) (letter_of signs.TupleOpen ∷ behind)) a.2 (record {
+  from_takes signs.TupleOpen remainder t rest e =
+      let a = map_some (λ p. (tuple p.0, p.1)) (members_at one (length remainder) remainder) (t, rest) e in
+      let members = members_take (length remainder) remainder a.0.0 a.0.1 a.1 in
+      pair_parts (tuple a.0.0) t a.0.1 rest (Takes (suc n) (letter_of signs.TupleOpen ∷ remainder)) a.2 (record {
         is = ap (λ (xs : List ℕ). letter_of signs.TupleOpen ∷ xs) (members.is ∙ sym (append_assoc (type_texts a.0.0) (letter_of signs.TupleClose ∷ []) a.0.1));
         nests = members.nest;
       })
-  from_takes signs.TupleClose behind t rest e = absurd cc
-  from_takes signs.EntryOpen behind t rest e =
-      let a = then_some (λ p. entry_from one p.0 p.1) (sign_at behind) (t, rest) e in
-      entry_takes behind a.0.0 a.0.1 t rest (sign_takes behind a.0.0 a.0.1 a.1) a.2
-  from_takes signs.EntryClose behind t rest e = absurd cc
+  from_takes signs.TupleClose remainder t rest e = absurd cc
+  from_takes signs.EntryOpen remainder t rest e =
+      let a = then_some (λ p. entry_from one p.0 p.1) (sign_at remainder) (t, rest) e in
+      entry_takes remainder a.0.0 a.0.1 t rest (sign_takes remainder a.0.0 a.0.1 a.1) a.2
+  from_takes signs.EntryClose remainder t rest e = absurd cc
 
-flat_takes : (s : Sign) (behind : List ℕ) (t : Shape) (rest : List ℕ) → flat_type s behind ≡ Some (t, rest) → Takes zero (letter_of s ∷ behind) t rest
-flat_takes (signs.Basic b) behind t rest e = basic_takes zero b behind rest t e
-flat_takes signs.Variant behind t rest e = absurd cc
-flat_takes signs.Array behind t rest e = absurd cc
-flat_takes signs.Maybe behind t rest e = absurd cc
-flat_takes signs.TupleOpen behind t rest e = absurd cc
-flat_takes signs.TupleClose behind t rest e = absurd cc
-flat_takes signs.EntryOpen behind t rest e = absurd cc
-flat_takes signs.EntryClose behind t rest e = absurd cc
+flat_takes : (s : Sign) (remainder : List ℕ) (t : Shape) (rest : List ℕ) → flat_type s remainder ≡ Some (t, rest) → Takes zero (letter_of s ∷ remainder) t rest
+flat_takes (signs.Basic b) remainder t rest e = basic_takes zero b remainder rest t e
+flat_takes signs.Variant remainder t rest e = absurd cc
+flat_takes signs.Array remainder t rest e = absurd cc
+flat_takes signs.Maybe remainder t rest e = absurd cc
+flat_takes signs.TupleOpen remainder t rest e = absurd cc
+flat_takes signs.TupleClose remainder t rest e = absurd cc
+flat_takes signs.EntryOpen remainder t rest e = absurd cc
+flat_takes signs.EntryClose remainder t rest e = absurd cc
 
 pub type_takes : (n : ℕ) (text : List ℕ) (t : Shape) (rest : List ℕ) → type_at n text ≡ Some (t, rest) → Takes n text t rest
 type_takes zero text t rest e =
@@ -360,15 +360,15 @@ parted-nonzero : (bytes : List ℕ) → has_zero bytes ≡ false → parted byte
 parted-nonzero [] h = refl
 parted-nonzero (b ∷ bytes) h =
     let p = or_parts (eqb b 0) (has_zero bytes) h in
-    ap (parted_behind b bytes) (parted-nonzero bytes p.1) ∙ ap (λ (x : Bool). cond x (Some ([], bytes)) None) p.0
+    ap (parted_remainder b bytes) (parted-nonzero bytes p.1) ∙ ap (λ (x : Bool). cond x (Some ([], bytes)) None) p.0
 
 -- bytes part before the zero byte after which none stands
-pub parted-spelled : (front behind : List ℕ) → has_zero behind ≡ false → parted (front ++ 0 ∷ behind) ≡ Some (front, behind)
-parted-spelled [] behind h = ap (parted_behind 0 behind) (parted-nonzero behind h)
-parted-spelled (b ∷ front) behind h = ap (parted_behind b (front ++ 0 ∷ behind)) (parted-spelled front behind h)
+pub parted-spelled : (front remainder : List ℕ) → has_zero remainder ≡ false → parted (front ++ 0 ∷ remainder) ≡ Some (front, remainder)
+parted-spelled [] remainder h = ap (parted_remainder 0 remainder) (parted-nonzero remainder h)
+parted-spelled (b ∷ front) remainder h = ap (parted_remainder b (front ++ 0 ∷ remainder)) (parted-spelled front remainder h)
 
 parted_is : (b : ℕ) (bytes : List ℕ) (o : Option (List ℕ × List ℕ)) (p : List ℕ × List ℕ) →
-    ((q : List ℕ × List ℕ) → o ≡ Some q → bytes ≡ q.0 ++ 0 ∷ q.1) → parted_behind b bytes o ≡ Some p → b ∷ bytes ≡ p.0 ++ 0 ∷ p.1
+    ((q : List ℕ × List ℕ) → o ≡ Some q → bytes ≡ q.0 ++ 0 ∷ q.1) → parted_remainder b bytes o ≡ Some p → b ∷ bytes ≡ p.0 ++ 0 ∷ p.1
 parted_is b bytes (Some q) p is e =
     subst (λ (r : List ℕ × List ℕ). b ∷ bytes ≡ r.0 ++ 0 ∷ r.1) (same e) (ap (λ (xs : List ℕ). b ∷ xs) (is q refl))
   where

@@ -1,7 +1,7 @@
 -- Sizes that count as one from 16 MiB on, so that they fit in a number of the code.
 use Rattle.std.specs.Prelude.{◌≡◌, ℕ, ◌+◌, ◌≤◌, min, max, nat_le, if◌then◌else◌, Option, Some, None, option_map, option_and_then}
 use Rattle.gv_value.specs.Shape.{Shape, basic, variant, array, maybe, tuple, entry, Shapes, no_shapes, shape}
-use Rattle.gv_value.specs.Layout.{end_behind, filled, align_of, greatest_align, size_of, end_of}
+use Rattle.gv_value.specs.Layout.{end_remainder, filled, align_of, greatest_align, size_of, end_of}
 use Rattle.gv_value.specs.Spelled.{max_bytes}
 use Rattle.gv_value.specs.declared.extent.Extent.{Extent}
 
@@ -21,7 +21,7 @@ pub record IsExtent (e : Extent) (t : Shape) : Type 0 where
 
 -- where one more member ends, after members that end at a place
 abbrev pub run_end : Option ℕ → ℕ → Option ℕ → Option ℕ
-run_end at align size = option_and_then (λ a. option_map (λ n. capped (end_behind a align n)) size) at
+run_end at align size = option_and_then (λ a. option_map (λ n. capped (end_remainder a align n)) size) at
 
 -- members so far: their greatest alignment, and where they end
 pub record IsRun (e : Extent) (align : ℕ) (end : Option ℕ) : Type 0 where

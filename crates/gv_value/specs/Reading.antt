@@ -69,14 +69,14 @@ maybe_at one size [] = Some Tree.nothing
 maybe_at one size (b ∷ bytes) = option_map Tree.just (just_at one size (b ∷ bytes))
 
 -- where a byte stands before bytes that part, or before others
-abbrev pub parted_behind : ℕ → List ℕ → Option (List ℕ × List ℕ) → Option (List ℕ × List ℕ)
-parted_behind b bytes (Some p) = Some (b ∷ p.0, p.1)
-parted_behind b bytes None = if b == 0 then Some ([], bytes) else None
+abbrev pub parted_remainder : ℕ → List ℕ → Option (List ℕ × List ℕ) → Option (List ℕ × List ℕ)
+parted_remainder b bytes (Some p) = Some (b ∷ p.0, p.1)
+parted_remainder b bytes None = if b == 0 then Some ([], bytes) else None
 
 -- the bytes before the last zero byte, and those after it
 abbrev pub parted : List ℕ → Option (List ℕ × List ℕ)
 parted [] = None
-parted (b ∷ bytes) = parted_behind b bytes (parted bytes)
+parted (b ∷ bytes) = parted_remainder b bytes (parted bytes)
 
 abbrev pub variant_at : (Shape → Reader) → Reader
 variant_at one bytes =

@@ -26,7 +26,7 @@ ArraySpelled align (Some size) children bytes = bytes ≡ concat children
 ArraySpelled align None children bytes =
     let parts = same_parts align children in IsFramed (laid [] parts) (ends [] parts) bytes
 
--- A value of fixed size stands for itself. Behind another stands a zero byte.
+-- A value of fixed size stands for itself. After another stands a zero byte.
 abbrev pub JustSpelled : Option ℕ → List ℕ → List ℕ → Type 0
 JustSpelled (Some size) child bytes = bytes ≡ child
 JustSpelled None child bytes = bytes ≡ child ++ 0 ∷ []

@@ -93,9 +93,9 @@ fn read_members(alloc: Global, text: &[u8], room: u32) -> Result<(Vec<GvType>, &
         if let Sign::TupleClose = sign {
             return Ok((members, rest));
         }
-        let (member, behind) = read_type(alloc, left, room)?;
+        let (member, remainder) = read_type(alloc, left, room)?;
         members.push(member)?;
-        left = behind;
+        left = remainder;
     }
 }
 

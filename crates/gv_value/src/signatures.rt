@@ -2,7 +2,7 @@
 ghost use Rattle.std.specs.Prelude.{◌≡◌, ◌+◌, length, option_and_then};
 ghost use Rattle.std.specs.Option.{option_copied};
 ghost use Rattle.gv_value.specs.Signs.{sign_at};
-ghost use Rattle.gv_value.specs.Texts.{is_signature as is_signature_text, after_type as behind_type, after_members as behind_members, after_element as behind_element, after_key};
+ghost use Rattle.gv_value.specs.Texts.{is_signature as is_signature_text, after_type as remainder_type, after_members as remainder_members, after_element as remainder_element, after_key};
 
 use crate::sign::Sign;
 
@@ -32,7 +32,7 @@ pub fn is_signature(text: &[u8]) -> bool
 /// What follows the type at the front, where so many arrays and structs may still open.
 #[cycle(signature)]
 fn after_type(text: &[u8], arrays: u32, structs: u32) -> Option<&[u8]>
-    ensures { option_copied result ≡ behind_type (arrays + structs) arrays structs text.now }
+    ensures { option_copied result ≡ remainder_type (arrays + structs) arrays structs text.now }
 {
     let (sign, rest) = Sign::at_front(text)?;
     match sign {
@@ -58,7 +58,7 @@ fn after_type(text: &[u8], arrays: u32, structs: u32) -> Option<&[u8]>
 #[cycle(signature)]
 fn after_element(text: &[u8], arrays: u32, structs: u32) -> Option<&[u8]>
     ensures { option_copied result
-        ≡ option_and_then (λ p. behind_element (behind_type (arrays + structs) arrays structs) text.now p.0 p.1) (sign_at text.now) }
+        ≡ option_and_then (λ p. remainder_element (remainder_type (arrays + structs) arrays structs) text.now p.0 p.1) (sign_at text.now) }
 {
     let (sign, rest) = Sign::at_front(text)?;
     match sign {
@@ -71,7 +71,7 @@ fn after_element(text: &[u8], arrays: u32, structs: u32) -> Option<&[u8]>
 #[cycle(signature)]
 fn after_entry(text: &[u8], arrays: u32, structs: u32) -> Option<&[u8]>
     ensures { option_copied result
-        ≡ option_and_then (λ p. after_key (behind_type (arrays + structs) arrays structs) p.0 p.1) (sign_at text.now) }
+        ≡ option_and_then (λ p. after_key (remainder_type (arrays + structs) arrays structs) p.0 p.1) (sign_at text.now) }
 {
     let (key, rest) = Sign::at_front(text)?;
     match key {
@@ -90,7 +90,7 @@ fn after_entry(text: &[u8], arrays: u32, structs: u32) -> Option<&[u8]>
 #[cycle(signature)]
 fn after_members(text: &[u8], arrays: u32, structs: u32) -> Option<&[u8]>
     ensures { option_copied result
-        ≡ behind_members (behind_type (arrays + structs) arrays structs) (length text.now) text.now }
+        ≡ remainder_members (remainder_type (arrays + structs) arrays structs) (length text.now) text.now }
 {
     let mut left = text;
     'members: loop {

@@ -71,8 +71,8 @@ url_short text h = leb-true (length text) 1024 (and_parts (leb (length text) 102
 
 pair_size : (p : Pair) → length (pair_text p) ≡ length p.key + length p.value + 2
 pair_size p =
-    let behind : length (p.value ++ 10 ∷ []) ≡ length p.value + 1 = length-append p.value (10 ∷ []) in
-    omega (arith, length-append p.key (61 ∷ (p.value ++ 10 ∷ [])), behind)
+    let remainder : length (p.value ++ 10 ∷ []) ≡ length p.value + 1 = length-append p.value (10 ∷ []) in
+    omega (arith, length-append p.key (61 ∷ (p.value ++ 10 ∷ [])), remainder)
 
 group_size : (g : Group) → length (group_text g) ≡ length g.name + length (flat_map pair_text g.pairs) + 3
 group_size g = omega (arith, length-append g.name (93 ∷ 10 ∷ flat_map pair_text g.pairs))

@@ -93,7 +93,7 @@ content_row : (said : Elements → Said) (r : TreeRow) (p : Elements) → row_pa
 content_row said r [] is root none q = absurd (false≢true (sym (ap is_nothing root) ∙ none))
 content_row said r (x ∷ up) is root none q = row_step said r x up is (from_nothing (said (x ∷ up)) none) q
 
--- what the row puts behind the directories above it is what it says
+-- what the row puts after the directories above it is what it says
 pub row_said : (said : Elements → Said) (r : TreeRow) → said [] ≡ a_directory → may_stand r (said (row_path r)) ≡ true → (q : Elements) → with_entry (with_above said (drop 1 (row_path r))) (row_path r) (put_by r) q ≡ with_row said r q
 row_said said (row.Dir p) root may q = dir_row said p root q
 row_said said (row.File p mode bytes) root may q = content_row said (row.File p mode bytes) p refl root may q

@@ -70,7 +70,7 @@ above_step said x up q =
     sym (first_assoc (said q) (if path_eq q up || is_above q up then a_directory else no_entry) (if path_eq q (x ∷ up) then a_directory else no_entry))
     ∙ ap (first_said (said q)) (dir_or (path_eq q up || is_above q up) (path_eq q (x ∷ up)))
 
--- and what a row of the path puts, behind the directories above it
+-- and what a row of the path puts, after the directories above it
 pub row_step : (said : Elements → Said) (r : TreeRow) (x : List ℕ) (up : Elements) → row_path r ≡ x ∷ up → said (x ∷ up) ≡ no_entry
     → (q : Elements) → with_entry (with_above said up) (x ∷ up) (put_by r) q ≡ with_row said r q
 row_step said r x up is none q = go (path_eq q (x ∷ up)) (path_decides q (x ∷ up)).0

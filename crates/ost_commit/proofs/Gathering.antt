@@ -38,7 +38,7 @@ no≢dir e = absurd (cc e)
 pub some_of_none : {A : Type 0} {a : A} → None ≡ Some a → ⊥
 some_of_none e = cc e
 
--- what is new behind the directories that were there: one without a name in it, where a directory comes
+-- what is new after the directories that were there: one without a name in it, where a directory comes
 pub record IsTail (folders : List Folder) (p : Elements) (v : Said) (c : Child) (tail : List Folder) : Type 0 where
   pub new : (k : ℕ) (g : Folder) → At tail k g → (k ≡ 0) × (g.path ≡ p) × ((y : List ℕ) → child_in g.children.entries y ≡ None) × (v ≡ a_directory)
   pub named : (m : ℕ) → c ≡ child.Folder m → (m ≡ length folders) × ((g : Folder) × At tail 0 g × (g.path ≡ p))

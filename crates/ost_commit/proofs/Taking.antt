@@ -11,7 +11,7 @@ use Rattle.ost_commit.specs.declared.tree.Child.TheVariants as child
 use Rattle.ost_commit.specs.declared.tree.Folder.{Folder}
 use Rattle.ost_commit.specs.declared.tree.Tree.{Tree}
 use Rattle.ost_commit.specs.Rows.{Said, no_entry, a_directory, content, row_path, put_by, says}
-use Rattle.ost_commit.specs.Refusals.{is_good_row, is_nothing, is_content, new_names, is_taken, refused_behind}
+use Rattle.ost_commit.specs.Refusals.{is_good_row, is_nothing, is_content, new_names, is_taken, refused_remainder}
 use Rattle.ost_commit.specs.Folders.{At, child_in, folder_place, child_said, put_at, with_entry, with_row, Gathers, HasNew, new_at, new_root_at, Entered, Enters, TakesFolder, TakesContent}
 use Rattle.ost_commit.proofs.Places.{at_within, more_right}
 use Rattle.ost_commit.proofs.Saying.{says_push}
@@ -79,14 +79,14 @@ module _ (rows : List TreeRow) (said : Elements → Said) (old : Tree) (g : Gath
 -- ---- all rows
 
 pub next_row : (before rest : List TreeRow) (r : TreeRow) (names names' : ℕ) (all : Option ℕ) → is_taken (says before) names r ≡ true → names' ≡ names + new_names (says before) (row_path r)
-    → refused_behind before names (r ∷ rest) ≡ all → refused_behind (before ++ r ∷ []) names' rest ≡ all
+    → refused_remainder before names (r ∷ rest) ≡ all → refused_remainder (before ++ r ∷ []) names' rest ≡ all
 next_row before rest r names names' all taken many e =
-    ap (λ k. refused_behind (before ++ r ∷ []) k rest) many
-    ∙ (sym (ap (λ b. if b then refused_behind (before ++ r ∷ []) (names + new_names (says before) (row_path r)) rest else Some (length before + 1)) taken) ∙ e)
+    ap (λ k. refused_remainder (before ++ r ∷ []) k rest) many
+    ∙ (sym (ap (λ b. if b then refused_remainder (before ++ r ∷ []) (names + new_names (says before) (row_path r)) rest else Some (length before + 1)) taken) ∙ e)
 
-pub refused_row : (before rest : List TreeRow) (r : TreeRow) (names : ℕ) (all : Option ℕ) → is_taken (says before) names r ≡ false → refused_behind before names (r ∷ rest) ≡ all → all ≡ Some (length before + 1)
+pub refused_row : (before rest : List TreeRow) (r : TreeRow) (names : ℕ) (all : Option ℕ) → is_taken (says before) names r ≡ false → refused_remainder before names (r ∷ rest) ≡ all → all ≡ Some (length before + 1)
 refused_row before rest r names all not_taken e =
-    sym e ∙ ap (λ b. if b then refused_behind (before ++ r ∷ []) (names + new_names (says before) (row_path r)) rest else Some (length before + 1)) not_taken
+    sym e ∙ ap (λ b. if b then refused_remainder (before ++ r ∷ []) (names + new_names (says before) (row_path r)) rest else Some (length before + 1)) not_taken
 
 pub next_gathers : (rows before : List TreeRow) (r : TreeRow) (folders : List Folder) → Gathers rows (with_row (says before) r) folders → Gathers rows (says (before ++ r ∷ [])) folders
 next_gathers rows before r folders g = gathers_same rows (with_row (says before) r) (says (before ++ r ∷ [])) folders (λ q. sym (says_push before r q)) g
@@ -96,9 +96,9 @@ good_if true b h = refl
 good_if false b h = absurd (false≢true h)
 
 -- each row is good by itself where none is refused
-pub good_rows : (before : List TreeRow) (names : ℕ) (rs : List TreeRow) → refused_behind before names rs ≡ None → AllByRecursion (λ r. is_good_row r ≡ true) rs
+pub good_rows : (before : List TreeRow) (names : ℕ) (rs : List TreeRow) → refused_remainder before names rs ≡ None → AllByRecursion (λ r. is_good_row r ≡ true) rs
 good_rows before names [] e = tt
-good_rows before names (r ∷ rs) e = go (is_taken (says before) names r) refl (refused_behind (before ++ r ∷ []) (names + new_names (says before) (row_path r)) rs) e
+good_rows before names (r ∷ rs) e = go (is_taken (says before) names r) refl (refused_remainder (before ++ r ∷ []) (names + new_names (says before) (row_path r)) rs) e
     (good_rows (before ++ r ∷ []) (names + new_names (says before) (row_path r)) rs)
   where
     go : (b : Bool) → is_taken (says before) names r ≡ b → (rest : Option ℕ) → (if b then rest else Some (length before + 1)) ≡ None

@@ -48,20 +48,20 @@ new_names said (x ∷ up) = (if is_nothing (said (x ∷ up)) then 1 else 0) + ne
 abbrev pub most_names : ℕ
 most_names = 40000
 
--- Behind rows that say this, and have so many names, the row is taken.
+-- After rows that say this, and have so many names, the row is taken.
 abbrev pub is_taken : (Elements → Said) → ℕ → TreeRow → Bool
 is_taken said names r = is_good_row r && (is_clear said (row_path r) && (may_stand r (said (row_path r)) && leb (names + new_names said (row_path r)) most_names))
 
 -- The place, counted from 1, of the first row that isn't taken, where these stand before, with so many names.
-abbrev pub refused_behind : List TreeRow → ℕ → List TreeRow → Option ℕ
-refused_behind before names [] = None
-refused_behind before names (r ∷ rs) =
+abbrev pub refused_remainder : List TreeRow → ℕ → List TreeRow → Option ℕ
+refused_remainder before names [] = None
+refused_remainder before names (r ∷ rs) =
     if is_taken (says before) names r
-    then refused_behind (before ++ r ∷ []) (names + new_names (says before) (row_path r)) rs
+    then refused_remainder (before ++ r ∷ []) (names + new_names (says before) (row_path r)) rs
     else Some (length before + 1)
 
 abbrev pub first_refused : List TreeRow → Option ℕ
-first_refused rs = refused_behind [] 0 rs
+first_refused rs = refused_remainder [] 0 rs
 
 -- why rows are refused
 abbrev pub IsRefusal : List TreeRow → BuildError → Type 0

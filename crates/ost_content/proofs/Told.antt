@@ -70,8 +70,8 @@ tells_links s t good_s good_t e =
     let long = same_lengths (length s) (length t) of_s.short of_t.short sizes in
     let rest_s : List ℕ = take (width (16 + length s + 1) 1) (little_bytes 2 (16 + length s + 1)) in
     let rest_t : List ℕ = take (width (16 + length t + 1) 1) (little_bytes 2 (16 + length t + 1)) in
-    let behind : (s ++ 0 ∷ []) ++ rest_s ≡ (t ++ 0 ∷ []) ++ rest_t = ap (drop 24) same in
-    same_fronts s t (0 ∷ rest_s) (0 ∷ rest_t) long (sym (append_assoc s (0 ∷ []) rest_s) ∙ behind ∙ append_assoc t (0 ∷ []) rest_t)
+    let remainder : (s ++ 0 ∷ []) ++ rest_s ≡ (t ++ 0 ∷ []) ++ rest_t = ap (drop 24) same in
+    same_fronts s t (0 ∷ rest_s) (0 ∷ rest_t) long (sym (append_assoc s (0 ∷ []) rest_s) ∙ remainder ∙ append_assoc t (0 ∷ []) rest_t)
 
 -- ---- a file and a link
 

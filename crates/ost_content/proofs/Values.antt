@@ -81,11 +81,11 @@ unfolding header
 files_have_headers bits h = record {
   tuple = spelling (header_value (0x8000 + bits) []) header_shape;
   spelled = spelled (0x8000 + bits) [] (omega arith) empty_text;
-  behind = refl;
+  remainder = refl;
 }
 
 pub links_have_headers : LinksHaveHeaders
 unfolding link_header
 links_have_headers text h =
     let is = link_text text h in
-    record { tuple = spelling (header_value 0xA1FF text) header_shape; spelled = spelled 0xA1FF text is.short is.good; behind = refl }
+    record { tuple = spelling (header_value 0xA1FF text) header_shape; spelled = spelled 0xA1FF text is.short is.good; remainder = refl }

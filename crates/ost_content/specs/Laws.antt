@@ -4,11 +4,11 @@ use Rattle.fp_host.specs.Paths.{is_link_text}
 use Rattle.gv_value.specs.Spelled.{Spelled}
 use Rattle.ost_model.specs.Contents.{header_shape, header_value, with_length, is_permission, header, link_header}
 
--- Behind its length stands GVariant's one spelling of this mode and text, as a value of the type `(uuuusa(ayay))`.
+-- After its length stands GVariant's one spelling of this mode and text, as a value of the type `(uuuusa(ayay))`.
 pub record IsHeader (bytes : List ℕ) (mode : ℕ) (text : List ℕ) : Type 0 where
   pub tuple : List ℕ
   pub spelled : Spelled header_shape (header_value mode text) tuple
-  pub behind : bytes ≡ with_length tuple
+  pub remainder : bytes ≡ with_length tuple
 
 abbrev pub FilesHaveHeaders : Type 0
 FilesHaveHeaders = (bits : ℕ) → is_permission bits ≡ true → IsHeader (header bits) (0x8000 + bits) []

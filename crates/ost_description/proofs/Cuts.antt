@@ -27,8 +27,8 @@ first_place p (x ∷ word) y rest e t =
     ap (λ (b : Bool). cond (not b) (1 + position_or_len p (word ++ y ∷ rest)) 0) parts.0 in
     omega (arith, more, here)
 
-behind : (word rest : List ℕ) (y : ℕ) → drop (length word + 1) (word ++ y ∷ rest) ≡ rest
-behind word rest y =
+remainder : (word rest : List ℕ) (y : ℕ) → drop (length word + 1) (word ++ y ∷ rest) ≡ rest
+remainder word rest y =
     let long : length (word ++ y ∷ []) ≡ length word + 1 = length-append word (y ∷ []) in
     ap (λ n. drop n (word ++ y ∷ rest)) (sym long) ∙ ap (drop (length (word ++ y ∷ []))) (sym (append_assoc word (y ∷ []) rest))
     ∙ drop-append_seam (word ++ y ∷ []) rest
@@ -47,4 +47,4 @@ unfolding parts_at
 parts_of byte word rest e =
     by_place (word ++ byte ∷ rest) _ (length word) (first_place (λ b. b == byte) word byte rest e (eq-eqb byte byte refl))
     (omega (arith, length-append word (byte ∷ rest)))
-    ∙ (λ i. Some (take-append_seam word (byte ∷ rest) i, behind word rest byte i))
+    ∙ (λ i. Some (take-append_seam word (byte ∷ rest) i, remainder word rest byte i))

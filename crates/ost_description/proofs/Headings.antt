@@ -24,14 +24,14 @@ pub bad_time : (bytes : List ℕ) → first_by timestamp_in (pieces bytes) ≡ N
 unfolding after_time
 bad_time bytes e = by_time bytes None e
 
-pub bad_subject : (bytes behind : List ℕ) (t : ℕ) → first_by timestamp_in (pieces bytes) ≡ Some (t, pieces behind) → first_by subject_in (pieces behind) ≡ None → described bytes ≡ Err 2
+pub bad_subject : (bytes remainder : List ℕ) (t : ℕ) → first_by timestamp_in (pieces bytes) ≡ Some (t, pieces remainder) → first_by subject_in (pieces remainder) ≡ None → described bytes ≡ Err 2
 unfolding after_subject
-bad_subject bytes behind t e f = by_subject bytes t (pieces behind) None e f
+bad_subject bytes remainder t e f = by_subject bytes t (pieces remainder) None e f
 
-pub good_heading : (bytes behind rest s : List ℕ) (t : ℕ) → first_by timestamp_in (pieces bytes) ≡ Some (t, pieces behind) → first_by subject_in (pieces behind) ≡ Some (s, pieces rest)
+pub good_heading : (bytes remainder rest s : List ℕ) (t : ℕ) → first_by timestamp_in (pieces bytes) ≡ Some (t, pieces remainder) → first_by subject_in (pieces remainder) ≡ Some (s, pieces rest)
     → described bytes ≡ with_rows t s (pieces rest)
 unfolding after_subject
-good_heading bytes behind rest s t e f = by_subject bytes t (pieces behind) (Some (s, pieces rest)) e f
+good_heading bytes remainder rest s t e f = by_subject bytes t (pieces remainder) (Some (s, pieces rest)) e f
 
 pub draft_is : (t : ℕ) (s : List ℕ) (lines : List (List ℕ)) (rows : List TreeRow) (unformed : Option ℕ) → rows ≡ rows_in lines → unformed ≡ unformed_in 3 lines
     → with_rows t s lines ≡ judged (record { timestamp = t; subject = s; rows = rows }) unformed (first_refused rows)

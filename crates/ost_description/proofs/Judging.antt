@@ -6,7 +6,7 @@ use Rattle.ost_commit.specs.Rows.{says, row_path}
 use Rattle.ost_commit.specs.declared.built.BuildError.{BuildError}
 use Rattle.ost_commit.specs.declared.built.BuildError.TheVariants as errors
 use Rattle.ost_commit.specs.Built.{IsBuildFault}
-use Rattle.ost_commit.specs.Refusals.{is_taken, new_names, refused_behind, first_refused}
+use Rattle.ost_commit.specs.Refusals.{is_taken, new_names, refused_remainder, first_refused}
 use Rattle.ost_description.specs.declared.description.Description.{Description}
 use Rattle.ost_description.specs.declared.description.DescriptionError.{DescriptionError}
 use Rattle.ost_description.specs.Descriptions.{judged}
@@ -16,11 +16,11 @@ step : (b : Bool) (o : Option ℕ) (k n m : ℕ) → (o ≡ Some n → n ≤ m) 
 step true o k n m ih h e = ih e
 step false o k n m ih h e = let s : k ≡ n = cc in omega arith
 
-refused_within : (before : List TreeRow) (names : ℕ) (rs : List TreeRow) (n : ℕ) → refused_behind before names rs ≡ Some n → n ≤ length before + length rs
+refused_within : (before : List TreeRow) (names : ℕ) (rs : List TreeRow) (n : ℕ) → refused_remainder before names rs ≡ Some n → n ≤ length before + length rs
 refused_within before names [] n e = absurd cc
 refused_within before names (r ∷ rs) n e =
     let more = names + new_names (says before) (row_path r) in
-    step (is_taken (says before) names r) (refused_behind (before ++ r ∷ []) more rs) (length before + 1) n (length before + length (r ∷ rs))
+    step (is_taken (says before) names r) (refused_remainder (before ++ r ∷ []) more rs) (length before + 1) n (length before + length (r ∷ rs))
     (λ f. omega (arith, refused_within (before ++ r ∷ []) more rs n f, length-append before (r ∷ []))) (omega arith) e
 
 -- the first row that is refused is one of the rows

@@ -17,19 +17,19 @@ is_end b = b == 10
 abbrev cut_at : List ℕ → ℕ → List ℕ × List ℕ
 cut_at bytes n = (take n bytes, drop (n + 1) bytes)
 
-found_by : (b : Bool) (at : ℕ) (bytes line behind : List ℕ) → option_map (cut_at bytes) (cond b (Some at) None) ≡ Some (line, behind)
-    → (b ≡ true) × (take at bytes ≡ line) × (drop (at + 1) bytes ≡ behind)
-found_by true at bytes line behind e = let parts = some_pair_parts (take at bytes) line (drop (at + 1) bytes) behind e in (refl, parts.0, parts.1)
-found_by false at bytes line behind e = absurd cc
+found_by : (b : Bool) (at : ℕ) (bytes line remainder : List ℕ) → option_map (cut_at bytes) (cond b (Some at) None) ≡ Some (line, remainder)
+    → (b ≡ true) × (take at bytes ≡ line) × (drop (at + 1) bytes ≡ remainder)
+found_by true at bytes line remainder e = let parts = some_pair_parts (take at bytes) line (drop (at + 1) bytes) remainder e in (refl, parts.0, parts.1)
+found_by false at bytes line remainder e = absurd cc
 
 missed_by : (b : Bool) (at : ℕ) (bytes : List ℕ) → option_map (cut_at bytes) (cond b (Some at) None) ≡ None → b ≡ false
 missed_by true at bytes e = absurd cc
 missed_by false at bytes e = refl
 
-found : (bytes line behind : List ℕ) → parts_at 10 bytes ≡ Some (line, behind)
-    → (position_or_len is_end bytes < length bytes) × (take (position_or_len is_end bytes) bytes ≡ line) × (drop (position_or_len is_end bytes + 1) bytes ≡ behind)
+found : (bytes line remainder : List ℕ) → parts_at 10 bytes ≡ Some (line, remainder)
+    → (position_or_len is_end bytes < length bytes) × (take (position_or_len is_end bytes) bytes ≡ line) × (drop (position_or_len is_end bytes + 1) bytes ≡ remainder)
 unfolding parts_at
-found bytes line behind e = let parts = found_by (ltb (position_or_len is_end bytes) (length bytes)) (position_or_len is_end bytes) bytes line behind e in (ltb-true _ _ parts.0, parts.1, parts.2)
+found bytes line remainder e = let parts = found_by (ltb (position_or_len is_end bytes) (length bytes)) (position_or_len is_end bytes) bytes line remainder e in (ltb-true _ _ parts.0, parts.1, parts.2)
 
 missed : (bytes : List ℕ) → parts_at 10 bytes ≡ None → length bytes ≤ position_or_len is_end bytes
 unfolding parts_at
@@ -39,9 +39,9 @@ none_ends : (bytes : List ℕ) → length bytes ≤ position_or_len is_end bytes
 none_ends bytes l k d m = fails_before_first is_end bytes k d (omega (arith, l, m))
 
 -- a line, and the pieces after it
-pub pieces_step : (bytes line behind : List ℕ) → parts_at 10 bytes ≡ Some (line, behind) → pieces bytes ≡ line ∷ pieces behind
-pieces_step bytes line behind e =
-    let f = found bytes line behind e in
+pub pieces_step : (bytes line remainder : List ℕ) → parts_at 10 bytes ≡ Some (line, remainder) → pieces bytes ≡ line ∷ pieces remainder
+pieces_step bytes line remainder e =
+    let f = found bytes line remainder e in
     slice_split_first is_end bytes 0 f.0 ∙ (λ i. f.1 i ∷ pieces (f.2 i))
 
 pub pieces_end : (bytes : List ℕ) → parts_at 10 bytes ≡ None → pieces bytes ≡ bytes ∷ []
@@ -50,9 +50,9 @@ pieces_end bytes e = slice_split_none is_end bytes (none_ends bytes (missed byte
 pub some_pieces : (bytes : List ℕ) → 0 < length (pieces bytes)
 some_pieces bytes = omega (arith, length-slice_split is_end bytes)
 
-pub behind_is_shorter : (bytes line behind : List ℕ) → parts_at 10 bytes ≡ Some (line, behind) → length behind < length bytes
-behind_is_shorter bytes line behind e =
-    let f = found bytes line behind e in
+pub remainder_is_shorter : (bytes line remainder : List ℕ) → parts_at 10 bytes ≡ Some (line, remainder) → length remainder < length bytes
+remainder_is_shorter bytes line remainder e =
+    let f = found bytes line remainder e in
     omega (arith, f.0, ap (λ (l : List ℕ). length l) f.2, length-drop (position_or_len is_end bytes + 1) bytes)
 
 -- ---- the first line
@@ -61,20 +61,20 @@ pub first_cons : {A : Type 0} (read : List ℕ → Option A) (line : List ℕ) (
 first_cons read line [] l = absurd (omega arith)
 first_cons read line (next ∷ lines) l = refl
 
-pub first_line : {A : Type 0} (read : List ℕ → Option A) (bytes line behind : List ℕ) → parts_at 10 bytes ≡ Some (line, behind)
-    → first_by read (pieces bytes) ≡ option_map (λ x. (x, pieces behind)) (read line)
-first_line read bytes line behind e = ap (first_by read) (pieces_step bytes line behind e) ∙ first_cons read line (pieces behind) (some_pieces behind)
+pub first_line : {A : Type 0} (read : List ℕ → Option A) (bytes line remainder : List ℕ) → parts_at 10 bytes ≡ Some (line, remainder)
+    → first_by read (pieces bytes) ≡ option_map (λ x. (x, pieces remainder)) (read line)
+first_line read bytes line remainder e = ap (first_by read) (pieces_step bytes line remainder e) ∙ first_cons read line (pieces remainder) (some_pieces remainder)
 
 pub no_line : {A : Type 0} (read : List ℕ → Option A) (bytes : List ℕ) → parts_at 10 bytes ≡ None → first_by read (pieces bytes) ≡ None
 no_line read bytes e = ap (first_by read) (pieces_end bytes e)
 
-pub good_first : {A : Type 0} (read : List ℕ → Option A) (x : A) (bytes line behind : List ℕ) → parts_at 10 bytes ≡ Some (line, behind) → read line ≡ Some x
-    → first_by read (pieces bytes) ≡ Some (x, pieces behind)
-good_first read x bytes line behind e r = first_line read bytes line behind e ∙ ap (option_map (λ x. (x, pieces behind))) r
+pub good_first : {A : Type 0} (read : List ℕ → Option A) (x : A) (bytes line remainder : List ℕ) → parts_at 10 bytes ≡ Some (line, remainder) → read line ≡ Some x
+    → first_by read (pieces bytes) ≡ Some (x, pieces remainder)
+good_first read x bytes line remainder e r = first_line read bytes line remainder e ∙ ap (option_map (λ x. (x, pieces remainder))) r
 
-pub bad_first : {A : Type 0} (read : List ℕ → Option A) (bytes line behind : List ℕ) → parts_at 10 bytes ≡ Some (line, behind) → read line ≡ None
+pub bad_first : {A : Type 0} (read : List ℕ → Option A) (bytes line remainder : List ℕ) → parts_at 10 bytes ≡ Some (line, remainder) → read line ≡ None
     → first_by read (pieces bytes) ≡ None
-bad_first read bytes line behind e r = first_line read bytes line behind e ∙ ap (option_map (λ x. (x, pieces behind))) r
+bad_first read bytes line remainder e r = first_line read bytes line remainder e ∙ ap (option_map (λ x. (x, pieces remainder))) r
 
 -- ---- rows
 
@@ -87,26 +87,26 @@ pub unformed_cons : (number : ℕ) (line : List ℕ) (lines : List (List ℕ)) �
 unformed_cons number line [] l = absurd (omega arith)
 unformed_cons number line (next ∷ lines) l = refl
 
-pub rows_step : (bytes line behind : List ℕ) (r : TreeRow) → parts_at 10 bytes ≡ Some (line, behind) → row_in line ≡ Some r
-    → rows_in (pieces bytes) ≡ r ∷ rows_in (pieces behind)
-rows_step bytes line behind r e f = ap rows_in (pieces_step bytes line behind e) ∙ rows_cons line (pieces behind) (some_pieces behind) ∙ ap (λ o. row_before o (rows_in (pieces behind))) f
+pub rows_step : (bytes line remainder : List ℕ) (r : TreeRow) → parts_at 10 bytes ≡ Some (line, remainder) → row_in line ≡ Some r
+    → rows_in (pieces bytes) ≡ r ∷ rows_in (pieces remainder)
+rows_step bytes line remainder r e f = ap rows_in (pieces_step bytes line remainder e) ∙ rows_cons line (pieces remainder) (some_pieces remainder) ∙ ap (λ o. row_before o (rows_in (pieces remainder))) f
 
-pub rows_stop : (bytes line behind : List ℕ) → parts_at 10 bytes ≡ Some (line, behind) → row_in line ≡ None → rows_in (pieces bytes) ≡ []
-rows_stop bytes line behind e f = ap rows_in (pieces_step bytes line behind e) ∙ rows_cons line (pieces behind) (some_pieces behind) ∙ ap (λ o. row_before o (rows_in (pieces behind))) f
+pub rows_stop : (bytes line remainder : List ℕ) → parts_at 10 bytes ≡ Some (line, remainder) → row_in line ≡ None → rows_in (pieces bytes) ≡ []
+rows_stop bytes line remainder e f = ap rows_in (pieces_step bytes line remainder e) ∙ rows_cons line (pieces remainder) (some_pieces remainder) ∙ ap (λ o. row_before o (rows_in (pieces remainder))) f
 
 pub rows_end : (bytes : List ℕ) → parts_at 10 bytes ≡ None → rows_in (pieces bytes) ≡ []
 rows_end bytes e = ap rows_in (pieces_end bytes e)
 
-pub unformed_step : (number : ℕ) (bytes line behind : List ℕ) (r : TreeRow) → parts_at 10 bytes ≡ Some (line, behind) → row_in line ≡ Some r
-    → unformed_in number (pieces bytes) ≡ unformed_in (number + 1) (pieces behind)
-unformed_step number bytes line behind r e f =
-    ap (unformed_in number) (pieces_step bytes line behind e) ∙ unformed_cons number line (pieces behind) (some_pieces behind)
-    ∙ ap (λ (o : Option TreeRow). if is_some o then unformed_in (number + 1) (pieces behind) else Some number) f
+pub unformed_step : (number : ℕ) (bytes line remainder : List ℕ) (r : TreeRow) → parts_at 10 bytes ≡ Some (line, remainder) → row_in line ≡ Some r
+    → unformed_in number (pieces bytes) ≡ unformed_in (number + 1) (pieces remainder)
+unformed_step number bytes line remainder r e f =
+    ap (unformed_in number) (pieces_step bytes line remainder e) ∙ unformed_cons number line (pieces remainder) (some_pieces remainder)
+    ∙ ap (λ (o : Option TreeRow). if is_some o then unformed_in (number + 1) (pieces remainder) else Some number) f
 
-pub unformed_stop : (number : ℕ) (bytes line behind : List ℕ) → parts_at 10 bytes ≡ Some (line, behind) → row_in line ≡ None → unformed_in number (pieces bytes) ≡ Some number
-unformed_stop number bytes line behind e f =
-    ap (unformed_in number) (pieces_step bytes line behind e) ∙ unformed_cons number line (pieces behind) (some_pieces behind)
-    ∙ ap (λ (o : Option TreeRow). if is_some o then unformed_in (number + 1) (pieces behind) else Some number) f
+pub unformed_stop : (number : ℕ) (bytes line remainder : List ℕ) → parts_at 10 bytes ≡ Some (line, remainder) → row_in line ≡ None → unformed_in number (pieces bytes) ≡ Some number
+unformed_stop number bytes line remainder e f =
+    ap (unformed_in number) (pieces_step bytes line remainder e) ∙ unformed_cons number line (pieces remainder) (some_pieces remainder)
+    ∙ ap (λ (o : Option TreeRow). if is_some o then unformed_in (number + 1) (pieces remainder) else Some number) f
 
 pub unformed_end : (number : ℕ) (bytes : List ℕ) → parts_at 10 bytes ≡ None → unformed_in number (pieces bytes) ≡ (if length bytes == 0 then None else Some number)
 unformed_end number bytes e = ap (unformed_in number) (pieces_end bytes e)

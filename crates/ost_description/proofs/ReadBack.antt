@@ -173,9 +173,9 @@ reads_back d w =
     ap described (sym (append-nil (description_text d))) ∙ heading_back d [] w
     ∙ draft_is d.timestamp d.subject P d.rows None (sym (rows_back d.rows [] w.rows ∙ append-nil d.rows)) (sym (unformed_back 3 d.rows [] w.rows))
 
-pub stops_behind : (d : Description) (line rest : List ℕ) → IsWritable d → list_any is_newline line ≡ false → row_in line ≡ None
+pub stops_remainder : (d : Description) (line rest : List ℕ) → IsWritable d → list_any is_newline line ≡ false → row_in line ≡ None
     → described (description_text d ++ (line ++ 10 ∷ rest)) ≡ judged d (Some (length d.rows + 3)) (first_refused d.rows)
-stops_behind d line rest w none bad =
+stops_remainder d line rest w none bad =
     let tail = line ++ 10 ∷ rest in
     let rows : rows_in (pieces (rows_text d.rows ++ tail)) ≡ d.rows =
     rows_back d.rows tail w.rows ∙ ap (λ (l : List TreeRow). d.rows ++ l) (row_then line rest None none bad) ∙ append-nil d.rows in

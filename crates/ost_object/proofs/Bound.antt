@@ -11,12 +11,12 @@ settled (Some v) before = texts_in v
 settled None before = before
 
 -- one entry more is found
-pub settled_named : (behind : Option Tree) (v : Tree) (before : Option (List (List ℕ))) → settled behind (texts_in v) ≡ settled (later behind (Some v)) before
+pub settled_named : (remainder : Option Tree) (v : Tree) (before : Option (List (List ℕ))) → settled remainder (texts_in v) ≡ settled (later remainder (Some v)) before
 settled_named None v before = refl
 settled_named (Some w) v before = refl
 
 -- and none
-pub settled_other : (behind : Option Tree) (before : Option (List (List ℕ))) → settled behind before ≡ settled (later behind None) before
+pub settled_other : (remainder : Option Tree) (before : Option (List (List ℕ))) → settled remainder before ≡ settled (later remainder None) before
 settled_other None before = refl
 settled_other (Some w) before = refl
 

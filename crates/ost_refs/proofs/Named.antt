@@ -8,7 +8,7 @@ use Rattle.fp_host.specs.View.{View, IsTree}
 use Rattle.fp_host.specs.Calls.{IsFile}
 use Rattle.fp_name.specs.Grammar.{is_remote_name}
 use Rattle.fp_name.specs.Kinds.{kind_word, kind_of}
-use Rattle.fp_name.specs.Refs.{Ref, is_ref, behind_kind, of_parts, if_ref}
+use Rattle.fp_name.specs.Refs.{Ref, is_ref, remainder_kind, of_parts, if_ref}
 use Rattle.fp_name.specs.declared.kind.RefKind.{RefKind}
 use Rattle.fp_name.specs.declared.kind.RefKind.TheVariants.{App, Runtime}
 use Rattle.fp_name.proofs.Refs.{parts_are}
@@ -62,7 +62,7 @@ kind_back Runtime = refl
 
 ref_back : (r : Ref) → is_ref r ≡ true → ref_named (kind_word r.kind) r.id r.arch r.branch ≡ Some r
 ref_back r good =
-    ap (λ o. option_and_then if_ref (option_and_then (behind_kind (r.id ∷ r.arch ∷ r.branch ∷ [])) o)) (kind_back r.kind)
+    ap (λ o. option_and_then if_ref (option_and_then (remainder_kind (r.id ∷ r.arch ∷ r.branch ∷ [])) o)) (kind_back r.kind)
     ∙ ap (λ b. if b then Some r else None) good
 
 pub place_back : (root : Elements) (place : RefPlace) → is_place place ≡ true → place_named (place_path root place) ≡ Some place

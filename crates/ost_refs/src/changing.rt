@@ -28,7 +28,7 @@ pub fn write_ref<H: Host>(
     // A stop at any moment leaves at the place what some stop before would have left, or the whole new file.
     ensures any_moment { Always (Replaces (place_path root.now place.now) (ref_bytes digest.now))
         (H.moments host.old) (H.moments host.new) }
-    // Behind it every stop leaves the new file.
+    // After it every stop leaves the new file.
     ensures on_success { OnOk result (AtEnd (WasReplaced (place_path root.now place.now)
         (ref_bytes digest.now)) (H.moments host.old) (H.moments host.new)) }
     ensures fault_has_cause { IsCaused (IsErrOf result HostEnd.Fault) (H.moments host.old)
@@ -62,7 +62,7 @@ pub fn drop_ref<H: Host>(
     ensures frame { Frame (GoneAt (place_path root.now place.now))
         (AbsentAt (place_path root.now place.now)) NoPath
         (H.moments host.old) (H.moments host.new) }
-    // Behind it no stop leaves anything there.
+    // After it no stop leaves anything there.
     ensures on_success { OnOk result (AtEnd (λ u w. WasDropped (place_path root.now place.now) w)
         (H.moments host.old) (H.moments host.new)) }
     ensures fault_has_cause { IsCaused (IsErrOf result HostEnd.Fault) (H.moments host.old)

@@ -20,7 +20,7 @@ pub fn ref_files_read_back()
         (is_digest d ≡ true) }
 {}
 
-/// Behind a write the ref reads as what was written, and after a drop as absent.
+/// After a write the ref reads as what was written, and after a drop as absent.
 pub fn changed_refs_are_read()
     ensures written { (root : Elements) (place : RefPlace) (d : List ℕ) (u w : View) → is_digest d
         ≡ true → WasReplaced (place_path root place) (ref_bytes d) u w

@@ -45,9 +45,9 @@ fn digest_in_pieces(mode: u32, bytes: &[u8], size: usize) -> Digest
     let mut hasher = ContentHasher::new(mode);
     let mut rest = bytes;
     'pieces: while rest.len() > 0 {
-        let (piece, behind) = rest.split_at(size.min(rest.len()));
+        let (piece, remainder) = rest.split_at(size.min(rest.len()));
         hasher.update(piece);
-        rest = behind;
+        rest = remainder;
     }
     hasher.finish()
 }

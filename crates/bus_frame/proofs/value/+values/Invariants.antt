@@ -6,8 +6,8 @@ use Rattle.bus_frame.proofs.value.+values.Given as goal
 abbrev pub decreases-array : goal.decreases-array
 decreases-array l = 4 * l.room.containers + 3
 
-abbrev pub decreases-behind_elements : goal.decreases-behind_elements
-decreases-behind_elements l = 4 * l.room.containers + 2
+abbrev pub decreases-after_elements : goal.decreases-after_elements
+decreases-after_elements l = 4 * l.room.containers + 2
 
 abbrev pub decreases-members : goal.decreases-members
 decreases-members l = 4 * l.room.containers + 2
@@ -21,8 +21,8 @@ decreases-value l = 4 * l.room.containers
 abbrev pub decreases-variant : goal.decreases-variant
 decreases-variant l = 4 * l.room.containers + 2
 
-abbrev pub invariant-behind_elements-loop : goal.invariant-behind_elements-loop
-invariant-behind_elements-loop l =
+abbrev pub invariant-after_elements-loop : goal.invariant-after_elements-loop
+invariant-after_elements-loop l =
     elements_at (value_at l.little l.room.containers l.room.arrays l.room.structs) (l.end - l.counter) l.types (place_of l.next)
     ≡ elements_at (value_at l.little l.room.containers l.room.arrays l.room.structs) (length l.place.rest.now) l.types (place_of l.place)
 

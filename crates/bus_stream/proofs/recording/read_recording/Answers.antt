@@ -1,7 +1,7 @@
 use Rattle.std.proofs.Common.{rules, ◌≡◌, arith, refl, ◌∙◌, Some, true}
 use Rattle.bus_stream.specs.Lines.{parts_at}
 use Rattle.bus_stream.specs.Recordings.{recording_of, said, Took, with_line}
-use Rattle.bus_stream.proofs.RecordingLaws.{good_line, bad_line, nothing_left, no_newline, behind_is_shorter}
+use Rattle.bus_stream.proofs.RecordingLaws.{good_line, bad_line, nothing_left, no_newline, remainder_is_shorter}
 use Rattle.bus_stream.proofs.recording.read_recording.Goals as goal
 
 pub loop-line-init : goal.loop-line-init
@@ -14,22 +14,22 @@ pub add_line-requires : goal.add_line-requires
 add_line-requires c = record { knows = c.loop-line.invariant.0 }
 
 pub returns-then-not-branch : goal.returns-then-not-branch
-returns-then-not-branch c = c.loop-line.invariant.1 ∙ bad_line c.loop-line.number c.loop-line.draft c.add_line.new.self c.loop-line.rest.now c.in-Some.line.now c.in-Some.behind.now (search rules) (search rules)
+returns-then-not-branch c = c.loop-line.invariant.1 ∙ bad_line c.loop-line.number c.loop-line.draft c.add_line.new.self c.loop-line.rest.now c.in-Some.line.now c.in-Some.remainder.now (search rules) (search rules)
 
 pub overflow_add-number : goal.overflow_add-number
 overflow_add-number c =
-    let shorter = behind_is_shorter c.loop-line.rest.now c.in-Some.line.now c.in-Some.behind.now (search rules) in
+    let shorter = remainder_is_shorter c.loop-line.rest.now c.in-Some.line.now c.in-Some.remainder.now (search rules) in
     grind (arith, shorter, c.loop-line.invariant.2)
 
 pub loop-line-smaller : goal.loop-line-smaller
-loop-line-smaller c = behind_is_shorter c.loop-line.rest.now c.in-Some.line.now c.in-Some.behind.now (search rules)
+loop-line-smaller c = remainder_is_shorter c.loop-line.rest.now c.in-Some.line.now c.in-Some.remainder.now (search rules)
 
 pub loop-line-preserved : goal.loop-line-preserved
 loop-line-preserved c =
-    let cut : parts_at 10 c.loop-line.rest.now ≡ Some (c.in-Some.line.now, c.in-Some.behind.now) = search rules in
+    let cut : parts_at 10 c.loop-line.rest.now ≡ Some (c.in-Some.line.now, c.in-Some.remainder.now) = search rules in
     let took : Took true c.add_line.new.self (with_line (said c.loop-line.draft) c.in-Some.line.now) = search rules in
-    let next = good_line c.loop-line.number c.loop-line.draft c.add_line.new.self c.loop-line.rest.now c.in-Some.line.now c.in-Some.behind.now cut took in
-    (next.0, c.loop-line.invariant.1 ∙ next.1, omega (arith, c.loop-line.invariant.2, behind_is_shorter c.loop-line.rest.now c.in-Some.line.now c.in-Some.behind.now cut))
+    let next = good_line c.loop-line.number c.loop-line.draft c.add_line.new.self c.loop-line.rest.now c.in-Some.line.now c.in-Some.remainder.now cut took in
+    (next.0, c.loop-line.invariant.1 ∙ next.1, omega (arith, c.loop-line.invariant.2, remainder_is_shorter c.loop-line.rest.now c.in-Some.line.now c.in-Some.remainder.now cut))
 
 pub returns-then-not-is_empty : goal.returns-then-not-is_empty
 returns-then-not-is_empty c = c.loop-line.invariant.1 ∙ no_newline c.loop-line.number (said c.loop-line.draft) c.loop-line.rest.now (search rules) (search rules)

@@ -9,13 +9,13 @@ returns-in_default c = sym (ap entry_at (split_once_is 61 c.args.text.now None c
 pub returns-then-is_pair_key : goal.returns-then-is_pair_key
 returns-then-is_pair_key c =
     let before = c.in-Some.key in
-    let behind = c.in-Some.value in
-    let cut = split_once_is 61 c.args.text.now (Some (before, behind)) c.in-Some.ensures.cases (lit< tt) in
-    entry_found c.args.text.now before.now behind.now c.trim_end-key.result.now c.trim_front-value.result.now cut c.trim_end-key.ensures c.trim_front-value.ensures (sym c.is_pair_key.ensures ∙ c.if-is_pair_key.true)
+    let remainder = c.in-Some.value in
+    let cut = split_once_is 61 c.args.text.now (Some (before, remainder)) c.in-Some.ensures.cases (lit< tt) in
+    entry_found c.args.text.now before.now remainder.now c.trim_end-key.result.now c.trim_front-value.result.now cut c.trim_end-key.ensures c.trim_front-value.ensures (sym c.is_pair_key.ensures ∙ c.if-is_pair_key.true)
 
 pub returns-else-is_pair_key : goal.returns-else-is_pair_key
 returns-else-is_pair_key c =
     let before = c.in-Some.key in
-    let behind = c.in-Some.value in
-    let cut = split_once_is 61 c.args.text.now (Some (before, behind)) c.in-Some.ensures.cases (lit< tt) in
-    entry_refused c.args.text.now before.now behind.now c.trim_end-key.result.now cut c.trim_end-key.ensures (sym c.is_pair_key.ensures ∙ c.if-is_pair_key.false)
+    let remainder = c.in-Some.value in
+    let cut = split_once_is 61 c.args.text.now (Some (before, remainder)) c.in-Some.ensures.cases (lit< tt) in
+    entry_refused c.args.text.now before.now remainder.now c.trim_end-key.result.now cut c.trim_end-key.ensures (sym c.is_pair_key.ensures ∙ c.if-is_pair_key.false)

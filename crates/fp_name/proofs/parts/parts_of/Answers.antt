@@ -1,7 +1,7 @@
 use Rattle.std.proofs.Common.{lit<, Some, None, sym, ◌∙◌, ap, option_and_then}
 use Rattle.std.specs.List.{slice_split}
 use Rattle.fp_name.specs.Bytes.{is_slash}
-use Rattle.fp_name.specs.Refs.{behind_kind}
+use Rattle.fp_name.specs.Refs.{remainder_kind}
 use Rattle.fp_name.proofs.Cuts.{cuts_once}
 use Rattle.fp_name.proofs.FourParts.{of_word, only_word, not_kind}
 use Rattle.fp_name.proofs.parts.parts_of.Goals as goal
@@ -23,4 +23,4 @@ returns c =
     let text = c.args.text.now in
     let rest = c.in_ok-word.rest.now in
     let first = cuts_once 47 text (Some (c.in_ok-word.word, c.in_ok-word.rest)) c.in_ok-word.ensures.cases (lit< tt) in
-    c.parts_behind.ensures ∙ sym (of_word c.in_ok-word.word.now (slice_split is_slash text) (slice_split is_slash rest) first.0 ∙ ap (option_and_then (behind_kind (slice_split is_slash rest))) (sym c.in_ok-kind.ensures))
+    c.parts_remainder.ensures ∙ sym (of_word c.in_ok-word.word.now (slice_split is_slash text) (slice_split is_slash rest) first.0 ∙ ap (option_and_then (remainder_kind (slice_split is_slash rest))) (sym c.in_ok-kind.ensures))

@@ -27,17 +27,17 @@ read_members-returns-in-TupleClose t c =
     (c.in_ok-sign.ensures ∙ ap (λ (x : Sign). Some (x, c.in_ok-sign.rest.now)) c.in-TupleClose.is)
 
 pub read_members-members-smaller : goal.read_members-members-smaller
-read_members-members-smaller t c = shorter c.args.room c.members.left.now _ c.in_ok-member.behind.now c.in_ok-member.ensures
+read_members-members-smaller t c = shorter c.args.room c.members.left.now _ c.in_ok-member.remainder.now c.in_ok-member.ensures
 
 pub read_members-members-preserved : goal.read_members-members-preserved
 read_members-members-preserved t c =
     let l = c.members in
-    let less = shorter c.args.room l.left.now (shape_of c.in_ok-member.member) c.in_ok-member.behind.now c.in_ok-member.ensures in
+    let less = shorter c.args.room l.left.now (shape_of c.in_ok-member.member) c.in_ok-member.remainder.now c.in_ok-member.ensures in
     record {
       fuel = l.invariant.fuel - 1;
       enough = omega (arith, l.invariant.enough);
       so_far = rw c.in_ok-push.ensures.items (more_members c.args.room c.args.text.now l.members.items l.invariant.fuel l.left.now c.in_ok-sign.sign c.in_ok-sign.rest.now
-          c.in_ok-member.member c.in_ok-member.behind.now l.invariant.so_far l.invariant.enough c.in_ok-sign.ensures (opens-not c.in_ok-sign.sign c.in_default.not-TupleClose) c.in_ok-member.ensures);
+          c.in_ok-member.member c.in_ok-member.remainder.now l.invariant.so_far l.invariant.enough c.in_ok-sign.ensures (opens-not c.in_ok-sign.sign c.in_default.not-TupleClose) c.in_ok-member.ensures);
     }
 
 pub read_type-returns-then-room-gt0 : goal.read_type-returns-then-room-gt0

@@ -1,7 +1,7 @@
 use Rattle.std.proofs.Common.{◌≡◌, ◌++◌, ◌∷◌, [], length, sym, ap, ◌∙◌, rules, arith, append_assoc, length-append}
 use Rattle.std.proofs.lemmas.List.{append-nil}
 use Rattle.ost_description.specs.Descriptions.{rows_in, pieces}
-use Rattle.ost_description.proofs.LineLemmas.{rows_step, rows_stop, rows_end, unformed_step, unformed_stop, unformed_end, behind_is_shorter}
+use Rattle.ost_description.proofs.LineLemmas.{rows_step, rows_stop, rows_end, unformed_step, unformed_stop, unformed_end, remainder_is_shorter}
 use Rattle.ost_description.proofs.reading.lines_of.Goals as goal
 
 pub returns-in_default-2-clause-rows : goal.returns-in_default-2-clause-rows
@@ -15,11 +15,11 @@ returns-in_default-2-clause-unformed c =
     sym (c.loop-line.invariant.unformed ∙ stop)
 
 pub loop-line-smaller : goal.loop-line-smaller
-loop-line-smaller c = behind_is_shorter c.loop-line.rest.now c.in-Some.line.now c.in-Some.more.now (search rules)
+loop-line-smaller c = remainder_is_shorter c.loop-line.rest.now c.in-Some.line.now c.in-Some.more.now (search rules)
 
 pub loop-line-preserved : goal.loop-line-preserved
 loop-line-preserved c =
-    let shorter = behind_is_shorter c.loop-line.rest.now c.in-Some.line.now c.in-Some.more.now (search rules) in
+    let shorter = remainder_is_shorter c.loop-line.rest.now c.in-Some.line.now c.in-Some.more.now (search rules) in
     let rows = rows_step c.loop-line.rest.now c.in-Some.line.now c.in-Some.more.now c.in-Some-2.row (search rules) (search rules) in
     let unformed = unformed_step c.loop-line.number c.loop-line.rest.now c.in-Some.line.now c.in-Some.more.now c.in-Some-2.row (search rules) (search rules) in
     let pushed : c.push.new.self.items ≡ c.loop-line.rows.items ++ c.in-Some-2.row ∷ [] = search rules in

@@ -1,6 +1,6 @@
 use Rattle.std.proofs.Common.{◌≡◌, None, rules}
 use Rattle.ost_description.specs.Descriptions.{timestamp_in, first_by, pieces}
-use Rattle.ost_description.proofs.LineLemmas.{no_line, bad_first, good_first, behind_is_shorter}
+use Rattle.ost_description.proofs.LineLemmas.{no_line, bad_first, good_first, remainder_is_shorter}
 use Rattle.ost_description.proofs.reading.timestamp_line.Goals as goal
 
 pub returns-in_err-line-clause-line : goal.returns-in_err-line-clause-line
@@ -18,4 +18,4 @@ pub returns-clause-line : goal.returns-clause-line
 returns-clause-line c = good_first timestamp_in c.in_ok-timestamp_of.field-0 c.args.bytes.now c.in_ok-line.line.now c.in_ok-line.rest.now (search rules) (search rules)
 
 pub returns-clause-shorter : goal.returns-clause-shorter
-returns-clause-shorter c = behind_is_shorter c.args.bytes.now c.in_ok-line.line.now c.in_ok-line.rest.now (search rules)
+returns-clause-shorter c = remainder_is_shorter c.args.bytes.now c.in_ok-line.line.now c.in_ok-line.rest.now (search rules)

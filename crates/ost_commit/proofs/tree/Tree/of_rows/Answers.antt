@@ -2,7 +2,7 @@ use Rattle.std.proofs.Common.{◌≡◌, ◌+◌, ◌<◌, ◌∷◌, ◌++◌, 
 use Rattle.std.proofs.lemmas.List.{take_more}
 use Rattle.ost_commit.specs.declared.row.TreeRow.{TreeRow}
 use Rattle.ost_commit.specs.Rows.{says}
-use Rattle.ost_commit.specs.Refusals.{refused_behind, first_refused}
+use Rattle.ost_commit.specs.Refusals.{refused_remainder, first_refused}
 use Rattle.ost_commit.specs.Folders.{Gathers}
 use Rattle.ost_commit.proofs.Places.{at_from}
 use Rattle.ost_commit.proofs.Taking.{next_row, refused_row, next_gathers}
@@ -19,7 +19,7 @@ before_at rows i r low is = take_more rows i r low ∙ ap (λ x. take i rows ++ 
 pub loop-at-init : goal.loop-at-init
 loop-at-init c = record {
   gathers = c.in_ok-tree.ensures.gathers c.args.rows.now;
-  refused = ap (λ n. refused_behind [] n c.args.rows.now) c.in_ok-tree.ensures.names;
+  refused = ap (λ n. refused_remainder [] n c.args.rows.now) c.in_ok-tree.ensures.names;
   few = let none = c.in_ok-tree.ensures.names in omega (arith, none);
 }
 
@@ -32,7 +32,7 @@ returns-then-not-branch-clause-refused c =
     let takes = c.in_ok-take.ensures rows (says (take i rows)) c.loop-at.invariant.gathers (at_from rows i r low (sym c.index-rows-at.is)) in
     let many : length (take i rows) ≡ i = let long = length-take i rows in omega (arith, long, low) in
     refused_row (take i rows) (drop (i + 1) rows) r c.loop-at.tree.names (first_refused rows) (sym takes.is ∙ c.if-not-branch.true)
-    (sym (ap (refused_behind (take i rows) c.loop-at.tree.names) (rest_at rows i r low c.index-rows-at.is)) ∙ c.loop-at.invariant.refused) ∙ ap (λ n. Some (n + 1)) many
+    (sym (ap (refused_remainder (take i rows) c.loop-at.tree.names) (rest_at rows i r low c.index-rows-at.is)) ∙ c.loop-at.invariant.refused) ∙ ap (λ n. Some (n + 1)) many
 
 pub loop-at-preserved : goal.loop-at-preserved
 loop-at-preserved c =
@@ -45,8 +45,8 @@ loop-at-preserved c =
     let before = before_at rows i r low c.index-rows-at.is in
     record {
       gathers = subst (λ l. Gathers rows (says l) c.take.new.self.folders.items) (sym before) (next_gathers rows (take i rows) r c.take.new.self.folders.items (takes.gathers c.if-not-branch.false));
-      refused = subst (λ l. refused_behind l c.take.new.self.names (drop (i + 1) rows) ≡ first_refused rows) (sym before)
+      refused = subst (λ l. refused_remainder l c.take.new.self.names (drop (i + 1) rows) ≡ first_refused rows) (sym before)
           (next_row (take i rows) (drop (i + 1) rows) r c.loop-at.tree.names c.take.new.self.names (first_refused rows) taken (takes.names c.if-not-branch.false)
-          (sym (ap (refused_behind (take i rows) c.loop-at.tree.names) (rest_at rows i r low c.index-rows-at.is)) ∙ c.loop-at.invariant.refused));
+          (sym (ap (refused_remainder (take i rows) c.loop-at.tree.names) (rest_at rows i r low c.index-rows-at.is)) ∙ c.loop-at.invariant.refused));
       few = let few = few_taken (says (take i rows)) c.loop-at.tree.names r taken in let names = takes.names c.if-not-branch.false in omega (arith, few, names);
     }

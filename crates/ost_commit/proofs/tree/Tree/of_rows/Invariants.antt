@@ -1,12 +1,12 @@
 use Rattle.std.proofs.Common.{◌≡◌, ◌≤◌, take, drop}
 use Rattle.ost_commit.specs.Rows.{says}
-use Rattle.ost_commit.specs.Refusals.{refused_behind, first_refused}
+use Rattle.ost_commit.specs.Refusals.{refused_remainder, first_refused}
 use Rattle.ost_commit.specs.Folders.{Gathers}
 use Rattle.ost_commit.proofs.tree.Tree.of_rows.Given as goal
 
 abbrev pub invariant-loop-at : goal.invariant-loop-at
 invariant-loop-at l = record {
   gathers : Gathers l.rows (says (take l.at l.rows)) l.tree.folders.items;
-  refused : refused_behind (take l.at l.rows) l.tree.names (drop l.at l.rows) ≡ first_refused l.rows;
+  refused : refused_remainder (take l.at l.rows) l.tree.names (drop l.at l.rows) ≡ first_refused l.rows;
   few : l.tree.names ≤ 40000;
 }

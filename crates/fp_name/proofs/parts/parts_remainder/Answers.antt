@@ -3,7 +3,7 @@ use Rattle.std.specs.List.{slice_split}
 use Rattle.fp_name.specs.Bytes.{is_slash}
 use Rattle.fp_name.proofs.Cuts.{cuts_once, contains_true, contains_false}
 use Rattle.fp_name.proofs.FourParts.{one_part, two_parts, three_parts, more_parts}
-use Rattle.fp_name.proofs.parts.parts_behind.Goals as goal
+use Rattle.fp_name.proofs.parts.parts_remainder.Goals as goal
 
 pub returns-in_err-id : goal.returns-in_err-id
 returns-in_err-id c =
