@@ -4,9 +4,9 @@ ghost use Rattle.std.specs.Prelude.{◌≡◌, ◌++◌, IfOk, OnOk};
 ghost use Rattle.std.specs.List.{filter, flat_map};
 ghost use Rattle.fl_launch.specs.Granted as spec;
 
-use crate::mention_groups::{groups_of, list_text, push_group};
 use fl_context::{Grants, is_granted};
 use fl_meta::{Mention, PermList, Permission};
+use fl_override::{groups_of, list_text, push_group};
 use fp_base::{Items, Text};
 use fp_keyfile::{Group, Pair};
 use std::alloc::{AllocError, Global};

@@ -6,7 +6,6 @@ mod granted;
 mod launching;
 pub mod laws;
 mod layers;
-mod mention_groups;
 mod mounts;
 mod policies;
 mod writing;

@@ -6,3 +6,4 @@ mod override_set;
 mod writing;
 
 pub use override_set::OverrideSet;
+pub use writing::{groups_of, list_text, push_group};

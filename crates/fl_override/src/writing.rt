@@ -88,9 +88,9 @@ fn push_entry(out: &mut String, list: PermList, mention: &Mention) -> Result<(),
     out.push(';')
 }
 
-/// The entries of a list, each followed by `;`.
+/// The entries of a list, each followed by `;`. It errs only where memory runs out.
 #[tactic(auto, unfolding(crate::specs::Written::list_text))]
-fn list_text(alloc: Global, list: PermList, mentions: &[Mention]) -> Result<String, AllocError>
+pub fn list_text(alloc: Global, list: PermList, mentions: &[Mention]) -> Result<String, AllocError>
     ensures { IfOk result (λ t. string_bytes t ≡ written.list_text list mentions.now) }
 {
     let mut out = String::new(alloc);
@@ -186,8 +186,12 @@ fn named_pairs(
     Ok(pairs)
 }
 
-/// Adds a group, where it has pairs.
-fn push_group(groups: &mut Items<Group>, name: &str, pairs: Items<Pair>) -> Result<(), AllocError>
+/// Adds a group, where it has pairs. It errs only where memory runs out.
+pub fn push_group(
+    groups: &mut Items<Group>,
+    name: &str,
+    pairs: Items<Pair>,
+) -> Result<(), AllocError>
     ensures { OnOk result (groups.new ≡ groups.old ++ written.group_if name.now pairs) }
 {
     if pairs.is_empty() {
@@ -197,9 +201,9 @@ fn push_group(groups: &mut Items<Group>, name: &str, pairs: Items<Pair>) -> Resu
     groups.push(Group { name, pairs })
 }
 
-/// The groups of a file with these mentions.
+/// The groups of a key file with these mentions, as Flatpak writes an override. It errs only where memory runs out.
 #[tactic(auto, unfolding(crate::specs::Written::file_with))]
-pub(crate) fn groups_of(alloc: Global, mentions: &[Mention]) -> Result<Items<Group>, AllocError>
+pub fn groups_of(alloc: Global, mentions: &[Mention]) -> Result<Items<Group>, AllocError>
     ensures { IfOk result (λ groups. groups ≡ written.file_with mentions.now) }
 {
     let mut groups = Items::new(alloc);
