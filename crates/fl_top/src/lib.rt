@@ -3,6 +3,7 @@
 
 mod checking;
 mod command_end;
+mod exporting;
 mod filtering;
 mod input;
 pub mod laws;

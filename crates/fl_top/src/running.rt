@@ -21,6 +21,7 @@ ghost use Rattle.fl_top.specs.Status.{IsStatus, IsAnswered, IsOfWords, IsOfComma
 
 use crate::checking::check;
 use crate::command_end::CommandEnd;
+use crate::exporting::export;
 use crate::filtering::filter_bytes;
 use crate::input::read_input;
 use crate::listing::list;
@@ -40,7 +41,7 @@ use std::thread::Threads;
 /// it was done, 1 where it was refused, 2 where the words are no command, 3 where the host failed, 4 where the remotes failed, 5
 /// where the input failed, 6 where there was no memory.
 pub fn run<H: Host, R: Remotes, I: Source>(
-    _rt: &(impl Threads + Sync),
+    rt: &(impl Threads + Sync),
     alloc: Global,
     words: &[String],
     input: &mut I,
@@ -83,7 +84,7 @@ pub fn run<H: Host, R: Remotes, I: Source>(
     ensures later { I.faults input.old ≤ I.faults input.new }
 {
     match read_words(alloc, words) {
-        Ok(command) => run_command(alloc, input, host, remotes, command),
+        Ok(command) => run_command(rt, alloc, input, host, remotes, command),
         Err(WordsError::BadWords { index }) => refuse_words(alloc, host, index),
         Err(WordsError::NoMemory) => 6,
     }
@@ -91,6 +92,7 @@ pub fn run<H: Host, R: Remotes, I: Source>(
 
 /// Runs a command, and prints the line of its refusal.
 fn run_command<H: Host, R: Remotes, I: Source>(
+    rt: &(impl Threads + Sync),
     alloc: Global,
     input: &mut I,
     host: &mut H,
@@ -116,7 +118,7 @@ fn run_command<H: Host, R: Remotes, I: Source>(
     ensures taken { WasTaken (Some command) result (I.left input.old) (I.left input.new) }
     ensures later { I.faults input.old ≤ I.faults input.new }
 {
-    match perform(alloc, input, host, remotes, command) {
+    match perform(rt, alloc, input, host, remotes, command) {
         Ok(()) => 0,
         Err(CommandEnd::Refused(refusal)) => refuse(alloc, host, refusal, 1),
         Err(CommandEnd::Fault) => 3,
@@ -128,6 +130,7 @@ fn run_command<H: Host, R: Remotes, I: Source>(
 
 /// Does a command, up to the line of its refusal.
 fn perform<H: Host, R: Remotes, I: Source>(
+    rt: &(impl Threads + Sync),
     alloc: Global,
     input: &mut I,
     host: &mut H,
@@ -162,6 +165,7 @@ fn perform<H: Host, R: Remotes, I: Source>(
         Command::Filter(source) => filter(alloc, input, host, &source),
         Command::Batch => batch(alloc, input, host, remotes),
         Command::Fsck => Ok(check(alloc, host)?),
+        Command::Export { remote, name } => export(rt, alloc, input, host, &remote, &name),
     }
 }
 
@@ -313,7 +317,7 @@ fn last_line(alloc: Global, refusal: Refusal) -> Result<Text, AllocError>
 }
 
 /// Prints a text.
-fn say<H: Host>(host: &mut H, text: &[u8]) -> Result<(), HostEnd>
+pub(crate) fn say<H: Host>(host: &mut H, text: &[u8]) -> Result<(), HostEnd>
     ensures any_moment { Goes (H.moments host.old) (H.moments host.new) (Says text.now)
         (SaidBy text.now result) }
     ensures fault_has_cause { IsCounted (IsErrOf result HostEnd.Fault)

@@ -56,7 +56,7 @@ spared {q = q} off exports = record {
           | inl same ↦ same
           | inr given ↦ elim given [
             | inl furnished ↦ elim furnished [
-              | inl work ↦ absurd (off.work work)
+              | inl work ↦ absurd (off.work work.0)
               | inr other ↦ elim other [
                 | inl new ↦ absurd (off.object new.digest new.kind new.digits new.at new.free)
                 | inr more ↦ elim more [ inl made ↦ absurd (off.folder made.0) | inr config ↦ absurd (off.config config.0) ]
