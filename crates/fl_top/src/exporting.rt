@@ -11,8 +11,8 @@ use std::thread::Threads;
 
 /// Makes the commit of the tree that the input describes, offers it under the ref in the store of the remote, and prints its
 /// line. The installation isn't opened.
-pub(crate) fn export<H: Host, I: Source>(
-    rt: &(impl Threads + Sync),
+pub(crate) fn export<T: Threads + Sync, H: Host, I: Source>(
+    rt: &T,
     alloc: Global,
     input: &mut I,
     host: &mut H,

@@ -11,4 +11,4 @@ mod listing;
 mod running;
 mod showing;
 
-pub use running::run;
+pub use running::{run, run_gated};
