@@ -19,10 +19,12 @@ use Rattle.ost_model.specs.Order.{In, order}
 use Rattle.ost_refs.specs.Places.{place_path}
 use Rattle.ost_refs.specs.declared.place.RefPlace.{RefPlace}
 use Rattle.ost_store.proofs.Staying.{shown_stays}
+use Rattle.ost_description.specs.Commits.{IsRead}
+use Rattle.ost_description.specs.Descriptions.{described}
 use Rattle.ost_export.specs.Storing.{IsNoWork, IsWork}
-use Rattle.ost_export.specs.Exports.{ref_path, ExportsName, Exports, ExportsSynced, IsSpared, WasExported}
+use Rattle.ost_export.specs.Exports.{ref_path, IsExportFolder, ExportsName, Exports, ExportsSynced, IsSpared, WasExported}
 use Rattle.ost_export.proofs.Paths.{none_below}
-use Rattle.ost_export.proofs.Spared.{other_ref, other_object}
+use Rattle.ost_export.proofs.Spared.{not_put, off_ref, other_ref, other_object}
 use Rattle.dep_states.specs.Names.{config, remotes_conf, pins_file, branch_dir, active, text_dir, commit_dir, deploy, ref_file}
 use Rattle.dep_states.specs.Shown.{Shows, ref_seen}
 use Rattle.dep_states.specs.Sound.{Keeps, IsOld, is_remotes, is_pins, IsSound, Opens}
@@ -41,13 +43,14 @@ use Rattle.fl_make.proofs.Spared.{made_top, tmp_top, tmp_second, made_no_repo, w
 spared_same : {q : Elements} {u w : View} → w ≡ u → IsSpared q u w
 spared_same {q = q} same = record { name = ap (λ (v : View). v.names q) same; outcomes = λ disk left. (disk, subst (λ (v : View). Leaves v disk) same left, refl) }
 
-makes_same : {remote : List ℕ} {r : Ref} {u w : View} → w ≡ u → Makes remote r u w
+pub makes_same : {remote : List ℕ} {r : Ref} {bytes : List ℕ} {u w : View} → w ≡ u → Makes remote r bytes u w
 makes_same same = record {
   printed = ap (λ (v : View). v.printed) same;
   files = record { rows = λ id f is. ap (λ (v : View). v.files id) same ∙ is };
   names = λ q. inl (ap (λ (v : View). v.names q) same);
   refs = λ place other. spared_same same;
   objects = λ d kind there. spared_same same;
+  good = inl same;
   opens = λ sound s is. inl same;
 }
 
@@ -83,49 +86,64 @@ work_above {q = q} work = elim work.within [
   | inr above ↦ below_child _ tmp q (subst (λ (t : Elements). IsAbove t q) work.staging.is above)
 ]
 
-module _ (remote : List ℕ) (r : Ref) where
+data FolderPlace (remote : List ℕ) (p : Elements) : Type 0 where
+  f_store : IsWithin (made remote) p → FolderPlace remote p
+  f_above : IsAbove p (made remote) → FolderPlace remote p
+  f_work : (p ≡ repo) ⊎ (p ≡ tmp) → FolderPlace remote p
 
-  may_make : {have : Have} {u : View} (q : Elements) (e : Slot) → ExportsName have (made remote) r u q e → MayMake remote q e
-  may_make q e h = elim h [
+module _ (remote : List ℕ) (r : Ref) where
+  folder_place : (q : Elements) → IsExportFolder (made remote) r q → FolderPlace remote q
+  folder_place = folder_at remote r (FolderPlace remote)
+      (f_above (inr (inl refl)))
+      (f_above (inl refl))
+      (f_store (inl refl))
+      (f_store (inr (inl refl)))
+      (λ xx. f_store (inr (inr (inl refl))))
+      (f_store (inr (inl refl)))
+      (f_store (inr (inr (inl refl))))
+      (f_store (inr (inr (inl refl))))
+      (f_store (inr (inr (inr (inl refl)))))
+      (f_store (inr (inr (inr (inr (inl refl))))))
+      (f_store (inr (inr (inr (inr (inr (inl refl)))))))
+      (f_work (inl refl))
+      (f_work (inr refl))
+
+  may_make : {have : Have} {u : View} (q : Elements) (e : Slot) → ExportsName have (made remote) r u q e → MayMake remote r q e
+  may_make {have = have} {u = u} q e h = elim h [
     | inl furnished ↦ elim furnished [
       | inl work ↦ in_work (work_above work)
       | inr other ↦ elim other [
-        | inl new ↦ in_store (subst (IsWithin (made remote)) (sym new.at) (inr (inr (inr (inl refl)))))
+        | inl new ↦ in_store (subst (IsWithin (made remote)) (sym new.at) (inr (inr (inr (inl refl))))) off
         | inr more ↦ elim more [
-          | inl folder ↦ subst (MayMake remote q) (sym folder.1) (folder_at remote r (λ (p : Elements). MayMake remote p dir)
-              (above_store (inr (inl refl)) refl)
-              (above_store (inl refl) refl)
-              (in_store (inl refl))
-              (in_store (inr (inl refl)))
-              (λ xx. in_store (inr (inr (inl refl))))
-              (in_store (inr (inl refl)))
-              (in_store (inr (inr (inl refl))))
-              (in_store (inr (inr (inl refl))))
-              (in_store (inr (inr (inr (inl refl)))))
-              (in_store (inr (inr (inr (inr (inl refl))))))
-              (in_store (inr (inr (inr (inr (inr (inl refl)))))))
-              (of_work (inl refl) refl)
-              (of_work (inr refl) refl)
-              q folder.0)
-          | inr config ↦ in_store (subst (IsWithin (made remote)) (sym config.0) (inr (inl refl)))
+          | inl folder ↦ by_folder (folder_place q folder.0) folder.1
+          | inr config ↦ in_store (subst (IsWithin (made remote)) (sym config.0) (inr (inl refl))) off
         ]
       ]
     ]
-    | inr ref ↦ in_store (subst (IsWithin (made remote)) (sym ref.0) (inr (inr (inr (inr (inr (inr (inl refl))))))))
+    | inr ref ↦ in_store (subst (IsWithin (made remote)) (sym ref.0) (inr (inr (inr (inr (inr (inr (inl refl)))))))) off
   ]
+    where
+      off : (place : RefPlace) → place_path (made remote) place ≢ ref_path (made remote) r → q ≢ place_path (made remote) place
+      off place other at = not_put e (off_ref (outer remote) place other) (subst (λ (p : Elements). ExportsName have (made remote) r u p e) at h)
 
-  module _ {have : Have} {commit : List ℕ} {u w : View} (tree : IsTree u) where
-    makes_exports : Exports have (made remote) r commit (done syncs u) w → Makes remote r u w
+      by_folder : FolderPlace remote q → e ≡ dir → MayMake remote r q e
+      by_folder (f_store within) is = in_store within off
+      by_folder (f_above up) is = above_store up is
+      by_folder (f_work at) is = of_work at is
+
+  module _ {have : Have} {commit bytes : List ℕ} (read : IsRead (described bytes)) {u w : View} (tree : IsTree u) where
+    makes_exports : Exports have (made remote) r commit (done syncs u) w → Makes remote r bytes u w
     makes_exports e = record {
       printed = e.keeps.printed;
       files = record { rows = λ id f is. e.files.rows id f is };
       names = λ q. elim (e.keeps.names q) [ inl same ↦ inl same | inr put ↦ inr (may_make q (w.names q) put) ];
       refs = λ place other. spared_since (other_ref (outer remote) place other e);
       objects = λ d kind there. spared_since (other_object (outer remote) d kind there e);
+      good = inr read;
       opens = λ sound s is. inr (frame_law (export_spares remote r have commit (done syncs u) (done syncs u)) e.keeps.follows (opens_synced tree sound is));
     }
 
-    pub makes : ExportsSynced have (made remote) r commit u w → Makes remote r u w
+    pub makes : ExportsSynced have (made remote) r commit u w → Makes remote r bytes u w
     makes (inl same) = makes_same same
     makes (inr e) = makes_exports e
 
@@ -137,8 +155,8 @@ data IsPlace (p : Elements) : Type 0 where
   at_work : IsWithin tmp p → IsPlace p
   at_root : p ≡ [] → IsPlace p
 
-place_of : {remote : List ℕ} (q : Elements) {e : Slot} → MayMake remote q e → IsPlace q
-place_of {remote = remote} q (in_store within) = at_made (made_top remote q within)
+place_of : {remote : List ℕ} {r : Ref} (q : Elements) {e : Slot} → MayMake remote r q e → IsPlace q
+place_of {remote = remote} q (in_store within off) = at_made (made_top remote q within)
 place_of q (in_work above) = at_work (inr above)
 place_of q (above_store (inl same) is) = at_made (ap top same)
 place_of q (above_store (inr (inl same)) is) = at_root same

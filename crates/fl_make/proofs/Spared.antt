@@ -137,11 +137,11 @@ module _ (remote : List ℕ) (r : Ref) where
       → P (codes "refs" ∷ made remote) → P (codes "heads" ∷ (codes "refs" ∷ made remote)) → P (remotes (made remote)) → P (kind_word r.kind ∷ (codes "heads" ∷ (codes "refs" ∷ made remote)))
       → P (r.id ∷ (kind_word r.kind ∷ (codes "heads" ∷ (codes "refs" ∷ made remote)))) → P (r.arch ∷ (r.id ∷ (kind_word r.kind ∷ (codes "heads" ∷ (codes "refs" ∷ made remote)))))
       → P repo → P tmp → (q : Elements) → IsExportFolder (made remote) r q → P q
-  folder_at P root top_made store objects prefix refs heads other kind id arch in_repo in_tmp q h = elim h [
+  folder_at P root top_made store objects prefix refs heads other kind id arch of_repo of_tmp q h = elim h [
     | inl above ↦ elim above [
       | inl of_store ↦ elim of_store [
         | inl object ↦ by_object object.digest object.kind object.above
-        | inr work ↦ elim work [ inl is ↦ subst P (sym is) in_repo | inr is ↦ subst P (sym is) in_tmp ]
+        | inr work ↦ elim work [ inl is ↦ subst P (sym is) of_repo | inr is ↦ subst P (sym is) of_tmp ]
       ]
       | inr up ↦ by_ref up
     ]

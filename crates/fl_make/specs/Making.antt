@@ -16,7 +16,7 @@ use Rattle.ost_refs.specs.declared.place.RefPlace.{RefPlace}
 use Rattle.ost_commit.specs.declared.built.Built.{Built}
 use Rattle.ost_commit.specs.Objects.{have_of}
 use Rattle.ost_description.specs.Descriptions.{described}
-use Rattle.ost_description.specs.Commits.{IsDescribed}
+use Rattle.ost_description.specs.Commits.{IsDescribed, IsRead}
 use Rattle.ost_export.specs.Exports.{ref_path, CanExport, IsSpared, WasExported}
 use Rattle.dep_states.specs.Settled.{Settled}
 use Rattle.dep_states.specs.Shown.{Shows}
@@ -31,22 +31,24 @@ made remote = remote ∷ codes "made" ∷ []
 
 -- ---- at every moment
 
--- What a name may come to hold: anything at or below the store's folder, and below `repo/tmp`; and these, and those above them, may
--- come to be folders.
-pub data MayMake (remote : List ℕ) (q : Elements) (e : Slot) : Type 0 where
-  in_store : IsWithin (made remote) q → MayMake remote q e
-  in_work : IsAbove tmp q → MayMake remote q e
-  above_store : IsAbove q (made remote) → e ≡ dir → MayMake remote q e
-  of_work : (q ≡ repo) ⊎ (q ≡ tmp) → e ≡ dir → MayMake remote q e
+-- What a name may come to hold: anything at or below the store's folder, where it is no place of another ref, and below `repo/tmp`; and
+-- these, and those above them, may come to be folders.
+pub data MayMake (remote : List ℕ) (r : Ref) (q : Elements) (e : Slot) : Type 0 where
+  in_store : IsWithin (made remote) q → ((place : RefPlace) → place_path (made remote) place ≢ ref_path (made remote) r → q ≢ place_path (made remote) place) → MayMake remote r q e
+  in_work : IsAbove tmp q → MayMake remote r q e
+  above_store : IsAbove q (made remote) → e ≡ dir → MayMake remote r q e
+  of_work : (q ≡ repo) ⊎ (q ≡ tmp) → e ≡ dir → MayMake remote r q e
 
 -- Nothing is printed, each file that was there is as it was, and names change only so. Of the store each other ref stays, and each
--- object that was there. Over a sound installation nothing changed yet, or every stop leaves the state that was shown, and is sound.
-pub record Makes (remote : List ℕ) (r : Ref) (u w : View) : Type 0 where
+-- object that was there. Nothing changes of bytes that describe no tree. Over a sound installation nothing changed yet, or every stop
+-- leaves the state that was shown, and is sound.
+pub record Makes (remote : List ℕ) (r : Ref) (bytes : List ℕ) (u w : View) : Type 0 where
   pub printed : w.printed ≡ u.printed
   pub files : KeepsFiles u w
-  pub names : (q : Elements) → (w.names q ≡ u.names q) ⊎ MayMake remote q (w.names q)
+  pub names : (q : Elements) → (w.names q ≡ u.names q) ⊎ MayMake remote r q (w.names q)
   pub refs : (place : RefPlace) → place_path (made remote) place ≢ ref_path (made remote) r → IsSpared (place_path (made remote) place) u w
   pub objects : (d : List ℕ) (kind : ObjKind) → u.names (object_path (made remote) d kind) ≢ absent → IsSpared (object_path (made remote) d kind) u w
+  pub good : (w ≡ u) ⊎ IsRead (described bytes)
   pub opens : IsSound u → (s : State) → Shows (shows u) s → (w ≡ u) ⊎ Opens s w
 
 -- ---- in the end

@@ -36,7 +36,8 @@ pub fn make_remote<H: Host>(
     name: &RefName,
     bytes: &[u8],
 ) -> Result<Text, MakeEnd>
-    ensures any_moment { Always (Makes remote.now name.now) (H.moments host.old) (H.moments host.new) }
+    ensures any_moment { Always (Makes remote.now name.now bytes.now)
+        (H.moments host.old) (H.moments host.new) }
     ensures on_success { IfOk result (λ line. AtEnd (WasMade remote.now name.now bytes.now line)
         (H.moments host.old) (H.moments host.new)) }
     ensures refused { IfErr result (IsMakeFault bytes.now) }

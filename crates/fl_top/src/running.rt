@@ -17,7 +17,7 @@ ghost use Rattle.fl_top.specs.Exports.{LeavesExports};
 ghost use Rattle.fl_top.specs.Asked.{OpsBy, OpsFor, AreToldFor, AsksRemotes};
 ghost use Rattle.fl_top.specs.RunsOver.{RunsOver, EndedOver, RunsOn, EndedOn, RanOn, Takes, TakenBy, IsClosedBy};
 ghost use Rattle.fl_top.specs.Runs.{RunsBy, RanBy, Checks, IsChange, told, WasTaken, IsReady, HasCauses};
-ghost use Rattle.fl_top.specs.Status.{IsStatus, IsAnswered, IsOfWords, IsOfCommand, only_looks, reads_input};
+ghost use Rattle.fl_top.specs.Status.{IsStatus, IsAnswered, IsOfWords, IsOfCommand, changes_state, reads_input};
 
 use crate::checking::check;
 use crate::command_end::CommandEnd;
@@ -192,7 +192,7 @@ fn perform<T: Threads + Sync, H: Host, R: Remotes, I: Source, G: Gate + Sync>(
     ensures remotes { AsksRemotes (OpsBy command (I.left input.old))
         (IsErrOf result CommandEnd.RemoteFault) (R.holds remotes.old) (R.holds remotes.new)
         (R.faults remotes.old) (R.faults remotes.new) }
-    ensures changes { IsErrOf result CommandEnd.RemoteFault → only_looks command ≡ false }
+    ensures changes { IsErrOf result CommandEnd.RemoteFault → changes_state command ≡ true }
     ensures input { IsErrOf result CommandEnd.InputFault → (reads_input command ≡ true) × Rose
         (I.faults input.old) (I.faults input.new) × Unchanged
         (H.moments host.old) (H.moments host.new) }
