@@ -126,7 +126,7 @@ told left holds moments = record { left = left; holds = holds; moments = moments
 abbrev pub IsFoundAt : Option Moments → Report → Type 0
 IsFoundAt moments report = (m : Moments) → moments ≡ Some m → Finds (shows m.now) report
 
--- Each commit that the description tells has this digest. (All have one, for the digest of a commit is that of what it shows.)
+-- each commit of what the bytes describe has this digest
 pub record IsCommitOf (name : Ref) (bytes digest : List ℕ) : Type 0 where
   pub each : (built : Built) → IsDescribed bytes name built → built.commit ≡ digest
 
