@@ -74,7 +74,7 @@ spared_since {q = q} {u = u} s = record {
       (c.0, c.1, b.2 ∙ elim (c.2 q) [ inl same ↦ same | inr none ↦ absurd none ]);
 }
 
-now_left : (v : View) → Leaves v (shows v)
+pub now_left : (v : View) → Leaves v (shows v)
 now_left v = record { names = v.names; files = v.files; may_be = λ p. inl refl; rows = λ id. inl refl; seen = λ p. refl }
 
 opens_synced : {u : View} {s : State} → IsTree u → IsSound u → Shows (shows u) s → Opens s (done syncs u)
