@@ -115,6 +115,7 @@ pub export_alone : bad_index (codes "export" ∷ []) ≡ 1
 export_alone = refl
 
 pub export_no_ref : bad_index (codes "export" ∷ codes "lab" ∷ []) ≡ 2
+unfolding is_remote_name
 export_no_ref = refl
 
 pub show_commit : command_of (codes "show" ∷ codes "commit" ∷ []) ≡ Some (Showing Commit)

@@ -51,21 +51,21 @@ step_same same = record { keeps = keeps_same same; files = files_same same }
 work_in : {t : Elements} {u : View} → IsStaging u t → (q : Elements) → IsWithin t q → IsWork u q
 work_in {t = t} staging q within = record { place = t; staging = staging; within = within }
 
+-- objects in the place of the work are so deep
+name_depth : (root t q : Elements) → IsApart root t → IsObjectName t q → length q ≤ 6
+name_depth root t q apart name = omega (arith, ap length name.at, ap length apart.is)
+
+above_depth : (root t q : Elements) → IsApart root t → IsAboveObject t q → length q ≤ 6
+above_depth root t q apart above = omega (arith, above_longer q (object_path t above.digest above.kind) above.above, ap length apart.is)
+
 module _ {have : Have} {root t : Elements} {u : View} (apart : IsApart root t) (staging : IsStaging u t) where
-  -- objects in the place of the work are so deep
-  name_depth : (q : Elements) → IsObjectName t q → length q ≤ 6
-  name_depth q name = omega (arith, ap length name.at, ap length apart.is)
-
-  above_depth : (q : Elements) → IsAboveObject t q → length q ≤ 6
-  above_depth q above = omega (arith, above_longer q (object_path t above.digest above.kind) above.above, ap length apart.is)
-
   pub step_works : {v w : View} → Works t v w → StoresStep have root u v w
   step_works works = record {
     keeps = keeps_to
         (λ q spot h. elim h [
-          | inl name ↦ inl (work_in staging q (below_work t name.digest name.kind q name.at), inr (name_depth q name))
+          | inl name ↦ inl (work_in staging q (below_work t name.digest name.kind q name.at), inr (name_depth root t q apart name))
           | inr made ↦ elim (above_work apart q made.0.digest made.0.kind made.0.digits made.0.above) [
-            | inl within ↦ inl (work_in staging q within, inr (above_depth q made.0))
+            | inl within ↦ inl (work_in staging q within, inr (above_depth root t q apart made.0))
             | inr up ↦ inr (inr (up, made.1))
           ]
         ])
