@@ -14,7 +14,7 @@ use Rattle.fp_small.specs.declared.state.RefRow.{RefRow}
 use Rattle.fp_small.specs.declared.refusal.Refusal.TheVariants.{BadWords, PinExists, NoSuchPin, Limit, BadRecord, Damaged, RemoteInUse, WrongMode, NoSuchRef, AlreadyInstalled, NotInstalled, RuntimeMissing, RuntimeInUse, MissingObject, CorruptObject, ModeRefused, BadMetadata, RefBinding, Older, NoPrevious}
 use Rattle.fp_base.specs.declared.what.What.TheVariants.{Pins, Input}
 use Rattle.fp_small.specs.declared.op.Op.TheVariants.{Install, Update, Uninstall, AddPin, DropPin, DropOverride, Migrate, Rollback}
-use Rattle.fl_lines.specs.Lines.{refusal_text, op_text, refs_text, skipped_text, info_text, export_line, bad_text, stray_text, fsck_text}
+use Rattle.fl_lines.specs.Lines.{refusal_text, op_text, refs_text, skipped_text, info_text, export_line, bad_text, stray_text, fsck_text, made_text}
 
 pub words_line : refusal_text (BadWords 2) ≡ codes "error: words 2\n"
 unfolding digits
@@ -167,3 +167,7 @@ stray_line = refl
 pub checked_line : fsck_text 5000 1 ≡ codes "fsck 5000 objects, 1 bad\n"
 unfolding digits
 checked_line = refl
+
+pub made_commit_line : made_text (replicate 32 17) ≡ codes "commit 1111111111111111111111111111111111111111111111111111111111111111\n"
+unfolding hex
+made_commit_line = refl

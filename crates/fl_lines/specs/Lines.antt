@@ -176,3 +176,7 @@ stray_text path = line_of (codes "stray" ∷ escaped (path_text path) ∷ [])
 -- how many objects there are, and how many of them are bad
 abbrev pub fsck_text : ℕ → ℕ → List ℕ
 fsck_text objects bad = line (codes "fsck " ++ (decimal objects ++ (codes " objects, " ++ (decimal bad ++ codes " bad"))))
+
+-- the commit that was made
+abbrev pub made_text : List ℕ → List ℕ
+made_text commit = line_of (codes "commit" ∷ hex commit ∷ [])

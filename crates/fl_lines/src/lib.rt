@@ -20,4 +20,4 @@ pub use printed_words::{
     side_word, what_word,
 };
 pub use refusals::{octal_of, refusal_line};
-pub use stores::{bad_line, fsck_line, stray_line};
+pub use stores::{bad_line, fsck_line, made_line, stray_line};

@@ -1,9 +1,9 @@
-//! The lines of a store that was checked.
+//! The lines of a store that was checked, and of one that was made.
 ghost use Rattle.std.specs.Prelude.{◌≡◌, IfOk};
-ghost use Rattle.fl_lines.specs.Lines.{bad_text, stray_text, fsck_text};
+ghost use Rattle.fl_lines.specs.Lines.{bad_text, stray_text, fsck_text, made_text};
 
 use crate::escaping::escape;
-use crate::lines::{line_of_two, object_of};
+use crate::lines::{digits_of, line_of_two, object_of};
 use fp_base::{ObjKind, Text};
 use fp_host::Path;
 use fp_name::Digest;
@@ -31,4 +31,12 @@ pub fn fsck_line(alloc: Global, objects: u64, bad: u64) -> Result<Text, AllocErr
 {
     let text = format!(in alloc; "fsck {objects} objects, {bad} bad\n")?;
     Ok(Text::from_string(text))
+}
+
+/// The line of the commit that was made.
+pub fn made_line(alloc: Global, commit: &Digest) -> Result<Text, AllocError>
+    ensures { IfOk result (λ t. t ≡ made_text commit.now) }
+{
+    let digits = digits_of(alloc, commit)?;
+    line_of_two(alloc, "commit", digits.as_str())
 }

@@ -10,22 +10,22 @@ use Rattle.fl_export.specs.Steps.{Refreshes}
 use Rattle.fl_change.specs.Answer.{Answer}
 use Rattle.fl_change.specs.Changes.{MayHold, operated, tidied, Changes, OnlyTidied, IsUntouched}
 use Rattle.fl_change.proofs.Changing.{keeps_files, not_touched}
-use Rattle.fl_top.specs.Exports.{MayCome, changed, refreshed, Alters, MayRest, tidied_at, refreshed_at, OnlyRests}
+use Rattle.fl_top.specs.Exports.{MayCome, changed, refreshed, made_by, NoMaking, Alters, MayRest, tidied_at, refreshed_at, OnlyRests}
 
-pub alter_none : {May : Op → Type 0} {u w : View} → ((q : Elements) → w.names q ≡ u.names q) → KeepsFiles u w → Alters May u w
+pub alter_none : {May : Op → Type 0} {Make : Elements → Slot → Type 0} {u w : View} → ((q : Elements) → w.names q ≡ u.names q) → KeepsFiles u w → Alters May Make u w
 alter_none names files = record { names = λ q. inl (names q); files = files }
 
-pub alter_untouched : {May : Op → Type 0} {u w : View} → IsUntouched u w → Alters May u w
+pub alter_untouched : {May : Op → Type 0} {Make : Elements → Slot → Type 0} {u w : View} → IsUntouched u w → Alters May Make u w
 alter_untouched same = alter_none same.names (keeps_files same)
 
 -- nothing is done
-pub alter_not : {May : Op → Type 0} {v : View} → Alters May v v
+pub alter_not : {May : Op → Type 0} {Make : Elements → Slot → Type 0} {v : View} → Alters May Make v v
 alter_not = alter_untouched not_touched
 
-pub alter_on : {May : Op → Type 0} (u v w : View) → Alters May u v → Alters May v w → Alters May u w
-alter_on {May = May} u v w first second = record {
+pub alter_on : {May : Op → Type 0} {Make : Elements → Slot → Type 0} (u v w : View) → Alters May Make u v → Alters May Make v w → Alters May Make u w
+alter_on {May = May} {Make = Make} u v w first second = record {
   names = λ q. elim (second.names q) [
-    | inl same ↦ elim (first.names q) [ inl was ↦ inl (same ∙ was) | inr may ↦ inr (subst (MayCome May q) (sym same) may) ]
+    | inl same ↦ elim (first.names q) [ inl was ↦ inl (same ∙ was) | inr may ↦ inr (subst (MayCome May Make q) (sym same) may) ]
     | inr may ↦ inr may
   ];
   files = files_on first.files second.files;
@@ -35,18 +35,19 @@ hold_to : {A B : Op → Type 0} {q : Elements} {e : Slot} → ((op : Op) → A o
 hold_to wider (operated s op v may put) = operated s op v (wider op may) put
 hold_to wider (tidied s may) = tidied s may
 
-come_to : {A B : Op → Type 0} {q : Elements} {e : Slot} → ((op : Op) → A op → B op) → MayCome A q e → MayCome B q e
+come_to : {A B : Op → Type 0} {Make : Elements → Slot → Type 0} {q : Elements} {e : Slot} → ((op : Op) → A op → B op) → MayCome A NoMaking q e → MayCome B Make q e
 come_to wider (changed may) = changed (hold_to wider may)
 come_to wider (refreshed may) = refreshed may
+come_to wider (made_by none) = absurd none
 
 -- by more operations
-pub alter_to : {A B : Op → Type 0} {u w : View} → ((op : Op) → A op → B op) → Alters A u w → Alters B u w
+pub alter_to : {A B : Op → Type 0} {Make : Elements → Slot → Type 0} {u w : View} → ((op : Op) → A op → B op) → Alters A NoMaking u w → Alters B Make u w
 alter_to wider alters = record { names = λ q. elim (alters.names q) [ inl same ↦ inl same | inr may ↦ inr (come_to wider may) ]; files = alters.files }
 
-pub alter_changes : {May : Op → Type 0} {u w : View} → Changes May u w → Alters May u w
+pub alter_changes : {May : Op → Type 0} {Make : Elements → Slot → Type 0} {u w : View} → Changes May u w → Alters May Make u w
 alter_changes changes = record { names = λ q. elim (changes.names q) [ inl same ↦ inl same | inr may ↦ inr (changed may) ]; files = changes.files }
 
-pub alter_refreshes : {May : Op → Type 0} {s : State} {u w : View} → Refreshes s u w → Alters May u w
+pub alter_refreshes : {May : Op → Type 0} {Make : Elements → Slot → Type 0} {s : State} {u w : View} → Refreshes s u w → Alters May Make u w
 alter_refreshes refreshes = record { names = λ q. elim (refreshes.names q) [ inl same ↦ inl same | inr may ↦ inr (refreshed may) ]; files = refreshes.files }
 
 -- ---- where no operation is done

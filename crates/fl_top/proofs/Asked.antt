@@ -1,17 +1,17 @@
 -- What commands ask of the remotes.
-use Rattle.std.proofs.Common.{◌≡◌, ℕ, List, false, Option, Result, IsErrOf, refl, arith}
+use Rattle.std.proofs.Common.{◌≡◌, ℕ, List, true, Option, Result, IsErrOf, refl, arith}
 use Rattle.fp_host.specs.Remote.{Holdings}
 use Rattle.fp_host.specs.View.{View}
 use Rattle.fp_small.specs.declared.op.Op.{Op}
 use Rattle.fp_small.specs.declared.state.State.{State}
 use Rattle.ost_walk.specs.Ends.{Outside}
 use Rattle.fl_words.specs.declared.command.Command.{Command}
-use Rattle.fl_words.specs.declared.command.Command.TheVariants.{Change as Changing, List as Listed, Show as Showing, Filter as Filtering, Batch, Fsck}
+use Rattle.fl_words.specs.declared.command.Command.TheVariants.{Change as Changing, List as Listed, Show as Showing, Filter as Filtering, Batch, Fsck, Export as Exporting}
 use Rattle.fl_change.specs.Performs.{AsksBy, Works}
 use Rattle.fl_change.specs.declared.end.RunEnd.{RunEnd}
 use Rattle.fl_change.specs.declared.end.RunEnd.TheVariants.{RemoteFault}
 use Rattle.fl_top.specs.Asked.{OpsBy, AsksRemotes}
-use Rattle.fl_top.specs.Status.{only_looks}
+use Rattle.fl_top.specs.Status.{changes_state}
 
 -- one of them brings a commit
 pub asks_to : {A B : Op → Type 0} → ((op : Op) → A op → B op) → AsksBy A → AsksBy B
@@ -39,11 +39,12 @@ asks_work F passes works = record {
   unasked = λ none. let is = works.unasked none in (is.0, λ f. is.1 (passes f));
 }
 
--- a command that only looks brings nothing, so it never fails by them
-pub fails_changing : (command : Command) (left : Option (List ℕ)) {F : Type 0} {old new : Option Holdings} {before now : ℕ} → AsksRemotes (OpsBy command left) F old new before now → F → only_looks command ≡ false
+-- a command that changes no state brings nothing, so it never fails by them
+pub fails_changing : (command : Command) (left : Option (List ℕ)) {F : Type 0} {old new : Option Holdings} {before now : ℕ} → AsksRemotes (OpsBy command left) F old new before now → F → changes_state command ≡ true
 fails_changing (Changing change) left asks failed = refl
 fails_changing (Listed listing) left asks failed = absurd ((asks.unasked (λ a. a.1)).1 failed)
 fails_changing (Showing thing) left asks failed = absurd ((asks.unasked (λ a. a.1)).1 failed)
 fails_changing (Filtering source) left asks failed = absurd ((asks.unasked (λ a. a.1)).1 failed)
 fails_changing Batch left asks failed = refl
 fails_changing Fsck left asks failed = absurd ((asks.unasked (λ a. a.1)).1 failed)
+fails_changing (Exporting remote name) left asks failed = absurd ((asks.unasked (λ a. a.1)).1 failed)

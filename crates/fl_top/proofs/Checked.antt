@@ -46,7 +46,7 @@ use Rattle.fl_top.specs.declared.command_end.CommandEnd.{CommandEnd}
 use Rattle.fl_top.proofs.Starting.{look_not_open, halted_look}
 use Rattle.fl_top.proofs.Over.{over_is, counts_shown, not_shown}
 use Rattle.fl_top.proofs.Listed.{reads_opened, keeping, looks, telling, tells}
-use Rattle.fl_top.proofs.Finishing.{is_end, closed, given_by}
+use Rattle.fl_top.proofs.Finishing.{is_end, closed, given_by, made_where}
 
 -- ---- the state is read first
 
@@ -169,6 +169,7 @@ ended_checked : (t : Told) (r : Result (Unit {0}) RunEnd) (s : Result (Unit {0})
 ended_checked t r s u w close give found q = record {
   ended = λ given gave shown counts may. close (over (checked given.report) shown) (q.ended given.report (found given gave) shown counts);
   given = λ given gave by. q.given given.report (give by);
+  made = made_where s Fsck t.left u w tt;
 }
 
 pub goes_check : {a b : Option Moments} (t : Told) → t.moments ≡ a → Goes a b ChecksOver (CheckedOver (Ok tt)) → Goes a b (RunsOn Fsck t) (EndedOn Fsck t (Ok tt))

@@ -18,7 +18,7 @@ use Rattle.dep_states.specs.After.{Done, after_all}
 use Rattle.fl_lines.specs.Lines.{refusal_text, refs_text, pins_text, remotes_text}
 use Rattle.fl_words.specs.Batch.{batch_of}
 use Rattle.fl_words.specs.declared.command.Command.{Command}
-use Rattle.fl_words.specs.declared.command.Command.TheVariants.{Change as Changing, List as Listed, Show as Showing, Filter as Filtering, Batch, Fsck}
+use Rattle.fl_words.specs.declared.command.Command.TheVariants.{Change as Changing, List as Listed, Show as Showing, Filter as Filtering, Batch, Fsck, Export as Exporting}
 use Rattle.fl_words.specs.declared.command.Change.{Change}
 use Rattle.fl_words.specs.declared.command.Listing.{Listing}
 use Rattle.fl_words.specs.declared.command.Listing.TheVariants as listings
@@ -29,6 +29,8 @@ use Rattle.fl_words.specs.declared.command.PolicySource.TheVariants as sources
 use Rattle.bus_stream.specs.declared.recording.Recording.{Recording}
 use Rattle.bus_stream.specs.Recordings.{recording_of}
 use Rattle.bus_policy.specs.declared.policy.PolicyRule.{PolicyRule}
+use Rattle.ost_description.specs.declared.description.Description.{Description}
+use Rattle.ost_description.specs.Descriptions.{described}
 use Rattle.bus_proxy.specs.Arrivals.{End, end_of}
 use Rattle.fl_filter.specs.Filtered.{broken}
 use Rattle.fl_launch.specs.declared.launching.LaunchText.{LaunchText}
@@ -39,7 +41,7 @@ use Rattle.fl_change.specs.Answer.{Answer, Piece, lines_of, last_of, joined, ops
 use Rattle.fl_export.specs.Exported.{exported}
 use Rattle.fl_top.specs.Fsck.{report_text}
 use Rattle.fl_top.specs.Exports.{exports_text}
-use Rattle.fl_top.specs.Answer.{Given, listed, checked, override_text, shown_by, over, of_batch, answer_over, by_read, by_value, by_type, commit_shown, tree_shown, meta_shown, value_shown, over_input, launch_over, of_launch, on_session, on_system, rules_over, by_rules, of_recording, filtered_by, filter_by}
+use Rattle.fl_top.specs.Answer.{Given, listed, checked, override_text, shown_by, over, of_batch, answer_over, by_read, by_value, by_type, commit_shown, tree_shown, meta_shown, value_shown, over_input, launch_over, of_launch, on_session, on_system, rules_over, by_rules, of_recording, filtered_by, filter_by, of_description, commit_made}
 use Rattle.fl_change.specs.Turns.{changing}
 use Rattle.fl_top.specs.Objects.{commit_lines, tree_lines, meta_lines}
 use Rattle.gv_value.specs.Shape.{Shape}
@@ -354,6 +356,14 @@ filtered_plain rules bytes plain = recording_plain rules (recording_of bytes) pl
 filter_plain : (source : PolicySource) (shown : Result World Elements) (bytes : List ℕ) → IsPlain (filter_by source shown bytes)
 filter_plain source shown bytes = filtered_plain (rules_over source shown) bytes (rules_plain source shown)
 
+description_plain : (commit : List ℕ) (read : Result Description ℕ) → IsPlain (of_description commit read)
+description_plain commit (Err line) r is = one_of_some (BadRecord line) r is refl
+description_plain commit (Ok description) r is = absurd (cc is)
+
+made_plain : (commit bytes : List ℕ) → IsPlain (commit_made commit bytes)
+unfolding commit_made
+made_plain commit bytes = description_plain commit (described bytes)
+
 pub command_plain : (command : Command) (given : Given) (shown : Result World Elements) → IsPlain (answer_over command given shown)
 command_plain (Changing change) given shown = over_plain (changing (change ∷ []) given.held) shown (changing_plain (change ∷ []) given.held)
 command_plain (Listed listing) given shown = over_plain (listed listing) shown (listed_plain listing)
@@ -361,3 +371,4 @@ command_plain (Showing thing) given shown = input_plain (shown_by thing) given.i
 command_plain (Filtering source) given shown = input_plain (filter_by source shown) given.input (filter_plain source shown given.input)
 command_plain Batch given shown = input_plain (λ bytes. of_batch (batch_of bytes) given.held shown) given.input (batch_plain (batch_of given.input) given.held shown)
 command_plain Fsck given shown = over_plain (checked given.report) shown (λ x. told_plain (report_text given.report))
+command_plain (Exporting remote name) given shown = input_plain (commit_made given.commit) given.input (made_plain given.commit given.input)

@@ -17,7 +17,7 @@ use Rattle.fp_base.specs.declared.what.What.TheVariants.{Input}
 use Rattle.fl_lines.specs.Lines.{refusal_text}
 use Rattle.fl_words.specs.Forms.{command_of, bad_index}
 use Rattle.fl_words.specs.declared.command.Command.{Command}
-use Rattle.fl_words.specs.declared.command.Command.TheVariants.{Change as Changing, Batch}
+use Rattle.fl_words.specs.declared.command.Command.TheVariants.{Change as Changing, List as Listed, Show as Showing, Filter as Filtering, Batch, Fsck, Export as Exporting}
 use Rattle.fl_words.specs.declared.command.Change.{Change}
 use Rattle.fl_words.specs.declared.batch.BatchError.{BatchError}
 use Rattle.fl_words.specs.declared.batch.BatchError.TheVariants as batch
@@ -28,10 +28,10 @@ use Rattle.fl_top.specs.Answer.{Given, answer, answer_to, answer_over, over, ove
 use Rattle.fl_change.specs.Turns.{changing, MayDo}
 use Rattle.fl_top.specs.Asked.{OpsBy, OpsFor}
 use Rattle.fp_small.specs.declared.op.Op.{Op}
-use Rattle.fl_top.specs.Runs.{Runs, Ran, Told, RunsBy, RanBy, IsGiven, IsGivenTo, Looks, IsChange, IsReady, Serves, HasCauses, MayAnswer, WasTaken}
-use Rattle.fl_top.specs.RunsOver.{RunsOver, LooksOver, EndedOver, LookedOver, RunsOn, EndedOn, RanOn, Ended, Closed, IsGivenBy, IsClosedBy, Takes, TakenBy}
+use Rattle.fl_top.specs.Runs.{Runs, Ran, Told, RunsBy, RanBy, IsGiven, IsGivenTo, Looks, MakesNone, IsChange, IsReady, Serves, HasCauses, MayAnswer, WasTaken}
+use Rattle.fl_top.specs.RunsOver.{RunsOver, LooksOver, EndedOver, LookedOver, RunsOn, EndedOn, RanOn, Ended, Closed, IsGivenBy, IsClosedBy, MadeWhere, Takes, TakenBy}
 use Rattle.fl_change.specs.Says.{Says, Refuses}
-use Rattle.fl_top.specs.Status.{only_looks, reads_input, asks_remotes, IsAnswered, IsOfWords}
+use Rattle.fl_top.specs.Status.{only_looks, changes_state, reads_input, asks_remotes, IsAnswered, IsOfWords}
 use Rattle.fl_change.specs.declared.end.RunEnd.{RunEnd}
 use Rattle.fl_change.specs.declared.end.RunEnd.TheVariants as run
 use Rattle.fl_top.specs.declared.command_end.CommandEnd.{CommandEnd}
@@ -43,6 +43,7 @@ use Rattle.fl_top.specs.Ends.{end_of_run, end_of_input, end_of_batch}
 use Rattle.fl_change.specs.Performs.{AsksBy}
 use Rattle.fl_change.proofs.Changing.{not_touched}
 use Rattle.fl_top.specs.Exports.{Alters}
+use Rattle.fl_top.specs.Remotes.{MakesFor, MadeBy, MadeFor}
 use Rattle.fl_top.proofs.Altering.{alter_on, alter_to, alter_not, alter_untouched}
 use Rattle.fl_top.proofs.Asked.{asks_to}
 use Rattle.fl_top.proofs.Over.{IsConstant, over_same, counts_same, counts_constant}
@@ -69,9 +70,42 @@ given_by run.Fault by = absurd by
 given_by run.RemoteFault by = absurd by
 given_by run.NoMemory by = absurd by
 
--- a command that only looks changes nothing
-pub not_changes : (command k : Command) → command ≡ k → only_looks k ≡ true → IsChange (Some command) → ⊥
-not_changes command k is looks change = let both : true ≡ false = sym looks ∙ sym (ap only_looks is) ∙ change in cc both
+-- a command that changes no state
+pub not_changes : (command k : Command) → command ≡ k → changes_state k ≡ false → IsChange (Some command) → ⊥
+not_changes command k is keeps change = let both : true ≡ false = sym change ∙ (ap changes_state is ∙ keeps) in cc both
+
+-- one that may change it looks at it, and makes no remote
+looks_not : (command : Command) → changes_state command ≡ true → only_looks command ≡ false
+looks_not (Changing change) is = refl
+looks_not (Listed listing) is = absurd (cc is)
+looks_not (Showing thing) is = absurd (cc is)
+looks_not (Filtering source) is = absurd (cc is)
+looks_not Batch is = refl
+looks_not Fsck is = absurd (cc is)
+looks_not (Exporting remote name) is = absurd (cc is)
+
+made_none : (command : Command) (left : Option (List ℕ)) (u w : View) → changes_state command ≡ true → MadeBy command left u w
+made_none (Changing change) left u w is = tt
+made_none (Listed listing) left u w is = tt
+made_none (Showing thing) left u w is = tt
+made_none (Filtering source) left u w is = tt
+made_none Batch left u w is = tt
+made_none Fsck left u w is = tt
+made_none (Exporting remote name) left u w is = absurd (cc is)
+
+pub look_made : (command : Command) (left : Option (List ℕ)) (u w : View) → only_looks command ≡ true → MadeBy command left u w
+look_made (Changing change) left u w is = tt
+look_made (Listed listing) left u w is = tt
+look_made (Showing thing) left u w is = tt
+look_made (Filtering source) left u w is = tt
+look_made Batch left u w is = tt
+look_made Fsck left u w is = tt
+look_made (Exporting remote name) left u w is = absurd (cc is)
+
+-- where it was done, by an end
+pub made_where : (r : Result (Unit {0}) CommandEnd) (command : Command) (left : Option (List ℕ)) (u w : View) → MadeBy command left u w → MadeWhere r command left u w
+made_where (Ok t) command left u w made = made
+made_where (Err e) command left u w made = tt
 
 -- the answer to it is this over the world that it works on
 abbrev pub IsAnswer : Command → Told → (Holdings → World → Answer) → Type 0
@@ -82,10 +116,10 @@ counts_for : (command : Command) (f : World → Answer) (given : Given) (u : Vie
 counts_for command f given u shown is counts = over_same (over f) (answer_over command given) (shows u) shown is counts
 
 -- a command that changes something, whose refusals are none of the words or of the input, answers where the installation is ready
-ready_for : (command : Command) (f : World → Answer) (given : Given) (u : View) (shown : Result World Elements) → only_looks command ≡ false → ((x : World) → IsAtOnce (f x).refusal → ⊥) → over f shown ≡ answer_over command given shown → MayAnswer (Some command) u (answer_over command given shown) → IsReady u
+ready_for : (command : Command) (f : World → Answer) (given : Given) (u : View) (shown : Result World Elements) → changes_state command ≡ true → ((x : World) → IsAtOnce (f x).refusal → ⊥) → over f shown ≡ answer_over command given shown → MayAnswer (Some command) u (answer_over command given shown) → IsReady u
 ready_for command f given u shown changes late is may = elim may [
   | inl serves ↦ elim serves [
-    | inl looks ↦ absurd (let both : true ≡ false = sym looks ∙ changes in cc both)
+    | inl keeps ↦ absurd (let both : true ≡ false = sym changes ∙ keeps in cc both)
     | inr ready ↦ ready
   ]
   | inr at_once ↦ absurd (over_late f late shown (subst (λ (a : Answer). IsAtOnce a.refusal) (sym is) at_once))
@@ -100,7 +134,7 @@ holds_told command t given asks gave = elim gave.held [
 
 -- what is known of a command that changes something, by these operations
 pub record IsChanging (command : Command) (t : Told) (May : Op → Type 0) (f : Holdings → World → Answer) : Type 0 where
-  pub changes : only_looks command ≡ false
+  pub changes : changes_state command ≡ true
   pub asks : asks_remotes command ≡ true
   pub late : IsLate f
   pub is : IsAnswer command t f
@@ -113,7 +147,7 @@ runs_change command t May f u w known p = record {
       subst (λ (x : Answer). Runs x u w) (is shown)
       (p.runs (ready_for command (f given.held) given u shown known.changes (known.late given.held) (is shown) may) given.held (holds_told command t given known.asks gave) shown (counts_for command (f given.held) given u shown is counts));
   changes = λ ready. alter_to known.may (p.changes (λ asks. ready (asks_to known.may asks)));
-  untouched = λ why. elim why [ inl looks ↦ absurd (let both : true ≡ false = sym looks ∙ known.changes in cc both) | inr none ↦ p.untouched none ];
+  untouched = λ why. elim why [ inl looks ↦ absurd (let both : true ≡ false = sym looks ∙ looks_not command known.changes in cc both) | inr none ↦ p.untouched none.1 ];
 }
 
 ended_change : (command : Command) (t : Told) (May : Op → Type 0) (f : Holdings → World → Answer) (r : Result (Unit {0}) RunEnd) (s : Result (Unit {0}) CommandEnd) (u w : View) → IsChanging command t May f
@@ -124,6 +158,7 @@ ended_change command t May f r s u w known close give q = record {
       subst (λ (x : Answer). Closed x s u w) (is shown) (close (over (f given.held) shown)
       (q.ended (ready_for command (f given.held) given u shown known.changes (known.late given.held) (is shown) may) given.held (holds_told command t given known.asks gave) shown (counts_for command (f given.held) given u shown is counts)));
   given = λ given gave by. counts_same (answer_over command given) (over (f given.held)) (shows u) (λ r. sym (known.is given gave r)) (q.given given.held (give by));
+  made = made_where s command t.left u w (made_none command t.left u w known.changes);
 }
 
 -- one that changes something
@@ -150,25 +185,26 @@ runs_look command t f u w is p = record {
   untouched = λ why. p.untouched;
 }
 
-ended_look : (command : Command) (t : Told) (f : World → Answer) (r : Result (Unit {0}) RunEnd) (s : Result (Unit {0}) CommandEnd) (u w : View) → IsLook command f
+ended_look : (command : Command) (t : Told) (f : World → Answer) (r : Result (Unit {0}) RunEnd) (s : Result (Unit {0}) CommandEnd) (u w : View) → only_looks command ≡ true → IsLook command f
     → ((a : Answer) → Ended a r u w → Closed a s u w) → (IsClosedBy s → IsGivenBy r) → LookedOver f r u w → EndedOn command t s u w
-ended_look command t f r s u w is close give q = record {
+ended_look command t f r s u w looks is close give q = record {
   ended = λ given gave shown counts may. subst (λ (x : Answer). Closed x s u w) (is given shown) (close (over f shown) (q.ended shown (counts_for command f given u shown (is given) counts)));
   given = λ given gave by. counts_same (answer_over command given) (over f) (shows u) (λ r. sym (is given r)) (q.given (give by));
+  made = made_where s command t.left u w (look_made command t.left u w looks);
 }
 
 -- one that looks
-pub goes_look : {a b : Option Moments} (command : Command) (t : Told) (f : World → Answer) → IsTold a → IsLook command f
+pub goes_look : {a b : Option Moments} (command : Command) (t : Told) (f : World → Answer) → IsTold a → only_looks command ≡ true → IsLook command f
     → Goes a b (LooksOver f) (LookedOver f (Ok tt)) → Goes a b (RunsOn command t) (EndedOn command t (Ok tt))
-goes_look command t f known is goes = begins known goes
+goes_look command t f known looks is goes = begins known goes
     (λ u w tree p. runs_look command t f u w is p)
-    (λ u w tree p q. ended_look command t f (Ok tt) (Ok tt) u w is (λ a e. e) (λ by. by) q)
+    (λ u w tree p q. ended_look command t f (Ok tt) (Ok tt) u w looks is (λ a e. e) (λ by. by) q)
 
-pub goes_not_looked : {a b : Option Moments} (command : Command) (t : Told) (f : World → Answer) (e : RunEnd) (r : Result (Unit {0}) CommandEnd) → IsTold a → IsLook command f
+pub goes_not_looked : {a b : Option Moments} (command : Command) (t : Told) (f : World → Answer) (e : RunEnd) (r : Result (Unit {0}) CommandEnd) → IsTold a → only_looks command ≡ true → IsLook command f
     → Goes a b (LooksOver f) (LookedOver f (Err e)) → IsErrAnd r (λ end. end ≡ end_of_run e) → Goes a b (RunsOn command t) (EndedOn command t r)
-goes_not_looked {a = a} {b = b} command t f e r known is goes err =
+goes_not_looked {a = a} {b = b} command t f e r known looks is goes err =
     subst (λ (x : Result (Unit {0}) CommandEnd). Goes a b (RunsOn command t) (EndedOn command t x)) (sym (is_end r (end_of_run e) err))
-    (begins known goes (λ u w tree p. runs_look command t f u w is p) (λ u w tree p q. ended_look command t f (Err e) (Err (end_of_run e)) u w is (λ a x. closed a e u w x) (given_by e) q))
+    (begins known goes (λ u w tree p. runs_look command t f u w is p) (λ u w tree p q. ended_look command t f (Err e) (Err (end_of_run e)) u w looks is (λ a x. closed a e u w x) (given_by e) q))
 
 -- a fault of the command is one of the work
 pub run_fault : (r : Result (Unit {0}) RunEnd) (s : Result (Unit {0}) CommandEnd) (e : RunEnd) → r ≡ Err e → IsErrAnd s (λ end. end ≡ end_of_run e) → IsErrOf s Fault → IsErrOf r run.Fault
@@ -218,14 +254,14 @@ run_input s e err fault = of_run e (let both : Err (end_of_run e) ≡ Err InputF
 
 -- ---- its cause
 
-serves_change : (command : Command) (v : View) → only_looks command ≡ false → Serves (Some command) v → IsReady v
+serves_change : (command : Command) (v : View) → changes_state command ≡ true → Serves (Some command) v → IsReady v
 serves_change command v changes serves = elim serves [
-  | inl looks ↦ absurd (let both : true ≡ false = sym looks ∙ changes in cc both)
+  | inl keeps ↦ absurd (let both : true ≡ false = sym changes ∙ keeps in cc both)
   | inr ready ↦ ready
 ]
 
 -- the cause of what changes something, and of what passes its fault on
-pub caused_change : {a : Option Moments} {F G : Type 0} (command : Command) (before now : ℕ) → only_looks command ≡ false → IsCaused F a IsReady before now → (G → F) → IsCaused G a (HasCauses (Some command)) before now
+pub caused_change : {a : Option Moments} {F G : Type 0} (command : Command) (before now : ℕ) → changes_state command ≡ true → IsCaused F a IsReady before now → (G → F) → IsCaused G a (HasCauses (Some command)) before now
 caused_change command before now changes cause passes = record { later = cause.later; fault = λ is m told can. cause.fault (passes is) m told (serves_change command m.now changes can.serves) }
 
 -- of a call after others, which leave the count no lower
@@ -250,6 +286,7 @@ goes_none {a = a} command t e r known err ends =
     subst (λ (x : Result (Unit {0}) CommandEnd). Goes a a (RunsOn command t) (EndedOn command t x)) (sym (is_end r e err)) (stays known (not_begun command t) (λ u tree. record {
       ended = λ given gave shown counts may. (ends given gave).closed shown u;
       given = λ given gave by. counts_constant (answer_over command given) (shows u) ((ends given gave).same by);
+      made = tt;
     }))
 
 -- the input failed, before anything is done
@@ -285,12 +322,12 @@ not_long : (input : List ℕ) → length input ≤ input_most → nat_le (length
 not_long input few = grind arith
 
 -- its answer is this by the whole input
-pub record ByInput (command : Command) (f : Holdings → Result World Elements → List ℕ → Answer) : Type 0 where
+pub record ByInput (command : Command) (f : Given → Result World Elements → List ℕ → Answer) : Type 0 where
   pub reads : reads_input command ≡ true
-  pub is : (given : Given) (shown : Result World Elements) → answer_over command given shown ≡ over_input (f given.held shown) given.input
+  pub is : (given : Given) (shown : Result World Elements) → answer_over command given shown ≡ over_input (f given shown) given.input
 
 -- all of the input is given
-given_all : (command : Command) (t : Told) (given : Given) → reads_input command ≡ true → IsGivenTo command t given → t.left ≡ Some given.input
+pub given_all : (command : Command) (t : Told) (given : Given) → reads_input command ≡ true → IsGivenTo command t given → t.left ≡ Some given.input
 given_all command t given reads gave = elim gave.input [
   | inl none ↦ absurd (let both : true ≡ false = sym reads ∙ none in cc both)
   | inr told ↦ told
@@ -300,23 +337,23 @@ by_length : (f : List ℕ → Answer) (input : List ℕ) (b : Bool) → nat_le (
 by_length f input b is = ap (λ (c : Bool). if c then f input else refusal_answer (Limit Input (input_most + 1))) is
 
 -- the answer to it, whose bytes were read
-pub read_is : (command : Command) (f : Holdings → Result World Elements → List ℕ → Answer) → ByInput command f → (t : Told) (bytes : List ℕ) → IsWhole t.left bytes → (given : Given) → IsGivenTo command t given → (shown : Result World Elements) → f given.held shown bytes ≡ answer_over command given shown
+pub read_is : (command : Command) (f : Given → Result World Elements → List ℕ → Answer) → ByInput command f → (t : Told) (bytes : List ℕ) → IsWhole t.left bytes → (given : Given) → IsGivenTo command t given → (shown : Result World Elements) → f given shown bytes ≡ answer_over command given shown
 read_is command f by t bytes whole given gave shown =
     let all = whole given.input (given_all command t given by.reads gave) in
-    ap (f given.held shown) all.0 ∙ sym (by_length (f given.held shown) given.input true (not_long given.input all.1)) ∙ sym (by.is given shown)
+    ap (f given shown) all.0 ∙ sym (by_length (f given shown) given.input true (not_long given.input all.1)) ∙ sym (by.is given shown)
 
 -- the input wasn't read
-pub input_ends : (command : Command) (f : Holdings → Result World Elements → List ℕ → Answer) → ByInput command f → (t : Told) (before now : ℕ) (e : InputEnd) → InputStops t.left before now e → (given : Given) → IsGivenTo command t given → EndsEarly command given (end_of_input e)
+pub input_ends : (command : Command) (f : Given → Result World Elements → List ℕ → Answer) → ByInput command f → (t : Told) (before now : ℕ) (e : InputEnd) → InputStops t.left before now e → (given : Given) → IsGivenTo command t given → EndsEarly command given (end_of_input e)
 input_ends command f by t before now input.TooLong stops given gave =
     let long = too_long given.input (stops given.input (given_all command t given by.reads gave)) in
-    refused_early command given (Limit Input (input_most + 1)) (λ shown. sym (by_length (f given.held shown) given.input false long) ∙ sym (by.is given shown))
+    refused_early command given (Limit Input (input_most + 1)) (λ shown. sym (by_length (f given shown) given.input false long) ∙ sym (by.is given shown))
 input_ends command f by t before now input.Fault stops given gave = failed_early command given
 input_ends command f by t before now input.NoMemory stops given gave = halted_early command given
 
 -- ---- a batch
 
-abbrev pub batch_by : Holdings → Result World Elements → List ℕ → Answer
-batch_by held shown bytes = of_batch (batch_of bytes) held shown
+abbrev pub batch_by : Given → Result World Elements → List ℕ → Answer
+batch_by given shown bytes = of_batch (batch_of bytes) given.held shown
 
 pub batch_input : ByInput Batch batch_by
 batch_input = record { reads = refl; is = λ given shown. refl }
@@ -376,31 +413,43 @@ pub goes_done : {a b : Option Moments} (command : Command) (t : Told) → IsTold
 goes_done command t known goes = begins known goes (λ u w tree r. r) (λ u w tree r q. record {
   ran = λ given gave shown counts may. ran_done (answer_over command given shown) (r.runs given gave shown counts may) (q.ended given gave shown counts may);
   given = λ given gave answered. q.given given gave tt;
+  made = λ done. q.made;
 })
 
 pub goes_fault : {a b : Option Moments} (command : Command) (t : Told) → IsTold a → Goes a b (RunsOn command t) (EndedOn command t (Err Fault)) → Goes a b (RunsOn command t) (RanOn command t 3)
 goes_fault command t known goes = begins known goes (λ u w tree r. r) (λ u w tree r q. record {
   ran = λ given gave shown counts may. ran_fault (answer_over command given shown) (r.runs given gave shown counts may);
   given = λ given gave answered. absurd (not_answered 3 (omega arith) answered);
+  made = λ done. absurd (let is : 3 ≡ 0 = done in omega (arith, is));
 })
 
 pub goes_input : {a b : Option Moments} (command : Command) (t : Told) → IsTold a → Goes a b (RunsOn command t) (EndedOn command t (Err InputFault)) → Goes a b (RunsOn command t) (RanOn command t 5)
 goes_input command t known goes = begins known goes (λ u w tree r. r) (λ u w tree r q. record {
   ran = λ given gave shown counts may. ran_input (answer_over command given shown) (r.runs given gave shown counts may) (q.ended given gave shown counts may);
   given = λ given gave answered. absurd (not_answered 5 (omega arith) answered);
+  made = λ done. absurd (let is : 5 ≡ 0 = done in omega (arith, is));
 })
 
 pub goes_remote : {a b : Option Moments} (command : Command) (t : Told) → IsTold a → Goes a b (RunsOn command t) (EndedOn command t (Err RemoteFault)) → Goes a b (RunsOn command t) (RanOn command t 4)
 goes_remote command t known goes = begins known goes (λ u w tree r. r) (λ u w tree r q. record {
   ran = λ given gave shown counts may. ran_halted (answer_over command given shown) 4 (omega arith) (r.runs given gave shown counts may) (q.ended given gave shown counts may);
   given = λ given gave answered. absurd (not_answered 4 (omega arith) answered);
+  made = λ done. absurd (let is : 4 ≡ 0 = done in omega (arith, is));
 })
 
 pub goes_memory : {a b : Option Moments} (command : Command) (t : Told) → IsTold a → Goes a b (RunsOn command t) (EndedOn command t (Err NoMemory)) → Goes a b (RunsOn command t) (RanOn command t 6)
 goes_memory command t known goes = begins known goes (λ u w tree r. r) (λ u w tree r q. record {
   ran = λ given gave shown counts may. ran_halted (answer_over command given shown) 6 (omega arith) (r.runs given gave shown counts may) (q.ended given gave shown counts may);
   given = λ given gave answered. absurd (not_answered 6 (omega arith) answered);
+  made = λ done. absurd (let is : 6 ≡ 0 = done in omega (arith, is));
 })
+
+-- a refusal's status isn't 0
+not_refused : (text : List ℕ) (status result : ℕ) → 1 ≤ status → (v w : View) → Refuses text status result v w → result ≡ 0 → ⊥
+not_refused text status result some v w refuses done = elim refuses [
+  | inl said ↦ omega (arith, some, said.0, done)
+  | inr other ↦ elim other [ inl three ↦ omega (arith, three, done) | inr six ↦ omega (arith, six.0, done) ]
+]
 
 pub goes_refused : {a b c : Option Moments} (command : Command) (t : Told) (r : Refusal) (result : ℕ) → IsTold b → Goes a b (RunsOn command t) (EndedOn command t (Err (Refused r)))
     → Goes b c (Says (refusal_text r)) (Refuses (refusal_text r) 1 result) → Goes a c (RunsOn command t) (RanOn command t result)
@@ -417,6 +466,7 @@ goes_refused command t r result known_b first second =
           let a = answer_over command given shown in
           ran_refused a r 1 result e.0 (command_plain command given shown r e.0) e.1 (refusing a r e.0 (p.runs given gave shown counts may) e.1 s) last;
       given = λ given gave answered. q.given given gave tt;
+      made = λ done. absurd (not_refused (refusal_text r) 1 result (omega arith) v w last done);
     })
 
 -- ---- the words
@@ -438,12 +488,13 @@ pub goes_command : {a b : Option Moments} (words : List (List ℕ)) (t : Told) (
 goes_command words t command status known is goes = begins known goes
     (λ u w tree r. record {
       runs = λ given gave shown counts may. subst (λ (a : Answer). Runs a u w) (answer_is words command given is shown) (r.runs given (given_to words command t given is gave) shown (counted u given shown counts) (may_answer words command u given shown is may));
-      changes = λ known. subst (λ (o : Option Command). Alters (OpsFor o t.left) u w) (sym is) (r.changes (λ asks. known (subst (λ (o : Option Command). AsksBy (OpsFor o t.left)) (sym is) asks)));
-      untouched = λ why. r.untouched (elim why [ inl looks ↦ inl (subst Looks is looks) | inr none ↦ inr none ]);
+      changes = λ known. subst (λ (o : Option Command). Alters (OpsFor o t.left) (MakesFor o) u w) (sym is) (r.changes (λ asks. known (subst (λ (o : Option Command). AsksBy (OpsFor o t.left)) (sym is) asks)));
+      untouched = λ why. r.untouched (elim why [ inl looks ↦ inl (subst Looks is looks) | inr none ↦ inr (subst MakesNone is none.0, none.1) ]);
     })
     (λ u w tree r q. record {
       ran = λ given gave shown counts may. subst (λ (a : Answer). Ran a status u w) (answer_is words command given is shown) (q.ran given (given_to words command t given is gave) shown (counted u given shown counts) (may_answer words command u given shown is may));
       given = λ given gave answered. counts_same (answer words given) (answer_over command given) (shows u) (λ r. sym (answer_is words command given is r)) (q.given given (given_to words command t given is gave) answered);
+      made = λ done. subst (λ (o : Option Command). MadeFor o t.left u w) (sym is) (q.made done);
     })
   where
     counted : (u : View) (given : Given) (shown : Result World Elements) → IsOver (answer words given) (shows u) shown → IsOver (answer_over command given) (shows u) shown
@@ -459,6 +510,7 @@ goes_no_command words t index result known none is goes = begins known goes
     (λ u w tree s e. record {
       ran = λ given gave shown counts may. subst (λ (a : Answer). Ran a result u w) (no_answer words index given none is shown) (ran_refused (refusal_answer (BadWords index)) (BadWords index) 2 result refl refl (refused_at_once (BadWords index) u) (runs u w s) e);
       given = λ given gave answered. counts_constant (answer words given) (shows u) (λ shown other. sym (no_answer words index given none is other) ∙ no_answer words index given none is shown);
+      made = λ done. subst (λ (o : Option Command). MadeFor o t.left u w) (sym none) tt;
     })
   where
     runs : (u w : View) → Says (refusal_text (BadWords index)) u w → Runs (refusal_answer (BadWords index)) u w
@@ -471,6 +523,7 @@ goes_unread words t known = stays known
     (λ u tree. record {
       ran = λ given gave shown counts may. ran_halted (answer words given shown) 6 (omega arith) (begun (answer words given shown) unchanged (λ why. not_touched)) (stood (answer words given shown) unchanged);
       given = λ given gave answered. absurd (not_answered 6 (omega arith) answered);
+      made = λ done. absurd (let is : 6 ≡ 0 = done in omega (arith, is));
     })
 
 -- and nothing was taken of the input

@@ -36,6 +36,7 @@ use Rattle.fl_change.proofs.Changing.{same_untouched}
 use Rattle.fl_top.proofs.Altering.{alter_untouched, rest_none}
 use Rattle.fl_change.proofs.Same.{same_shown, same_settled}
 use Rattle.fl_change.proofs.Working.{is_err}
+use Rattle.fl_top.specs.Status.{only_looks}
 use Rattle.fl_top.specs.Answer.{Given, piece_of, forwarding, rules_over, by_rules, of_recording, filtered_by, filter_by, answer_over, IsOver}
 use Rattle.fl_top.specs.Ends.{end_of_run}
 use Rattle.fl_top.specs.Input.{IsWhole}
@@ -45,7 +46,7 @@ use Rattle.fl_top.specs.Telling.{Tells, IsRecording, IsFound, Finds, LooksBy, Lo
 use Rattle.fl_top.specs.declared.command_end.CommandEnd.{CommandEnd}
 use Rattle.fl_top.proofs.Over.{Counts, counts_constant, over_given, over_same, counts_same}
 use Rattle.fl_top.proofs.Starting.{begun, unchanged, stood, refused_at_once, shows_before}
-use Rattle.fl_top.proofs.Finishing.{is_end, closed, given_by, ByInput, read_is}
+use Rattle.fl_top.proofs.Finishing.{is_end, closed, given_by, ByInput, read_is, made_where, look_made}
 
 -- ---- lines as pieces
 
@@ -256,8 +257,8 @@ read_no_remote_fault bytes run.NoMemory read is = cc is
 
 -- ---- the command
 
-abbrev pub by_source : PolicySource → Holdings → Result World Elements → List ℕ → Answer
-by_source source held shown bytes = filter_by source shown bytes
+abbrev pub by_source : PolicySource → Given → Result World Elements → List ℕ → Answer
+by_source source given shown bytes = filter_by source shown bytes
 
 pub source_input : (source : PolicySource) → ByInput (Filtering source) (by_source source)
 source_input source = record { reads = refl; is = λ given shown. refl }
@@ -276,18 +277,19 @@ runs_told command t by is u w looks = record {
   untouched = λ why. looks.untouched;
 }
 
-ended_told : (command : Command) (t : Told) (by : Result World Elements → Answer) (r : Result (Unit {0}) RunEnd) (s : Result (Unit {0}) CommandEnd) → IsAnswerTo command t by → (u w : View)
+ended_told : (command : Command) (t : Told) (by : Result World Elements → Answer) (r : Result (Unit {0}) RunEnd) (s : Result (Unit {0}) CommandEnd) → only_looks command ≡ true → IsAnswerTo command t by → (u w : View)
     → ((x : Answer) → Ended x r u w → Closed x s u w) → (IsClosedBy s → IsGivenBy r) → LookedBy by r u w → EndedOn command t s u w
-ended_told command t by r s is u w turned give looked = record {
+ended_told command t by r s quiet is u w turned give looked = record {
   ended = λ given gave shown counts may. subst (λ (x : Answer). Closed x s u w) (is given gave shown) (turned (by shown) (looked.ended shown (over_same by (answer_over command given) (shows u) shown (is given gave) counts)));
   given = λ given gave why. counts_same (answer_over command given) by (shows u) (λ x. sym (is given gave x)) (looked.given (give why));
+  made = made_where s command t.left u w (look_made command t.left u w quiet);
 }
 
-pub goes_told : {m n : Option Moments} (command : Command) (t : Told) (by : Result World Elements → Answer) → IsTold m → IsAnswerTo command t by → Goes m n (LooksBy by) (LookedBy by (Ok tt)) → Goes m n (RunsOn command t) (EndedOn command t (Ok tt))
-goes_told command t by told is goes = begins told goes (λ u w tree p. runs_told command t by is u w p) (λ u w tree p q. ended_told command t by (Ok tt) (Ok tt) is u w (λ x e. e) (λ why. why) q)
+pub goes_told : {m n : Option Moments} (command : Command) (t : Told) (by : Result World Elements → Answer) → IsTold m → only_looks command ≡ true → IsAnswerTo command t by → Goes m n (LooksBy by) (LookedBy by (Ok tt)) → Goes m n (RunsOn command t) (EndedOn command t (Ok tt))
+goes_told command t by told quiet is goes = begins told goes (λ u w tree p. runs_told command t by is u w p) (λ u w tree p q. ended_told command t by (Ok tt) (Ok tt) quiet is u w (λ x e. e) (λ why. why) q)
 
-pub goes_not_told : {m n : Option Moments} (command : Command) (t : Told) (by : Result World Elements → Answer) (e : RunEnd) (s : Result (Unit {0}) CommandEnd) → IsTold m → IsAnswerTo command t by → IsErrAnd s (λ end. end ≡ end_of_run e)
+pub goes_not_told : {m n : Option Moments} (command : Command) (t : Told) (by : Result World Elements → Answer) (e : RunEnd) (s : Result (Unit {0}) CommandEnd) → IsTold m → only_looks command ≡ true → IsAnswerTo command t by → IsErrAnd s (λ end. end ≡ end_of_run e)
     → Goes m n (LooksBy by) (LookedBy by (Err e)) → Goes m n (RunsOn command t) (EndedOn command t s)
-goes_not_told {m = m} {n = n} command t by e s told is err goes =
+goes_not_told {m = m} {n = n} command t by e s told quiet is err goes =
     subst (λ (x : Result (Unit {0}) CommandEnd). Goes m n (RunsOn command t) (EndedOn command t x)) (sym (is_end s (end_of_run e) err))
-    (begins told goes (λ u w tree p. runs_told command t by is u w p) (λ u w tree p q. ended_told command t by (Err e) (Err (end_of_run e)) is u w (λ x k. closed x e u w k) (given_by e) q))
+    (begins told goes (λ u w tree p. runs_told command t by is u w p) (λ u w tree p q. ended_told command t by (Err e) (Err (end_of_run e)) quiet is u w (λ x k. closed x e u w k) (given_by e) q))

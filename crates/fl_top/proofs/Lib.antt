@@ -17,3 +17,4 @@ pub mod Finding
 pub mod ShowInput
 pub mod Shown
 mod Checked
+mod Making

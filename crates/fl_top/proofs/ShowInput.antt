@@ -34,8 +34,8 @@ use Rattle.fl_top.proofs.Finishing.{is_end, EndsEarly, refused_early, halted_ear
 
 -- ---- its answer
 
-abbrev pub show_by : Shown → Holdings → Result World Elements → List ℕ → Answer
-show_by thing held shown bytes = shown_by thing bytes
+abbrev pub show_by : Shown → Given → Result World Elements → List ℕ → Answer
+show_by thing given shown bytes = shown_by thing bytes
 
 pub show_input : (thing : Shown) → ByInput (Showing thing) (show_by thing)
 show_input thing = record { reads = refl; is = λ given shown. refl }
@@ -83,6 +83,7 @@ goes_shown thing t bytes text known whole shown goes = begins known goes
     (λ u w tree says said. record {
       ended = λ given gave image counts may. subst (λ (a : Answer). Closed a (Ok tt) u w) (sym shown ∙ shown_is thing t bytes whole given gave image) (refl, tells text said);
       given = λ given gave by. counts_constant (answer_over (Showing thing) given) (shows u) (λ image other. refl);
+      made = tt;
     })
 
 pub goes_not_shown : {a b : Option Moments} (thing : Shown) (t : Told) (bytes text : List ℕ) (s : Result (Unit {0}) HostEnd) (e : HostEnd) (r : Result (Unit {0}) CommandEnd) → IsTold a → IsWhole t.left bytes → shown_by thing bytes ≡ text_answer text
@@ -94,6 +95,7 @@ goes_not_shown {a = a} {b = b} thing t bytes text s e r known whole shown was go
     (λ u w tree says said. record {
       ended = λ given gave image counts may. closed_said text (answer_over (Showing thing) given image) s e u w was said;
       given = λ given gave by. counts_constant (answer_over (Showing thing) given) (shows u) (λ image other. refl);
+      made = tt;
     }))
 
 -- a fault of the command is one of the host

@@ -22,7 +22,7 @@ use Rattle.fp_small.specs.declared.state.RefRow.{RefRow}
 use Rattle.fl_installed.specs.Described.{info_in}
 use Rattle.fl_installed.specs.declared.info.Info.{Info}
 use Rattle.fl_words.specs.declared.command.Command.{Command}
-use Rattle.fl_words.specs.declared.command.Command.TheVariants.{Change as Changing, List as Listed, Show as Showing, Filter as Filtering, Batch, Fsck}
+use Rattle.fl_words.specs.declared.command.Command.TheVariants.{Change as Changing, List as Listed, Show as Showing, Filter as Filtering, Batch, Fsck, Export as Exporting}
 use Rattle.fl_words.specs.declared.command.Change.{Change}
 use Rattle.fl_words.specs.declared.command.Listing.{Listing}
 use Rattle.fl_words.specs.declared.command.Listing.TheVariants as listings
@@ -42,11 +42,13 @@ use Rattle.fl_export.specs.Exported.{exported}
 use Rattle.fl_words.specs.Forms.{command_of, bad_index}
 use Rattle.fl_words.specs.Batch.{batch_of}
 use Rattle.ost_fsck.specs.declared.report.Report.{Report}
+use Rattle.ost_description.specs.declared.description.Description.{Description}
+use Rattle.ost_description.specs.Descriptions.{described}
 use Rattle.fl_top.specs.Fsck.{report_text}
 use Rattle.fl_top.specs.Exports.{exports_text}
 use Rattle.fl_top.specs.Input.{input_most}
 use Rattle.fl_change.specs.World.{World, used_of}
-use Rattle.fl_lines.specs.Lines.{refs_text, pins_text, remotes_text, info_text}
+use Rattle.fl_lines.specs.Lines.{refs_text, pins_text, remotes_text, info_text, made_text}
 use Rattle.gv_value.specs.Shape.{Shape}
 use Rattle.gv_value.specs.Tree.{Tree}
 use Rattle.gv_value.specs.TypeText.{type_of}
@@ -58,11 +60,13 @@ use Rattle.fl_top.specs.Objects.{head, commit_lines, tree_lines, meta_lines, nor
 use Rattle.fl_change.specs.Turns.{changing}
 use Rattle.fl_change.specs.Answer.{Answer, Piece, refusal_answer, text_answer}
 
--- what a run is given beside the installation's state: its input, what the remotes hold, and what is found in the installation's store
+-- What a run is given beside the installation's state: its input, what the remotes hold, what is found in the installation's store, and
+-- the digest of the commit that the input describes.
 pub record Given : Type 0 where
   pub input : List ℕ
   pub held : Holdings
   pub report : Report
+  pub commit : List ℕ
 
 -- ---- what is listed of a world
 
@@ -180,6 +184,16 @@ filtered_by rules bytes = of_recording rules (recording_of bytes)
 abbrev pub filter_by : PolicySource → Result World Elements → List ℕ → Answer
 filter_by source shown bytes = filtered_by (rules_over source shown) bytes
 
+-- ---- what is made of a description
+
+-- the line of its commit, or its first bad line
+abbrev pub of_description : List ℕ → Result Description ℕ → Answer
+of_description commit (Err line) = refusal_answer (BadRecord line)
+of_description commit (Ok description) = text_answer (made_text commit)
+
+unfoldable pub commit_made : List ℕ → List ℕ → Answer
+commit_made commit bytes = of_description commit (described bytes)
+
 -- ---- what words answer over an input and what an image gives
 
 -- a refusal of the words or of the input, whatever the image
@@ -210,6 +224,7 @@ answer_over (Showing thing) given shown = over_input (shown_by thing) given.inpu
 answer_over (Filtering source) given shown = over_input (filter_by source shown) given.input
 answer_over Batch given shown = over_input (λ bytes. of_batch (batch_of bytes) given.held shown) given.input
 answer_over Fsck given shown = over (checked given.report) shown
+answer_over (Exporting remote name) given shown = over_input (commit_made given.commit) given.input
 
 abbrev pub answer_to : List (List ℕ) → Option Command → Given → Result World Elements → Answer
 answer_to words None given shown = refusal_answer (BadWords (bad_index words))

@@ -5,7 +5,7 @@ use Rattle.fp_host.specs.Remote.{Holdings}
 use Rattle.fp_small.specs.declared.op.Op.{Op}
 use Rattle.op_bring.specs.Bringing.{AreTold}
 use Rattle.fl_words.specs.declared.command.Command.{Command}
-use Rattle.fl_words.specs.declared.command.Command.TheVariants.{Change as Changing, List as Listed, Show as Showing, Filter as Filtering, Batch, Fsck}
+use Rattle.fl_words.specs.declared.command.Command.TheVariants.{Change as Changing, List as Listed, Show as Showing, Filter as Filtering, Batch, Fsck, Export as Exporting}
 use Rattle.fl_words.specs.declared.command.Change.{Change}
 use Rattle.fl_words.specs.Batch.{batch_of}
 use Rattle.fl_change.specs.Performs.{AsksBy}
@@ -26,6 +26,7 @@ OpsBy (Showing thing) left op = ⊥
 OpsBy (Filtering source) left op = ⊥
 OpsBy Batch left op = (changes : List Change) × IsBatch left changes × MayDo changes op
 OpsBy Fsck left op = ⊥
+OpsBy (Exporting remote name) left op = ⊥
 
 -- words that are no command do none
 abbrev pub OpsFor : Option Command → Option (List ℕ) → Op → Type 0

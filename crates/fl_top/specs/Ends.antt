@@ -8,6 +8,8 @@ use Rattle.fp_base.specs.declared.what.What.TheVariants.{Input}
 use Rattle.fl_words.specs.declared.batch.BatchError.{BatchError}
 use Rattle.fl_words.specs.declared.batch.BatchError.TheVariants as batch
 use Rattle.fl_change.specs.Answer.{Answer, text_answer, refusal_answer}
+use Rattle.fl_make.specs.declared.end.MakeEnd.{MakeEnd}
+use Rattle.fl_make.specs.declared.end.MakeEnd.TheVariants as make
 use Rattle.fl_top.specs.Input.{input_most}
 use Rattle.fl_top.specs.declared.input.InputEnd.{InputEnd}
 use Rattle.fl_top.specs.declared.input.InputEnd.TheVariants as input
@@ -37,6 +39,11 @@ end_of_input input.NoMemory = command.NoMemory
 abbrev pub end_of_batch : BatchError → CommandEnd
 end_of_batch (batch.BadRecord line) = command.Refused (BadRecord line)
 end_of_batch batch.NoMemory = command.NoMemory
+
+abbrev pub end_of_make : MakeEnd → CommandEnd
+end_of_make (make.BadRecord line) = command.Refused (BadRecord line)
+end_of_make make.Fault = command.Fault
+end_of_make make.NoMemory = command.NoMemory
 
 -- What is shown, exactly: this text, or a refusal.
 abbrev pub Prints : Answer → Result (List ℕ) RunEnd → Type 0

@@ -14,8 +14,10 @@ use Rattle.fl_export.specs.Exported.{exported}
 use Rattle.fl_export.specs.Placed.{ExportsAre}
 use Rattle.fl_export.specs.Steps.{MayRefresh}
 use Rattle.fl_export.specs.declared.rows.ExportRow.{ExportRow}
-use Rattle.fl_lines.specs.Lines.{export_line}
-use Rattle.fl_change.specs.Answer.{Answer}
+use Rattle.fp_name.specs.Refs.{Ref}
+use Rattle.fl_lines.specs.Lines.{export_line, made_text}
+use Rattle.fl_make.specs.Making.{MayMake}
+use Rattle.fl_change.specs.Answer.{Answer, text_answer}
 use Rattle.fl_change.specs.Changes.{MayHold}
 
 -- ---- what is listed
@@ -41,21 +43,33 @@ LeavesExports v = (disk : Disk) → Leaves v disk → HasExports disk
 
 -- ---- what changes
 
--- Names may come to hold what these operations and tidying make of them, and what a refresh of the exported files does.
-pub data MayCome (May : Op → Type 0) (q : Elements) (e : Slot) : Type 0 where
-  changed : MayHold May q e → MayCome May q e
-  refreshed : MayRefresh q e → MayCome May q e
+-- Names may come to hold what these operations and tidying make of them, what a refresh of the exported files does, and what Make says.
+pub data MayCome (May : Op → Type 0) (Make : Elements → Slot → Type 0) (q : Elements) (e : Slot) : Type 0 where
+  changed : MayHold May q e → MayCome May Make q e
+  refreshed : MayRefresh q e → MayCome May Make q e
+  made_by : Make q e → MayCome May Make q e
+
+-- nothing is made
+abbrev pub NoMaking : Elements → Slot → Type 0
+NoMaking q e = ⊥
 
 -- Each name holds what it held, or what it may. Each file that was there keeps its mode and its bytes: what is new is in new
 -- files.
-pub record Alters (May : Op → Type 0) (u w : View) : Type 0 where
-  pub names : (q : Elements) → (w.names q ≡ u.names q) ⊎ MayCome May q (w.names q)
+pub record Alters (May : Op → Type 0) (Make : Elements → Slot → Type 0) (u w : View) : Type 0 where
+  pub names : (q : Elements) → (w.names q ≡ u.names q) ⊎ MayCome May Make q (w.names q)
   pub files : KeepsFiles u w
 
--- Where nothing is done, names may come to hold what tidying makes of them; and where nothing is refused, what a refresh does.
+-- the answer is the line of a commit that was made, which no other command prints
+pub record IsMadeLine (a : Answer) : Type 0 where
+  pub commit : List ℕ
+  pub is : a ≡ text_answer (made_text commit)
+
+-- Where nothing is done, names may come to hold what tidying makes of them; where nothing is refused, what a refresh does; and where a
+-- remote is made, what that does.
 pub data MayRest (a : Answer) (s : State) (q : Elements) (e : Slot) : Type 0 where
   tidied_at : MayTidy s q e → MayRest a s q e
   refreshed_at : a.refusal ≡ None → MayRefresh q e → MayRest a s q e
+  made_at : (remote : List ℕ) (r : Ref) → IsMadeLine a → MayMake remote r q e → MayRest a s q e
 
 pub record OnlyRests (a : Answer) (s : State) (u w : View) : Type 0 where
   pub names : (q : Elements) → (w.names q ≡ u.names q) ⊎ MayRest a s q (w.names q)

@@ -11,3 +11,4 @@ pub mod History
 pub mod Input
 pub mod Objects
 pub mod Telling
+pub mod Remotes

@@ -13,6 +13,7 @@ use Rattle.dep_states.specs.After.{Done, after_all}
 use Rattle.dep_open.specs.Open.{NotShown}
 use Rattle.dep_states.specs.Settled.{Settled}
 use Rattle.fl_words.specs.declared.command.Command.{Command}
+use Rattle.fl_words.specs.declared.command.Command.TheVariants.{Change as Changing, List as Listed, Show as Showing, Filter as Filtering, Batch, Fsck, Export as Exporting}
 use Rattle.fl_words.specs.Forms.{command_of}
 use Rattle.fl_change.specs.World.{World}
 use Rattle.fl_change.specs.Answer.{Answer, Piece, lines_of, joined, ops_in, ops_of, set_config, IsIdle}
@@ -21,11 +22,16 @@ use Rattle.fl_top.specs.Input.{IsDrained}
 use Rattle.fl_change.specs.Changes.{IsUntouched, HasText}
 use Rattle.fl_top.specs.Fsck.{Finds, IsListable}
 use Rattle.fl_top.specs.Exports.{Alters, OnlyRests}
-use Rattle.fl_top.specs.Status.{status_at, IsAnswered, only_looks, reads_input, asks_remotes, checks_store}
+use Rattle.fl_top.specs.Status.{status_at, IsAnswered, only_looks, changes_state, makes_remote, reads_input, asks_remotes, checks_store}
 use Rattle.fl_change.specs.Performs.{Printed, AsksBy}
 use Rattle.fp_small.specs.declared.op.Op.{Op}
 use Rattle.op_bring.specs.Bringing.{AreTold}
 use Rattle.fl_top.specs.Asked.{OpsFor}
+use Rattle.fp_name.specs.Refs.{Ref}
+use Rattle.ost_commit.specs.declared.built.Built.{Built}
+use Rattle.ost_description.specs.Commits.{IsDescribed}
+use Rattle.fl_make.specs.Making.{CanMake}
+use Rattle.fl_top.specs.Remotes.{MakesFor, MadeFor}
 
 -- The image shows what these operations make of the state that stood at the start; where there are none, a state that a stop
 -- at the start would have left.
@@ -87,10 +93,20 @@ abbrev pub Looks : Option Command → Type 0
 Looks None = Unit {0}
 Looks (Some command) = only_looks command ≡ true
 
--- a command that changes something
+-- a command that may change the installation's state
 abbrev pub IsChange : Option Command → Type 0
 IsChange None = ⊥
-IsChange (Some command) = only_looks command ≡ false
+IsChange (Some command) = changes_state command ≡ true
+
+-- words that are no command, or a command that changes no state
+abbrev pub KeepsState : Option Command → Type 0
+KeepsState None = Unit {0}
+KeepsState (Some command) = changes_state command ≡ false
+
+-- and that makes no remote
+abbrev pub MakesNone : Option Command → Type 0
+MakesNone None = Unit {0}
+MakesNone (Some command) = makes_remote command ≡ false
 
 -- a command that looks at each object of the store
 abbrev pub Checks : Option Command → Type 0
@@ -110,12 +126,27 @@ told left holds moments = record { left = left; holds = holds; moments = moments
 abbrev pub IsFoundAt : Option Moments → Report → Type 0
 IsFoundAt moments report = (m : Moments) → moments ≡ Some m → Finds (shows m.now) report
 
+-- each commit of what the bytes describe has this digest
+pub record IsCommitOf (name : Ref) (bytes digest : List ℕ) : Type 0 where
+  pub each : (built : Built) → IsDescribed bytes name built → built.commit ≡ digest
+
+abbrev pub IsMadeOf : Command → Option (List ℕ) → List ℕ → Type 0
+IsMadeOf (Changing change) left digest = Unit {0}
+IsMadeOf (Listed listing) left digest = Unit {0}
+IsMadeOf (Showing thing) left digest = Unit {0}
+IsMadeOf (Filtering source) left digest = Unit {0}
+IsMadeOf Batch left digest = Unit {0}
+IsMadeOf Fsck left digest = Unit {0}
+IsMadeOf (Exporting remote name) left digest = (bytes : List ℕ) → left ≡ Some bytes → IsCommitOf name bytes digest
+
 -- The command is given this: as its input all that is left, where it reads the input; what the remotes hold, where it asks them;
--- and what is found in the store, where it looks at that. Else it may be given any.
+-- what is found in the store, where it looks at that; and the digest of the commit that the input describes, where it makes one. Else
+-- it may be given any.
 pub record IsGivenTo (command : Command) (t : Told) (given : Given) : Type 0 where
   pub input : (reads_input command ≡ false) ⊎ (t.left ≡ Some given.input)
   pub held : (asks_remotes command ≡ false) ⊎ (t.holds ≡ Some given.held)
   pub report : (checks_store command ≡ false) ⊎ IsFoundAt t.moments given.report
+  pub commit : IsMadeOf command t.left given.commit
 
 abbrev pub IsGiven : Told → Option Command → Given → Type 0
 IsGiven t None given = Unit {0}
@@ -129,37 +160,52 @@ IsReady v = IsSound v ⊎ NotShown (shows v)
 abbrev pub IsKnown : (Op → Type 0) → Option Holdings → View → Type 0
 IsKnown May holds v = AsksBy May → AreTold holds × IsReady v
 
--- A fault of a command that changes something has a cause over an installation that is sound, or shows no state. A command that
--- only looks needs neither.
+-- A fault of a command that may change the state has a cause over an installation that is sound, or shows no state. Another needs
+-- neither.
 abbrev pub Serves : Option Command → View → Type 0
-Serves command v = Looks command ⊎ IsReady v
+Serves command v = KeepsState command ⊎ IsReady v
 
--- So a fault of a command has a cause. One that looks at each object of the store needs besides that no path there is too long.
+-- where a remote may be made, for a command that makes one
+abbrev pub IsFreeFor : Option Command → View → Type 0
+IsFreeFor None v = Unit {0}
+IsFreeFor (Some (Changing change)) v = Unit {0}
+IsFreeFor (Some (Listed listing)) v = Unit {0}
+IsFreeFor (Some (Showing thing)) v = Unit {0}
+IsFreeFor (Some (Filtering source)) v = Unit {0}
+IsFreeFor (Some Batch) v = Unit {0}
+IsFreeFor (Some Fsck) v = Unit {0}
+IsFreeFor (Some (Exporting remote name)) v = CanMake remote name v
+
+-- So a fault of a command has a cause. One that looks at each object of the store needs besides that no path there is too long, and one
+-- that makes a remote that nothing is in its way.
 pub record HasCauses (command : Option Command) (v : View) : Type 0 where
   pub serves : Serves command v
   pub listable : Checks command → IsListable v
+  pub free : IsFreeFor command v
 
 -- Over such an installation a command gives its answer; and over each one, where words or input are refused.
 abbrev pub MayAnswer : Option Command → View → Answer → Type 0
 MayAnswer command v a = Serves command v ⊎ IsAtOnce a.refusal
 
 -- At every moment the run is that of each answer that counts. Whatever the source tells, no name changed but those that the
--- command's operations, tidying and a refresh of the exported files change, and each file that was there keeps its mode and its
--- bytes: where a commit may be brought, over remotes that tell what they hold and an installation that is ready. Words that are no
--- command, a command that only looks, and one that sees no state change nothing.
+-- command's operations, tidying and a refresh of the exported files change, or where a remote is made what that changes, and each file
+-- that was there keeps its mode and its bytes: where a commit may be brought, over remotes that tell what they hold and an installation
+-- that is ready. Words that are no command, a command that only looks, and one that sees no state change nothing, but one that makes a
+-- remote, which doesn't look.
 pub record RunsBy (words : List (List ℕ)) (t : Told) (u w : View) : Type 0 where
-  pub changes : IsKnown (OpsFor (command_of words) t.left) t.holds u → Alters (OpsFor (command_of words) t.left) u w
+  pub changes : IsKnown (OpsFor (command_of words) t.left) t.holds u → Alters (OpsFor (command_of words) t.left) (MakesFor (command_of words)) u w
   pub runs : (given : Given) → IsGiven t (command_of words) given → (shown : Result World Elements)
       → IsOver (answer words given) (shows u) shown → MayAnswer (command_of words) u (answer words given shown) → Runs (answer words given shown) u w
-  pub untouched : Looks (command_of words) ⊎ NotShown (shows u) → IsUntouched u w
+  pub untouched : Looks (command_of words) ⊎ (MakesNone (command_of words) × NotShown (shows u)) → IsUntouched u w
 
 -- At the return the run was that of each answer that counts. Where the whole answer was given, there is one that counts (so
--- that this isn't said of nothing).
+-- that this isn't said of nothing). Where a remote was to be made, it is there.
 pub record RanBy (words : List (List ℕ)) (t : Told) (status : ℕ) (u w : View) : Type 0 where
   pub ran : (given : Given) → IsGiven t (command_of words) given → (shown : Result World Elements)
       → IsOver (answer words given) (shows u) shown → MayAnswer (command_of words) u (answer words given shown) → Ran (answer words given shown) status u w
   pub given : (given : Given) → IsGiven t (command_of words) given → IsAnswered status
       → (shown : Result World Elements) × IsOver (answer words given) (shows u) shown
+  pub made : status ≡ 0 → MadeFor (command_of words) t.left u w
 
 -- A command that reads the input was given all of it, where the whole answer was given and the input wasn't too long; another
 -- takes nothing of it.

@@ -20,9 +20,10 @@ use Rattle.fl_top.specs.Fsck.{Finds, HasReport}
 use Rattle.fl_top.specs.Asked.{OpsBy}
 use Rattle.fl_top.specs.Runs.{Runs, Ran, Stands, IsJust, Told, IsGivenTo, IsReady, IsKnown, MayAnswer}
 use Rattle.fl_change.specs.Changes.{IsUntouched, HasText}
-use Rattle.fl_top.specs.Exports.{Alters}
+use Rattle.fl_top.specs.Exports.{Alters, NoMaking}
+use Rattle.fl_top.specs.Remotes.{MakesBy, MadeBy}
 use Rattle.fl_top.specs.Input.{IsDrained}
-use Rattle.fl_top.specs.Status.{IsAnswered, only_looks, reads_input}
+use Rattle.fl_top.specs.Status.{IsAnswered, only_looks, makes_remote, reads_input}
 use Rattle.fl_change.specs.declared.end.RunEnd.{RunEnd}
 use Rattle.fl_change.specs.declared.end.RunEnd.TheVariants.{Refused, Fault, RemoteFault, NoMemory}
 use Rattle.fl_top.specs.declared.command_end.CommandEnd.{CommandEnd}
@@ -35,7 +36,7 @@ OverView f u Is = (shown : Result World Elements) → IsOver (over f) (shows u) 
 -- and so much changes
 pub record RunsOver (holds : Option Holdings) (May : Op → Type 0) (f : Holdings → World → Answer) (u w : View) : Type 0 where
   pub runs : IsReady u → (held : Holdings) → holds ≡ Some held → OverView (f held) u (λ a. Runs a u w)
-  pub changes : IsKnown May holds u → Alters May u w
+  pub changes : IsKnown May holds u → Alters May NoMaking u w
   pub untouched : NotShown (shows u) → IsUntouched u w
 
 -- and nothing changes
@@ -106,11 +107,11 @@ HasAnswer asked t u Where = (given : Given) → IsGivenTo asked t given → Wher
     → (shown : Result World Elements) × IsOver (answer_over asked given) (shows u) shown
 
 -- Whatever it is given these are the changes, where what it brings is known; and a command that only looks, or sees no state, changes
--- nothing.
+-- nothing, but one that makes a remote, which doesn't look.
 pub record RunsOn (asked : Command) (t : Told) (u w : View) : Type 0 where
-  pub changes : IsKnown (OpsBy asked t.left) t.holds u → Alters (OpsBy asked t.left) u w
+  pub changes : IsKnown (OpsBy asked t.left) t.holds u → Alters (OpsBy asked t.left) (MakesBy asked) u w
   pub runs : OverAll asked t u (λ a. Runs a u w)
-  pub untouched : (only_looks asked ≡ true) ⊎ NotShown (shows u) → IsUntouched u w
+  pub untouched : (only_looks asked ≡ true) ⊎ ((makes_remote asked ≡ false) × NotShown (shows u)) → IsUntouched u w
 
 -- so a command ends; where the input failed, nothing was done
 abbrev pub Closed : Answer → Result (Unit {0}) CommandEnd → View → View → Type 0
@@ -143,10 +144,17 @@ IsClosedBy (Err command.RemoteFault) = ⊥
 IsClosedBy (Err command.InputFault) = ⊥
 IsClosedBy (Err command.NoMemory) = ⊥
 
+-- and where it was done, the remote that it was to make is there
+abbrev pub MadeWhere : Result (Unit {0}) CommandEnd → Command → Option (List ℕ) → View → View → Type 0
+MadeWhere (Ok t) asked left u w = MadeBy asked left u w
+MadeWhere (Err e) asked left u w = Unit {0}
+
 pub record EndedOn (asked : Command) (t : Told) (result : Result (Unit {0}) CommandEnd) (u w : View) : Type 0 where
   pub ended : OverAll asked t u (λ a. Closed a result u w)
   pub given : HasAnswer asked t u (IsClosedBy result)
+  pub made : MadeWhere result asked t.left u w
 
 pub record RanOn (asked : Command) (t : Told) (status : ℕ) (u w : View) : Type 0 where
   pub ran : OverAll asked t u (λ a. Ran a status u w)
   pub given : HasAnswer asked t u (IsAnswered status)
+  pub made : status ≡ 0 → MadeBy asked t.left u w

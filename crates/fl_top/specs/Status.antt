@@ -3,7 +3,7 @@ use Rattle.std.specs.Prelude.{◌≡◌, ◌≤◌, ◌⊎◌, ℕ, Bool, true, 
 use Rattle.fp_small.specs.declared.refusal.Refusal.{Refusal}
 use Rattle.fp_small.specs.declared.refusal.Refusal.TheVariants.{BadWords}
 use Rattle.fl_words.specs.declared.command.Command.{Command}
-use Rattle.fl_words.specs.declared.command.Command.TheVariants.{Change as Changing, List as Listed, Show as Showing, Filter as Filtering, Batch, Fsck}
+use Rattle.fl_words.specs.declared.command.Command.TheVariants.{Change as Changing, List as Listed, Show as Showing, Filter as Filtering, Batch, Fsck, Export as Exporting}
 use Rattle.fl_change.specs.Answer.{Answer}
 
 -- 0 done, 1 refused, 2 no command, 3 a fault of the host, 4 a fault of the remotes, 5 a fault of the input, 6 want of memory
@@ -14,7 +14,7 @@ IsStatus n = n ≤ 6
 abbrev pub IsAnswered : ℕ → Type 0
 IsAnswered n = (n ≡ 0) ⊎ ((n ≡ 1) ⊎ (n ≡ 2))
 
--- it prints what is there, and changes nothing
+-- it prints what is there, or what it is given, and changes nothing
 abbrev pub only_looks : Command → Bool
 only_looks (Changing change) = false
 only_looks (Listed listing) = true
@@ -22,6 +22,27 @@ only_looks (Showing thing) = true
 only_looks (Filtering source) = true
 only_looks Batch = false
 only_looks Fsck = true
+only_looks (Exporting remote name) = false
+
+-- it may change the installation's state
+abbrev pub changes_state : Command → Bool
+changes_state (Changing change) = true
+changes_state (Listed listing) = false
+changes_state (Showing thing) = false
+changes_state (Filtering source) = false
+changes_state Batch = true
+changes_state Fsck = false
+changes_state (Exporting remote name) = false
+
+-- it makes a remote
+abbrev pub makes_remote : Command → Bool
+makes_remote (Changing change) = false
+makes_remote (Listed listing) = false
+makes_remote (Showing thing) = false
+makes_remote (Filtering source) = false
+makes_remote Batch = false
+makes_remote Fsck = false
+makes_remote (Exporting remote name) = true
 
 abbrev pub reads_input : Command → Bool
 reads_input (Changing change) = false
@@ -30,6 +51,7 @@ reads_input (Showing thing) = true
 reads_input (Filtering source) = true
 reads_input Batch = true
 reads_input Fsck = false
+reads_input (Exporting remote name) = true
 
 -- what it does may depend on what the remotes hold
 abbrev pub asks_remotes : Command → Bool
@@ -39,6 +61,7 @@ asks_remotes (Showing thing) = false
 asks_remotes (Filtering source) = false
 asks_remotes Batch = true
 asks_remotes Fsck = false
+asks_remotes (Exporting remote name) = false
 
 -- it looks at each object of the store
 abbrev pub checks_store : Command → Bool
@@ -48,6 +71,7 @@ checks_store (Showing thing) = false
 checks_store (Filtering source) = false
 checks_store Batch = false
 checks_store Fsck = true
+checks_store (Exporting remote name) = false
 
 -- 2 for words that are no command, 1 for every other refusal
 abbrev pub status_of : Refusal → ℕ
@@ -62,9 +86,9 @@ status_by (Some refusal) = status_of refusal
 abbrev pub status_at : Answer → ℕ
 status_at a = status_by a.refusal
 
--- a command ends with these; 4 comes only for one that changes something, and 5 for one that reads the input
+-- a command ends with these; 4 comes only for one that may change the state, and 5 for one that reads the input
 abbrev pub IsOfCommand : Command → ℕ → Type 0
-IsOfCommand command n = (n ≡ 0) ⊎ ((n ≡ 1) ⊎ ((n ≡ 3) ⊎ (((n ≡ 4) × (only_looks command ≡ false)) ⊎ (((n ≡ 5) × (reads_input command ≡ true)) ⊎ (n ≡ 6)))))
+IsOfCommand command n = (n ≡ 0) ⊎ ((n ≡ 1) ⊎ ((n ≡ 3) ⊎ (((n ≡ 4) × (changes_state command ≡ true)) ⊎ (((n ≡ 5) × (reads_input command ≡ true)) ⊎ (n ≡ 6)))))
 
 -- Whatever the host: 2 comes exactly for words that are no command, where nothing fails and memory isn't wanting.
 abbrev pub IsOfWords : Option Command → ℕ → Type 0

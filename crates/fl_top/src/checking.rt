@@ -15,10 +15,17 @@ use fl_lines::{bad_line, fsck_line, stray_line};
 use fp_base::Text;
 use fp_host::{Host, HostEnd, Path};
 use ost_fsck::{Finding, Report, check_store};
+use par_digest::Gate;
 use std::alloc::{AllocError, Global};
+use std::thread::Threads;
 
 /// Prints what is wrong in the store, and how many objects it has.
-pub(crate) fn check<H: Host>(alloc: Global, host: &mut H) -> Result<(), RunEnd>
+pub(crate) fn check<T: Threads + Sync, H: Host, G: Gate + Sync>(
+    rt: &T,
+    alloc: Global,
+    host: &mut H,
+    gate: &G,
+) -> Result<(), RunEnd>
     ensures any_moment { Goes (H.moments host.old) (H.moments host.new) ChecksOver
         (CheckedOver result) }
     ensures fault_has_cause { IsCaused (IsErrOf result RunEnd.Fault) (H.moments host.old)
@@ -26,13 +33,18 @@ pub(crate) fn check<H: Host>(alloc: Global, host: &mut H) -> Result<(), RunEnd>
     ensures no_remote_fault { IsErrOf result RunEnd.RemoteFault → ⊥ }
 {
     let state = read_state(alloc, host)?;
-    let text = checked_text(alloc, host)?;
+    let text = checked_text(rt, alloc, host, gate)?;
     host.say(text.as_str().as_bytes())?;
     Ok(())
 }
 
 /// The text of what is found in the store.
-fn checked_text<H: Host>(alloc: Global, host: &mut H) -> Result<Text, HostEnd>
+fn checked_text<T: Threads + Sync, H: Host, G: Gate + Sync>(
+    rt: &T,
+    alloc: Global,
+    host: &mut H,
+    gate: &G,
+) -> Result<Text, HostEnd>
     ensures unchanged { Unchanged (H.moments host.old) (H.moments host.new) }
     ensures tells { IfOk result (λ text. AtEnd (λ u w. IsReportText (shows u) text)
         (H.moments host.old) (H.moments host.new)) }
@@ -40,7 +52,7 @@ fn checked_text<H: Host>(alloc: Global, host: &mut H) -> Result<Text, HostEnd>
         (CanList repo) (H.faults host.old) (H.faults host.new) }
 {
     let root = repo(alloc)?;
-    let report = check_store(alloc, host, &root)?;
+    let report = check_store(rt, alloc, host, &root, gate)?;
     let text = report_text(alloc, &report)?;
     Ok(text)
 }

@@ -3,6 +3,7 @@ ghost use Rattle.std.specs.Prelude.{◌≡◌};
 
 use crate::input::InputEnd;
 use fl_change::RunEnd;
+use fl_make::MakeEnd;
 use fl_words::BatchError;
 use fp_base::What;
 use fp_host::HostEnd;
@@ -77,6 +78,21 @@ impl From<BatchError> for CommandEnd {
         match error {
             BatchError::BadRecord { line } => CommandEnd::Refused(Refusal::BadRecord { line }),
             BatchError::NoMemory => CommandEnd::NoMemory,
+        }
+    }
+}
+
+impl From<MakeEnd> for CommandEnd {
+    ghost use Rattle.std.specs.Prelude.{◌≡◌};
+    ghost use Rattle.fl_top.specs.Ends.{end_of_make};
+
+    ghost from_gives = { λ make end. end ≡ end_of_make make };
+
+    fn from(end: MakeEnd) -> CommandEnd {
+        match end {
+            MakeEnd::BadRecord { line } => CommandEnd::Refused(Refusal::BadRecord { line }),
+            MakeEnd::Fault => CommandEnd::Fault,
+            MakeEnd::NoMemory => CommandEnd::NoMemory,
         }
     }
 }

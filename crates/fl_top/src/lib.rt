@@ -3,6 +3,7 @@
 
 mod checking;
 mod command_end;
+mod exporting;
 mod filtering;
 mod input;
 pub mod laws;
@@ -10,4 +11,4 @@ mod listing;
 mod running;
 mod showing;
 
-pub use running::run;
+pub use running::{run, run_gated};

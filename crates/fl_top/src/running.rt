@@ -17,10 +17,11 @@ ghost use Rattle.fl_top.specs.Exports.{LeavesExports};
 ghost use Rattle.fl_top.specs.Asked.{OpsBy, OpsFor, AreToldFor, AsksRemotes};
 ghost use Rattle.fl_top.specs.RunsOver.{RunsOver, EndedOver, RunsOn, EndedOn, RanOn, Takes, TakenBy, IsClosedBy};
 ghost use Rattle.fl_top.specs.Runs.{RunsBy, RanBy, Checks, IsChange, told, WasTaken, IsReady, HasCauses};
-ghost use Rattle.fl_top.specs.Status.{IsStatus, IsAnswered, IsOfWords, IsOfCommand, only_looks, reads_input};
+ghost use Rattle.fl_top.specs.Status.{IsStatus, IsAnswered, IsOfWords, IsOfCommand, changes_state, reads_input};
 
 use crate::checking::check;
 use crate::command_end::CommandEnd;
+use crate::exporting::export;
 use crate::filtering::filter_bytes;
 use crate::input::read_input;
 use crate::listing::list;
@@ -33,6 +34,7 @@ use fl_words::{Change, Command, PolicySource, Shown, WordsError, read_batch, rea
 use fp_base::Text;
 use fp_host::{Host, HostEnd, Remotes, Source};
 use fp_small::Refusal;
+use par_digest::{Gate, NoGate};
 use std::alloc::{AllocError, Global};
 use std::thread::Threads;
 
@@ -40,7 +42,7 @@ use std::thread::Threads;
 /// it was done, 1 where it was refused, 2 where the words are no command, 3 where the host failed, 4 where the remotes failed, 5
 /// where the input failed, 6 where there was no memory.
 pub fn run<H: Host, R: Remotes, I: Source>(
-    _rt: &(impl Threads + Sync),
+    rt: &(impl Threads + Sync),
     alloc: Global,
     words: &[String],
     input: &mut I,
@@ -82,20 +84,60 @@ pub fn run<H: Host, R: Remotes, I: Source>(
         (I.left input.new) }
     ensures later { I.faults input.old ≤ I.faults input.new }
 {
+    run_gated(rt, alloc, words, input, host, remotes, &NoGate)
+}
+
+/// Runs the command of these words as `run` does, whatever the gate does. `fsck` hands the gate to each of its batches of objects.
+pub fn run_gated<H: Host, R: Remotes, I: Source, G: Gate + Sync>(
+    rt: &(impl Threads + Sync),
+    alloc: Global,
+    words: &[String],
+    input: &mut I,
+    host: &mut H,
+    remotes: &mut R,
+    gate: &G,
+) -> u8
+    ensures status { IsStatus result }
+    ensures words { IsOfWords (command_of (map string_bytes words.now)) result }
+    ensures any_moment { Always (RunsBy (map string_bytes words.now)
+        (told (I.left input.old) (R.holds remotes.old) (H.moments host.old))) (H.moments host.old) (H.moments host.new) }
+    ensures at_return { AtEnd (RanBy (map string_bytes words.now)
+        (told (I.left input.old) (R.holds remotes.old) (H.moments host.old)) result)
+        (H.moments host.old) (H.moments host.new) }
+    ensures fault_has_cause { IsCaused (AreToldFor (OpsFor (command_of (map string_bytes words.now))
+        (I.left input.old)) (R.holds remotes.old) × (result ≡ 3)) (H.moments host.old)
+        (HasCauses (command_of (map string_bytes words.now))) (H.faults host.old) (H.faults host.new) }
+    ensures found { Checks (command_of (map string_bytes words.now)) → IsAnswered result → AtEnd
+        (λ u w. HasReport (shows u)) (H.moments host.old) (H.moments host.new) }
+    ensures exports { IsChange (command_of (map string_bytes words.now)) → result ≡ 0
+        → AreToldFor (OpsFor (command_of (map string_bytes words.now)) (I.left input.old))
+        (R.holds remotes.old) → AtEnd (λ u w. IsSound u → LeavesExports w)
+        (H.moments host.old) (H.moments host.new) }
+    ensures remotes { AsksRemotes (OpsFor (command_of (map string_bytes words.now)) (I.left input.old))
+        (result ≡ 4) (R.holds remotes.old) (R.holds remotes.new)
+        (R.faults remotes.old) (R.faults remotes.new) }
+    ensures input { result ≡ 5 → Rose (I.faults input.old) (I.faults input.new) × Unchanged
+        (H.moments host.old) (H.moments host.new) }
+    ensures taken { WasTaken (command_of (map string_bytes words.now)) result (I.left input.old)
+        (I.left input.new) }
+    ensures later { I.faults input.old ≤ I.faults input.new }
+{
     match read_words(alloc, words) {
-        Ok(command) => run_command(alloc, input, host, remotes, command),
+        Ok(command) => run_command(rt, alloc, input, host, remotes, command, gate),
         Err(WordsError::BadWords { index }) => refuse_words(alloc, host, index),
         Err(WordsError::NoMemory) => 6,
     }
 }
 
 /// Runs a command, and prints the line of its refusal.
-fn run_command<H: Host, R: Remotes, I: Source>(
+fn run_command<T: Threads + Sync, H: Host, R: Remotes, I: Source, G: Gate + Sync>(
+    rt: &T,
     alloc: Global,
     input: &mut I,
     host: &mut H,
     remotes: &mut R,
     command: Command,
+    gate: &G,
 ) -> u8
     ensures status { IsOfCommand command result }
     ensures any_moment { Goes (H.moments host.old) (H.moments host.new)
@@ -116,7 +158,7 @@ fn run_command<H: Host, R: Remotes, I: Source>(
     ensures taken { WasTaken (Some command) result (I.left input.old) (I.left input.new) }
     ensures later { I.faults input.old ≤ I.faults input.new }
 {
-    match perform(alloc, input, host, remotes, command) {
+    match perform(rt, alloc, input, host, remotes, command, gate) {
         Ok(()) => 0,
         Err(CommandEnd::Refused(refusal)) => refuse(alloc, host, refusal, 1),
         Err(CommandEnd::Fault) => 3,
@@ -127,12 +169,14 @@ fn run_command<H: Host, R: Remotes, I: Source>(
 }
 
 /// Does a command, up to the line of its refusal.
-fn perform<H: Host, R: Remotes, I: Source>(
+fn perform<T: Threads + Sync, H: Host, R: Remotes, I: Source, G: Gate + Sync>(
+    rt: &T,
     alloc: Global,
     input: &mut I,
     host: &mut H,
     remotes: &mut R,
     command: Command,
+    gate: &G,
 ) -> Result<(), CommandEnd>
     ensures any_moment { Goes (H.moments host.old) (H.moments host.new)
         (RunsOn command (told (I.left input.old) (R.holds remotes.old) (H.moments host.old)))
@@ -148,7 +192,7 @@ fn perform<H: Host, R: Remotes, I: Source>(
     ensures remotes { AsksRemotes (OpsBy command (I.left input.old))
         (IsErrOf result CommandEnd.RemoteFault) (R.holds remotes.old) (R.holds remotes.new)
         (R.faults remotes.old) (R.faults remotes.new) }
-    ensures changes { IsErrOf result CommandEnd.RemoteFault → only_looks command ≡ false }
+    ensures changes { IsErrOf result CommandEnd.RemoteFault → changes_state command ≡ true }
     ensures input { IsErrOf result CommandEnd.InputFault → (reads_input command ≡ true) × Rose
         (I.faults input.old) (I.faults input.new) × Unchanged
         (H.moments host.old) (H.moments host.new) }
@@ -161,7 +205,8 @@ fn perform<H: Host, R: Remotes, I: Source>(
         Command::Show(thing) => show(alloc, input, host, &thing),
         Command::Filter(source) => filter(alloc, input, host, &source),
         Command::Batch => batch(alloc, input, host, remotes),
-        Command::Fsck => Ok(check(alloc, host)?),
+        Command::Fsck => Ok(check(rt, alloc, host, gate)?),
+        Command::Export { remote, name } => export(rt, alloc, input, host, &remote, &name),
     }
 }
 
@@ -313,7 +358,7 @@ fn last_line(alloc: Global, refusal: Refusal) -> Result<Text, AllocError>
 }
 
 /// Prints a text.
-fn say<H: Host>(host: &mut H, text: &[u8]) -> Result<(), HostEnd>
+pub(crate) fn say<H: Host>(host: &mut H, text: &[u8]) -> Result<(), HostEnd>
     ensures any_moment { Goes (H.moments host.old) (H.moments host.new) (Says text.now)
         (SaidBy text.now result) }
     ensures fault_has_cause { IsCounted (IsErrOf result HostEnd.Fault)

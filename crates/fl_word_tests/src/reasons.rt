@@ -44,6 +44,7 @@ usage: fpk filter --from=APP
 usage: fpk filter --system --from=APP
 usage: fpk batch
 usage: fpk fsck
+usage: fpk export NAME REF
 usage: fpk show commit
 usage: fpk show dirtree
 usage: fpk show dirmeta

@@ -32,6 +32,9 @@ fn told_command(alloc: Global, command: &Command) -> Result<String, AllocError> 
         Command::Filter(source) => told_source(alloc, source),
         Command::Batch => "Batch".to_string(alloc),
         Command::Fsck => "Fsck".to_string(alloc),
+        Command::Export { remote, name } => {
+            spaced(alloc, &["Export", remote.as_str(), name.as_str()])
+        }
     }
 }
 
@@ -109,7 +112,7 @@ fn told_remote(alloc: Global, what: &str, row: &RemoteRow) -> Result<String, All
 }
 
 /// Words, and the command that they are, or the place of the first bad one.
-const WORDS: [(&[&str], &str); 69] = [
+const WORDS: [(&[&str], &str); 74] = [
     // remotes
     (
         &["remote-add", "lab", "file:///lab"],
@@ -142,6 +145,17 @@ const WORDS: [(&[&str], &str); 69] = [
     (&["batches"], "bad words at 0"),
     (&["fsck"], "Fsck"),
     (&["fsck", "file"], "bad words at 1"),
+    (
+        &["export", "lab", "app/org.x.App/x86_64/stable"],
+        "Export lab app/org.x.App/x86_64/stable",
+    ),
+    (&["export"], "bad words at 1"),
+    (&["export", "lab"], "bad words at 2"),
+    (&["export", "lab", "org.x.App"], "bad words at 2"),
+    (
+        &["export", "lab", "app/org.x.App/x86_64/stable", "tree"],
+        "bad words at 3",
+    ),
     (&["pin", "app/*/*/*"], "Pin app/*/*/*"),
     (
         &["pin", "runtime/org.x.Y/x86_64/1.0"],

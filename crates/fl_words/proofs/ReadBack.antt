@@ -16,7 +16,7 @@ use Rattle.fl_words.specs.declared.command.Listing.TheVariants as listings
 use Rattle.fl_words.specs.declared.command.Shown.TheVariants as things
 use Rattle.std.proofs.lemmas.Bool.{and_parts, false≢true}
 use Rattle.fl_words.specs.declared.forms.Form.{Form}
-use Rattle.fl_words.specs.declared.forms.Form.TheVariants.{Pin, Unpin, RemoteAdd, RemoteModify, RemoteDelete, Install, UpdateAll, UpdateOne, Uninstall, UninstallUnused, Rollback, Override, OverrideApp, OverrideReset, OverrideResetApp, ListRefs, ListRemotes, ListPins, ListExports, Info, Launch, OverrideShow, OverrideShowApp, Filter, FilterFrom, FilterSystemFrom, Batch, Fsck, ShowCommit, ShowDirTree, ShowDirMeta, ShowValue}
+use Rattle.fl_words.specs.declared.forms.Form.TheVariants.{Pin, Unpin, RemoteAdd, RemoteModify, RemoteDelete, Install, UpdateAll, UpdateOne, Uninstall, UninstallUnused, Rollback, Override, OverrideApp, OverrideReset, OverrideResetApp, ListRefs, ListRemotes, ListPins, ListExports, Info, Launch, OverrideShow, OverrideShowApp, Filter, FilterFrom, FilterSystemFrom, Batch, Fsck, Export, ShowCommit, ShowDirTree, ShowDirMeta, ShowValue}
 use Rattle.fl_words.specs.Forms.{literal, pattern, remote, url, ref_name, app, app_id, type_string, permission, permissions, launch_options, filter_rules, from_app, fits, is_app, forms, slots_of, made, reads, command_of}
 use Rattle.fl_options.specs.Options.{is_option, is_launch_option}
 use Rattle.fl_options.proofs.Lines.{uncut_no_option}
@@ -106,6 +106,7 @@ speaks FilterFrom = two (literal (codes "filter")) from_app refl refl (Speaks Fi
 speaks FilterSystemFrom = three (literal (codes "filter")) (literal (codes "--system")) from_app refl refl refl (Speaks FilterSystemFrom) (λ a b r h g k. (ap (λ (x : List ℕ). x ∷ b ∷ r ∷ []) (is_word a (codes "filter") h) ∙ ap (λ (x : List ℕ). codes "filter" ∷ x ∷ r ∷ []) (is_word b (codes "--system") g) ∙ ap (λ (x : List ℕ). codes "filter" ∷ codes "--system" ∷ x ∷ []) (from_same r k), from_kept r k))
 speaks Batch = one (literal (codes "batch")) refl (Speaks Batch) (λ a h. (ap (λ (x : List ℕ). x ∷ []) (is_word a (codes "batch") h), refl))
 speaks Fsck = one (literal (codes "fsck")) refl (Speaks Fsck) (λ a h. (ap (λ (x : List ℕ). x ∷ []) (is_word a (codes "fsck") h), refl))
+speaks Export = three (literal (codes "export")) remote ref_name refl refl refl (Speaks Export) (λ a n r h g k. (ap (λ (x : List ℕ). x ∷ n ∷ r ∷ []) (is_word a (codes "export") h) ∙ ap (λ (x : List ℕ). codes "export" ∷ n ∷ x ∷ []) (same_text r k), both_true (is_remote_name n) (is_ref (ref_at r)) g (is_good r k)))
 speaks ShowCommit = two (literal (codes "show")) (literal (codes "commit")) refl refl (Speaks ShowCommit) (λ a b h g. (both_words (codes "show") (codes "commit") a b h g, refl))
 speaks ShowDirTree = two (literal (codes "show")) (literal (codes "dirtree")) refl refl (Speaks ShowDirTree) (λ a b h g. (both_words (codes "show") (codes "dirtree") a b h g, refl))
 speaks ShowDirMeta = two (literal (codes "show")) (literal (codes "dirmeta")) refl refl (Speaks ShowDirMeta) (λ a b h g. (both_words (codes "show") (codes "dirmeta") a b h g, refl))
@@ -198,3 +199,4 @@ written (Filtering (sources.System name)) h =
     rw (no_system_rule, ref_of-ref_text name good.0, good.1) (ap (λ (r : Ref). Some (Filtering (sources.System r))) (ref_back name good.0))
 written commands.Batch h = refl
 written commands.Fsck h = refl
+written (commands.Export origin name) h = let parts = and_parts (is_remote_name origin) (is_ref name) h in rw (parts.0, ref_of-ref_text name parts.1) (ap (λ (r : Ref). Some (commands.Export origin r)) (ref_back name parts.1))

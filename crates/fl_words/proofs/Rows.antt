@@ -11,7 +11,7 @@ use Rattle.fp_name.specs.Grammar.{is_id, is_arch, is_branch, is_remote_name}
 use Rattle.fp_name.specs.Refs.{Ref, ref_of}
 use Rattle.fp_name.specs.declared.kind.RefKind.TheVariants.{App}
 use Rattle.fp_name.specs.Pins.{is_pin}
-use Rattle.fl_words.specs.declared.command.Command.TheVariants.{Change as Changing, List as Listed, Show as Showing, Filter as Filtering, Batch, Fsck}
+use Rattle.fl_words.specs.declared.command.Command.TheVariants.{Change as Changing, List as Listed, Show as Showing, Filter as Filtering, Batch, Fsck, Export}
 use Rattle.fl_words.specs.declared.command.PolicySource.TheVariants.{Rules, Session, System}
 use Rattle.fl_rules.specs.Rules.{word_rule}
 use Rattle.fl_words.specs.declared.command.Change.TheVariants.{Pin, Unpin, Install, UpdateAll, UpdateOne, Uninstall, UninstallUnused, Rollback, OverrideChange}
@@ -110,6 +110,13 @@ fsck_alone = refl
 
 pub fsck_and_more : bad_index (codes "fsck" ∷ [] ∷ []) ≡ 1
 fsck_and_more = refl
+
+pub export_alone : bad_index (codes "export" ∷ []) ≡ 1
+export_alone = refl
+
+pub export_no_ref : bad_index (codes "export" ∷ codes "lab" ∷ []) ≡ 2
+unfolding is_remote_name
+export_no_ref = refl
 
 pub show_commit : command_of (codes "show" ∷ codes "commit" ∷ []) ≡ Some (Showing Commit)
 show_commit = refl

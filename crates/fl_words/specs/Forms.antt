@@ -13,7 +13,7 @@ use Rattle.fp_small.specs.declared.state.RemoteRow.{RemoteRow}
 use Rattle.fl_options.specs.Options.{is_option, is_launch_option}
 use Rattle.fl_rules.specs.Rules.{is_rule}
 use Rattle.fl_words.specs.declared.command.Command.{Command}
-use Rattle.fl_words.specs.declared.command.Command.TheVariants.{Change as Changing, List as Listed, Show as Showing, Filter as Filtering, Batch as Batched, Fsck as Checked}
+use Rattle.fl_words.specs.declared.command.Command.TheVariants.{Change as Changing, List as Listed, Show as Showing, Filter as Filtering, Batch as Batched, Fsck as Checked, Export as Exporting}
 use Rattle.fl_words.specs.declared.command.PolicySource.TheVariants as sources
 use Rattle.fl_words.specs.declared.command.Change.TheVariants as changes
 use Rattle.fl_words.specs.declared.command.Listing.TheVariants as listings
@@ -21,7 +21,7 @@ use Rattle.fl_words.specs.declared.command.Shown.TheVariants as things
 use Rattle.fl_words.specs.declared.forms.Slot.{Slot}
 use Rattle.fl_words.specs.declared.forms.Slot.TheVariants as slots
 use Rattle.fl_words.specs.declared.forms.Form.{Form}
-use Rattle.fl_words.specs.declared.forms.Form.TheVariants.{Pin, Unpin, RemoteAdd, RemoteModify, RemoteDelete, Install, UpdateAll, UpdateOne, Uninstall, UninstallUnused, Rollback, Override, OverrideApp, OverrideReset, OverrideResetApp, ListRefs, ListRemotes, ListPins, ListExports, Info, Launch, OverrideShow, OverrideShowApp, Filter, FilterFrom, FilterSystemFrom, Batch, Fsck, ShowCommit, ShowDirTree, ShowDirMeta, ShowValue}
+use Rattle.fl_words.specs.declared.forms.Form.TheVariants.{Pin, Unpin, RemoteAdd, RemoteModify, RemoteDelete, Install, UpdateAll, UpdateOne, Uninstall, UninstallUnused, Rollback, Override, OverrideApp, OverrideReset, OverrideResetApp, ListRefs, ListRemotes, ListPins, ListExports, Info, Launch, OverrideShow, OverrideShowApp, Filter, FilterFrom, FilterSystemFrom, Batch, Fsck, Export, ShowCommit, ShowDirTree, ShowDirMeta, ShowValue}
 use Rattle.fl_words.specs.Types.{is_type_text}
 
 -- ---- places
@@ -96,7 +96,7 @@ forms =
     ∷ Install ∷ UpdateAll ∷ UpdateOne ∷ Uninstall ∷ UninstallUnused ∷ Rollback
     ∷ Override ∷ OverrideApp ∷ OverrideReset ∷ OverrideResetApp
     ∷ ListRefs ∷ ListRemotes ∷ ListPins ∷ ListExports ∷ Info ∷ Launch ∷ OverrideShow ∷ OverrideShowApp
-    ∷ Filter ∷ FilterFrom ∷ FilterSystemFrom ∷ Batch ∷ Fsck
+    ∷ Filter ∷ FilterFrom ∷ FilterSystemFrom ∷ Batch ∷ Fsck ∷ Export
     ∷ ShowCommit ∷ ShowDirTree ∷ ShowDirMeta ∷ ShowValue ∷ []
 
 abbrev pub slots_of : Form → List Place
@@ -128,6 +128,7 @@ slots_of FilterFrom = literal (codes "filter") ∷ from_app ∷ []
 slots_of FilterSystemFrom = literal (codes "filter") ∷ literal (codes "--system") ∷ from_app ∷ []
 slots_of Batch = literal (codes "batch") ∷ []
 slots_of Fsck = literal (codes "fsck") ∷ []
+slots_of Export = literal (codes "export") ∷ remote ∷ ref_name ∷ []
 slots_of ShowCommit = literal (codes "show") ∷ literal (codes "commit") ∷ []
 slots_of ShowDirTree = literal (codes "show") ∷ literal (codes "dirtree") ∷ []
 slots_of ShowDirMeta = literal (codes "show") ∷ literal (codes "dirmeta") ∷ []
@@ -174,6 +175,7 @@ made FilterFrom words = Filtering (sources.Session (ref_at (drop 7 (word_at 1 wo
 made FilterSystemFrom words = Filtering (sources.System (ref_at (drop 7 (word_at 2 words))))
 made Batch words = Batched
 made Fsck words = Checked
+made Export words = Exporting (word_at 1 words) (ref_at (word_at 2 words))
 made ShowCommit words = Showing things.Commit
 made ShowDirTree words = Showing things.DirTree
 made ShowDirMeta words = Showing things.DirMeta

@@ -6,7 +6,7 @@ use Rattle.fp_name.specs.Grammar.{is_remote_name, is_url}
 use Rattle.fp_name.specs.Pins.{is_pin}
 use Rattle.fp_name.specs.Refs.{Ref, is_ref, ref_text}
 use Rattle.fl_words.specs.declared.command.Command.{Command}
-use Rattle.fl_words.specs.declared.command.Command.TheVariants.{Change as Changing, List as Listed, Show as Showing, Filter, Batch, Fsck}
+use Rattle.fl_words.specs.declared.command.Command.TheVariants.{Change as Changing, List as Listed, Show as Showing, Filter, Batch, Fsck, Export}
 use Rattle.fl_words.specs.declared.command.Change.{Change}
 use Rattle.fl_words.specs.declared.command.Change.TheVariants.{Pin, Unpin, RemoteAdd, RemoteModify, RemoteDelete, Install, UpdateAll, UpdateOne, Uninstall, UninstallUnused, Rollback, OverrideChange, OverrideReset}
 use Rattle.fl_words.specs.declared.command.Listing.{Listing}
@@ -56,12 +56,13 @@ words_of (Filter (Session name)) = codes "filter" ∷ from_word name ∷ []
 words_of (Filter (System name)) = codes "filter" ∷ codes "--system" ∷ from_word name ∷ []
 words_of Batch = codes "batch" ∷ []
 words_of Fsck = codes "fsck" ∷ []
+words_of (Export remote name) = codes "export" ∷ remote ∷ ref_text name ∷ []
 words_of (Showing Commit) = codes "show" ∷ codes "commit" ∷ []
 words_of (Showing DirTree) = codes "show" ∷ codes "dirtree" ∷ []
 words_of (Showing DirMeta) = codes "show" ∷ codes "dirmeta" ∷ []
 words_of (Showing (Value of)) = codes "show" ∷ codes "value" ∷ of ∷ []
 
--- it may change the installation
+-- it may change what stands in the installation's folder
 abbrev pub may_change : Command → Bool
 may_change (Changing change) = true
 may_change (Listed listing) = false
@@ -69,6 +70,7 @@ may_change (Showing thing) = false
 may_change (Filter source) = false
 may_change Batch = true
 may_change Fsck = false
+may_change (Export remote name) = true
 
 -- one option or more that change permissions
 abbrev pub are_options : List (List ℕ) → Bool
@@ -118,6 +120,7 @@ is_command (Showing thing) = is_shown thing
 is_command (Filter source) = is_source source
 is_command Batch = true
 is_command Fsck = true
+is_command (Export remote name) = is_remote_name remote && is_ref name
 
 -- the words are a command, or are one with more words after them
 pub record Begins (words : List (List ℕ)) : Type 0 where

@@ -89,8 +89,12 @@ fn change_of(command: Command) -> Option<Change>
 {
     match command {
         Command::Change(change) => Some(change),
-        Command::List(_) | Command::Show(_) | Command::Filter(_) | Command::Batch | Command::Fsck =>
-            None,
+        Command::List(_)
+        | Command::Show(_)
+        | Command::Filter(_)
+        | Command::Batch
+        | Command::Fsck
+        | Command::Export { .. } => None,
     }
 }
 

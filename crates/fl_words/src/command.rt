@@ -27,14 +27,20 @@ pub enum Command {
     Batch,
     /// `fsck`: looks at each object of the store, and prints what is wrong there.
     Fsck,
+    /// `export N REF`: makes the commit of the tree that the input describes, and offers it under the ref in a store that serves as
+    /// a remote.
+    Export { remote: RemoteName, name: RefName },
 }
 
 impl Command {
-    /// Whether it may change the installation. What only lists or shows never does.
+    /// Whether it may change what stands in the installation's folder. What only lists or shows never does.
     pub fn changes(&self) -> bool
         ensures { result ≡ may_change self.now }
     {
-        matches!(self, Command::Change(_) | Command::Batch)
+        matches!(
+            self,
+            Command::Change(_) | Command::Batch | Command::Export { .. }
+        )
     }
 }
 

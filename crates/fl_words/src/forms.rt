@@ -83,6 +83,7 @@ pub enum Form {
     FilterSystemFrom,
     Batch,
     Fsck,
+    Export,
     ShowCommit,
     ShowDirTree,
     ShowDirMeta,
@@ -123,6 +124,7 @@ impl Form {
             Form::FilterSystemFrom,
             Form::Batch,
             Form::Fsck,
+            Form::Export,
             Form::ShowCommit,
             Form::ShowDirTree,
             Form::ShowDirMeta,
@@ -195,6 +197,7 @@ impl Form {
             ],
             Form::Batch => &[Slot::Word("batch")],
             Form::Fsck => &[Slot::Word("fsck")],
+            Form::Export => &[Slot::Word("export"), Slot::Remote, Slot::Ref],
             Form::ShowCommit => &[Slot::Word("show"), Slot::Word("commit")],
             Form::ShowDirTree => &[Slot::Word("show"), Slot::Word("dirtree")],
             Form::ShowDirMeta => &[Slot::Word("show"), Slot::Word("dirmeta")],
@@ -255,6 +258,11 @@ impl Form {
             }
             Form::Batch => Command::Batch,
             Form::Fsck => Command::Fsck,
+            Form::Export => {
+                let remote = name_at(alloc, words, 1)?;
+                let name = ref_at(alloc, words, 2)?;
+                Command::Export { remote, name }
+            }
             Form::ShowCommit => Command::Show(Shown::Commit),
             Form::ShowDirTree => Command::Show(Shown::DirTree),
             Form::ShowDirMeta => Command::Show(Shown::DirMeta),

@@ -43,6 +43,7 @@ fpk list --pins              prints the patterns that are pinned
 fpk list --remotes           prints the remotes
 fpk list --exports           prints the exported files, each with the application that it is of
 fpk fsck                     looks at each object of the store, and prints what is wrong there
+fpk export NAME REF          makes a remote of the tree that standard input describes
 fpk filter RULE..            prints what the bus filter forwards of a recording
 fpk filter --from=APP        the same by what an application's launch grants on the session bus
 fpk filter --system --from=APP  the same on the system bus

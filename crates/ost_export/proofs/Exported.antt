@@ -36,7 +36,7 @@ use Rattle.ost_export.specs.Storing.{IsNoWork, IsWork, StoresObjects, IsFitFor, 
 use Rattle.ost_export.specs.Exports.{config_path, config_text, ref_path, a_remote, IsExportFolder, Furnishes, ExportsAt, ExportsName, Exports, ExportsSynced, FurnishesSynced, AreFit, IsOffered, WasExported, CanExport, CanExportAll}
 use Rattle.ost_export.proofs.Paths.{IsBranch, two_branches, object_within, apart_of, branch_off, branch_under, objects_branch, config_branch, refs_branch, one_work, none_below}
 use Rattle.ost_export.proofs.Placed.{to_tree}
-use Rattle.ost_export.proofs.Furnished.{refs_within, remotes_within, folder_cases, FurnishStep, furnishes_on, furnishes_objects, staging_on, work_of, step_config, step_remotes, can_config, can_remotes, can_write}
+use Rattle.ost_export.proofs.Furnished.{refs_within, remotes_within, folder_cases, FurnishStep, furnishes_on, furnishes_objects, staging_on, work_of, staging_depth, step_config, step_remotes, can_config, can_remotes, can_write}
 
 -- ---- the frame
 
@@ -177,7 +177,7 @@ module _ {have : Have} {root : Elements} {r : Ref} (outer : IsNoWork root) {u v 
               | inl new ↦ inr new
               | inr other ↦ elim other [
                 | inl made ↦ inl (inr (inr (inl (folder q made.0, made.1))))
-                | inr work ↦ inl (inl (work_of apart known.staging known.furnishes known.gone q work))
+                | inr work ↦ inl (inl (work_of apart known.staging known.furnishes known.gone q work, inr (staging_depth apart known.staging known.furnishes known.gone q work)))
               ]
             ])
             (λ q e h. elim h [

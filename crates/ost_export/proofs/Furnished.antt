@@ -1,5 +1,5 @@
 -- What an export leaves on its way: the objects, `config`, and folders.
-use Rattle.std.proofs.Common.{◌≡◌, ◌⊎◌, inl, inr, ℕ, List, [], ◌∷◌, length, refl, sym, ◌∙◌, ap, subst, arith, codes, Contains}
+use Rattle.std.proofs.Common.{◌≡◌, ◌≤◌, ◌⊎◌, inl, inr, ℕ, List, [], ◌∷◌, length, refl, sym, ◌∙◌, ap, subst, arith, codes, Contains}
 use Rattle.std.proofs.lemmas.List.Elements.{Contains-append_cases, Contains-push, Contains-push_cases}
 use Rattle.fp_host.specs.Paths.{Elements, absent, IsAbove}
 use Rattle.fp_host.specs.View.{View, IsTree}
@@ -126,6 +126,9 @@ module _ {have : Have} {root t : Elements} {r : Ref} {u v : View} (apart : IsApa
     first = λ k low none. still_first (new_name k) (new_name k ∷ tmp) refl (staging.first k low) none;
   }
 
+  pub staging_depth : (q : Elements) → IsStaging v q → length q ≤ 6
+  staging_depth q s = omega (arith, ap length s.is)
+
   pub work_of : (q : Elements) → IsStaging v q → IsWork u q
   work_of q s = record { place = t; staging = staging; within = inl (one_staging s staging_on) }
 
@@ -214,7 +217,7 @@ module _ {have : Have} {root t : Elements} {r : Ref} {u v : View} (apart : IsApa
           | inl new ↦ inr (inr (inr new))
           | inr other ↦ elim other [
             | inl made ↦ inr (inr (inl (folder q made.0, made.1)))
-            | inr work ↦ inl (work_of q work)
+            | inr work ↦ inl (work_of q work, inr (staging_depth q work))
           ]
         ])
         (λ q e h. elim h [

@@ -5,10 +5,10 @@ mod Given
 mod Listed
 mod Objects
 mod Offering
-mod Paths
+pub mod Paths
 mod Placed
 mod Ready
-mod Spared
+pub mod Spared
 mod Staged
 mod Stored
 mod Works

@@ -1,5 +1,5 @@
 -- The objects of a commit come into a store: staged, placed, and nothing is left of the work.
-use Rattle.std.proofs.Common.{◌≡◌, inl, inr, ℕ, List, length, true, Option, Some, None, refl, sym, ◌∙◌, ap, subst, arith}
+use Rattle.std.proofs.Common.{◌≡◌, ◌≤◌, inl, inr, ℕ, List, length, true, Option, Some, None, refl, sym, ◌∙◌, ap, subst, arith}
 use Rattle.std.specs.List.{AllByRecursion}
 use Rattle.fp_host.specs.Paths.{Elements, absent}
 use Rattle.fp_host.specs.View.{View, IsTree}
@@ -24,7 +24,7 @@ use Rattle.ost_model.specs.Order.{In}
 use Rattle.ost_store.proofs.Staying.{shown_stays}
 use Rattle.ost_commit.specs.declared.built.BuiltObject.{BuiltObject}
 use Rattle.ost_commit.specs.Objects.{have_of}
-use Rattle.ost_export.specs.Staging.{Named, IsApart, AreStaged, HasStaged, IsCovered, StagesSome, Works, CanStageAll}
+use Rattle.ost_export.specs.Staging.{Named, IsApart, IsObjectName, IsAboveObject, AreStaged, HasStaged, IsCovered, StagesSome, Works, CanStageAll}
 use Rattle.ost_export.specs.Placing.{Puts, PutsStaged, WasStored, CanStore}
 use Rattle.ost_export.specs.Storing.{IsNoWork, IsWork, StoresAt, StoresName, StoresObjects, HasStored, CanStoreAll}
 use Rattle.ost_export.proofs.Given.{held_object}
@@ -51,13 +51,23 @@ step_same same = record { keeps = keeps_same same; files = files_same same }
 work_in : {t : Elements} {u : View} → IsStaging u t → (q : Elements) → IsWithin t q → IsWork u q
 work_in {t = t} staging q within = record { place = t; staging = staging; within = within }
 
+-- objects in the place of the work are so deep
+name_depth : (root t q : Elements) → IsApart root t → IsObjectName t q → length q ≤ 6
+name_depth root t q apart name = omega (arith, ap length name.at, ap length apart.is)
+
+above_depth : (root t q : Elements) → IsApart root t → IsAboveObject t q → length q ≤ 6
+above_depth root t q apart above = omega (arith, above_longer q (object_path t above.digest above.kind) above.above, ap length apart.is)
+
 module _ {have : Have} {root t : Elements} {u : View} (apart : IsApart root t) (staging : IsStaging u t) where
   pub step_works : {v w : View} → Works t v w → StoresStep have root u v w
   step_works works = record {
     keeps = keeps_to
         (λ q spot h. elim h [
-          | inl name ↦ inl (work_in staging q (below_work t name.digest name.kind q name.at))
-          | inr made ↦ elim (above_work apart q made.0.digest made.0.kind made.0.digits made.0.above) [ inl within ↦ inl (work_in staging q within) | inr up ↦ inr (inr (up, made.1)) ]
+          | inl name ↦ inl (work_in staging q (below_work t name.digest name.kind q name.at), inr (name_depth root t q apart name))
+          | inr made ↦ elim (above_work apart q made.0.digest made.0.kind made.0.digits made.0.above) [
+            | inl within ↦ inl (work_in staging q within, inr (above_depth root t q apart made.0))
+            | inr up ↦ inr (inr (up, made.1))
+          ]
         ])
         (λ q e h. elim h [
           | inl name ↦ inl (work_in staging q (below_work t name.digest name.kind q name.at))
@@ -73,7 +83,7 @@ module _ {have : Have} {root t : Elements} {u : View} (apart : IsApart root t) (
   step_puts staged new are puts = record {
     keeps = keeps_to
         (λ q spot h. elim h [
-          | inl away ↦ inl (work_in staging q away.0)
+          | inl away ↦ inl (work_in staging q away.0, inl away.1)
           | inr other ↦ elim other [
             | inl put ↦ inr (inl (record { digest = put.name.0; kind = put.name.1; object = put.object; digits = put.digits; is = put.is; at = put.at; there = put.there; free = ap u.names put.at ∙ new put.name put.among }))
             | inr made ↦ inr (inr (inl made.0, made.1))

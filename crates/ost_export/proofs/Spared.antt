@@ -1,6 +1,6 @@
 -- What an export leaves alone, and where it may be done.
 use Rattle.std.proofs.Common.{◌≡◌, ◌≢◌, ◌⊎◌, inl, inr, ℕ, List, [], ◌∷◌, length, true, None, refl, sym, ◌∙◌, ap, subst, arith, codes}
-use Rattle.fp_host.specs.Paths.{Elements, absent, IsAbove}
+use Rattle.fp_host.specs.Paths.{Elements, Slot, absent, IsAbove}
 use Rattle.fp_host.specs.View.{View, IsTree}
 use Rattle.fp_small.specs.Clear.{IsWithin}
 use Rattle.fp_small.specs.Folders.{IsFree}
@@ -20,18 +20,31 @@ use Rattle.ost_commit.specs.Objects.{have_of}
 use Rattle.ost_commit.specs.Built.{BuiltCommit}
 use Rattle.ost_export.specs.Staging.{IsApart, AreWhole}
 use Rattle.ost_export.specs.Storing.{IsNoWork, IsWork}
-use Rattle.ost_export.specs.Exports.{config_path, ref_path, IsExportFolder, Exports, AreFit, CanExport, IsSpared}
+use Rattle.ost_export.specs.Exports.{config_path, ref_path, IsExportFolder, ExportsName, Exports, AreFit, CanExport, IsSpared}
 use Rattle.ost_export.proofs.Paths.{within_on, two_branches, object_within, apart_of, branch_off, branch_under, objects_branch, refs_branch, none_below}
 use Rattle.ost_export.proofs.Furnished.{refs_within}
 
 -- ---- a path that is none of those that an export writes
 
-record IsOff (root : Elements) (r : Ref) (u : View) (q : Elements) : Type 0 where
+pub record IsOff (root : Elements) (r : Ref) (u : View) (q : Elements) : Type 0 where
   work : IsWork u q → ⊥
   object : (d : List ℕ) (kind : ObjKind) → is_digest d ≡ true → q ≡ object_path root d kind → u.names q ≡ absent → ⊥
   folder : IsExportFolder root r q → ⊥
   config : q ≡ config_path root → ⊥
   ref : q ≡ ref_path root r → ⊥
+
+-- no such name comes to hold anything
+pub not_put : {have : Have} {root : Elements} {r : Ref} {u : View} {q : Elements} (e : Slot) → IsOff root r u q → ExportsName have root r u q e → ⊥
+not_put e off put = elim put [
+  | inl furnished ↦ elim furnished [
+    | inl work ↦ off.work work
+    | inr other ↦ elim other [
+      | inl new ↦ off.object new.digest new.kind new.digits new.at new.free
+      | inr more ↦ elim more [ inl made ↦ off.folder made.0 | inr config ↦ off.config config.0 ]
+    ]
+  ]
+  | inr ref ↦ off.ref ref.0
+]
 
 spared : {have : Have} {root : Elements} {r : Ref} {commit : List ℕ} {u w : View} {q : Elements} → IsOff root r u q → Exports have root r commit u w → IsSpared q u w
 spared {q = q} off exports = record {
@@ -56,7 +69,7 @@ spared {q = q} off exports = record {
           | inl same ↦ same
           | inr given ↦ elim given [
             | inl furnished ↦ elim furnished [
-              | inl work ↦ absurd (off.work work)
+              | inl work ↦ absurd (off.work work.0)
               | inr other ↦ elim other [
                 | inl new ↦ absurd (off.object new.digest new.kind new.digits new.at new.free)
                 | inr more ↦ elim more [ inl made ↦ absurd (off.folder made.0) | inr config ↦ absurd (off.config config.0) ]
@@ -91,8 +104,8 @@ place_config root (Head s) is = absurd (omega (arith, ap length is))
 place_config root (Remote origin s) is = absurd (omega (arith, ap length is))
 
 module _ {root : Elements} (outer : IsNoWork root) where
-  pub other_ref : {have : Have} {r : Ref} {commit : List ℕ} {u w : View} (place : RefPlace) → (place_path root place ≡ ref_path root r → ⊥) → Exports have root r commit u w → IsSpared (place_path root place) u w
-  other_ref {r = r} {u = u} place other exports = spared (record {
+  pub off_ref : {r : Ref} {u : View} (place : RefPlace) → (place_path root place ≡ ref_path root r → ⊥) → IsOff root r u (place_path root place)
+  off_ref {r = r} {u = u} place other = record {
     work = λ work. branch_off (apart_of outer work.staging) (codes "refs") refs_branch (place_path root place) (place_within root place) work.within;
     object = λ d kind digits is none. two_branches (codes "objects") (codes "refs") root (object_path root d kind) (place_path root place) (λ same. cc same) (object_within root d kind) (place_within root place) (inl is);
     folder = λ h. elim h [
@@ -110,7 +123,10 @@ module _ {root : Elements} (outer : IsNoWork root) where
     ];
     config = λ is. place_config root place is;
     ref = other;
-  }) exports
+  }
+
+  pub other_ref : {have : Have} {r : Ref} {commit : List ℕ} {u w : View} (place : RefPlace) → (place_path root place ≡ ref_path root r → ⊥) → Exports have root r commit u w → IsSpared (place_path root place) u w
+  other_ref place other exports = spared (off_ref place other) exports
 
   -- ---- an object that is there
 

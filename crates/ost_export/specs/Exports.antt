@@ -20,7 +20,7 @@ use Rattle.ost_refs.specs.Places.{place_path, remotes}
 use Rattle.ost_refs.specs.Files.{ref_bytes}
 use Rattle.ost_refs.specs.declared.place.RefPlace.TheVariants.{Head}
 use Rattle.ost_export.specs.Staging.{IsKeepableObject}
-use Rattle.ost_export.specs.Storing.{IsWork, IsNewObject, IsNewName, IsStoreFolder, IsFitFor}
+use Rattle.ost_export.specs.Storing.{IsWork, IsWorkAt, IsNewObject, IsNewName, IsStoreFolder, IsFitFor}
 
 -- ---- the files of the store
 
@@ -50,7 +50,7 @@ IsExportFolder root r q = IsFolderAbove root r q ⊎ (q ≡ remotes root)
 
 -- What may stand where before the ref is written: work at the first free name of repo/tmp, new objects, `config`, and folders.
 abbrev pub FurnishesAt : Have → Elements → Ref → View → Elements → Spot → Type 0
-FurnishesAt have root r u q spot = IsWork u q ⊎ (IsNewObject have root u q spot ⊎ ((IsExportFolder root r q × (spot ≡ folder)) ⊎ ((q ≡ config_path root) × IsNew config_text spot)))
+FurnishesAt have root r u q spot = IsWorkAt u q spot ⊎ (IsNewObject have root u q spot ⊎ ((IsExportFolder root r q × (spot ≡ folder)) ⊎ ((q ≡ config_path root) × IsNew config_text spot)))
 
 abbrev pub FurnishesName : Have → Elements → Ref → View → Elements → Slot → Type 0
 FurnishesName have root r u q e = IsWork u q ⊎ (IsNewName have root u q ⊎ ((IsExportFolder root r q × (e ≡ dir)) ⊎ ((q ≡ config_path root) × IsFile e)))

@@ -1,9 +1,9 @@
 -- The objects of a built commit, written into a store.
-use Rattle.std.specs.Prelude.{◌≡◌, ◌≢◌, ◌⊎◌, ℕ, List, ◌∷◌, true, Some, None}
+use Rattle.std.specs.Prelude.{◌≡◌, ◌≢◌, ◌⊎◌, ◌≤◌, ℕ, List, ◌∷◌, length, true, Some, None}
 use Rattle.std.specs.List.{AllByRecursion}
 use Rattle.fp_host.specs.Paths.{Elements, Slot, absent, dir}
 use Rattle.fp_host.specs.View.{View}
-use Rattle.fp_host.specs.Outcome.{Spot, folder, IsSettled, shows}
+use Rattle.fp_host.specs.Outcome.{Spot, gone, folder, IsSettled, shows}
 use Rattle.fp_host.specs.Frame.{Keeps}
 use Rattle.fp_name.specs.Hex.{is_digest}
 use Rattle.fp_base.specs.declared.object.ObjKind.{ObjKind}
@@ -33,6 +33,10 @@ pub record IsWork (u : View) (q : Elements) : Type 0 where
   pub staging : IsStaging u place
   pub within : IsWithin place q
 
+-- Anything may stand there, but not so deep as objects of a store in the place of the work.
+abbrev pub IsWorkAt : View → Elements → Spot → Type 0
+IsWorkAt u q spot = IsWork u q × ((spot ≡ gone) ⊎ (length q ≤ 6))
+
 -- one of these objects comes to its name, at which nothing stood at the entry
 pub record IsNewObject (have : Have) (root : Elements) (u : View) (q : Elements) (spot : Spot) : Type 0 where
   pub digest : List ℕ
@@ -59,7 +63,7 @@ IsStoreFolder root q = IsAboveObject root q ⊎ ((q ≡ repo) ⊎ (q ≡ tmp))
 
 -- What may stand where: work at the first free name of repo/tmp, new objects, and folders.
 abbrev pub StoresAt : Have → Elements → View → Elements → Spot → Type 0
-StoresAt have root u q spot = IsWork u q ⊎ (IsNewObject have root u q spot ⊎ (IsStoreFolder root q × (spot ≡ folder)))
+StoresAt have root u q spot = IsWorkAt u q spot ⊎ (IsNewObject have root u q spot ⊎ (IsStoreFolder root q × (spot ≡ folder)))
 
 abbrev pub StoresName : Have → Elements → View → Elements → Slot → Type 0
 StoresName have root u q e = IsWork u q ⊎ (IsNewName have root u q ⊎ (IsStoreFolder root q × (e ≡ dir)))

@@ -1,4 +1,5 @@
 pub mod Report
 pub mod Judging
 pub mod Picking
+pub mod Batches
 pub mod Laws

@@ -1,35 +1,32 @@
 //! All that stands below `objects`.
-ghost use Rattle.std.specs.Prelude.{◌≡◌, ◌≤◌, length, IfOk, OnOk, IsErrOf};
+ghost use Rattle.std.specs.Prelude.{IfOk, IsErrOf};
 ghost use Rattle.fp_host.specs.Causes.{IsCaused, IsCounted};
 ghost use Rattle.fp_host.specs.Frame.{AtEnd, Unchanged};
 ghost use Rattle.fp_host.specs.Outcome.{shows};
 ghost use Rattle.ost_store.specs.Names.{CanList};
 ghost use Rattle.ost_fsck.specs.Report.{Reports};
-ghost use Rattle.ost_fsck.specs.Picking.{Checks, with_found};
+ghost use Rattle.ost_fsck.specs.Picking.{Checks};
 
-use crate::judging::look;
-use crate::report::{Finding, Report};
+use crate::batch::check_batch;
+use crate::report::Report;
 use fp_base::Items;
 use fp_host::{Host, HostEnd, Path};
 use ost_store::names;
-use std::alloc::{AllocError, Global};
+use par_digest::Gate;
+use std::alloc::Global;
+use std::thread::Threads;
 
-/// Adds the finding, where there is one.
-fn add_finding(finding: Option<Finding>, findings: &mut Vec<Finding>) -> Result<(), AllocError>
-    ensures { OnOk result (findings.new.items ≡ with_found findings.old.items finding) }
-{
-    if let Some(finding) = finding {
-        findings.push(finding)?;
-    }
-    Ok(())
-}
+/// The most paths that are looked at together.
+const MOST_IN_BATCH: usize = 64;
 
-/// Looks at each of these paths in the store in this folder.
-fn check_all<H: Host>(
+/// Looks at each of these paths in the store in this folder, so many together.
+fn check_all<T: Threads + Sync, H: Host, G: Gate + Sync>(
+    rt: &T,
     alloc: Global,
     host: &mut H,
     root: &Path,
     paths: &[Path],
+    gate: &G,
 ) -> Result<Report, HostEnd>
     ensures unchanged { Unchanged (H.moments host.old) (H.moments host.new) }
     ensures tells { IfOk result (λ report. AtEnd (λ u w. Checks root.now paths.now u report)
@@ -39,10 +36,12 @@ fn check_all<H: Host>(
 {
     let mut findings = Vec::new(alloc);
     let mut objects = 0u64;
-    for path in paths {
-        let seen = look(alloc, host, root, path)?;
-        objects += u64::from(seen.is_object);
-        add_finding(seen.finding, &mut findings)?;
+    let mut at = 0;
+    while at < paths.len() {
+        let count = (paths.len() - at).min(MOST_IN_BATCH);
+        let batch = &paths[at..at + count];
+        objects += check_batch(rt, alloc, host, root, batch, gate, &mut findings)?;
+        at += count;
     }
     Ok(Report {
         findings: Items::from_vec(findings),
@@ -51,8 +50,15 @@ fn check_all<H: Host>(
 }
 
 /// Checks the store in this folder: each file and link below `objects` is looked at, an object's content too, whatever commits
-/// use it. A larger file is read piece by piece. Nothing changes. It isn't for paths of more than 128 elements.
-pub fn check_store<H: Host>(alloc: Global, host: &mut H, root: &Path) -> Result<Report, HostEnd>
+/// use it. Two threads hash the objects of up to 256 KiB, 64 at most together, and the gate is told of each such batch. A larger
+/// file is read piece by piece. Nothing changes. It isn't for paths of more than 128 elements.
+pub fn check_store<T: Threads + Sync, H: Host, G: Gate + Sync>(
+    rt: &T,
+    alloc: Global,
+    host: &mut H,
+    root: &Path,
+    gate: &G,
+) -> Result<Report, HostEnd>
     ensures unchanged { Unchanged (H.moments host.old) (H.moments host.new) }
     ensures tells { IfOk result (λ report. AtEnd (λ u w. Reports root.now (shows u) report)
         (H.moments host.old) (H.moments host.new)) }
@@ -60,5 +66,5 @@ pub fn check_store<H: Host>(alloc: Global, host: &mut H, root: &Path) -> Result<
         (CanList root.now) (H.faults host.old) (H.faults host.new) }
 {
     let paths = names(alloc, host, root)?;
-    check_all(alloc, host, root, paths.as_slice())
+    check_all(rt, alloc, host, root, paths.as_slice(), gate)
 }

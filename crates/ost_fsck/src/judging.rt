@@ -1,9 +1,9 @@
-//! One path below `objects`.
+//! One object, looked at by itself.
 ghost use Rattle.std.specs.Prelude.{◌≡◌, false, Some, IfOk, IsErrOf};
 ghost use Rattle.fp_host.specs.Causes.{IsCounted};
 ghost use Rattle.fp_host.specs.Frame.{AtEnd, Unchanged};
 ghost use Rattle.fp_base.specs.declared.object.ObjKind.TheVariants as kinds;
-ghost use Rattle.ost_fsck.specs.Judging.{has_bits, bad_unless, AreBitsAt, IsTrueAt, IsNamedAt, LooksAt, Looks};
+ghost use Rattle.ost_fsck.specs.Judging.{has_bits, bad_unless, AreBitsAt, IsTrueAt, IsNamedAt, LooksAt};
 ghost use Rattle.ost_fsck.specs.declared.report.Finding.TheVariants as findings;
 
 use crate::metadata::has_metadata;
@@ -13,7 +13,7 @@ use fp_host::{Host, HostEnd, Path, Stat};
 use fp_name::Digest;
 use ost_content::is_permission;
 use ost_copy::check_stored;
-use ost_store::{object_named, path_of};
+use ost_store::path_of;
 use ost_walk::WalkEnd;
 use std::alloc::{AllocError, Global};
 
@@ -114,7 +114,7 @@ fn is_named<H: Host>(
 }
 
 /// What is wrong with an object, where it isn't the one that its name says.
-fn bad_unless(is: bool, digest: Digest, kind: ObjKind) -> Option<Finding>
+pub(crate) fn bad_unless(is: bool, digest: Digest, kind: ObjKind) -> Option<Finding>
     ensures { result ≡ bad_unless is digest kind }
 {
     if is {
@@ -125,7 +125,7 @@ fn bad_unless(is: bool, digest: Digest, kind: ObjKind) -> Option<Finding>
 }
 
 /// A path that is the name of no object.
-fn stray(path: &Path) -> Result<Seen, AllocError>
+pub(crate) fn stray(path: &Path) -> Result<Seen, AllocError>
     ensures object { IfOk result (λ seen. seen.is_object ≡ false) }
     ensures found { IfOk result (λ seen. seen.finding ≡ Some (findings.Stray path.now)) }
 {
@@ -136,7 +136,7 @@ fn stray(path: &Path) -> Result<Seen, AllocError>
 }
 
 /// Looks at the name of an object in the store in this folder.
-fn look_at<H: Host>(
+pub(crate) fn look_at<H: Host>(
     alloc: Global,
     host: &mut H,
     root: &Path,
@@ -155,23 +155,4 @@ fn look_at<H: Host>(
         is_object: true,
         finding,
     })
-}
-
-/// Looks at a path below `objects` in the store in this folder.
-pub(crate) fn look<H: Host>(
-    alloc: Global,
-    host: &mut H,
-    root: &Path,
-    path: &Path,
-) -> Result<Seen, HostEnd>
-    ensures unchanged { Unchanged (H.moments host.old) (H.moments host.new) }
-    ensures tells { IfOk result (λ seen. AtEnd (λ u w. Looks root.now path.now u seen.is_object
-        seen.finding) (H.moments host.old) (H.moments host.new)) }
-    ensures fault_has_cause { IsCounted (IsErrOf result HostEnd.Fault)
-        (H.moments host.old) (H.faults host.old) (H.faults host.new) }
-{
-    match object_named(alloc, root, path)? {
-        Some(object) => look_at(alloc, host, root, &object.0, object.1),
-        None => Ok(stray(path)?),
-    }
 }

@@ -57,7 +57,7 @@ fn is_dirmeta(alloc: Global, bytes: &[u8]) -> Result<bool, HostEnd>
 }
 
 /// Whether the bytes keep the rules of their kind.
-fn keeps_rules(alloc: Global, kind: ObjKind, bytes: &[u8]) -> Result<bool, HostEnd>
+pub(crate) fn keeps_rules(alloc: Global, kind: ObjKind, bytes: &[u8]) -> Result<bool, HostEnd>
     ensures tells { IfOk result (λ keeps. keeps ≡ keeps_rules kind bytes.now) }
     ensures no_fault { IsErrOf result HostEnd.Fault → ⊥ }
 {

@@ -1,4 +1,4 @@
-use Rattle.std.proofs.Common.{subst, List, ℕ, Ok, Err}
+use Rattle.std.proofs.Common.{subst, List, ℕ, Ok, Err, refl}
 use Rattle.fp_host.specs.Moments.{Goes}
 use Rattle.fl_words.specs.declared.command.Command.TheVariants.{Filter as Filtering}
 use Rattle.fl_top.specs.Ends.{end_of_input}
@@ -31,7 +31,7 @@ returns-in_err-filter_bytes-clause-any_moment g c = λ holds.
     let by = answers c.args.source.now c.in_ok-bytes.bytes in
     let m = g.H.Host.moments c.args.host.now in
     let n = g.H.Host.moments c.filter_bytes.new.host in
-    goes_not_told command t by e c.from_residual-in_err-filter_bytes.result (g.met.H.Host.is_tree c.args.host.now) (source_answer c.args.source.now t c.in_ok-bytes.bytes c.in_ok-bytes.ensures.ok) c.from_residual-in_err-filter_bytes.ensures.1
+    goes_not_told command t by e c.from_residual-in_err-filter_bytes.result (g.met.H.Host.is_tree c.args.host.now) refl (source_answer c.args.source.now t c.in_ok-bytes.bytes c.in_ok-bytes.ensures.ok) c.from_residual-in_err-filter_bytes.ensures.1
     (subst (λ (l : List ℕ). Goes m n (LooksBy (answers c.args.source.now l)) (LookedBy (answers c.args.source.now l) (Err e))) c.as_slice.ensures c.in_err-filter_bytes.ensures.any_moment)
 
 pub returns-in_err-filter_bytes-clause-fault_has_cause : goal.returns-in_err-filter_bytes-clause-fault_has_cause
@@ -57,7 +57,7 @@ returns-clause-any_moment g c = λ holds.
     let by = answers c.args.source.now c.in_ok-bytes.bytes in
     let m = g.H.Host.moments c.args.host.now in
     let n = g.H.Host.moments c.filter_bytes.new.host in
-    goes_told command t by (g.met.H.Host.is_tree c.args.host.now) (source_answer c.args.source.now t c.in_ok-bytes.bytes c.in_ok-bytes.ensures.ok)
+    goes_told command t by (g.met.H.Host.is_tree c.args.host.now) refl (source_answer c.args.source.now t c.in_ok-bytes.bytes c.in_ok-bytes.ensures.ok)
     (subst (λ (l : List ℕ). Goes m n (LooksBy (answers c.args.source.now l)) (LookedBy (answers c.args.source.now l) (Ok tt))) c.as_slice.ensures c.in_ok-filter_bytes.ensures.any_moment)
 
 pub returns-clause-taken : goal.returns-clause-taken

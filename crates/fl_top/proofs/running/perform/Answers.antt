@@ -6,9 +6,9 @@ use Rattle.fp_host.specs.Moments.{Goes}
 use Rattle.dep_states.specs.Sound.{IsSound}
 use Rattle.fl_top.specs.Exports.{LeavesExports}
 use Rattle.fl_words.specs.declared.command.Command.{Command}
-use Rattle.fl_words.specs.declared.command.Command.TheVariants.{Change as Changing, List as Listed, Show as Showing, Filter as Filtering, Batch, Fsck}
+use Rattle.fl_words.specs.declared.command.Command.TheVariants.{Change as Changing, List as Listed, Show as Showing, Filter as Filtering, Batch, Fsck, Export as Exporting}
 use Rattle.fl_top.specs.Asked.{OpsBy, AreToldFor, AsksRemotes}
-use Rattle.fl_top.specs.Runs.{told, HasCauses}
+use Rattle.fl_top.specs.Runs.{told, HasCauses, IsFreeFor}
 use Rattle.fl_change.specs.Turns.{changing, MayDo}
 use Rattle.fl_top.specs.Answer.{listed}
 use Rattle.fl_top.specs.RunsOver.{RunsOn, EndedOn}
@@ -72,7 +72,7 @@ returns-in_err-list-in-List-clause-any_moment g c =
     let b = g.H.Host.moments c.list.new.host in
     let r = c.from_residual-in_err-list-in-List.result in
     subst (λ (k : Command). Goes a b (RunsOn k t) (EndedOn k t r)) (sym c.in-List.is)
-    (goes_not_looked (Listed c.in-List.listing) t (listed c.in-List.listing) c.in_err-list-in-List.field-0.0 r (g.met.H.Host.is_tree c.args.host.now) (λ given u. refl) c.in_err-list-in-List.ensures.any_moment c.from_residual-in_err-list-in-List.ensures.1)
+    (goes_not_looked (Listed c.in-List.listing) t (listed c.in-List.listing) c.in_err-list-in-List.field-0.0 r (g.met.H.Host.is_tree c.args.host.now) refl (λ given u. refl) c.in_err-list-in-List.ensures.any_moment c.from_residual-in_err-list-in-List.ensures.1)
 
 pub returns-in_ok-list-in-List-clause-any_moment : goal.returns-in_ok-list-in-List-clause-any_moment
 returns-in_ok-list-in-List-clause-any_moment g c =
@@ -80,7 +80,7 @@ returns-in_ok-list-in-List-clause-any_moment g c =
     let a = g.H.Host.moments c.args.host.now in
     let b = g.H.Host.moments c.list.new.host in
     subst (λ (k : Command). Goes a b (RunsOn k t) (EndedOn k t (Ok tt))) (sym c.in-List.is)
-    (goes_look (Listed c.in-List.listing) t (listed c.in-List.listing) (g.met.H.Host.is_tree c.args.host.now) (λ given u. refl) c.in_ok-list-in-List.ensures.any_moment)
+    (goes_look (Listed c.in-List.listing) t (listed c.in-List.listing) (g.met.H.Host.is_tree c.args.host.now) refl (λ given u. refl) c.in_ok-list-in-List.ensures.any_moment)
 
 pub returns-in-Batch-clause-fault_has_cause : goal.returns-in-Batch-clause-fault_has_cause
 returns-in-Batch-clause-fault_has_cause g c =
@@ -179,3 +179,27 @@ returns-in-Batch-clause-exports g c change =
     let left = g.I.Source.left c.args.input.now in
     let holds = g.R.Remotes.holds c.args.remotes.now in
     subst (λ (k : Command). OnOk c.batch.result (AreToldFor (OpsBy k left) holds → AtEnd (λ u w. IsSound u → LeavesExports w) (g.H.Host.moments c.args.host.now) (g.H.Host.moments c.batch.new.host))) (sym c.in-Batch.is) c.batch.ensures.exports
+
+-- ---- a remote is made
+
+pub returns-in-Export-clause-any_moment : goal.returns-in-Export-clause-any_moment
+returns-in-Export-clause-any_moment g c =
+    let holds = g.R.Remotes.holds c.args.remotes.now in
+    let t = told (g.I.Source.left c.args.input.now) holds (g.H.Host.moments c.args.host.now) in
+    let a = g.H.Host.moments c.args.host.now in
+    let b = g.H.Host.moments c.export.new.host in
+    subst (λ (k : Command). Goes a b (RunsOn k t) (EndedOn k t c.export.result)) (sym c.in-Export.is) (c.export.ensures.any_moment holds)
+
+pub returns-in-Export-clause-fault_has_cause : goal.returns-in-Export-clause-fault_has_cause
+returns-in-Export-clause-fault_has_cause g c =
+    let cause = c.export.ensures.fault_has_cause in
+    record {
+      later = cause.later;
+      fault = λ is m at can. cause.fault is.1 m at (subst (λ (k : Command). IsFreeFor (Some k) m.now) c.in-Export.is can.free);
+    }
+
+pub returns-in-Export-clause-found : goal.returns-in-Export-clause-found
+returns-in-Export-clause-found g c checks by = absurd (not_checks c.args.command (Exporting c.in-Export.remote c.in-Export.name) c.in-Export.is refl checks)
+
+pub returns-in-Export-clause-exports : goal.returns-in-Export-clause-exports
+returns-in-Export-clause-exports g c change = absurd (not_changes c.args.command (Exporting c.in-Export.remote c.in-Export.name) c.in-Export.is refl change)

@@ -15,7 +15,7 @@ use Rattle.fp_host.specs.Causes.{IsCaused}
 use Rattle.fl_top.specs.Asked.{OpsFor, AreToldFor, AsksRemotes}
 use Rattle.fl_top.proofs.Asked.{not_asked}
 use Rattle.fl_top.proofs.Finishing.{goes_command, goes_no_command, goes_unread, took_nothing, starves}
-use Rattle.fl_top.proofs.running.run.Goals as goal
+use Rattle.fl_top.proofs.running.run_gated.Goals as goal
 
 pub returns-in-Ok-clause-any_moment : goal.returns-in-Ok-clause-any_moment
 returns-in-Ok-clause-any_moment g c = goes_last (goes_command (map string_bytes c.args.words.now) (told (g.I.Source.left c.args.input.now) (g.R.Remotes.holds c.args.remotes.now) (g.H.Host.moments c.args.host.now)) c.in-Ok.command c.run_command.result (g.met.H.Host.is_tree c.args.host.now) c.in-Ok.ensures.ok c.run_command.ensures.any_moment)

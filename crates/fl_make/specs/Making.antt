@@ -1,0 +1,73 @@
+-- What making a remote does to a host, and what it leaves.
+use Rattle.std.specs.Prelude.{◌≡◌, ◌≢◌, ◌⊎◌, ℕ, List, [], ◌∷◌, Ok, Err, codes}
+use Rattle.std.specs.List.{AllByRecursion}
+use Rattle.fp_host.specs.Paths.{Elements, Slot, absent, dir, IsAbove}
+use Rattle.fp_host.specs.View.{View}
+use Rattle.fp_host.specs.Outcome.{shows}
+use Rattle.fp_name.specs.Refs.{Ref}
+use Rattle.fp_base.specs.declared.object.ObjKind.{ObjKind}
+use Rattle.fp_small.specs.Clear.{IsWithin}
+use Rattle.fp_small.specs.Files.{KeepsFiles}
+use Rattle.fp_small.specs.Places.{repo, tmp}
+use Rattle.fp_small.specs.declared.state.State.{State}
+use Rattle.ost_model.specs.Objects.{object_path}
+use Rattle.ost_refs.specs.Places.{place_path}
+use Rattle.ost_refs.specs.declared.place.RefPlace.{RefPlace}
+use Rattle.ost_commit.specs.declared.built.Built.{Built}
+use Rattle.ost_commit.specs.Objects.{have_of}
+use Rattle.ost_description.specs.Descriptions.{described}
+use Rattle.ost_description.specs.Commits.{IsDescribed, IsRead}
+use Rattle.ost_export.specs.Exports.{ref_path, CanExport, IsSpared, WasExported}
+use Rattle.dep_states.specs.Settled.{Settled}
+use Rattle.dep_states.specs.Shown.{Shows}
+use Rattle.dep_states.specs.Sound.{IsSound, Opens}
+use Rattle.fl_lines.specs.Lines.{made_text}
+use Rattle.fl_make.specs.declared.end.MakeEnd.{MakeEnd}
+use Rattle.fl_make.specs.declared.end.MakeEnd.TheVariants.{BadRecord, Fault, NoMemory}
+
+-- the folder of the store that is made for a remote
+abbrev pub made : List ℕ → Elements
+made remote = remote ∷ codes "made" ∷ []
+
+-- ---- at every moment
+
+-- What a name may come to hold: anything at or below the store's folder, where it is no place of another ref, and below `repo/tmp`; and
+-- these, and those above them, may come to be folders.
+pub data MayMake (remote : List ℕ) (r : Ref) (q : Elements) (e : Slot) : Type 0 where
+  in_store : IsWithin (made remote) q → ((place : RefPlace) → place_path (made remote) place ≢ ref_path (made remote) r → q ≢ place_path (made remote) place) → MayMake remote r q e
+  in_work : IsAbove tmp q → MayMake remote r q e
+  above_store : IsAbove q (made remote) → e ≡ dir → MayMake remote r q e
+  of_work : (q ≡ repo) ⊎ (q ≡ tmp) → e ≡ dir → MayMake remote r q e
+
+-- Nothing is printed, each file that was there is as it was, and names change only so. Of the store each other ref stays, and each
+-- object that was there. Nothing changes of bytes that describe no tree. Over a sound installation nothing changed yet, or every stop
+-- leaves the state that was shown, and is sound.
+pub record Makes (remote : List ℕ) (r : Ref) (bytes : List ℕ) (u w : View) : Type 0 where
+  pub printed : w.printed ≡ u.printed
+  pub files : KeepsFiles u w
+  pub names : (q : Elements) → (w.names q ≡ u.names q) ⊎ MayMake remote r q (w.names q)
+  pub refs : (place : RefPlace) → place_path (made remote) place ≢ ref_path (made remote) r → IsSpared (place_path (made remote) place) u w
+  pub objects : (d : List ℕ) (kind : ObjKind) → u.names (object_path (made remote) d kind) ≢ absent → IsSpared (object_path (made remote) d kind) u w
+  pub good : (w ≡ u) ⊎ IsRead (described bytes)
+  pub opens : IsSound u → (s : State) → Shows (shows u) s → (w ≡ u) ⊎ Opens s w
+
+-- ---- in the end
+
+-- This is the line of the commit of what the bytes describe. It was exported into the store. What was settled is settled.
+pub record WasMade (remote : List ℕ) (r : Ref) (bytes line : List ℕ) (u w : View) : Type 0 where
+  pub built : Built
+  pub described_by : IsDescribed bytes r built
+  pub line_is : line ≡ made_text built.commit
+  pub exported : WasExported (have_of built.objects) (made remote) r built.commit u w
+  pub settled : Settled (shows u) → Settled (shows w)
+
+-- the first bad line of the bytes
+abbrev pub IsMakeFault : List ℕ → MakeEnd → Type 0
+IsMakeFault bytes (BadRecord line) = described bytes ≡ Err line
+IsMakeFault bytes Fault = Unit {0}
+IsMakeFault bytes NoMemory = Unit {0}
+
+-- Where it may be done: at the store's `config` and at the ref's place nothing stands, or a file; and the folders above what is
+-- written are absent or folders.
+abbrev pub CanMake : List ℕ → Ref → View → Type 0
+CanMake remote r v = CanExport (made remote) r v

@@ -1,0 +1,12 @@
+//! Laws of the words that the contract uses. Each is the contract of a function that does nothing.
+ghost use Rattle.std.specs.Prelude.{◌≡◌, ℕ, List, true};
+ghost use Rattle.fp_host.specs.View.{View, IsTree};
+ghost use Rattle.fp_name.specs.Refs.{Ref, is_ref};
+ghost use Rattle.dep_states.specs.Sound.{IsSound};
+ghost use Rattle.fl_make.specs.Making.{CanMake};
+
+/// In a sound installation nothing is in the way of a remote that is made.
+pub fn sound_installations_take_remotes()
+    ensures { (v : View) (remote : List ℕ) (r : Ref) → IsTree v → IsSound v → is_ref r ≡ true
+        → CanMake remote r v }
+{}

@@ -1,0 +1,107 @@
+//! A remote that is made.
+ghost use Rattle.std.specs.Prelude.{◌≡◌, ◌↔◌, ℕ, None, IfOk, IfErr, OnOk, IsTrue, IsErrOf};
+ghost use Rattle.std.specs.List.{AllByRecursion};
+ghost use Rattle.fp_host.specs.Causes.{IsCaused};
+ghost use Rattle.fp_host.specs.Frame.{AtEnd, Unchanged};
+ghost use Rattle.fp_host.specs.Moments.{Always};
+ghost use Rattle.ost_model.specs.Order.{first_fault};
+ghost use Rattle.ost_store.specs.Stage.{IsKeepable};
+ghost use Rattle.ost_commit.specs.Objects.{have_of};
+ghost use Rattle.ost_export.specs.Staging.{AreWhole, IsKeepableObject};
+ghost use Rattle.ost_export.specs.Exports.{CanExport, ExportsSynced, WasExported};
+ghost use Rattle.fl_make.specs.declared.end.MakeEnd.TheVariants.{BadRecord};
+ghost use Rattle.fl_make.specs.Making.{made, CanMake, IsMakeFault, Makes, WasMade};
+
+use crate::end::MakeEnd;
+use fl_lines::made_line;
+use fp_base::Text;
+use fp_host::{Host, HostEnd, Path, is_link_text};
+use fp_name::{RefName, RemoteName};
+use ost_commit::{Built, BuiltObject};
+use ost_content::is_permission;
+use ost_description::commit_description;
+use ost_export::export;
+use ost_model::Object;
+use std::alloc::{AllocError, Global};
+use std::thread::Threads;
+
+/// Makes the commit of the tree that the bytes describe, offers it under the ref in the store `made/REMOTE`, and answers the line of
+/// the commit. Where the store is there, its other refs and its objects stay. The installation isn't looked at, and a sync comes
+/// before the first change. `BadRecord` comes only with the first bad line, before anything is done.
+pub fn make_remote<H: Host>(
+    rt: &(impl Threads + Sync),
+    alloc: Global,
+    host: &mut H,
+    remote: &RemoteName,
+    name: &RefName,
+    bytes: &[u8],
+) -> Result<Text, MakeEnd>
+    ensures any_moment { Always (Makes remote.now name.now bytes.now)
+        (H.moments host.old) (H.moments host.new) }
+    ensures on_success { IfOk result (λ line. AtEnd (WasMade remote.now name.now bytes.now line)
+        (H.moments host.old) (H.moments host.new)) }
+    ensures refused { IfErr result (IsMakeFault bytes.now) }
+    ensures refused_unchanged { (line : ℕ) → IsErrOf result (BadRecord line) → Unchanged
+        (H.moments host.old) (H.moments host.new) }
+    ensures fault_has_cause { IsCaused (IsErrOf result MakeEnd.Fault) (H.moments host.old)
+        (CanMake remote.now name.now) (H.faults host.old) (H.faults host.new) }
+{
+    let built = commit_description(rt, alloc, bytes, name)?;
+    let line = made_line(alloc, &built.commit)?;
+    offer(alloc, host, remote, name, &built)?;
+    Ok(line)
+}
+
+/// Offers the commit under the ref in the store of the remote.
+fn offer<H: Host>(
+    alloc: Global,
+    host: &mut H,
+    remote: &RemoteName,
+    name: &RefName,
+    built: &Built,
+) -> Result<(), HostEnd>
+    requires whole { AreWhole built.now.objects }
+    requires clean { first_fault (have_of built.now.objects) built.now.commit ≡ None }
+    ensures any_moment { Always (ExportsSynced (have_of built.now.objects) (made remote.now) name.now built.now.commit)
+        (H.moments host.old) (H.moments host.new) }
+    ensures on_success { OnOk result (AtEnd (WasExported (have_of built.now.objects) (made remote.now) name.now built.now.commit)
+        (H.moments host.old) (H.moments host.new)) }
+    ensures fault_has_cause { IsCaused (IsErrOf result HostEnd.Fault) (H.moments host.old)
+        (CanExport (made remote.now) name.now) (H.faults host.old) (H.faults host.new) }
+{
+    if !are_keepable(built.objects.as_slice()) {
+        return Err(HostEnd::NoMemory);
+    }
+    let root = made_path(alloc, remote)?;
+    export(alloc, host, &root, built, name)
+}
+
+/// The folder of the store that is made for a remote.
+fn made_path(alloc: Global, remote: &RemoteName) -> Result<Path, AllocError>
+    ensures { IfOk result (λ path. path ≡ made remote.now) }
+{
+    Path::root(alloc).child("made")?.child(remote.as_str())
+}
+
+/// Whether a store may keep each of the objects. Those of a commit of rows are so, which the call that builds it doesn't say.
+fn are_keepable(objects: &[BuiltObject]) -> bool
+    ensures { IsTrue result → AllByRecursion IsKeepableObject objects.now }
+{
+    for object in objects {
+        if !is_keepable(&object.object) {
+            return false;
+        }
+    }
+    true
+}
+
+/// Whether a store may keep the object: a file's permission bits are within 0775, and a link's text is one.
+fn is_keepable(object: &Object) -> bool
+    ensures { IsTrue result → IsKeepable object.now }
+{
+    match object {
+        Object::Meta(_) => true,
+        Object::File { mode, .. } => is_permission(*mode),
+        Object::Link(text) => is_link_text(text.as_str()),
+    }
+}

@@ -1,0 +1,46 @@
+//! A remote that is made of the input.
+ghost use Rattle.std.specs.Prelude.{◌≤◌, Option, IsErrOf};
+ghost use Rattle.fp_host.specs.Causes.{IsCaused};
+ghost use Rattle.fp_host.specs.Frame.{Unchanged};
+ghost use Rattle.fp_host.specs.Moments.{Goes, Rose};
+ghost use Rattle.fp_host.specs.Remote.{Holdings};
+ghost use Rattle.fl_words.specs.declared.command.Command.TheVariants.{Export as Exporting};
+ghost use Rattle.fl_make.specs.Making.{CanMake};
+ghost use Rattle.fl_top.specs.Runs.{told};
+ghost use Rattle.fl_top.specs.RunsOver.{RunsOn, EndedOn, TakenBy};
+
+use crate::command_end::CommandEnd;
+use crate::input::read_input;
+use crate::running::say;
+use fl_make::make_remote;
+use fp_host::{Host, Source};
+use fp_name::{RefName, RemoteName};
+use std::alloc::Global;
+use std::thread::Threads;
+
+/// Makes the commit of the tree that the input describes, offers it under the ref in the store of the remote, and prints its
+/// line. The installation isn't opened.
+pub(crate) fn export<T: Threads + Sync, H: Host, I: Source>(
+    rt: &T,
+    alloc: Global,
+    input: &mut I,
+    host: &mut H,
+    remote: &RemoteName,
+    name: &RefName,
+) -> Result<(), CommandEnd>
+    ensures any_moment { (holds : Option Holdings) → Goes (H.moments host.old) (H.moments host.new)
+        (RunsOn (Exporting remote.now name.now) (told (I.left input.old) holds (H.moments host.old)))
+        (EndedOn (Exporting remote.now name.now) (told (I.left input.old) holds (H.moments host.old)) result) }
+    ensures fault_has_cause { IsCaused (IsErrOf result CommandEnd.Fault) (H.moments host.old)
+        (CanMake remote.now name.now) (H.faults host.old) (H.faults host.new) }
+    ensures no_remote_fault { IsErrOf result CommandEnd.RemoteFault → ⊥ }
+    ensures input { IsErrOf result CommandEnd.InputFault → Rose
+        (I.faults input.old) (I.faults input.new) × Unchanged
+        (H.moments host.old) (H.moments host.new) }
+    ensures taken { TakenBy result (I.left input.old) (I.left input.new) }
+    ensures later { I.faults input.old ≤ I.faults input.new }
+{
+    let given = read_input(alloc, input)?;
+    let line = make_remote(rt, alloc, host, remote, name, given.as_slice())?;
+    Ok(say(host, line.as_str().as_bytes())?)
+}

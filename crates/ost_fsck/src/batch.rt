@@ -1,0 +1,97 @@
+//! Paths that are looked at together, so that two threads hash their small objects.
+ghost use Rattle.std.specs.Prelude.{◌≡◌, ◌≤◌, ◌++◌, ◌∷◌, [], length, IfOk, OnOk, IsErrOf};
+ghost use Rattle.fp_host.specs.Causes.{IsCounted};
+ghost use Rattle.fp_host.specs.Frame.{AtEnd, Unchanged};
+ghost use Rattle.ost_fsck.specs.Batches.{AreRows, ChecksMore, findings_by, objects_by};
+ghost use Rattle.ost_fsck.specs.Picking.{with_found};
+
+use crate::report::Finding;
+use crate::row::{Row, judge, read};
+use fp_host::{Host, HostEnd, Path};
+use fp_name::Digest;
+use par_digest::{Gate, Item, digests_gated};
+use std::alloc::{AllocError, Global};
+use std::thread::Threads;
+
+/// Looks at each of these paths in the store in this folder, adds what is found, and says how many are the name of an object. The
+/// digests of the small objects come from one call, which has the gate.
+pub(crate) fn check_batch<T: Threads + Sync, H: Host, G: Gate + Sync>(
+    rt: &T,
+    alloc: Global,
+    host: &mut H,
+    root: &Path,
+    paths: &[Path],
+    gate: &G,
+    findings: &mut Vec<Finding>,
+) -> Result<u64, HostEnd>
+    ensures unchanged { Unchanged (H.moments host.old) (H.moments host.new) }
+    ensures few { IfOk result (λ objects. objects ≤ length paths.now) }
+    ensures tells { IfOk result (λ objects. AtEnd (λ u w. ChecksMore root.now paths.now u
+        findings.old.items findings.new.items objects) (H.moments host.old) (H.moments host.new)) }
+    ensures fault_has_cause { IsCounted (IsErrOf result HostEnd.Fault)
+        (H.moments host.old) (H.faults host.old) (H.faults host.new) }
+{
+    let mut items = Vec::new(alloc);
+    let rows = read_all(alloc, host, root, paths, &mut items)?;
+    let digests = digests_gated(rt, alloc, &items, gate)?;
+    Ok(judge_all(rows, digests.as_slice(), findings)?)
+}
+
+/// Reads what stands at each of these paths in the store in this folder. The items of small objects come after the others.
+fn read_all<H: Host>(
+    alloc: Global,
+    host: &mut H,
+    root: &Path,
+    paths: &[Path],
+    items: &mut Vec<Item>,
+) -> Result<Vec<Row>, HostEnd>
+    ensures unchanged { Unchanged (H.moments host.old) (H.moments host.new) }
+    ensures long { IfOk result (λ rows. length rows.items ≡ length paths.now) }
+    ensures tells { IfOk result (λ rows. AtEnd (λ u w. AreRows root.now paths.now u items.new.items rows.items)
+        (H.moments host.old) (H.moments host.new)) }
+    ensures fault_has_cause { IsCounted (IsErrOf result HostEnd.Fault)
+        (H.moments host.old) (H.faults host.old) (H.faults host.new) }
+{
+    let mut rows = Vec::new(alloc);
+    for path in paths {
+        let row = read(alloc, host, root, path, items)?;
+        add_row(row, &mut rows)?;
+    }
+    Ok(rows)
+}
+
+/// Adds the row of a path.
+fn add_row(row: Row, rows: &mut Vec<Row>) -> Result<(), AllocError>
+    ensures { OnOk result (rows.new.items ≡ rows.old.items ++ row ∷ []) }
+{
+    rows.push(row)?;
+    Ok(())
+}
+
+/// Adds what is found where these are the digests of the items, and says how many paths are the name of an object.
+fn judge_all(
+    rows: Vec<Row>,
+    digests: &[Digest],
+    findings: &mut Vec<Finding>,
+) -> Result<u64, AllocError>
+    ensures count { IfOk result (λ objects. objects ≡ objects_by digests.now rows.items) }
+    ensures found { OnOk result (findings.new.items ≡ findings.old.items ++ findings_by digests.now rows.items) }
+{
+    let mut objects = 0u64;
+    for row in rows {
+        let seen = judge(row, digests);
+        objects += u64::from(seen.is_object);
+        add_finding(seen.finding, findings)?;
+    }
+    Ok(objects)
+}
+
+/// Adds the finding, where there is one.
+fn add_finding(finding: Option<Finding>, findings: &mut Vec<Finding>) -> Result<(), AllocError>
+    ensures { OnOk result (findings.new.items ≡ with_found findings.old.items finding) }
+{
+    if let Some(finding) = finding {
+        findings.push(finding)?;
+    }
+    Ok(())
+}

@@ -1,0 +1,98 @@
+//! Small objects as what their digests are taken of.
+ghost use Rattle.std.specs.Prelude.{◌≡◌, ◌≤◌, length, true, IfOk, IsErrOf};
+ghost use Rattle.fp_host.specs.Causes.{IsCounted};
+ghost use Rattle.fp_host.specs.Frame.{AtEnd, Unchanged};
+ghost use Rattle.fp_host.specs.Outcome.{points};
+ghost use Rattle.ost_model.specs.Contents.{is_permission};
+ghost use Rattle.ost_fsck.specs.Batches.{head_of, small_most, IsItemAt, IsItemIn, IsFileItemAt, IsFileItem};
+
+use crate::metadata::keeps_rules;
+use fp_base::{Blob, ObjKind, Text};
+use fp_host::{Host, HostEnd, Path, Stat, is_link_text};
+use fp_small::{Loaded, load};
+use ost_content::{header, is_permission, link_header};
+use par_digest::Item;
+use std::alloc::{AllocError, Global};
+
+/// The most bytes of an object that is hashed with others.
+const MOST_SMALL: u64 = 256 * 1024;
+
+/// The small object at the path as an item, where nothing but its digest keeps it from being one of the kind.
+pub(crate) fn small_item<H: Host>(
+    alloc: Global,
+    host: &mut H,
+    path: &Path,
+    kind: ObjKind,
+) -> Result<Option<Item>, HostEnd>
+    ensures unchanged { Unchanged (H.moments host.old) (H.moments host.new) }
+    ensures tells { IfOk result (λ item. AtEnd (λ u w. IsItemAt kind path.now u item)
+        (H.moments host.old) (H.moments host.new)) }
+    ensures fault_has_cause { IsCounted (IsErrOf result HostEnd.Fault)
+        (H.moments host.old) (H.faults host.old) (H.faults host.new) }
+{
+    match host.stat(path)? {
+        Stat::File { mode, .. } if is_permission(mode) => file_item(alloc, host, path, kind, mode),
+        Stat::Link => Ok(link_item(alloc, kind, &host.read_link(alloc, path)?)?),
+        Stat::Absent | Stat::Dir | Stat::File { .. } => Ok(None),
+    }
+}
+
+/// The file at the path, with these permission bits, as an item.
+fn file_item<H: Host>(
+    alloc: Global,
+    host: &mut H,
+    path: &Path,
+    kind: ObjKind,
+    mode: u32,
+) -> Result<Option<Item>, HostEnd>
+    requires { is_permission mode ≡ true }
+    ensures unchanged { Unchanged (H.moments host.old) (H.moments host.new) }
+    ensures tells { IfOk result (λ item. AtEnd (λ u w. IsFileItemAt kind mode path.now u item)
+        (H.moments host.old) (H.moments host.new)) }
+    ensures fault_has_cause { IsCounted (IsErrOf result HostEnd.Fault)
+        (H.moments host.old) (H.faults host.old) (H.faults host.new) }
+{
+    match load(alloc, host, path, MOST_SMALL)? {
+        Loaded::Bytes(bytes) => item_of(alloc, kind, mode, bytes),
+        Loaded::Absent | Loaded::NotFile | Loaded::TooLong(_) => Ok(None),
+    }
+}
+
+/// A file with these permission bits and these bytes as an item.
+fn item_of(alloc: Global, kind: ObjKind, mode: u32, bytes: Blob) -> Result<Option<Item>, HostEnd>
+    requires { is_permission mode ≡ true }
+    ensures tells { length bytes ≤ small_most → IfOk result (IsFileItem kind mode bytes) }
+    ensures no_fault { IsErrOf result HostEnd.Fault → ⊥ }
+{
+    if !keeps_rules(alloc, kind, bytes.as_slice())? {
+        return Ok(None);
+    }
+    let head = head_of(alloc, kind, mode)?;
+    Ok(Some(Item { head, body: bytes }))
+}
+
+/// What stands before the bytes of a file with these permission bits where its digest is taken.
+fn head_of(alloc: Global, kind: ObjKind, mode: u32) -> Result<Blob, AllocError>
+    requires { is_permission mode ≡ true }
+    ensures { IfOk result (λ head. head ≡ head_of kind mode) }
+{
+    match kind {
+        ObjKind::File => Blob::from_slice(alloc, &header(mode)),
+        ObjKind::Commit | ObjKind::DirTree | ObjKind::DirMeta => {
+            Ok(Blob::from_vec(Vec::new(alloc)))
+        }
+    }
+}
+
+/// A link with this text as an item.
+fn link_item(alloc: Global, kind: ObjKind, text: &Text) -> Result<Option<Item>, AllocError>
+    ensures { IfOk result (IsItemIn kind (points text.now)) }
+{
+    match kind {
+        ObjKind::File if is_link_text(text.as_str()) => Ok(Some(Item {
+            head: link_header(alloc, text.as_str())?,
+            body: Blob::from_vec(Vec::new(alloc)),
+        })),
+        _ => Ok(None),
+    }
+}

@@ -1,0 +1,118 @@
+//! What is known of a path once it is read.
+ghost use Rattle.std.specs.Prelude.{◌≡◌, ◌++◌, ◌∷◌, [], length, IfOk, OnOk, IsErrOf};
+ghost use Rattle.fp_host.specs.Causes.{IsCounted};
+ghost use Rattle.fp_host.specs.Frame.{AtEnd, Unchanged};
+ghost use Rattle.ost_fsck.specs.declared.row.Row.TheVariants as rows;
+ghost use Rattle.ost_fsck.specs.Batches.{is_at, seen_by, Grows, IsRow, IsRowAt};
+
+use crate::item::small_item;
+use crate::judging::{Seen, bad_unless, look_at, stray};
+use fp_base::ObjKind;
+use fp_host::{Host, HostEnd, Path};
+use fp_name::Digest;
+use ost_store::{object_named, path_of};
+use par_digest::Item;
+use std::alloc::{AllocError, Global};
+
+/// What is known of a path once it is read.
+#[derive(Drop)]
+pub(crate) enum Row {
+    /// All that is asked.
+    Answer(Seen),
+    /// It has this name, and is this object exactly where the item of this number has its digest.
+    Question {
+        digest: Digest,
+        kind: ObjKind,
+        number: usize,
+    },
+}
+
+/// Reads what stands at a path below `objects` in the store in this folder. The item of a small object comes after the others.
+pub(crate) fn read<H: Host>(
+    alloc: Global,
+    host: &mut H,
+    root: &Path,
+    path: &Path,
+    items: &mut Vec<Item>,
+) -> Result<Row, HostEnd>
+    ensures unchanged { Unchanged (H.moments host.old) (H.moments host.new) }
+    ensures grows { OnOk result (Grows items.old.items items.new.items) }
+    ensures tells { IfOk result (λ row. AtEnd (λ u w. IsRow root.now path.now u items.new.items row)
+        (H.moments host.old) (H.moments host.new)) }
+    ensures fault_has_cause { IsCounted (IsErrOf result HostEnd.Fault)
+        (H.moments host.old) (H.faults host.old) (H.faults host.new) }
+{
+    match object_named(alloc, root, path)? {
+        Some(object) => read_object(alloc, host, root, &object.0, object.1, items),
+        None => Ok(Row::Answer(stray(path)?)),
+    }
+}
+
+/// Reads what stands at the name of an object in the store in this folder.
+fn read_object<H: Host>(
+    alloc: Global,
+    host: &mut H,
+    root: &Path,
+    digest: &Digest,
+    kind: ObjKind,
+    items: &mut Vec<Item>,
+) -> Result<Row, HostEnd>
+    ensures unchanged { Unchanged (H.moments host.old) (H.moments host.new) }
+    ensures grows { OnOk result (Grows items.old.items items.new.items) }
+    ensures tells { IfOk result (λ row. AtEnd (λ u w. IsRowAt root.now digest.now kind u items.new.items row)
+        (H.moments host.old) (H.moments host.new)) }
+    ensures fault_has_cause { IsCounted (IsErrOf result HostEnd.Fault)
+        (H.moments host.old) (H.faults host.old) (H.faults host.new) }
+{
+    let path = path_of(alloc, root, digest, kind)?;
+    match small_item(alloc, host, &path, kind)? {
+        Some(item) => Ok(question(*digest, kind, item, items)?),
+        None => Ok(Row::Answer(look_at(alloc, host, root, digest, kind)?)),
+    }
+}
+
+/// Puts the item of an object after the others, and asks whether it has the object's digest.
+fn question(
+    digest: Digest,
+    kind: ObjKind,
+    item: Item,
+    items: &mut Vec<Item>,
+) -> Result<Row, AllocError>
+    ensures row { IfOk result (λ row. row ≡ rows.Question digest kind (length items.old.items)) }
+    ensures pushed { OnOk result (items.new.items ≡ items.old.items ++ item ∷ []) }
+{
+    let number = items.len();
+    items.push(item)?;
+    Ok(Row::Question {
+        digest,
+        kind,
+        number,
+    })
+}
+
+/// Whether the digest of this number is this one.
+fn is_at(digests: &[Digest], number: usize, digest: &Digest) -> bool
+    ensures { result ≡ is_at digests.now number digest.now }
+{
+    match digests.get(number) {
+        Some(got) => *got == *digest,
+        None => false,
+    }
+}
+
+/// What was seen at a path, where these are the digests of the items.
+pub(crate) fn judge(row: Row, digests: &[Digest]) -> Seen
+    ensures { result ≡ seen_by digests.now row }
+{
+    match row {
+        Row::Answer(seen) => seen,
+        Row::Question {
+            digest,
+            kind,
+            number,
+        } => Seen {
+            is_object: true,
+            finding: bad_unless(is_at(digests, number, &digest), digest, kind),
+        },
+    }
+}
