@@ -20,7 +20,7 @@ import subprocess
 import sys
 import tempfile
 
-from real_folder import REF, make_repository
+from real_folder import FILES, REF, make_repository
 
 SLOW = ["strace", "-f", "-o", "/dev/null", "-e", "trace=fsync", "-e", "inject=fsync:delay_exit=20000"]
 LINE = rb"\r(\d+) files and (\d+) KiB read, (\d+) synced"
@@ -107,7 +107,7 @@ def main():
         lines = re.findall(LINE, said)
         see("lines said on it", len(lines), len(lines) > 1)
         counts = [tuple(map(int, line)) for line in lines]
-        see("the last of them", counts[-1:], bool(counts) and counts == sorted(counts) and counts[-1][0] >= 1000)
+        see("the last of them", counts[-1:], bool(counts) and counts == sorted(counts) and counts[-1][0] >= FILES)
         see("what stands there in the end", on_screen(said), on_screen(said) == [])
         written = installs.shown()
         see("lines said on one terminal", len(re.findall(LINE, written)), re.search(LINE, written) is not None)
