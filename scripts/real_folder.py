@@ -11,8 +11,8 @@ of 1,000 files with `ostree commit`, installs it under a umask of 077, and tries
 - nothing is said on standard error,
 - a batch of 50 pins looks at the folders of the store as often as a batch of one: the store is walked once a command.
 
-It prints how many system calls a file the install made, by `strace -c`, and how many of them were syncs. The status is 0
-where nothing was amiss.
+It prints how many system calls a file such an install makes under a umask of 022, by `strace -c`, and which they are. The status
+is 0 where nothing was amiss.
 """
 
 import os
@@ -119,6 +119,24 @@ def looks_at_the_store(program, environment, trace, batch):
         return sum("repo/objects" in line for line in file)
 
 
+def count_calls(program, top, trace):
+    """Prints how many system calls a file an install makes under a common umask."""
+    environment = {"FPK_INSTALLATION": os.path.join(top, "counted"), "PATH": os.environ["PATH"]}
+    before = os.umask(0o022)
+    for words in (["remote-add", "lab", f"file://{top}/repo"], ["install", "lab", REF]):
+        subprocess.run(
+            ["strace", "-f", "-c", "-o", trace, program, *words], env=environment, check=True, stdout=subprocess.DEVNULL
+        )
+    os.umask(before)
+    with open(trace) as file:
+        rows = re.findall(r"^ *[\d.]+ +[\d.]+ +\d+ +(\d+) +(?:\d+ +)?(\w+)$", file.read(), re.M)
+    calls = {name: int(count) for count, name in rows}
+    total = calls.pop("total", sum(calls.values()))
+    print(f"system calls a file: {total / FILES:.1f}")
+    for name, count in sorted(calls.items(), key=lambda row: -row[1])[:12]:
+        print(f"  {name} {count / FILES:.2f}")
+
+
 def main():
     program = os.path.abspath(sys.argv[1])
     top = tempfile.mkdtemp()
@@ -139,21 +157,12 @@ def main():
         )
         trace = os.path.join(top, "trace")
         installed = subprocess.run(
-            ["strace", "-f", "-c", "-o", trace, program, "install", "lab", REF],
-            env=environment,
-            capture_output=True,
-            text=True,
+            [program, "install", "lab", REF], env=environment, capture_output=True, text=True
         )
         print(added.stdout + installed.stdout, end="")
         see("said on standard error", repr(added.stderr + installed.stderr), added.stderr + installed.stderr == "")
         see("status", installed.returncode, installed.returncode == 0)
-        with open(trace) as file:
-            rows = re.findall(r"^ *[\d.]+ +[\d.]+ +\d+ +(\d+) +(?:\d+ +)?(\w+)$", file.read(), re.M)
-        calls = {name: int(count) for count, name in rows}
-        total = calls.pop("total", sum(calls.values()))
-        print(f"system calls a file: {total / FILES:.1f}")
-        for name, count in sorted(calls.items(), key=lambda row: -row[1])[:12]:
-            print(f"  {name} {count / FILES:.2f}")
+        count_calls(program, top, trace)
         times, bits = wrong_files(installation)
         see("times that are wrong", times[:3], not times)
         see("permission bits that are wrong", bits[:3], not bits)

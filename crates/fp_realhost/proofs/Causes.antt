@@ -2,7 +2,7 @@
 use Rattle.std.proofs.Common.{◌≡◌, ℕ, ◌+◌, ◌-◌, ◌^◌, ◌≤◌, min, None, Result, Ok, Err, IsErrOf, arith}
 use Rattle.std.proofs.lemmas.Option.{none-some}
 use Rattle.fp_host.specs.View.{View}
-use Rattle.fp_host.specs.Moments.{Moments, Makes, HasCause, Rose}
+use Rattle.fp_host.specs.Moments.{Makes, HasCause, Rose}
 use Rattle.fp_host.specs.declared.host.HostError.{HostError}
 use Rattle.fp_host.specs.declared.host.HostError.TheVariants.{Failed, Clash, NoMemory}
 use Rattle.fp_system.specs.Counts.{Counts, CountsOf, one_more}

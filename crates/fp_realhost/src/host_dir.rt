@@ -5,12 +5,11 @@ ghost use Rattle.fp_host.specs.Reads.{AreNames, HasBits};
 ghost use Rattle.fp_host.specs.declared.host.HostError.TheVariants.{Failed};
 ghost use Rattle.fp_system.specs.Counts.{Counts, one_more, many_more};
 
-use crate::changes::Change;
 use crate::output::Output;
-use crate::tree::Tree;
 use fp_base::{Items, Text};
 use fp_host::{Host, HostError, Path, Stat};
 use fp_realroot::{Access, System, Team};
+use fp_realtree::{Change, Tree};
 use fp_system::{Call, Cause, Faults, SystemError};
 use std::alloc::{AllocError, Global};
 use std::marker::Model;
@@ -29,11 +28,13 @@ use std::thread::Threads;
 /// it and the lock file at its first call, where they are absent. The list of the root's names leaves the lock file out.
 ///
 /// A folder gets the permission bits 0755 and a file exactly those that were asked for, whatever the umask. What is moved
-/// into `repo/objects` gets the modification time 0, as OSTree's objects have. Ids are the numbers of inodes.
+/// into `repo/objects`, or written in `repo/tmp/pull/objects` to be moved there, gets the modification time 0, as OSTree's
+/// objects have. Ids are the numbers of inodes.
 ///
 /// The root may be a symlink or stand below one. Below the root no symlink is followed: a call fails where one stands in the
-/// place of a folder above its path. Each folder is looked at once, and remembered until it is removed, and so is what the host
-/// made itself: what another program puts in its place later is followed, or not seen.
+/// place of a folder above its path. What was found is remembered until the host changes it, and so is what the host made itself:
+/// each folder and file is looked at once, and a folder that is absent too. What another program puts in its place later is
+/// followed, or not seen.
 ///
 /// A `sync` makes last each file and then each folder that was changed since the last one, many of them by several threads.
 /// While changes wait for it, the lock file holds the text that Linux gives this start of the machine. Where an earlier run of

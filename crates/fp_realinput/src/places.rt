@@ -50,8 +50,9 @@ impl<'a, R: Files> Places<'a, R> {
         self.alloc
     }
 
-    // Finds the path for the system. No symlink stands above it, below the folder of the url.
-    fn reach(&mut self, url: &str, path: &Path) -> Result<(), Cause> {
+    // Finds the path for the system, and answers whether all folders above it are there. No symlink stands above it, below the
+    // folder of the url.
+    fn reach(&mut self, url: &str, path: &Path) -> Result<bool, Cause> {
         match write_path(url, path, &mut self.at) {
             Ok(below) => self.folders.look_above(self.rt, &self.at, below),
             Err(e) => Err(e),
@@ -62,7 +63,8 @@ impl<'a, R: Files> Places<'a, R> {
         ensures bits { IfOk result HasNodeBits }
     {
         match self.reach(url, path) {
-            Ok(()) => node_at(self.rt, alloc, &self.at, &mut self.file),
+            Ok(true) => node_at(self.rt, alloc, &self.at, &mut self.file),
+            Ok(false) => Ok(Node::Absent),
             Err(e) => Err(e),
         }
     }
@@ -77,7 +79,8 @@ impl<'a, R: Files> Places<'a, R> {
         ensures bound { IfOk result (λ n. n ≤ length into.old) }
     {
         match self.reach(url, path) {
-            Ok(()) => read_piece(self.rt, &self.at, &self.file, &mut self.reader, from, into),
+            Ok(true) => read_piece(self.rt, &self.at, &self.file, &mut self.reader, from, into),
+            Ok(false) => Ok(0),
             Err(e) => Err(e),
         }
     }

@@ -1,7 +1,7 @@
 // What the adapters need of a system beside what std names.
 ghost use Rattle.std.specs.Thread.{IsSync};
 
-use crate::syncing::{Failure, sync_by_threads};
+use fp_realfiles::{Failure, sync_by_threads};
 use std::fs::{File, TryLockError};
 use std::io;
 use std::io::IsTerminal;
@@ -33,6 +33,11 @@ pub trait System: Files + Eprint + AllocGlobal {
 
     /// Whether the standard output is a terminal.
     fn prints_to_terminal(&self) -> bool;
+
+    /// Whether standard error is a terminal.
+    fn complains_to_terminal(&self) -> bool {
+        false
+    }
 }
 
 impl System for HostRuntime {
@@ -63,5 +68,9 @@ impl System for HostRuntime {
 
     fn prints_to_terminal(&self) -> bool {
         self.stdout().is_terminal()
+    }
+
+    fn complains_to_terminal(&self) -> bool {
+        self.stderr().is_terminal()
     }
 }

@@ -2,8 +2,8 @@
 ghost use Rattle.std.specs.Prelude.{◌≡◌, Bool, true, OnOk};
 
 use crate::sets::sync_set;
-use crate::syncing::Unsynced;
 use crate::system::System;
+use fp_realfiles::Unsynced;
 use fp_system::{Call, Cause, folder_of, note};
 use std::alloc::{AllocError, Global};
 use std::collections::BTreeSet;

@@ -47,17 +47,23 @@ fn a_folder_does_what_it_is_asked(rt: HostRuntime) -> Result<(), Fail> {
     Ok(())
 }
 
-const MADE: [(Step<'static>, &str, &str); 6] = [
+const MADE: [(Step<'static>, &str, &str); 8] = [
     (Step::MakeDir("folder"), "folder", "dir"),
     (Step::Symlink("old", "link"), "link", "old"),
     (Step::Create("old", 0o644), "old", "644 0 "),
     (Step::Create("folder/old", 0o644), "folder", "dir old"),
     (Step::Sync, "none", "absent"),
-    (Step::Create("new", 0o644), "", "dir folder link new old"),
+    (Step::Stat("late/below"), "late/below", "absent"),
+    (Step::Symlink("folder", "late"), "late", "folder"),
+    (
+        Step::Create("new", 0o644),
+        "",
+        "dir folder late link new old",
+    ),
 ];
 
 // Calls whose condition doesn't hold there.
-const REFUSED: [Step<'static>; 28] = [
+const REFUSED: [Step<'static>; 29] = [
     Step::MakeDir(""),
     Step::MakeDir("link"),
     Step::MakeDir("none/below"),
@@ -79,6 +85,7 @@ const REFUSED: [Step<'static>; 28] = [
     Step::RemoveDir(""),
     Step::RemoveDir("link"),
     Step::RemoveDir("folder"),
+    Step::Stat("late/below"),
     Step::Read("folder"),
     Step::Read("link"),
     Step::Read("none"),
@@ -95,7 +102,7 @@ fn refuse<R: Runtime>(rt: &R) -> Result<bool, Fail> {
     let done = first_done(&mut host, rt.alloc(), &REFUSED);
     let last = "cannot read the link refused/old: Invalid argument (os error 22)";
     let said = is_message(rt.alloc(), host.last_error(), last)?;
-    Ok(said && other.is_none() && done.is_none() && host.faults() == 28)
+    Ok(said && other.is_none() && done.is_none() && host.faults() == 29)
 }
 
 #[test]

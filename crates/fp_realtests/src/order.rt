@@ -76,6 +76,63 @@ const ASKED: [(Step<'static>, &str); 24] = [
     ),
 ];
 
+// An object that waits for the store is dated once it is written.
+const WAITING: [(Step<'static>, &str); 14] = [
+    (
+        Step::Stat("none"),
+        "make date\nmake date/root\nlock date/root/.lock\n",
+    ),
+    (
+        Step::MakeDir("repo"),
+        "write date/root/.lock\nmake date/root/repo\n",
+    ),
+    (
+        Step::MakeDir("repo/objects"),
+        "make date/root/repo/objects\n",
+    ),
+    (Step::MakeDir("repo/tmp"), "make date/root/repo/tmp\n"),
+    (
+        Step::MakeDir("repo/tmp/pull"),
+        "make date/root/repo/tmp/pull\n",
+    ),
+    (
+        Step::MakeDir("repo/tmp/pull/objects"),
+        "make date/root/repo/tmp/pull/objects\n",
+    ),
+    (
+        Step::Create("repo/tmp/pull/objects/a", 0o644),
+        "create date/root/repo/tmp/pull/objects/a\n",
+    ),
+    (
+        Step::Append("repo/tmp/pull/objects/a", "a"),
+        "write date/root/repo/tmp/pull/objects/a\n",
+    ),
+    (
+        Step::Create("repo/tmp/pull/objects/b", 0o644),
+        "create date/root/repo/tmp/pull/objects/b\ndate date/root/repo/tmp/pull/objects/a\n",
+    ),
+    (
+        Step::Rename("repo/tmp/pull/objects/a", "repo/objects/a"),
+        "rename to date/root/repo/objects/a\n",
+    ),
+    (
+        Step::Create("repo/tmp/pull/objects/c", 0o644),
+        "create date/root/repo/tmp/pull/objects/c\ndate date/root/repo/tmp/pull/objects/b\n",
+    ),
+    (
+        Step::Append("repo/tmp/pull/objects/b", "b"),
+        "date date/root/repo/tmp/pull/objects/c\nwrite date/root/repo/tmp/pull/objects/b\n",
+    ),
+    (
+        Step::Rename("repo/tmp/pull/objects/b", "repo/objects/b"),
+        "date date/root/repo/tmp/pull/objects/b\nrename to date/root/repo/objects/b\n",
+    ),
+    (
+        Step::Rename("repo/tmp/pull/objects/c", "repo/objects/c"),
+        "rename to date/root/repo/objects/c\n",
+    ),
+];
+
 // Whether just this was noted since the last look.
 fn is_noted<R: Files + AllocGlobal>(log: &Log<'_, R>, want: &str) -> bool {
     match log.lines() {
@@ -116,6 +173,15 @@ fn the_system_is_asked_in_order(rt: HostRuntime) -> Result<(), Fail> {
     let log = Log::new(&rt, "order.log", "");
     assert!(rt; first_other(&log, "order/root", Access::Change, &ASKED)?.is_none());
     clear(&rt, "order");
+    Ok(())
+}
+
+#[test]
+fn what_waits_for_the_store_is_dated_once(rt: HostRuntime) -> Result<(), Fail> {
+    clear(&rt, "date");
+    let log = Log::new(&rt, "date.log", "");
+    assert!(rt; first_other(&log, "date/root", Access::Change, &WAITING)?.is_none());
+    clear(&rt, "date");
     Ok(())
 }
 
@@ -262,7 +328,7 @@ fn a_folder_without_a_lock_is_synced_once(rt: HostRuntime) -> Result<(), Fail> {
 }
 
 // What is looked at: the root, and what isn't known to be there or absent.
-const LOOKS: [(Step<'static>, &str); 10] = [
+const LOOKS: [(Step<'static>, &str); 20] = [
     (
         Step::Stat("none"),
         "look looks/root\nmake looks\nmake looks/root\nlock looks/root/.lock\n\
@@ -270,16 +336,26 @@ const LOOKS: [(Step<'static>, &str); 10] = [
     ),
     (
         Step::MakeDir("d"),
-        "write looks/root/.lock\nmake looks/root/d\n",
+        "write looks/root/.lock\nmake looks/root/d\nlook looks/root/d\n",
     ),
+    (Step::MakeDir("e"), "make looks/root/e\n"),
+    (Step::MakeDir("e/f"), "make looks/root/e/f\n"),
     (Step::Stat("d"), ""),
     (Step::Stat("d/x"), ""),
     (Step::Create("d/x", 0o644), "create looks/root/d/x\n"),
     (Step::Stat("d/x"), "look looks/root/d/x\n"),
+    (Step::Stat("d/x"), ""),
+    (Step::Append("d/x", "more"), "write looks/root/d/x\n"),
+    (Step::Stat("d/x"), "look looks/root/d/x\n"),
+    (Step::Read("d/x"), ""),
     (Step::Link("d/x", "d/y"), "link looks/root/d/y\n"),
     (Step::Rename("d/x", "d/z"), "rename to looks/root/d/z\n"),
     (Step::Stat("d/e/f"), ""),
     (Step::Unlink("d/y"), "remove looks/root/d/y\n"),
+    (Step::Stat("none/x"), "look looks/root/none\n"),
+    (Step::Stat("none/y/z"), ""),
+    (Step::MakeDir("none"), "make looks/root/none\n"),
+    (Step::Stat("none/x"), ""),
 ];
 
 #[test]
@@ -291,7 +367,7 @@ fn nothing_is_looked_at_twice(rt: HostRuntime) -> Result<(), Fail> {
     Ok(())
 }
 
-// Makes so many files.
+// Makes files of this number.
 fn make_many<H: Host>(host: &mut H, alloc: Global, count: u32) -> Result<(), Fail> {
     for i in 0..count {
         let name = format!(in alloc; "f{i:02}")?;
@@ -300,7 +376,7 @@ fn make_many<H: Host>(host: &mut H, alloc: Global, count: u32) -> Result<(), Fai
     Ok(())
 }
 
-// The files of so many that a sync makes last, and whether it succeeds.
+// How many of this number of files a sync makes last, and whether it succeeds.
 fn synced<R: Runtime>(log: &Log<'_, R>, root: &str, count: u32) -> Result<(usize, bool), Fail> {
     let system = Logged { log };
     let mut host = HostDir::new(

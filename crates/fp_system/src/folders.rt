@@ -7,11 +7,13 @@ use std::collections::BTreeSet;
 use std::rt::Files;
 
 /// The folders that were looked at, by their paths. Each is looked at once, and remembered until it is removed: what
-/// another program puts in its place meanwhile is followed. Above one that is remembered no symlink stands.
+/// another program puts in its place meanwhile is followed. Above one that is remembered no symlink stands. That nothing
+/// stands at a path is remembered too, until it is forgotten or a folder is made there.
 #[derive(Drop)]
 pub struct Folders {
     alloc: Global,
     known: BTreeSet<String>,
+    absent: BTreeSet<String>,
 }
 
 impl Folders {
@@ -20,6 +22,7 @@ impl Folders {
         Folders {
             alloc,
             known: BTreeSet::new(alloc),
+            absent: BTreeSet::new(alloc),
         }
     }
 
@@ -30,26 +33,29 @@ impl Folders {
 
     /// Remembers a folder above which no symlink stands, where there is memory.
     pub fn add(&mut self, at: &str) {
+        self.absent.remove(at);
         let _noted = note(self.alloc, &mut self.known, at);
     }
 
-    /// The folder is removed.
+    /// A folder was removed, or something else came: what stands at the path is not known any more.
     pub fn forget(&mut self, at: &str) {
         self.known.remove(at);
+        self.absent.remove(at);
     }
 
-    /// Looks at each folder above the path, from a place in its text on, up to one that isn't there. A symlink is an error.
-    pub fn look_above<R: Files>(&mut self, rt: &R, at: &str, from: usize) -> Result<(), Cause> {
+    /// Looks at each folder above the path, from a place in its text on, up to one that isn't there. Answers whether all of
+    /// them are. A symlink is an error.
+    pub fn look_above<R: Files>(&mut self, rt: &R, at: &str, from: usize) -> Result<bool, Cause> {
         if self.has(folder_of(at)) {
-            return Ok(());
+            return Ok(true);
         }
         for end in from..at.len() {
             match above_at(at, end) {
-                Some(above) if !self.is_folder(rt, above)? => break,
+                Some(above) if !self.is_folder(rt, above)? => return Ok(false),
                 _ => {}
             }
         }
-        Ok(())
+        Ok(true)
     }
 
     /// Whether a folder is there. A symlink is an error.
@@ -57,15 +63,26 @@ impl Folders {
         if self.has(at) {
             return Ok(true);
         }
+        if self.absent.contains(at) {
+            return Ok(false);
+        }
         match kind_at(rt, at) {
-            Ok(Kind::Dir) => {
-                self.add(at);
-                Ok(true)
-            }
-            Ok(Kind::Link) => Err(Cause::IsSymlink),
-            Ok(_) => Ok(false),
+            Ok(kind) => self.remember(at, kind),
             Err(e) => Err(e),
         }
+    }
+
+    // Remembers what stands at the path, and answers whether it is a folder.
+    fn remember(&mut self, at: &str, kind: Kind) -> Result<bool, Cause> {
+        match kind {
+            Kind::Dir => self.add(at),
+            Kind::Absent => {
+                let _noted = note(self.alloc, &mut self.absent, at);
+            }
+            Kind::Link => return Err(Cause::IsSymlink),
+            Kind::File | Kind::Other => {}
+        }
+        Ok(kind == Kind::Dir)
     }
 }
 

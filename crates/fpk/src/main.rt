@@ -5,6 +5,7 @@ ghost use Rattle.std.specs.Prelude.{◌≡◌};
 
 use fl_top::run;
 use fl_words::{WordsError, batch_reason, read_words, reason};
+use fp_progress::{Progress, Watched};
 use fp_realhost::{HostDir, Screen};
 use fp_realinput::{DirRemotes, StdinSource};
 use fp_realroot::{Access, System};
@@ -15,6 +16,7 @@ use std::io::{self, ErrorKind, Input};
 use std::process::ExitCode;
 use std::rt::Env;
 use std::thread::Threads;
+use std::time::Clock;
 
 /// What fpk takes.
 const HELP: &str = "\
@@ -69,7 +71,7 @@ fn main(rt: HostRuntime) -> ExitCode {
 }
 
 /// The words after the program's name are run, but for `--help` and `--version`.
-fn start(rt: &(impl System + Env + Print + Input + Threads + Sync), alloc: Global) -> u8 {
+fn start(rt: &(impl System + Env + Print + Input + Clock + Threads + Sync), alloc: Global) -> u8 {
     let words = match words_of(rt, alloc) {
         Ok(words) => words,
         Err(error) => {
@@ -117,7 +119,7 @@ fn words_of(rt: &(impl Env + AllocGlobal), alloc: Global) -> io::Result<Vec<Stri
 
 /// Runs the words on this folder.
 fn run_on(
-    rt: &(impl System + Print + Input + Threads + Sync),
+    rt: &(impl System + Print + Input + Clock + Threads + Sync),
     alloc: Global,
     folder: &str,
     words: &[String],
@@ -125,23 +127,28 @@ fn run_on(
     let Ok(access) = access_of(alloc, words) else {
         return out_of_memory(rt);
     };
-    let screen = Screen::new(rt, alloc, rt.prints_to_terminal());
-    match HostDir::new(rt, rt, &screen, alloc, folder, access) {
-        Ok(mut host) => run_over(rt, alloc, &mut host, words),
+    let progress = Progress::new(rt, rt.complains_to_terminal());
+    let system = Watched::host(rt, &progress);
+    let screen = Screen::new(&system, alloc, rt.prints_to_terminal());
+    match HostDir::new(&system, rt, &screen, alloc, folder, access) {
+        Ok(mut host) => run_over(rt, alloc, &mut host, &progress, words),
         Err(_) => out_of_memory(rt),
     }
 }
 
 /// Runs the words on this host, and says why the status is not 0.
-fn run_over<R: System + Input + Threads + Sync, O: Print>(
+fn run_over<R: System + Input + Clock + Threads + Sync, O: Print>(
     rt: &R,
     alloc: Global,
-    host: &mut HostDir<'_, R, R, O>,
+    host: &mut HostDir<'_, Watched<'_, R>, R, O>,
+    progress: &Progress<'_, R>,
     words: &[String],
 ) -> u8 {
-    let mut remotes = DirRemotes::new(rt, alloc);
+    let system = Watched::remotes(rt, progress);
+    let mut remotes = DirRemotes::new(&system, alloc);
     let mut input = input_of(rt, alloc, words);
     let status = run(rt, alloc, words, &mut input, host, &mut remotes);
+    progress.clear();
     match status {
         1 => explain_batch(rt, alloc, input.kept()),
         2 => explain(rt, alloc, words),

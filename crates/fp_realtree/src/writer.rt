@@ -1,35 +1,50 @@
 // The file that was written last.
 use fp_realroot::{open_own, open_to_read};
-use fp_system::{Cause, known};
+use fp_system::{Cause, known, note};
 use std::alloc::Global;
+use std::collections::BTreeSet;
 use std::fs::{FileTimes, OpenFile, OpenOptions, Permissions};
 use std::io::Write;
 use std::os::unix::fs::PermissionsExt;
 use std::rt::Files;
 use std::time::UNIX_EPOCH;
 
-// At most one open file, with its path.
+// Where objects wait until they are moved into the store.
+const WAITING: &str = "/repo/tmp/pull/objects/";
+
+// At most one open file, with its path. An object that waits for the store is dated when it was written, while it is open.
 pub struct Writer<F> {
+    alloc: Global,
     at: String,
     file: Option<F>,
+    // The objects that were dated, and not written since.
+    dated: BTreeSet<String>,
 }
 
 impl<F: Drop> Drop for Writer<F> {
     fn drop(self) {
-        let Writer { at: _, file: _ } = self;
+        let Writer {
+            alloc: _,
+            at: _,
+            file: _,
+            dated: _,
+        } = self;
     }
 }
 
 impl<F: Drop> Writer<F> {
     pub fn nothing(alloc: Global) -> Self {
         Writer {
+            alloc,
             at: String::new(alloc),
             file: None,
+            dated: BTreeSet::new(alloc),
         }
     }
 
     // The path has no file any more, or another one.
     pub fn close_at(&mut self, at: &str) {
+        self.dated.remove(at);
         if self.at.as_str() == at {
             self.file = None;
         }
@@ -56,12 +71,22 @@ impl<F: Drop> Writer<F> {
 }
 
 impl<F: Write + OpenFile + Drop> Writer<F> {
-    // Keeps a file that was created, and gives it exactly these permission bits, of which the umask may have taken some.
-    pub fn keep_new(&mut self, at: &str, file: F, mode: u32) -> Result<(), Cause> {
-        let given = known(file.set_permissions(Permissions::from_mode(mode)));
+    // Keeps a file that was created, and gives it exactly these permission bits, unless it is known to have them.
+    pub fn keep_new(&mut self, at: &str, file: F, mode: u32, is_given: bool) -> Result<(), Cause> {
+        self.finish();
+        let given = give_bits(&file, mode, is_given);
         match self.keep(at, file) {
             Ok(()) => given,
             Err(e) => Err(e),
+        }
+    }
+
+    // Dates the file that was written last, where it is an object that waits for the store. Where that fails, it is dated later.
+    pub fn finish(&mut self) {
+        if let Some(file) = &self.file {
+            if self.at.contains(WAITING) && date(file).is_ok() {
+                let _noted = note(self.alloc, &mut self.dated, &self.at);
+            }
         }
     }
 
@@ -72,9 +97,11 @@ impl<F: Write + OpenFile + Drop> Writer<F> {
         at: &str,
         bytes: &[u8],
     ) -> Result<(), Cause> {
+        self.dated.remove(at);
         if self.is_at(at) {
             return self.write(bytes);
         }
+        self.finish();
         match self.open(rt, at) {
             Ok(()) => self.write(bytes),
             Err(e) => Err(e),
@@ -97,11 +124,22 @@ impl<F: Write + OpenFile + Drop> Writer<F> {
 
     // Dates the last change of a file of ours to the beginning of 1970, as OSTree dates what it stores.
     pub fn date<R: Files<File = F>>(&self, rt: &R, at: &str) -> Result<(), Cause> {
+        if self.dated.contains(at) {
+            return Ok(());
+        }
         match &self.file {
             Some(file) if self.at.as_str() == at => date(file),
             _ => date_at(rt, at),
         }
     }
+}
+
+// The umask may have taken some bits.
+fn give_bits<F: OpenFile>(file: &F, mode: u32, is_given: bool) -> Result<(), Cause> {
+    if is_given {
+        return Ok(());
+    }
+    known(file.set_permissions(Permissions::from_mode(mode)))
 }
 
 fn date_at<R: Files>(rt: &R, at: &str) -> Result<(), Cause> {

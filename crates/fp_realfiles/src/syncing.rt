@@ -30,7 +30,7 @@ const THREADS: usize = 8;
 // As many paths at least are cut in halves.
 const LEAST: usize = 32;
 
-// What makes the file or folder at a path last.
+/// What makes the file or folder at a path last, and answers why it could not. What is gone is left out.
 pub trait Syncer {
     fn sync_path(&self, at: &str) -> Option<Unsynced>;
 }
@@ -41,13 +41,14 @@ impl Syncer for HostRuntime {
     }
 }
 
-// Syncs by several threads where there are many paths.
+/// Syncs by several threads where there are many paths. It answers the first failure; but a sync that failed comes before what
+/// could not be opened.
 pub fn sync_by_threads<T: Threads + Sync, S: Syncer + Sync>(
     threads: &T,
     syncer: &S,
     paths: &[&str],
 ) -> Option<Failure> {
-    sync_parts(threads, syncer, 0, paths, paths.len() / THREADS)
+    sync_parts(threads, syncer, 0, paths, paths.len().div_ceil(THREADS))
 }
 
 // Cuts the paths in halves, down to this length, and each half is synced by a thread of its own. The first path has this place
@@ -131,7 +132,8 @@ pub fn sync_in_turn<R: Files>(rt: &R, paths: &[&str]) -> Option<Failure> {
     None
 }
 
-// The same of what is ours. What may not be opened is spared where others may own it.
+/// The same of what is ours, whose permission bits are widened where they are in the way. What may not be opened is spared where
+/// others may own it. The first path has this place in a list.
 pub fn sync_own<R: Files>(rt: &R, start: usize, paths: &[&str], spares: bool) -> Option<Failure> {
     for (i, at) in paths.iter().enumerate() {
         if let Some(unsynced) = sync_at(rt, at, spares) {
@@ -155,7 +157,8 @@ fn sync_plain<R: Files>(rt: &R, at: &str) -> Option<Unsynced> {
     }
 }
 
-// A file or folder of ours, or of an earlier run.
+/// Syncs a file or folder of ours, or of an earlier run. What is gone is left out, and so is what may not be opened where others may
+/// own it.
 pub fn sync_at<R: Files>(rt: &R, at: &str, spares: bool) -> Option<Unsynced> {
     match open_to_read(rt, at) {
         Ok(opened) => sync_opened(&opened),
@@ -184,7 +187,7 @@ fn not_opened(cause: Cause, spares: bool) -> Option<Unsynced> {
     })
 }
 
-// Whether the path may not be opened as it is.
+/// Whether the path may not be opened as it is.
 pub fn is_denied(failure: Failure) -> bool {
     let Unsynced { call, cause } = failure.unsynced;
     call == Call::Open && cause.is(ErrorKind::PermissionDenied)

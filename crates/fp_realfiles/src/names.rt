@@ -41,7 +41,7 @@ fn sorted(mut names: Vec<Text>, hidden: &str) -> Result<Items<Text>, Cause>
     }
 }
 
-// The names in the folder, in no order.
+/// The names in the folder, in no order.
 pub fn read_names<R: Files + AllocGlobal>(
     rt: &R,
     alloc: Global,

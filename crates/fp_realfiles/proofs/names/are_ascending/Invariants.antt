@@ -1,6 +1,6 @@
 use Rattle.std.proofs.Common.{◌≡◌, ◌-◌, drop}
 use Rattle.fp_host.specs.Reads.{is_ascending}
-use Rattle.fp_realroot.proofs.names.are_ascending.Given as goal
+use Rattle.fp_realfiles.proofs.names.are_ascending.Given as goal
 
 -- the names so far ascend
 abbrev pub invariant-loop-i : goal.invariant-loop-i

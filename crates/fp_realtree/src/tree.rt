@@ -5,25 +5,26 @@ use crate::notes::Notes;
 use crate::writer::Writer;
 use fp_host::Path;
 use fp_realroot::{Access, Gate, System, Touched, Unsynced, add_above, add_below};
-use fp_system::{Call, Cause, Reader, SystemError};
+use fp_system::{Call, Cause, Folders, Reader, SystemError};
 use std::alloc::{AllocError, Global};
 use std::marker::Model;
 use std::mem::swap;
 use std::rt::Files;
 use std::thread::Threads;
 
-// The calls of a host over a folder of the system. Contracts see whether nothing waits for a sync.
+/// A folder of the system under the calls of a host. Each call answers the system's refusal as a cause. Contracts see whether
+/// nothing waits for a sync.
 pub struct Tree<'a, R: Files> {
-    pub rt: &'a R,
+    pub(crate) rt: &'a R,
     alloc: Global,
-    pub gate: Gate<R::File>,
+    pub(crate) gate: Gate<R::File>,
     // The path of a call for the system, and where it has two, the first one.
-    pub at: String,
-    pub from: String,
-    pub notes: Notes,
+    pub(crate) at: String,
+    pub(crate) from: String,
+    pub(crate) notes: Notes,
     // The file that was read last and the one that was written last.
-    pub reader: Reader<R::File>,
-    pub writer: Writer<R::File>,
+    pub(crate) reader: Reader<R::File>,
+    pub(crate) writer: Writer<R::File>,
     // Whether what an earlier run left was made to last.
     is_caught_up: bool,
 }
@@ -53,6 +54,7 @@ impl<R: Files> Drop for Tree<'_, R> {
 }
 
 impl<'a, R: Files> Tree<'a, R> {
+    /// The folder of this name; the empty name is the current folder. It asks nothing of the system yet.
     pub fn new(rt: &'a R, alloc: Global, root: &str, access: Access) -> Result<Self, AllocError> {
         match Gate::new(alloc, root, access) {
             Ok(gate) => Ok(Tree {
@@ -70,12 +72,12 @@ impl<'a, R: Files> Tree<'a, R> {
         }
     }
 
-    // What a call on the path met.
+    /// What a call on the path met.
     pub fn refusal(&self, call: Call, path: &Path, cause: Cause) -> SystemError {
         refusal(self.alloc, &self.gate, call, path, cause)
     }
 
-    // What a sync met, at the path that stands in the buffer.
+    /// What the last sync met.
     pub fn unsynced(&self, met: Unsynced) -> SystemError {
         refusal_of_sync(self.alloc, &self.at, met)
     }
@@ -102,7 +104,7 @@ fn refusal_of_sync(alloc: Global, at: &str, met: Unsynced) -> SystemError {
 
 impl<R: System> Tree<'_, R> {
     // Writes the path for the system, and answers where its part below the root begins.
-    pub fn locate(&mut self, path: &Path) -> Result<usize, Cause> {
+    pub(crate) fn locate(&mut self, path: &Path) -> Result<usize, Cause> {
         match self.gate.enter(self.rt, &mut self.notes.touched) {
             Ok(()) => locate(&self.gate, path, &mut self.at),
             Err(e) => Err(e),
@@ -110,15 +112,15 @@ impl<R: System> Tree<'_, R> {
     }
 
     // The same. No symlink stands above the path.
-    pub fn reach(&mut self, path: &Path) -> Result<(), Cause> {
+    pub(crate) fn reach(&mut self, path: &Path) -> Result<(), Cause> {
         match self.locate(path) {
-            Ok(below) => self.notes.folders.look_above(self.rt, &self.at, below),
+            Ok(below) => look_above(self.rt, &self.at, below, &mut self.notes.folders),
             Err(e) => Err(e),
         }
     }
 
     // The same for a change, which waits for a sync.
-    pub fn reach_to_change(&mut self, path: &Path) -> Result<(), Cause> {
+    pub(crate) fn reach_to_change(&mut self, path: &Path) -> Result<(), Cause> {
         match self.reach(path) {
             Ok(()) => self.gate.mark(),
             Err(e) => Err(e),
@@ -126,7 +128,7 @@ impl<R: System> Tree<'_, R> {
     }
 
     // The same for a change with two paths.
-    pub fn reach_both(&mut self, from: &Path, to: &Path) -> Result<(), Cause> {
+    pub(crate) fn reach_both(&mut self, from: &Path, to: &Path) -> Result<(), Cause> {
         match self.reach(from) {
             Ok(()) => {
                 swap(&mut self.from, &mut self.at);
@@ -159,7 +161,7 @@ impl<R: System> Tree<'_, R> {
 }
 
 impl<R: System> Tree<'_, R> {
-    // Makes all changes last, the first time also what an earlier run may have left.
+    /// Makes all changes last, the first time also what an earlier run may have left.
     pub fn sync<T: Threads + Sync>(&mut self, threads: &T) -> Result<(), Unsynced>
         ensures settled { OnOk result (self.new ≡ true) }
     {
@@ -172,6 +174,7 @@ impl<R: System> Tree<'_, R> {
     fn sync_touched<T: Threads + Sync>(&mut self, threads: &T) -> Result<(), Unsynced>
         ensures settled { OnOk result (self.new ≡ true) }
     {
+        self.writer.finish();
         match self.notes.touched.sync(self.rt, threads, &mut self.at) {
             Ok(()) => cleared(self.gate.clear()),
             Err(e) => Err(e),
@@ -182,6 +185,18 @@ impl<R: System> Tree<'_, R> {
 fn locate<F>(gate: &Gate<F>, path: &Path, at: &mut String) -> Result<usize, Cause> {
     match gate.write_path(path, at) {
         Ok(()) => Ok(gate.root().len().saturating_add(1)),
+        Err(e) => Err(e),
+    }
+}
+
+fn look_above<R: Files>(
+    rt: &R,
+    at: &str,
+    below: usize,
+    folders: &mut Folders,
+) -> Result<(), Cause> {
+    match folders.look_above(rt, at, below) {
+        Ok(_) => Ok(()),
         Err(e) => Err(e),
     }
 }

@@ -1,5 +1,5 @@
 use Rattle.std.proofs.Common.{length}
-use Rattle.fp_realroot.proofs.syncing.+fn-sync_parts-join+arg2+fn-sync_parts-join+arg3+sync_parts.Given as goal
+use Rattle.fp_realfiles.proofs.syncing.+fn-sync_parts-join+arg2+fn-sync_parts-join+arg3+sync_parts.Given as goal
 
 abbrev pub decreases-join+arg2 : goal.decreases-join+arg2
 decreases-join+arg2 g l = length l.front.now

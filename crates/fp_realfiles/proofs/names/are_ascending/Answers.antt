@@ -1,7 +1,7 @@
 use Rattle.std.proofs.Common.{◌≡◌, ◌+◌, ◌-◌, ◌&&◌, drop, ap, sym, ◌∙◌, arith}
 use Rattle.fp_host.specs.Reads.{is_ascending}
-use Rattle.fp_realroot.proofs.Ascending.{is_ascending-drop, is_ascending-last}
-use Rattle.fp_realroot.proofs.names.are_ascending.Goals as goal
+use Rattle.fp_realfiles.proofs.Ascending.{is_ascending-drop, is_ascending-last}
+use Rattle.fp_realfiles.proofs.names.are_ascending.Goals as goal
 
 pub returns-then-not-is_before : goal.returns-then-not-is_before
 returns-then-not-is_before c =

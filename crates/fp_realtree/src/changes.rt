@@ -4,9 +4,9 @@ ghost use Rattle.std.specs.Prelude.{◌≢◌, ◌≤◌, [], OnOk};
 use crate::notes::Notes;
 use crate::tree::Tree;
 use crate::writer::Writer;
-use crate::{links, moves};
+use crate::{folders, links, moves};
 use fp_host::Path;
-use fp_realroot::{System, make_folder};
+use fp_realroot::System;
 use fp_system::{Cause, Reader, known};
 use std::fs::{OpenFile, OpenOptions};
 use std::io::Write;
@@ -16,11 +16,11 @@ use std::rt::Files;
 // Where the objects of the store are.
 const STORED: &str = "repo/objects/";
 
-// A change at one path.
+/// A change at one path.
 #[derive(Clone, Copy)]
 pub enum Change<'a> {
     MakeDir,
-    // With these permission bits.
+    /// With these permission bits.
     Create(u32),
     Append(&'a [u8]),
     Symlink(&'a str),
@@ -29,6 +29,7 @@ pub enum Change<'a> {
 }
 
 impl<R: System> Tree<'_, R> {
+    /// Makes the change. Folders get the permission bits 0755, and bytes go to a file that was created since the last sync.
     pub fn change(&mut self, path: &Path, change: Change<'_>) -> Result<(), Cause> {
         match self.reach_to_change(path) {
             Ok(()) => change_at(
@@ -43,6 +44,7 @@ impl<R: System> Tree<'_, R> {
         }
     }
 
+    /// Creates an empty file with exactly these permission bits.
     pub fn create(&mut self, path: &Path, mode: u32) -> Result<(), Cause>
         ensures { OnOk result (mode ≤ 4095) }
     {
@@ -52,6 +54,7 @@ impl<R: System> Tree<'_, R> {
         self.change(path, Change::Create(mode))
     }
 
+    /// Takes an empty folder away, which isn't the root.
     pub fn remove_dir(&mut self, path: &Path) -> Result<(), Cause>
         ensures { OnOk result (path.now ≢ []) }
     {
@@ -61,6 +64,7 @@ impl<R: System> Tree<'_, R> {
         self.change(path, Change::RemoveDir)
     }
 
+    /// Gives a regular file a second name.
     pub fn link(&mut self, from: &Path, to: &Path) -> Result<(), Cause> {
         match self.reach_both(from, to) {
             Ok(()) => links::link(self.rt, &self.from, &self.at, &mut self.notes),
@@ -68,6 +72,7 @@ impl<R: System> Tree<'_, R> {
         }
     }
 
+    /// Moves a file or symlink to nothing, or in the place of another one.
     pub fn rename(&mut self, from: &Path, to: &Path) -> Result<(), Cause> {
         let is_stored = to.text().starts_with(STORED);
         match self.reach_both(from, to) {
@@ -94,23 +99,13 @@ fn change_at<R: System>(
     writer: &mut Writer<R::File>,
 ) -> Result<(), Cause> {
     match change {
-        Change::MakeDir => make_dir(rt, at, notes),
+        Change::MakeDir => folders::make_dir(rt, at, notes),
         Change::Create(mode) => create(rt, at, mode, notes, writer),
         Change::Append(bytes) => append(rt, at, bytes, notes, writer),
         Change::Symlink(text) => links::symlink(rt, text, at, notes),
         Change::Unlink => unlink(rt, at, notes, reader, writer),
         Change::RemoveDir => links::remove_folder(rt, at, notes),
     }
-}
-
-fn make_dir<R: Files>(rt: &R, at: &str, notes: &mut Notes) -> Result<(), Cause> {
-    let done = make_folder(rt, at);
-    match done {
-        Ok(()) => notes.add_made(at),
-        // It may be there without its permission bits.
-        Err(_) => notes.made.add_other(at),
-    }
-    done
 }
 
 fn create<R: Files>(
@@ -123,7 +118,7 @@ fn create<R: Files>(
     match create_new(rt, at, mode) {
         Ok(file) => {
             notes.add_created(at);
-            writer.keep_new(at, file, mode)
+            writer.keep_new(at, file, mode, notes.grants.has(at, mode))
         }
         Err(e) => Err(e),
     }
@@ -143,14 +138,14 @@ fn append<R: Files>(
     rt: &R,
     at: &str,
     bytes: &[u8],
-    notes: &Notes,
+    notes: &mut Notes,
     writer: &mut Writer<R::File>,
 ) -> Result<(), Cause> {
-    if notes.touched.has_file(at) {
-        writer.append(rt, at, bytes)
-    } else {
-        Err(Cause::NotNew)
+    if !notes.touched.has_file(at) {
+        return Err(Cause::NotNew);
     }
+    notes.add_written(at);
+    writer.append(rt, at, bytes)
 }
 
 fn unlink<R: Files>(

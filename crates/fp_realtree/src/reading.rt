@@ -8,12 +8,13 @@ use crate::tree::Tree;
 use fp_base::{Items, Text};
 use fp_host::{Path, Stat};
 use fp_realroot::{LOCK_NAME, System, find_file, list_names};
-use fp_system::{Cause, Folders, Kind, Reader, look};
+use fp_system::{Cause, Folders, Reader, look};
 use std::alloc::Global;
 use std::io::ErrorKind;
 use std::rt::Files;
 
 impl<R: System> Tree<'_, R> {
+    /// What stands at the path.
     pub fn stat(&mut self, path: &Path) -> Result<Stat, Cause>
         ensures { IfOk result HasBits }
     {
@@ -24,6 +25,7 @@ impl<R: System> Tree<'_, R> {
         }
     }
 
+    /// The names in a folder, without that of the lock file.
     pub fn list(&mut self, alloc: Global, path: &Path) -> Result<Items<Text>, Cause>
         ensures { IfOk result AreNames }
     {
@@ -36,15 +38,20 @@ impl<R: System> Tree<'_, R> {
         }
     }
 
+    /// Reads the file from a place on, until the buffer is full or the file ends, and answers how many bytes it read.
     pub fn read_at(&mut self, path: &Path, from: u64, into: &mut [u8]) -> Result<usize, Cause>
         ensures { IfOk result (λ n. n ≤ length into.old) }
     {
         match self.reach(path) {
-            Ok(()) => read_piece(self.rt, &self.at, &mut self.reader, from, into),
+            Ok(()) => {
+                let is_found = self.notes.files.has(&self.at);
+                read_piece(self.rt, &self.at, is_found, &mut self.reader, from, into)
+            }
             Err(e) => Err(e),
         }
     }
 
+    /// The text of a symlink.
     pub fn read_link(&mut self, alloc: Global, path: &Path) -> Result<Text, Cause> {
         match self.reach(path) {
             Ok(()) => fp_system::read_link(self.rt, alloc, &self.at),
@@ -63,21 +70,23 @@ fn stat_at<R: Files>(rt: &R, at: &str, below: usize, notes: &mut Notes) -> Resul
     if notes.made.is_absent(at) {
         return Ok(Stat::Absent);
     }
+    if let Some(found) = notes.files.get(at) {
+        return found.stat();
+    }
     match notes.folders.look_above(rt, at, below) {
-        Ok(()) => stat_below(rt, at, &mut notes.folders),
+        Ok(true) => stat_below(rt, at, notes),
+        Ok(false) => Ok(Stat::Absent),
         Err(e) => Err(e),
     }
 }
 
 // The same of a path above which no symlink stands.
-fn stat_below<R: Files>(rt: &R, at: &str, folders: &mut Folders) -> Result<Stat, Cause>
+fn stat_below<R: Files>(rt: &R, at: &str, notes: &mut Notes) -> Result<Stat, Cause>
     ensures { IfOk result HasBits }
 {
     match look(rt, at) {
         Ok(found) => {
-            if found.kind == Kind::Dir {
-                folders.add(at);
-            }
+            notes.add_found(at, found);
             found.stat()
         }
         Err(e) => Err(e),
@@ -118,22 +127,32 @@ fn list_folder<R: System>(
 fn read_piece<R: Files>(
     rt: &R,
     at: &str,
+    is_found: bool,
     reader: &mut Reader<R::File>,
     from: u64,
     into: &mut [u8],
 ) -> Result<usize, Cause>
     ensures { IfOk result (λ n. n ≤ length into.old) }
 {
-    match begin(rt, at, reader, from) {
+    match begin(rt, at, is_found, reader, from) {
         Ok(()) => reader.read(from, into),
         Err(e) => Err(e),
     }
 }
 
-// Opens the file where the read begins it.
-fn begin<R: Files>(rt: &R, at: &str, reader: &mut Reader<R::File>, from: u64) -> Result<(), Cause> {
+// Opens the file where the read begins it. One that was found isn't looked at again.
+fn begin<R: Files>(
+    rt: &R,
+    at: &str,
+    is_found: bool,
+    reader: &mut Reader<R::File>,
+    from: u64,
+) -> Result<(), Cause> {
     if !reader.begins(at, from) {
         return Ok(());
+    }
+    if is_found {
+        return reader.open(rt, at);
     }
     match find_file(rt, at) {
         Ok(_) => reader.open(rt, at),

@@ -1,0 +1,197 @@
+// A system that is watched: what a command reads of remotes, and what it syncs.
+ghost use Rattle.std.specs.Thread.{IsSync};
+
+use crate::file::WatchedFile;
+use crate::line::Progress;
+use fp_realroot::{Access, Failure, System};
+use std::alloc::{Alloc, Allocator, Global};
+use std::fmt::Display;
+use std::fs::{Metadata, OpenOptions, Permissions};
+use std::io::{self, Eprint, Print};
+use std::path::PathBuf;
+use std::rt::Files;
+use std::thread::Threads;
+use std::time::Clock;
+
+// How many files or folders are synced between two lines.
+const PART: usize = 1000;
+
+/// A system, and how far the command is that it is used for. The line of the command is taken away before anything is printed.
+pub struct Watched<'a, R> {
+    rt: &'a R,
+    progress: &'a Progress<'a, R>,
+    // Whether its files are those of remotes.
+    is_remote: bool,
+}
+
+impl<R> Drop for Watched<'_, R> {
+    fn drop(self) {
+        let Watched {
+            rt: _,
+            progress: _,
+            is_remote: _,
+        } = self;
+    }
+}
+
+impl<'a, R> Watched<'a, R> {
+    /// The system of a host, whose syncs are counted.
+    pub fn host(rt: &'a R, progress: &'a Progress<'a, R>) -> Self {
+        Watched {
+            rt,
+            progress,
+            is_remote: false,
+        }
+    }
+
+    /// The system of remotes, whose files and bytes are counted.
+    pub fn remotes(rt: &'a R, progress: &'a Progress<'a, R>) -> Self {
+        Watched {
+            rt,
+            progress,
+            is_remote: true,
+        }
+    }
+}
+
+impl<'a, R: Files + Clock + Eprint> Files for Watched<'a, R> {
+    type File = WatchedFile<'a, R::File, R>;
+
+    type Dir = R::Dir;
+
+    fn open_file(&self, how: &OpenOptions, path: &str) -> io::Result<WatchedFile<'a, R::File, R>> {
+        let file = self.rt.open_file(how, path)?;
+        if !self.is_remote {
+            return Ok(WatchedFile::new(file, None));
+        }
+        self.progress.add_file();
+        Ok(WatchedFile::new(file, Some(self.progress)))
+    }
+
+    fn open_dir(&self, path: &str) -> io::Result<R::Dir> {
+        self.rt.open_dir(path)
+    }
+
+    fn metadata(&self, path: &str) -> io::Result<Metadata> {
+        self.rt.metadata(path)
+    }
+
+    fn symlink_metadata(&self, path: &str) -> io::Result<Metadata> {
+        self.rt.symlink_metadata(path)
+    }
+
+    fn copy(&self, from: &str, to: &str) -> io::Result<u64> {
+        self.rt.copy(from, to)
+    }
+
+    fn rename(&self, from: &str, to: &str) -> io::Result<()> {
+        self.rt.rename(from, to)
+    }
+
+    fn remove_file(&self, path: &str) -> io::Result<()> {
+        self.rt.remove_file(path)
+    }
+
+    fn create_dir(&self, path: &str) -> io::Result<()> {
+        self.rt.create_dir(path)
+    }
+
+    fn remove_dir(&self, path: &str) -> io::Result<()> {
+        self.rt.remove_dir(path)
+    }
+
+    fn remove_dir_all<B: Allocator>(&self, alloc: B, path: &str) -> io::Result<()> {
+        self.rt.remove_dir_all(alloc, path)
+    }
+
+    fn read_link<B: Allocator>(&self, alloc: B, path: &str) -> io::Result<PathBuf<B>> {
+        self.rt.read_link(alloc, path)
+    }
+
+    fn hard_link(&self, original: &str, link: &str) -> io::Result<()> {
+        self.rt.hard_link(original, link)
+    }
+
+    fn set_permissions(&self, path: &str, perm: Permissions) -> io::Result<()> {
+        self.rt.set_permissions(path, perm)
+    }
+
+    fn symlink(&self, original: &str, link: &str) -> io::Result<()> {
+        self.rt.symlink(original, link)
+    }
+
+    fn create_dir_with_mode(&self, path: &str, mode: u32) -> io::Result<()> {
+        self.rt.create_dir_with_mode(path, mode)
+    }
+}
+
+impl<R: AllocGlobal> Alloc for Watched<'_, R> {
+    type A = Global;
+
+    fn alloc(&self) -> Global {
+        self.rt.alloc()
+    }
+}
+
+impl<R: Print + Clock + Eprint> Print for Watched<'_, R> {
+    fn print<D: Display + Drop>(&self, value: D) -> io::Result<()> {
+        self.progress.clear();
+        self.rt.print(value)
+    }
+
+    fn println<D: Display + Drop>(&self, value: D) -> io::Result<()> {
+        self.progress.clear();
+        self.rt.println(value)
+    }
+
+    fn write_all(&self, bytes: &[u8]) -> io::Result<()> {
+        self.progress.clear();
+        self.rt.write_all(bytes)
+    }
+}
+
+impl<R: Clock + Eprint> Eprint for Watched<'_, R> {
+    fn eprint<D: Display + Drop>(&self, value: D) -> io::Result<()> {
+        self.progress.clear();
+        self.rt.eprint(value)
+    }
+
+    fn eprintln<D: Display + Drop>(&self, value: D) -> io::Result<()> {
+        self.progress.clear();
+        self.rt.eprintln(value)
+    }
+}
+
+impl<R: System + Clock> System for Watched<'_, R> {
+    fn try_lock(&self, file: &Self::File, access: Access) -> io::Result<bool> {
+        self.rt.try_lock(file.inner(), access)
+    }
+
+    fn lock(&self, file: &Self::File, access: Access) -> io::Result<()> {
+        self.rt.lock(file.inner(), access)
+    }
+
+    fn sync_paths<T: Threads + Sync>(&self, threads: &T, paths: &[&str]) -> Option<Failure>
+        requires sync { IsSync T.row }
+    {
+        for (i, part) in paths.chunks(PART).enumerate() {
+            if let Some(failure) = self.rt.sync_paths(threads, part) {
+                return Some(failure_at(i, failure));
+            }
+            self.progress.add_synced(part.len());
+        }
+        None
+    }
+
+    fn prints_to_terminal(&self) -> bool {
+        self.rt.prints_to_terminal()
+    }
+}
+
+// The place of a failure in the part of this number, as one of the whole list.
+fn failure_at(part: usize, failure: Failure) -> Failure {
+    Failure {
+        place: part.saturating_mul(PART).saturating_add(failure.place),
+        unsynced: failure.unsynced,
+    }
+}

@@ -1,0 +1,17 @@
+//! The folder of a host: what its calls look at and change, and what waits for a sync.
+#![tactic(auto)]
+
+mod changes;
+mod folders;
+mod found_files;
+mod grants;
+mod links;
+mod made;
+mod moves;
+mod notes;
+mod reading;
+mod tree;
+mod writer;
+
+pub use changes::Change;
+pub use tree::Tree;
