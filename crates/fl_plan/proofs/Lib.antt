@@ -9,3 +9,4 @@ pub mod Parts
 pub mod Rows
 pub mod Samples
 pub mod WorkedOut
+pub mod Taking

@@ -9,3 +9,4 @@ pub mod Unused
 pub mod Sample
 pub mod Worked
 pub mod Offered
+pub mod Taking

@@ -1,10 +1,13 @@
 //! Laws of the words that the contracts use, for crates that build on them, and worked plans. Each is the contract of a function
 //! that does nothing.
 
-ghost use Rattle.std.specs.Prelude.{◌≡◌, ◌≤◌, ◌<◌, ℕ, List, [], ◌∷◌, true, false, codes, Option, Some, None, Ok, Err};
+ghost use Rattle.std.specs.Prelude.{◌≡◌, ◌≤◌, ◌<◌, ℕ, List, [], ◌∷◌, map, true, false, codes, Option, Some, None, Ok, Err};
 ghost use Rattle.fp_base.specs.declared.what.What.TheVariants as whats;
+ghost use Rattle.fp_host.specs.Reads.{is_ascending};
 ghost use Rattle.fp_host.specs.Remote.{Holdings};
 ghost use Rattle.fp_name.specs.Refs.{Ref};
+ghost use Rattle.fp_small.specs.Config.{name_of};
+ghost use Rattle.fp_small.specs.declared.op.Op.{Op};
 ghost use Rattle.fp_small.specs.declared.op.Op.TheVariants.{Install, Update};
 ghost use Rattle.fp_small.specs.declared.refusal.Refusal.{Refusal};
 ghost use Rattle.fp_small.specs.declared.refusal.Refusal.TheVariants as refusals;
@@ -12,6 +15,7 @@ ghost use Rattle.fp_small.specs.declared.state.State.{State};
 ghost use Rattle.fp_small.specs.declared.state.RemoteRow.{RemoteRow};
 ghost use Rattle.dep_states.specs.Deployed.{platform, commit, deployed_state};
 ghost use Rattle.dep_states.specs.Samples.{hub};
+ghost use Rattle.dep_states.specs.Shown.{at_name};
 ghost use Rattle.fl_extension.specs.declared.point.Point.{Point};
 ghost use Rattle.fl_extension.specs.Found.{has_ref};
 ghost use Rattle.ost_model.specs.Objects.{Have};
@@ -23,6 +27,7 @@ ghost use Rattle.fl_plan.specs.Offered as shop;
 ghost use Rattle.fl_plan.specs.Offers.{first_of, first_offer, have_at, in_turn, offer_of, offer_with};
 ghost use Rattle.fl_plan.specs.Plans.{deployed, is_at, number_after, op_of, plan_of, time_of};
 ghost use Rattle.fl_plan.specs.Sample as sample;
+ghost use Rattle.fl_plan.specs.Taking.{Settles};
 ghost use Rattle.fl_plan.specs.Targets.{targets_of};
 ghost use Rattle.fl_plan.specs.Unused.{unused_of};
 ghost use Rattle.fl_plan.specs.Worked.{Heads, IsTarget, Says};
@@ -271,4 +276,14 @@ pub fn plans_can_be_made()
     ensures older { plan_of shop.holdings shop.stored (shop.with_rows (shop.since 8 ∷ []))
         hub platform ≡ Err (refusals.Older platform 8 7) }
     ensures stays { plan_of shop.holdings shop.stored deployed_state hub platform ≡ Ok [] }
+{}
+
+/// A plan settles its ref: what its remote offers is deployed, and there is no operation, or each operation takes up what a remote of
+/// the state offers, and one of them is of the ref.
+pub fn plans_settle()
+    ensures { (held : Holdings) (stored : Have) (state : State) (remote : RemoteRow)
+        (name : Ref) (ops : List Op) → is_ascending (map name_of state.remotes) ≡ true
+        → at_name name_of state.remotes remote.name ≡ Some remote
+        → plan_of held stored state remote name ≡ Ok ops
+        → Settles held state remote name ops }
 {}

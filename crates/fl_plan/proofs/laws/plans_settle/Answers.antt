@@ -1,0 +1,5 @@
+use Rattle.fl_plan.proofs.Taking.{plan_settles}
+use Rattle.fl_plan.proofs.laws.plans_settle.Goals as goal
+
+pub returns : goal.returns
+returns c = plan_settles

@@ -1,0 +1,43 @@
+-- Operations that take up what remotes offer.
+use Rattle.std.specs.Prelude.{◌≡◌, ◌⊎◌, ℕ, true, List, [], ◌∷◌, Some, Ok}
+use Rattle.std.specs.List.{AllByRecursion}
+use Rattle.fp_host.specs.Remote.{Holdings}
+use Rattle.fp_name.specs.Refs.{Ref}
+use Rattle.fp_small.specs.Config.{name_of}
+use Rattle.fp_small.specs.declared.op.Op.{Op}
+use Rattle.fp_small.specs.declared.op.Op.TheVariants.{Install, Update}
+use Rattle.fp_small.specs.declared.state.State.{State}
+use Rattle.fp_small.specs.declared.state.RemoteRow.{RemoteRow}
+use Rattle.ost_head.specs.Offers.{offered}
+use Rattle.dep_states.specs.Shown.{at_name}
+use Rattle.fl_plan.specs.Plans.{deployed, is_at}
+
+-- the remote of this name offers this commit under the ref
+pub record IsOfferedBy (held : Holdings) (remotes : List RemoteRow) (name : Ref) (origin commit : List ℕ) : Type 0 where
+  pub remote : RemoteRow
+  pub there : at_name name_of remotes origin ≡ Some remote
+  pub offers : offered held remote name ≡ Ok commit
+
+-- the operation brings a commit that the remote which it names offers
+abbrev pub IsOffered : Holdings → List RemoteRow → Op → Type 0
+IsOffered held remotes (Install name origin commit) = IsOfferedBy held remotes name origin commit
+IsOffered held remotes (Update name origin commit) = IsOfferedBy held remotes name origin commit
+IsOffered held remotes _ = ⊥
+
+-- it brings a commit of this ref
+abbrev pub IsOf : Ref → Op → Type 0
+IsOf name (Install n origin commit) = n ≡ name
+IsOf name (Update n origin commit) = n ≡ name
+IsOf name _ = ⊥
+
+-- one of them does
+abbrev pub IsAmong : Ref → List Op → Type 0
+IsAmong name [] = ⊥
+IsAmong name (op ∷ ops) = IsOf name op ⊎ IsAmong name ops
+
+-- A plan of a ref: what its remote offers is deployed, and there is no operation; or the operations take up what remotes offer, and the ref
+-- is among them.
+pub record Settles (held : Holdings) (state : State) (remote : RemoteRow) (name : Ref) (ops : List Op) : Type 0 where
+  pub commit : List ℕ
+  pub offers : offered held remote name ≡ Ok commit
+  pub ends : ((is_at commit (deployed state name) ≡ true) × (ops ≡ [])) ⊎ (AllByRecursion (IsOffered held state.remotes) ops × IsAmong name ops)
