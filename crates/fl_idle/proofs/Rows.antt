@@ -1,0 +1,61 @@
+-- Rows by their names, and lists of which each element is so.
+use Rattle.std.proofs.Common.{◌≡◌, inl, inr, ℕ, List, [], ◌∷◌, ◌++◌, map, Bool, true, false, Option, Some, None, refl, sym, ◌∙◌, ap, subst}
+use Rattle.std.specs.Prelude.{cond, filter, if◌then◌else◌}
+use Rattle.std.specs.List.{AllByRecursion}
+use Rattle.std.specs.Str.{bytes_eq}
+use Rattle.std.proofs.lemmas.Bool.{cases_Bool}
+use Rattle.fp_small.specs.Order.{comes_before, inserted}
+use Rattle.fp_small.proofs.Ordered.{bytes_eq-is, before_differs}
+use Rattle.dep_states.specs.Shown.{at_name}
+
+module _ {A : Type 0} (name : A → List ℕ) where
+  -- a row that is put in is the one of its name
+  pub at_put : (xs : List A) (a : A) (t : List ℕ) → at_name name (inserted name xs a) t ≡ (if bytes_eq (name a) t then Some a else at_name name xs t)
+  at_put [] a t = refl
+  at_put (y ∷ ys) a t =
+      elim (cases_Bool (comes_before (name y) (name a))) [
+        | inl before ↦ elim (cases_Bool (bytes_eq (name y) t)) [
+          | inl here ↦ let off : bytes_eq (name a) t ≡ false = ap (bytes_eq (name a)) (sym (bytes_eq-is (name y) t here)) ∙ before_differs (name y) (name a) before in rw (before, here, off) refl
+          | inr other ↦ rw (before, other) (at_put ys a t)
+        ]
+        | inr last ↦ rw last refl
+      ]
+
+  -- what is found has the name
+  pub at_has_name : (xs : List A) (t : List ℕ) (a : A) → at_name name xs t ≡ Some a → name a ≡ t
+  at_has_name [] t a is = absurd (cc is)
+  at_has_name (y ∷ ys) t a is = elim (cases_Bool (bytes_eq (name y) t)) [
+    | inl here ↦ let same : y ≡ a = cc (rw here at is) in ap name (sym same) ∙ bytes_eq-is (name y) t here
+    | inr other ↦ at_has_name ys t a (rw other at is)
+  ]
+
+-- ---- lists
+
+module _ {A : Type 0} (P : A → Type 0) where
+  pub all_append : (xs ys : List A) → AllByRecursion P xs → AllByRecursion P ys → AllByRecursion P (xs ++ ys)
+  all_append [] ys front back = back
+  all_append (x ∷ xs) ys front back = (front.0, all_append xs ys front.1 back)
+
+  pub all_front : (xs ys : List A) → AllByRecursion P (xs ++ ys) → AllByRecursion P xs
+  all_front [] ys all = tt
+  all_front (x ∷ xs) ys all = (all.0, all_front xs ys all.1)
+
+  pub all_back : (xs ys : List A) → AllByRecursion P (xs ++ ys) → AllByRecursion P ys
+  all_back [] ys all = all
+  all_back (x ∷ xs) ys all = all_back xs ys all.1
+
+  filter_by : (b : Bool) (x : A) (xs : List A) → P x → AllByRecursion P xs → AllByRecursion P (cond b (x ∷ xs) xs)
+  filter_by true x xs one all = (one, all)
+  filter_by false x xs one all = all
+
+  pub all_filter : (test : A → Bool) (xs : List A) → AllByRecursion P xs → AllByRecursion P (filter test xs)
+  all_filter test [] all = tt
+  all_filter test (x ∷ xs) all = filter_by (test x) x (filter test xs) all.0 (all_filter test xs all.1)
+
+  pub all_on : (Q : A → Type 0) → ((a : A) → P a → Q a) → (xs : List A) → AllByRecursion P xs → AllByRecursion Q xs
+  all_on Q on [] all = tt
+  all_on Q on (x ∷ xs) all = (on x all.0, all_on Q on xs all.1)
+
+pub all_map : {A B : Type 0} (Q : B → Type 0) (f : A → B) (xs : List A) → AllByRecursion (λ a. Q (f a)) xs → AllByRecursion Q (map f xs)
+all_map Q f [] all = tt
+all_map Q f (x ∷ xs) all = (all.0, all_map Q f xs all.1)

@@ -1,0 +1,4 @@
+//! Updates that have nothing left to do.
+#![tactic(auto)]
+
+pub mod laws;
