@@ -1,4 +1,6 @@
-use Rattle.std.proofs.Common.{List, ◌≡◌, ◌≤◌, ◌+◌, length, subst, sym, arith, rules}
+use Rattle.std.proofs.Common.{List, ◌≡◌, ◌≤◌, ◌+◌, ◌-◌, length, drop, refl, subst, sym, arith, rules}
+use Rattle.std.specs.Prelude.{slice_range}
+use Rattle.std.proofs.lemmas.List.{length-take}
 use Rattle.fp_host.specs.View.{View}
 use Rattle.fp_host.proofs.Cause.{same_fault}
 use Rattle.fp_host.proofs.Ending.{ends_on, ends_both, ends_looks, ends_start, ends_to, fault_caused}
@@ -27,13 +29,18 @@ loop-at-preserved g c =
     let paths = c.args.paths.now in
     let before = c.loop-at.invariant in
     let step = c.in_ok-objects.ensures in
+    let at = c.loop-at.at in
+    let end = c.loop-at.at + c.min.result in
+    let found = c.check_batch.new.findings.items in
+    let more = c.in_ok-objects.field-0 in
+    let within : at + c.min.result ≤ length c.args.paths.now = search rules in
     record {
-      low = search rules;
+      low = within;
       still = looks_within c.check_batch.ensures.unchanged before.still (t c.loop-at.host);
       later = omega (arith, before.later, c.check_batch.ensures.fault_has_cause.later);
-      few = ?;
+      few = omega (arith, before.few, step.few, length-take (end - at) (drop at paths));
       seen = ends_on step.tells (ends_both (ends_looks (t c.args.host.now) before.still) before.seen) (t c.loop-at.host)
-          (λ u v w tree q checks. more_checked root paths c.loop-at.at _ _ u c.loop-at.findings.items _ c.loop-at.objects _ ? ? ? (subst (λ (x : View). ChecksMore root _ x c.loop-at.findings.items _ _) q.0.0 checks) q.1);
+          (λ u v w tree q checks. more_checked root paths at end (slice_range paths at end) u c.loop-at.findings.items found c.loop-at.objects more (omega arith) within refl (subst (λ (x : View). ChecksMore root (slice_range paths at end) x c.loop-at.findings.items found more) q.0.0 checks) q.1);
     }
 
 pub returns-in_err-objects-clause-unchanged : goal.returns-in_err-objects-clause-unchanged
