@@ -1,9 +1,8 @@
 -- Paths that are read one after another, and then judged by the digests of their items.
-use Rattle.std.proofs.Common.{◌≡◌, ◌<◌, ◌≤◌, ◌+◌, ◌-◌, ℕ, suc, zero, List, [], ◌∷◌, ◌++◌, map, take, drop, get_or, length, cond, Bool, true, false, Option, Some, None, refl, sym, ◌∙◌, ap, subst, arith, append_assoc, append-nil}
-use Rattle.std.specs.Prelude.{is_some, slice_get, slice_range, option_map, count_by, flat_map}
+use Rattle.std.proofs.Common.{◌≡◌, ◌<◌, ◌≤◌, ◌+◌, ◌-◌, ℕ, suc, zero, List, [], ◌∷◌, ◌++◌, take, drop, get_or, length, cond, Bool, true, false, Option, Some, None, refl, sym, ◌∙◌, ap, subst, arith, append_assoc, append-nil}
+use Rattle.std.specs.Prelude.{slice_get, slice_range, option_map, count_by}
 use Rattle.std.specs.List.{AllZip}
 use Rattle.std.specs.Int.{from_bool}
-use Rattle.std.specs.Str.{bytes_eq}
 use Rattle.std.proofs.lemmas.List.{drop_more, length-drop, length-take-le}
 use Rattle.std.proofs.lemmas.List.Folds.{drop_split}
 use Rattle.std.proofs.lemmas.List.Sums.{sum_by-append}
@@ -17,13 +16,12 @@ use Rattle.ost_model.specs.Objects.{object_path}
 use Rattle.ost_store.specs.Names.{IsNamed}
 use Rattle.par_digest.specs.Digests.{item_digest, item_digests}
 use Rattle.par_digest.specs.declared.item.Item.{Item}
-use Rattle.ost_fsck.specs.declared.judging.Seen.{Seen}
 use Rattle.ost_fsck.specs.declared.report.Finding.{Finding}
 use Rattle.ost_fsck.specs.declared.row.Row.{Row}
 use Rattle.ost_fsck.specs.declared.row.Row.TheVariants as rows
-use Rattle.ost_fsck.specs.Judging.{is_named, bad_unless, Looks, LooksAt}
+use Rattle.ost_fsck.specs.Judging.{is_named, bad_unless, Looks}
 use Rattle.ost_fsck.specs.Picking.{with_found}
-use Rattle.ost_fsck.specs.Batches.{is_at, is_same, seen_by, listed, findings_by, objects_by, Grows, IsItemAt, IsAsked, IsRow, IsRowAt, AreRows, ChecksMore}
+use Rattle.ost_fsck.specs.Batches.{is_same, seen_by, listed, findings_by, objects_by, Grows, IsItemAt, IsRow, IsRowAt, AreRows, ChecksMore}
 use Rattle.ost_fsck.proofs.Reporting.{SoFar, more_seen}
 
 -- ---- a row

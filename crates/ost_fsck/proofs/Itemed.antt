@@ -8,7 +8,7 @@ use Rattle.fp_host.specs.Paths.{Elements, Slot, absent, dir, file, link, is_link
 use Rattle.fp_host.specs.View.{View, Inode, IsTree}
 use Rattle.fp_host.specs.Frame.{AtEnd}
 use Rattle.fp_host.specs.Moments.{Moments}
-use Rattle.fp_host.specs.Outcome.{Spot, gone, folder, holds, points, spot_of, holding, shows}
+use Rattle.fp_host.specs.Outcome.{Spot, holds, points, spot_of, holding, shows}
 use Rattle.fp_host.specs.Reads.{IsStat, StatOf, LinkOf}
 use Rattle.fp_host.specs.declared.host.HostError.{HostError}
 use Rattle.fp_host.specs.declared.host.HostError.TheVariants.{Clash}
@@ -19,16 +19,13 @@ use Rattle.fp_host.proofs.Ending.{ends_on, ends_to}
 use Rattle.fp_host.proofs.Framed.{IsTold}
 use Rattle.fp_host.proofs.Cause.{clash_reads}
 use Rattle.fp_small.specs.Load.{Loads, loaded_of}
-use Rattle.fp_small.specs.declared.loading.Loaded.{Loaded}
 use Rattle.fp_small.specs.declared.loading.Loaded.TheVariants as loads
 use Rattle.fp_base.specs.declared.object.ObjKind.{ObjKind}
 use Rattle.fp_base.specs.declared.object.ObjKind.TheVariants as kinds
 use Rattle.sha2.specs.Sha256.{sha256}
-use Rattle.ost_model.specs.declared.object.Object.{Object}
 use Rattle.ost_model.specs.declared.object.Object.TheVariants as objects
 use Rattle.ost_model.specs.Contents.{is_permission, header, link_header, file_digest, link_digest, meta_digest}
 use Rattle.ost_model.specs.Objects.{Fault, too_long, refused_mode, corrupt, or_else, unless, may_be_link, object_at}
-use Rattle.par_digest.specs.Digests.{item_digest}
 use Rattle.par_digest.specs.declared.item.Item.{Item}
 use Rattle.ost_fsck.specs.Judging.{is_true, is_named, keeps_rules, meta_most}
 use Rattle.ost_fsck.specs.Batches.{head_of, small_most, IsItemOf, IsItemIn, IsItemAt, IsFileItem, IsFileItemAt}

@@ -1,4 +1,4 @@
-use Rattle.std.proofs.Common.{◌≡◌, ◌≤◌, ◌++◌, length}
+use Rattle.std.proofs.Common.{◌≡◌, ◌++◌}
 use Rattle.ost_fsck.specs.Batches.{findings_by, objects_by}
 use Rattle.ost_fsck.proofs.batch.judge_all.Given as goal
 

@@ -1,4 +1,4 @@
-use Rattle.std.proofs.Common.{List, [], length, refl, subst, sym, ◌∙◌, ap, arith}
+use Rattle.std.proofs.Common.{List, [], length, subst, sym, ap, arith}
 use Rattle.std.proofs.lemmas.List.{length_push}
 use Rattle.fp_host.specs.View.{View}
 use Rattle.fp_host.proofs.Cause.{same_fault}

@@ -1,4 +1,4 @@
-use Rattle.std.proofs.Common.{List, ◌≡◌, ◌≤◌, ◌+◌, ◌-◌, length, drop, refl, subst, sym, arith, rules}
+use Rattle.std.proofs.Common.{List, ◌≤◌, ◌+◌, ◌-◌, length, drop, refl, subst, sym, arith, rules}
 use Rattle.std.specs.Prelude.{slice_range}
 use Rattle.std.proofs.lemmas.List.{length-take}
 use Rattle.fp_host.specs.View.{View}
