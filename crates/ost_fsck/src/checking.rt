@@ -38,10 +38,10 @@ fn check_all<T: Threads + Sync, H: Host, G: Gate + Sync>(
     let mut objects = 0u64;
     let mut at = 0;
     while at < paths.len() {
-        let count = (paths.len() - at).min(MOST_IN_BATCH);
-        let batch = &paths[at..at + count];
+        let end = at + (paths.len() - at).min(MOST_IN_BATCH);
+        let batch = &paths[at..end];
         objects += check_batch(rt, alloc, host, root, batch, gate, &mut findings)?;
-        at += count;
+        at = end;
     }
     Ok(Report {
         findings: Items::from_vec(findings),

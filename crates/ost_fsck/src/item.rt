@@ -64,11 +64,12 @@ fn item_of(alloc: Global, kind: ObjKind, mode: u32, bytes: Blob) -> Result<Optio
     ensures tells { length bytes ≤ small_most → IfOk result (IsFileItem kind mode bytes) }
     ensures no_fault { IsErrOf result HostEnd.Fault → ⊥ }
 {
-    if !keeps_rules(alloc, kind, bytes.as_slice())? {
-        return Ok(None);
+    if keeps_rules(alloc, kind, bytes.as_slice())? {
+        let head = head_of(alloc, kind, mode)?;
+        Ok(Some(Item { head, body: bytes }))
+    } else {
+        Ok(None)
     }
-    let head = head_of(alloc, kind, mode)?;
-    Ok(Some(Item { head, body: bytes }))
 }
 
 /// What stands before the bytes of a file with these permission bits where its digest is taken.
