@@ -16,7 +16,7 @@ use Rattle.fp_small.specs.declared.state.State.{State}
 use Rattle.fp_small.proofs.Emptying.{above_longer, below_child}
 use Rattle.ost_model.specs.Objects.{Have, object_path, object_at, store}
 use Rattle.ost_model.specs.Order.{In, order}
-use Rattle.ost_refs.specs.Places.{place_path}
+use Rattle.ost_refs.specs.Places.{remotes, place_path}
 use Rattle.ost_refs.specs.declared.place.RefPlace.{RefPlace}
 use Rattle.ost_store.proofs.Staying.{shown_stays}
 use Rattle.ost_description.specs.Commits.{IsRead}
@@ -262,16 +262,16 @@ module _ (remote : List ℕ) (r : Ref) {have : Have} {commit : List ℕ} {u w : 
           | inr more ↦ elim more [
             | inl folder ↦ absurd (folder_at remote r (λ (p : Elements). IsAbove tmp p → ⊥)
                 (λ a. a)
-                (λ a. no_folder _ a refl)
-                (λ a. no_folder _ a refl)
-                (λ a. no_folder _ a refl)
-                (λ xx a. no_folder _ a refl)
-                (λ a. no_folder _ a refl)
-                (λ a. no_folder _ a refl)
-                (λ a. no_folder _ a refl)
-                (λ a. no_folder _ a refl)
-                (λ a. no_folder _ a refl)
-                (λ a. no_folder _ a refl)
+                (λ a. no_folder (codes "made" ∷ []) a refl)
+                (λ a. no_folder (made remote) a refl)
+                (λ a. no_folder (codes "objects" ∷ made remote) a refl)
+                (λ xx a. no_folder (xx ∷ (codes "objects" ∷ made remote)) a refl)
+                (λ a. no_folder (codes "refs" ∷ made remote) a refl)
+                (λ a. no_folder (codes "heads" ∷ (codes "refs" ∷ made remote)) a refl)
+                (λ a. no_folder (remotes (made remote)) a refl)
+                (λ a. no_folder (kind_word r.kind ∷ (codes "heads" ∷ (codes "refs" ∷ made remote))) a refl)
+                (λ a. no_folder (r.id ∷ (kind_word r.kind ∷ (codes "heads" ∷ (codes "refs" ∷ made remote)))) a refl)
+                (λ a. no_folder (r.arch ∷ (r.id ∷ (kind_word r.kind ∷ (codes "heads" ∷ (codes "refs" ∷ made remote))))) a refl)
                 (λ a. elim a [ inl is ↦ cc is | inr none ↦ none ])
                 (λ a. omega (arith, above_longer tmp tmp a))
                 q folder.0 above)
