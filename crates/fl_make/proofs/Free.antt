@@ -1,6 +1,9 @@
 -- In a sound installation nothing is in the way of a remote that is made.
 use Rattle.std.proofs.Common.{◌≡◌, ◌≢◌, inl, inr, ℕ, List, [], ◌∷◌, Bool, true, false, ◌&&◌, Option, Some, None, codes, refl, sym, ◌∙◌, ap, subst}
-use Rattle.std.specs.Prelude.{if◌then◌else◌, is_some}
+use Rattle.std.specs.Prelude.{if◌then◌else◌, is_some, take}
+use Rattle.fp_name.specs.Hex.{hex, is_digest}
+use Rattle.fp_small.specs.Places.{repo, tmp}
+use Rattle.ost_model.specs.Stores.{is_prefix}
 use Rattle.std.proofs.lemmas.Bool.{and_parts}
 use Rattle.fp_host.specs.Paths.{Elements, Slot, absent, dir, file, link, IsAbove}
 use Rattle.fp_host.specs.View.{View, IsTree, Inode}
@@ -70,42 +73,81 @@ module _ (v : View) (remote : List ℕ) (r : Ref) (tree : IsTree v) (sound : IsS
   branch_good : is_branch r.branch ≡ true
   branch_good = (and_parts (is_arch r.arch) (is_branch r.branch) (and_parts (is_id r.id) (is_arch r.arch && is_branch r.branch) good).1).1
 
-  IsFreeAt : Elements → Type 0
+  abbrev IsFreeAt : Elements → Type 0
   IsFreeAt q = IsFree v q
 
   -- folders above the store, and it
   by_store : (q : Elements) → IsAbove q (made remote) → IsFree v q
-  by_store q (inl is) = subst IsFreeAt (sym is) (free_folder v tree _ (allowed (codes "made" ∷ [])).fits)
+  by_store q (inl is) = subst IsFreeAt (sym is) (free_folder v tree (codes "made" ∷ []) (allowed (codes "made" ∷ [])).fits)
   by_store q (inr (inl is)) = subst IsFreeAt (sym is) (inr tree.root)
   by_store q (inr (inr none)) = absurd none
 
   store_free : IsFree v (made remote)
-  store_free = free_folder v tree _ (allowed (made remote)).fits
+  store_free = free_folder v tree (made remote) (allowed (made remote)).fits
+
+  prefix_free : (d : List ℕ) → is_digest d ≡ true → IsFree v (take 2 (hex d) ∷ (codes "objects" ∷ made remote))
+  prefix_free d digits =
+      let p : Elements = take 2 (hex d) ∷ (codes "objects" ∷ made remote) in
+      free_folder v tree p (then_fits (is_prefix (take 2 (hex d))) a_folder anything p (shows v p) (prefix_is_one d digits) (allowed p).fits)
+
+  -- the zone behind the tests of a ref's parts, which hold
+  by_kind : (z : Zone) (p : Elements) → Fits (if is_some (kind_of (kind_word r.kind)) then z else anything) p (shows v p) → Fits z p (shows v p)
+  by_kind z p fits = then_fits (is_some (kind_of (kind_word r.kind))) z anything p (shows v p) (kind_is_one r.kind) fits
+
+  by_id : (z : Zone) (p : Elements) → Fits (if is_id r.id then z else anything) p (shows v p) → Fits z p (shows v p)
+  by_id z p fits = then_fits (is_id r.id) z anything p (shows v p) id_good fits
+
+  by_arch : (z : Zone) (p : Elements) → Fits (if is_arch r.arch then z else anything) p (shows v p) → Fits z p (shows v p)
+  by_arch z p fits = then_fits (is_arch r.arch) z anything p (shows v p) arch_good fits
+
+  by_branch : (z : Zone) (p : Elements) → Fits (if is_branch r.branch then z else anything) p (shows v p) → Fits z p (shows v p)
+  by_branch z p fits = then_fits (is_branch r.branch) z anything p (shows v p) branch_good fits
+
+  abbrev after_arch : Zone → Zone
+  after_arch z = if is_arch r.arch then z else anything
+
+  abbrev after_id : Zone → Zone
+  after_id z = if is_id r.id then z else anything
+
+  abbrev after_branch : Zone → Zone
+  after_branch z = if is_branch r.branch then z else anything
+
+  abbrev kind_path : Elements
+  kind_path = kind_word r.kind ∷ (codes "heads" ∷ (codes "refs" ∷ made remote))
+
+  kind_free : IsFree v kind_path
+  kind_free = free_folder v tree kind_path (by_kind a_folder kind_path (allowed kind_path).fits)
+
+  id_free : IsFree v (r.id ∷ kind_path)
+  id_free = let p : Elements = r.id ∷ kind_path in free_folder v tree p (by_id a_folder p (by_kind (after_id a_folder) p (allowed p).fits))
+
+  arch_free : IsFree v (r.arch ∷ (r.id ∷ kind_path))
+  arch_free = let p : Elements = r.arch ∷ (r.id ∷ kind_path) in free_folder v tree p (by_arch a_folder p (by_id (after_arch a_folder) p (by_kind (after_id (after_arch a_folder)) p (allowed p).fits)))
 
   by_object : (q : Elements) (o : IsAboveObject (made remote) q) → IsAbove q (object_path (made remote) o.digest o.kind) → IsFree v q
-  by_object q o (inl is) = subst IsFreeAt (sym is) (free_folder v tree _ (then_fits _ a_folder anything _ _ (prefix_is_one o.digest o.digits) (allowed _).fits))
-  by_object q o (inr (inl is)) = subst IsFreeAt (sym is) (free_folder v tree _ (allowed (codes "objects" ∷ made remote)).fits)
+  by_object q o (inl is) = subst IsFreeAt (sym is) (prefix_free o.digest o.digits)
+  by_object q o (inr (inl is)) = subst IsFreeAt (sym is) (free_folder v tree (codes "objects" ∷ made remote) (allowed (codes "objects" ∷ made remote)).fits)
   by_object q o (inr (inr (inl is))) = subst IsFreeAt (sym is) store_free
   by_object q o (inr (inr (inr up))) = by_store q up
 
   by_ref : (q : Elements) → IsAbove q (ref_path (made remote) r) → IsFree v q
-  by_ref q (inl is) = subst IsFreeAt (sym is) (free_folder v tree _ (then_fits _ a_folder anything _ _ arch_good (then_fits _ _ anything _ _ id_good (then_fits _ _ anything _ _ (kind_is_one r.kind) (allowed _).fits))))
-  by_ref q (inr (inl is)) = subst IsFreeAt (sym is) (free_folder v tree _ (then_fits _ a_folder anything _ _ id_good (then_fits _ _ anything _ _ (kind_is_one r.kind) (allowed _).fits)))
-  by_ref q (inr (inr (inl is))) = subst IsFreeAt (sym is) (free_folder v tree _ (then_fits _ a_folder anything _ _ (kind_is_one r.kind) (allowed _).fits))
-  by_ref q (inr (inr (inr (inl is)))) = subst IsFreeAt (sym is) (free_folder v tree _ (allowed (codes "heads" ∷ (codes "refs" ∷ made remote))).fits)
-  by_ref q (inr (inr (inr (inr (inl is))))) = subst IsFreeAt (sym is) (free_folder v tree _ (allowed (codes "refs" ∷ made remote)).fits)
+  by_ref q (inl is) = subst IsFreeAt (sym is) arch_free
+  by_ref q (inr (inl is)) = subst IsFreeAt (sym is) id_free
+  by_ref q (inr (inr (inl is))) = subst IsFreeAt (sym is) kind_free
+  by_ref q (inr (inr (inr (inl is)))) = subst IsFreeAt (sym is) (free_folder v tree (codes "heads" ∷ (codes "refs" ∷ made remote)) (allowed (codes "heads" ∷ (codes "refs" ∷ made remote))).fits)
+  by_ref q (inr (inr (inr (inr (inl is))))) = subst IsFreeAt (sym is) (free_folder v tree (codes "refs" ∷ made remote) (allowed (codes "refs" ∷ made remote)).fits)
   by_ref q (inr (inr (inr (inr (inr (inl is)))))) = subst IsFreeAt (sym is) store_free
   by_ref q (inr (inr (inr (inr (inr (inr up)))))) = by_store q up
 
   folders_free : (q : Elements) → IsFolderAbove (made remote) r q → IsFree v q
   folders_free q (inl (inl object)) = by_object q object object.above
-  folders_free q (inl (inr (inl is))) = subst IsFreeAt (sym is) (free_folder v tree _ (allowed _).fits)
-  folders_free q (inl (inr (inr is))) = subst IsFreeAt (sym is) (free_folder v tree _ (allowed _).fits)
+  folders_free q (inl (inr (inl is))) = subst IsFreeAt (sym is) (free_folder v tree repo (allowed repo).fits)
+  folders_free q (inl (inr (inr is))) = subst IsFreeAt (sym is) (free_folder v tree tmp (allowed tmp).fits)
   folders_free q (inr up) = by_ref q up
 
   pub can_make : CanMake remote r v
   can_make = record {
-    config = free_file v tree _ (allowed (config_path (made remote))).fits;
-    ref = free_file v tree _ (then_fits _ a_file anything _ _ branch_good (then_fits _ _ anything _ _ arch_good (then_fits _ _ anything _ _ id_good (then_fits _ _ anything _ _ (kind_is_one r.kind) (allowed (ref_path (made remote) r)).fits))));
+    config = free_file v tree (config_path (made remote)) (allowed (config_path (made remote))).fits;
+    ref = let p : Elements = ref_path (made remote) r in free_file v tree p (by_branch a_file p (by_arch (after_branch a_file) p (by_id (after_arch (after_branch a_file)) p (by_kind (after_id (after_arch (after_branch a_file))) p (allowed p).fits))));
     folders = folders_free;
   }

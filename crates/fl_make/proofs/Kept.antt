@@ -1,5 +1,5 @@
 -- What stays where a remote is made.
-use Rattle.std.proofs.Common.{◌≡◌, ◌≢◌, ◌⊎◌, inl, inr, ℕ, List, [], ◌∷◌, ◌++◌, Option, Some, None, codes, refl, sym, ◌∙◌, ap, subst}
+use Rattle.std.proofs.Common.{arith, true, ◌≡◌, ◌≢◌, ◌⊎◌, inl, inr, ℕ, List, [], ◌∷◌, ◌++◌, Option, Some, None, codes, refl, sym, ◌∙◌, ap, subst}
 use Rattle.fp_host.specs.Paths.{Elements, Slot, absent, dir, IsAbove}
 use Rattle.fp_host.specs.View.{View, IsTree}
 use Rattle.fp_host.specs.Calls.{syncs, done}
@@ -13,10 +13,10 @@ use Rattle.fp_base.specs.declared.object.ObjKind.{ObjKind}
 use Rattle.fp_small.specs.Clear.{IsWithin}
 use Rattle.fp_small.specs.Places.{repo, tmp}
 use Rattle.fp_small.specs.declared.state.State.{State}
-use Rattle.fp_small.proofs.Emptying.{below_child, not_above}
+use Rattle.fp_small.proofs.Emptying.{above_longer, below_child}
 use Rattle.ost_model.specs.Objects.{Have, object_path, object_at, store}
 use Rattle.ost_model.specs.Order.{In, order}
-use Rattle.ost_refs.specs.Places.{place_path}
+use Rattle.ost_refs.specs.Places.{remotes, place_path}
 use Rattle.ost_refs.specs.declared.place.RefPlace.{RefPlace}
 use Rattle.ost_store.proofs.Staying.{shown_stays}
 use Rattle.ost_description.specs.Commits.{IsRead}
@@ -35,7 +35,14 @@ use Rattle.dep_states.proofs.Law.{frame_law, ref_same}
 use Rattle.dep_states.proofs.Rows.{head_of, text_apart}
 use Rattle.dep_states.proofs.Sparing.{settled_opens, word_apart}
 use Rattle.dep_states.proofs.Switching.{second, word_no_repo}
-use Rattle.fl_make.specs.Making.{made, MayMake, in_store, in_work, above_store, of_work, Makes}
+use Rattle.std.specs.List.{AllByRecursion, list_all}
+use Rattle.std.proofs.lemmas.Bool.{and_parts}
+use Rattle.ost_model.specs.declared.object.Object.{Object}
+use Rattle.ost_model.specs.declared.object.Object.TheVariants as objects
+use Rattle.ost_store.specs.Stage.{IsKeepable}
+use Rattle.ost_commit.specs.declared.built.BuiltObject.{BuiltObject}
+use Rattle.ost_export.specs.Staging.{IsKeepableObject}
+use Rattle.fl_make.specs.Making.{made, is_keepable, MayMake, in_store, in_work, above_store, of_work, Makes}
 use Rattle.fl_make.proofs.Spared.{made_top, tmp_top, tmp_second, made_no_repo, word_no_made, folder_at, export_spares}
 
 -- ---- before the sync nothing changes
@@ -255,18 +262,18 @@ module _ (remote : List ℕ) (r : Ref) {have : Have} {commit : List ℕ} {u w : 
           | inr more ↦ elim more [
             | inl folder ↦ absurd (folder_at remote r (λ (p : Elements). IsAbove tmp p → ⊥)
                 (λ a. a)
-                (λ a. no_folder _ a refl)
-                (λ a. no_folder _ a refl)
-                (λ a. no_folder _ a refl)
-                (λ xx a. no_folder _ a refl)
-                (λ a. no_folder _ a refl)
-                (λ a. no_folder _ a refl)
-                (λ a. no_folder _ a refl)
-                (λ a. no_folder _ a refl)
-                (λ a. no_folder _ a refl)
-                (λ a. no_folder _ a refl)
+                (λ a. no_folder (codes "made" ∷ []) a refl)
+                (λ a. no_folder (made remote) a refl)
+                (λ a. no_folder (codes "objects" ∷ made remote) a refl)
+                (λ xx a. no_folder (xx ∷ (codes "objects" ∷ made remote)) a refl)
+                (λ a. no_folder (codes "refs" ∷ made remote) a refl)
+                (λ a. no_folder (codes "heads" ∷ (codes "refs" ∷ made remote)) a refl)
+                (λ a. no_folder (remotes (made remote)) a refl)
+                (λ a. no_folder (kind_word r.kind ∷ (codes "heads" ∷ (codes "refs" ∷ made remote))) a refl)
+                (λ a. no_folder (r.id ∷ (kind_word r.kind ∷ (codes "heads" ∷ (codes "refs" ∷ made remote)))) a refl)
+                (λ a. no_folder (r.arch ∷ (r.id ∷ (kind_word r.kind ∷ (codes "heads" ∷ (codes "refs" ∷ made remote))))) a refl)
                 (λ a. elim a [ inl is ↦ cc is | inr none ↦ none ])
-                (not_above tmp)
+                (λ a. omega (arith, above_longer tmp tmp a))
                 q folder.0 above)
             | inr config ↦ absurd (no_folder q above (ap top config.0))
           ]
@@ -290,3 +297,14 @@ module _ (remote : List ℕ) (r : Ref) {have : Have} {commit : List ℕ} {u w : 
   pub settled_made : ExportsSynced have (made remote) r commit u w → Settled (shows u) → Settled (shows w)
   settled_made (inl same) settled = subst (λ (v : View). Settled (shows v)) (sym same) settled
   settled_made (inr e) settled = by_step e settled
+
+-- ---- objects that a store may keep
+
+keepable_one : (object : Object) → is_keepable object ≡ true → IsKeepable object
+keepable_one (objects.Meta bytes) is = tt
+keepable_one (objects.File mode bytes) is = is
+keepable_one (objects.Link text) is = is
+
+pub keepable_all : (os : List BuiltObject) → list_all (λ o. is_keepable o.object) os ≡ true → AllByRecursion IsKeepableObject os
+keepable_all [] is = tt
+keepable_all (o ∷ os) is = let parts = and_parts (is_keepable o.object) (list_all (λ p. is_keepable p.object) os) is in (keepable_one o.object parts.0, keepable_all os parts.1)

@@ -1,3 +1,4 @@
 pub mod Spared
 pub mod Kept
+pub mod Moments
 mod Free

@@ -1,12 +1,15 @@
 -- What is given where a remote is made spares what an installation shows.
 use Rattle.std.proofs.Common.{◌≡◌, ◌≢◌, ◌⊎◌, ◌≤◌, inl, inr, ℕ, List, [], ◌∷◌, ◌++◌, Bool, true, false, Option, Some, None, codes, length, refl, sym, ◌∙◌, ap, subst, arith}
-use Rattle.std.specs.Prelude.{if◌then◌else◌}
+use Rattle.std.specs.Prelude.{if◌then◌else◌, is_some, take, drop}
+use Rattle.fp_name.specs.Grammar.{is_id, is_arch, is_branch}
+use Rattle.fp_name.specs.Hex.{hex}
+use Rattle.ost_model.specs.Stores.{is_prefix}
 use Rattle.fp_host.specs.Paths.{Elements, IsAbove}
 use Rattle.fp_host.specs.View.{View}
 use Rattle.fp_host.specs.Outcome.{Spot, Disk, Leaves, gone, folder, holds, points}
 use Rattle.fp_name.specs.declared.kind.RefKind.{RefKind}
 use Rattle.fp_name.specs.declared.kind.RefKind.TheVariants.{App, Runtime}
-use Rattle.fp_name.specs.Kinds.{kind_word}
+use Rattle.fp_name.specs.Kinds.{kind_of, kind_word}
 use Rattle.fp_name.specs.Refs.{Ref}
 use Rattle.fp_base.specs.declared.object.ObjKind.{ObjKind}
 use Rattle.fp_base.specs.declared.object.ObjKind.TheVariants as kinds
@@ -14,14 +17,14 @@ use Rattle.fp_small.specs.Places.{repo, tmp, new_name}
 use Rattle.fp_small.specs.Clear.{IsWithin}
 use Rattle.fp_small.specs.Move.{IsNew}
 use Rattle.ost_model.specs.declared.object.Object.{Object}
-use Rattle.ost_model.specs.Objects.{Have, object_path, object_at}
+use Rattle.ost_model.specs.Objects.{Have, kind_text, object_path, object_at}
 use Rattle.ost_refs.specs.Places.{remotes}
 use Rattle.ost_export.specs.Staging.{IsAboveObject}
 use Rattle.ost_export.specs.Placing.{IsTheObject}
 use Rattle.ost_export.specs.Storing.{IsWork, IsNewObject, IsStoreFolder}
 use Rattle.ost_export.specs.Exports.{config_path, config_text, ref_path, IsExportFolder, ExportsAt}
 use Rattle.dep_states.specs.Names.{commit_dir, deploy}
-use Rattle.dep_states.specs.Zones.{Zone, anything, a_folder, a_leaf, a_file, here, Fits, Allowed, IsLeafOrGone, IsFileOrGone, zone, outward, outward_onto}
+use Rattle.dep_states.specs.Zones.{Zone, anything, a_folder, a_leaf, a_file, here, Fits, Allowed, IsLeafOrGone, IsFileOrGone, is_object_name, zone, outward, outward_onto}
 use Rattle.dep_states.specs.Sound.{IsOld, is_remotes, is_pins, Fixed, is_config, is_old, is_active, is_deploy, is_layer, is_inside, is_object, Keeps, Permits, Spares}
 use Rattle.dep_states.proofs.Deployed.{outward_append, top}
 use Rattle.dep_states.proofs.Rows.{head_of, text_apart}
@@ -61,10 +64,10 @@ work_out {q = q} work =
 
 -- ---- no fixed path is there
 
-word_no_made : (k : RefKind) → kind_word k ≢ codes "made"
+pub word_no_made : (k : RefKind) → kind_word k ≢ codes "made"
 word_no_made k = word_apart k (codes "made") refl refl
 
-made_no_repo : codes "made" ≢ codes "repo"
+pub made_no_repo : codes "made" ≢ codes "repo"
 made_no_repo = text_apart (codes "made") (codes "repo") refl
 
 no_old : {p : Elements} → IsOld p → top p ≡ codes "made" → ⊥
@@ -112,8 +115,8 @@ permit_by (at_root is) allowed = record { allowed = allowed; deploy = λ name co
 
 -- by cases on a test, where each side fits
 if_fits : (b : Bool) (y n : Zone) (p : Elements) (spot : Spot) → Fits y p spot → Fits n p spot → Fits (if b then y else n) p spot
-if_fits true y n p spot yes no = yes
-if_fits false y n p spot yes no = no
+if_fits true y n p spot first second = first
+if_fits false y n p spot first second = second
 
 leaf_at : (kind : ObjKind) (object : Object) (spot : Spot) → object_at kind spot ≡ Some object → IsLeafOrGone spot
 leaf_at kind object gone is = tt
@@ -168,46 +171,77 @@ module _ (remote : List ℕ) (r : Ref) where
       by_ref (inr (inr (inr (inr (inr (inl is)))))) = subst P (sym is) store
       by_ref (inr (inr (inr (inr (inr (inr up)))))) = by_store up
 
+  -- the tests of a ref's parts, and what is above its file
+  abbrev by_kind : Zone → Zone
+  by_kind z = if is_some (kind_of (kind_word r.kind)) then z else anything
+
+  abbrev by_id : Zone → Zone
+  by_id z = if is_id r.id then z else anything
+
+  abbrev by_arch : Zone → Zone
+  by_arch z = if is_arch r.arch then z else anything
+
+  abbrev by_branch : Zone → Zone
+  by_branch z = if is_branch r.branch then z else anything
+
+  kind_fits : (z : Zone) (p : Elements) (spot : Spot) → Fits z p spot → Fits (by_kind z) p spot
+  kind_fits z p spot fits = if_fits (is_some (kind_of (kind_word r.kind))) z anything p spot fits tt
+
+  id_fits : (z : Zone) (p : Elements) (spot : Spot) → Fits z p spot → Fits (by_kind (by_id z)) p spot
+  id_fits z p spot fits = kind_fits (by_id z) p spot (if_fits (is_id r.id) z anything p spot fits tt)
+
+  arch_fits : (z : Zone) (p : Elements) (spot : Spot) → Fits z p spot → Fits (by_kind (by_id (by_arch z))) p spot
+  arch_fits z p spot fits = id_fits (by_arch z) p spot (if_fits (is_arch r.arch) z anything p spot fits tt)
+
+  branch_fits : (z : Zone) (p : Elements) (spot : Spot) → Fits z p spot → Fits (by_kind (by_id (by_arch (by_branch z)))) p spot
+  branch_fits z p spot fits = arch_fits (by_branch z) p spot (if_fits (is_branch r.branch) z anything p spot fits tt)
+
+  abbrev kind_path : Elements
+  kind_path = kind_word r.kind ∷ (codes "heads" ∷ (codes "refs" ∷ made remote))
+
   folders : (q : Elements) → IsExportFolder (made remote) r q → MayBeFolder q
   folders = folder_at MayBeFolder
       (record { place = at_root refl; allowed = record { fits = tt; short = inr (omega arith) } })
       (record { place = in_made refl; allowed = record { fits = tt; short = inr (omega arith) } })
       (record { place = in_made refl; allowed = record { fits = tt; short = inr (omega arith) } })
       (record { place = in_made refl; allowed = record { fits = tt; short = inr (omega arith) } })
-      (λ xx. record { place = in_made refl; allowed = record { fits = if_fits _ a_folder anything _ folder tt tt; short = inr (omega arith) } })
+      (λ xx. record { place = in_made refl; allowed = record { fits = if_fits (is_prefix xx) a_folder anything (xx ∷ (codes "objects" ∷ made remote)) folder tt tt; short = inr (omega arith) } })
       (record { place = in_made refl; allowed = record { fits = tt; short = inr (omega arith) } })
       (record { place = in_made refl; allowed = record { fits = tt; short = inr (omega arith) } })
       (record { place = in_made refl; allowed = record { fits = tt; short = inr (omega arith) } })
-      (record { place = in_made refl; allowed = record { fits = if_fits _ a_folder anything _ folder tt tt; short = inr (omega arith) } })
-      (record { place = in_made refl; allowed = record { fits = if_fits _ _ anything _ folder (if_fits _ a_folder anything _ folder tt tt) tt; short = inr (omega arith) } })
-      (record { place = in_made refl; allowed = record { fits = if_fits _ _ anything _ folder (if_fits _ _ anything _ folder (if_fits _ a_folder anything _ folder tt tt) tt) tt; short = inr (omega arith) } })
+      (record { place = in_made refl; allowed = record { fits = kind_fits a_folder kind_path folder tt; short = inr (omega arith) } })
+      (record { place = in_made refl; allowed = record { fits = id_fits a_folder (r.id ∷ kind_path) folder tt; short = inr (omega arith) } })
+      (record { place = in_made refl; allowed = record { fits = arch_fits a_folder (r.arch ∷ (r.id ∷ kind_path)) folder tt; short = inr (omega arith) } })
       (record { place = in_repo refl (λ e. cc e); allowed = record { fits = tt; short = inr (omega arith) } })
       (record { place = in_repo refl (text_apart (codes "tmp") (codes "objects") refl); allowed = record { fits = tt; short = inr (omega arith) } })
 
   -- ---- files and links
 
   object_allowed : (d : List ℕ) (kind : ObjKind) (spot : Spot) → IsLeafOrGone spot → Allowed (object_path (made remote) d kind) spot
-  object_allowed d kind spot leaf = record { fits = if_fits _ a_leaf anything _ spot leaf tt; short = inr (omega arith) }
+  object_allowed d kind spot leaf = record {
+    fits = if_fits (is_object_name (take 2 (hex d)) (drop 2 (hex d) ++ (codes "." ++ kind_text kind))) a_leaf anything (object_path (made remote) d kind) spot leaf tt;
+    short = inr (omega arith);
+  }
 
   config_allowed : (spot : Spot) → IsFileOrGone spot → Allowed (config_path (made remote)) spot
   config_allowed spot is = record { fits = is; short = inr (omega arith) }
 
   ref_allowed : (spot : Spot) → IsFileOrGone spot → Allowed (ref_path (made remote) r) spot
   ref_allowed spot is = record {
-    fits = if_fits _ _ anything _ spot (if_fits _ _ anything _ spot (if_fits _ _ anything _ spot (if_fits _ a_file anything _ spot is tt) tt) tt) tt;
+    fits = branch_fits a_file (ref_path (made remote) r) spot is;
     short = inr (omega arith);
   }
 
   work_allowed : {u : View} (q : Elements) (spot : Spot) → IsWork u q → (spot ≡ gone) ⊎ (length q ≤ 6) → Allowed q spot
   work_allowed q spot work depth = record {
-    fits = let out = work_out work in subst (λ (l : List (List ℕ)). Fits (zone l) q spot) (sym out.1.1) tt;
+    fits = let out = work_out work in subst (λ (l : List (List ℕ)). Fits (zone l) q spot) (sym out.2) tt;
     short = elim depth [ inl none ↦ inl none | inr short ↦ inr (omega (arith, short)) ];
   }
 
   work_where : {u : View} (q : Elements) → IsWork u q → Where q
   work_where q work =
       let out = work_out work in
-      in_repo (ap head_of out.1.1) (λ e. text_apart (codes "tmp") (codes "objects") refl (sym (ap second out.1.1) ∙ e))
+      in_repo (ap head_of out.2) (λ e. text_apart (codes "tmp") (codes "objects") refl (sym (ap second out.2) ∙ e))
 
   -- ---- all of it
 

@@ -1,7 +1,6 @@
 -- What making a remote does to a host, and what it leaves.
-use Rattle.std.specs.Prelude.{◌≡◌, ◌≢◌, ◌⊎◌, ℕ, List, [], ◌∷◌, Ok, Err, codes}
-use Rattle.std.specs.List.{AllByRecursion}
-use Rattle.fp_host.specs.Paths.{Elements, Slot, absent, dir, IsAbove}
+use Rattle.std.specs.Prelude.{Bool, true, ◌≡◌, ◌≢◌, ◌⊎◌, ℕ, List, [], ◌∷◌, Ok, Err, codes}
+use Rattle.fp_host.specs.Paths.{Elements, Slot, absent, dir, is_link_text, IsAbove}
 use Rattle.fp_host.specs.View.{View}
 use Rattle.fp_host.specs.Outcome.{shows}
 use Rattle.fp_name.specs.Refs.{Ref}
@@ -10,6 +9,9 @@ use Rattle.fp_small.specs.Clear.{IsWithin}
 use Rattle.fp_small.specs.Files.{KeepsFiles}
 use Rattle.fp_small.specs.Places.{repo, tmp}
 use Rattle.fp_small.specs.declared.state.State.{State}
+use Rattle.ost_model.specs.Contents.{is_permission}
+use Rattle.ost_model.specs.declared.object.Object.{Object}
+use Rattle.ost_model.specs.declared.object.Object.TheVariants as objects
 use Rattle.ost_model.specs.Objects.{object_path}
 use Rattle.ost_refs.specs.Places.{place_path}
 use Rattle.ost_refs.specs.declared.place.RefPlace.{RefPlace}
@@ -71,3 +73,9 @@ IsMakeFault bytes NoMemory = Unit {0}
 -- written are absent or folders.
 abbrev pub CanMake : List ℕ → Ref → View → Type 0
 CanMake remote r v = CanExport (made remote) r v
+
+-- a store may keep the object: a file's permission bits are within 0775, and a link's text is one
+abbrev pub is_keepable : Object → Bool
+is_keepable (objects.Meta bytes) = true
+is_keepable (objects.File mode bytes) = is_permission mode
+is_keepable (objects.Link text) = is_link_text text

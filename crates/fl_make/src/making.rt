@@ -1,16 +1,15 @@
 //! A remote that is made.
-ghost use Rattle.std.specs.Prelude.{◌≡◌, ◌↔◌, ℕ, None, IfOk, IfErr, OnOk, IsTrue, IsErrOf};
-ghost use Rattle.std.specs.List.{AllByRecursion};
+ghost use Rattle.std.specs.Prelude.{◌≡◌, ℕ, None, IfOk, IfErr, OnOk, IsErrOf};
+ghost use Rattle.std.specs.List.{list_all};
 ghost use Rattle.fp_host.specs.Causes.{IsCaused};
 ghost use Rattle.fp_host.specs.Frame.{AtEnd, Unchanged};
 ghost use Rattle.fp_host.specs.Moments.{Always};
 ghost use Rattle.ost_model.specs.Order.{first_fault};
-ghost use Rattle.ost_store.specs.Stage.{IsKeepable};
 ghost use Rattle.ost_commit.specs.Objects.{have_of};
-ghost use Rattle.ost_export.specs.Staging.{AreWhole, IsKeepableObject};
+ghost use Rattle.ost_export.specs.Staging.{AreWhole};
 ghost use Rattle.ost_export.specs.Exports.{CanExport, ExportsSynced, WasExported};
 ghost use Rattle.fl_make.specs.declared.end.MakeEnd.TheVariants.{BadRecord};
-ghost use Rattle.fl_make.specs.Making.{made, CanMake, IsMakeFault, Makes, WasMade};
+ghost use Rattle.fl_make.specs.Making.{made, is_keepable as is_keepable_object, CanMake, IsMakeFault, Makes, WasMade};
 
 use crate::end::MakeEnd;
 use fl_lines::made_line;
@@ -85,7 +84,7 @@ fn made_path(alloc: Global, remote: &RemoteName) -> Result<Path, AllocError>
 
 /// Whether a store may keep each of the objects. Those of a commit of rows are so, which the call that builds it doesn't say.
 fn are_keepable(objects: &[BuiltObject]) -> bool
-    ensures { IsTrue result → AllByRecursion IsKeepableObject objects.now }
+    ensures { result ≡ list_all (λ o. is_keepable_object o.object) objects.now }
 {
     for object in objects {
         if !is_keepable(&object.object) {
@@ -97,7 +96,7 @@ fn are_keepable(objects: &[BuiltObject]) -> bool
 
 /// Whether a store may keep the object: a file's permission bits are within 0775, and a link's text is one.
 fn is_keepable(object: &Object) -> bool
-    ensures { IsTrue result → IsKeepable object.now }
+    ensures { result ≡ is_keepable_object object.now }
 {
     match object {
         Object::Meta(_) => true,
