@@ -1,12 +1,12 @@
 -- The commands of a run.
-use Rattle.std.proofs.Common.{◌≡◌, ◌⊎◌, inl, inr, ◌+◌, ◌<◌, ℕ, zero, suc, List, [], ◌∷◌, ◌++◌, refl, sym, ◌∙◌, ap, subst, append_assoc, arith, codes}
+use Rattle.std.proofs.Common.{◌≡◌, ◌⊎◌, inl, inr, ◌<◌, ℕ, List, [], ◌∷◌, ◌++◌, sym, ◌∙◌, ap, append_assoc, codes}
 use Rattle.fp_name.specs.Refs.{Ref}
 use Rattle.ost_model.specs.Order.{In}
 use Rattle.fl_words.specs.declared.command.Change.{Change}
 use Rattle.fl_words.specs.declared.command.Change.TheVariants as changes
 use Rattle.fl_gen.specs.Made.{each_of, app_ref}
 use Rattle.fl_gen.specs.Exercise.{exercise_changes, install_of, uninstall_of}
-use Rattle.fl_gen.proofs.Counting.{one_more, none_yet, in_series}
+use Rattle.fl_gen.proofs.Counting.{in_series}
 
 in_cut : {A : Type 0} (xs ys : List A) (a : A) → In (xs ++ ys) a → In xs a ⊎ In ys a
 in_cut [] ys a has = inr has
