@@ -1,0 +1,65 @@
+-- Stores in memory.
+use Rattle.std.specs.Prelude.{◌≡◌, ℕ, Bool, true, List, ◌++◌, leb, Option, option_map}
+use Rattle.std.specs.List.{find, list_any}
+use Rattle.fp_host.specs.Paths.{Elements, path_eq}
+use Rattle.fp_host.specs.Outcome.{Spot, holds, points, Disk}
+use Rattle.ost_commit.specs.Rows.{is_above}
+use Rattle.fl_gen.specs.declared.store.Leaf.{Leaf}
+use Rattle.fl_gen.specs.declared.store.Leaf.TheVariants as leaf
+use Rattle.fl_gen.specs.declared.store.Row.{Row}
+use Rattle.fl_gen.specs.Made.{Ware}
+use Rattle.fl_gen.specs.Stores.{Entry, Offer, found, has_below, spot_by, AreSettled, AreOffersOf, store_entries}
+
+abbrev pub leaf_spot : Leaf → Spot
+leaf_spot (leaf.File mode bytes) = holds 0 mode bytes
+leaf_spot (leaf.Link text) = points text
+
+-- permission bits are within 07777 (octal)
+abbrev pub leaf_bits : Leaf → Bool
+leaf_bits (leaf.File mode bytes) = leb mode 4095
+leaf_bits (leaf.Link text) = true
+
+abbrev pub has_bits : Row → Bool
+has_bits row = leaf_bits row.leaf
+
+abbrev pub is_row : Elements → Row → Bool
+is_row q row = path_eq q row.path
+
+abbrev pub covers : Elements → Row → Bool
+covers q row = is_above q row.path
+
+abbrev pub row_at : List Row → Elements → Option Row
+row_at rows q = find (is_row q) rows
+
+abbrev pub row_spot : Row → Spot
+row_spot row = leaf_spot row.leaf
+
+abbrev pub row_spot_of : Option Row → Option Spot
+row_spot_of row = option_map row_spot row
+
+abbrev pub spot_in : List Row → Elements → Option Spot
+spot_in rows q = row_spot_of (row_at rows q)
+
+-- what is kept at a path, with folders above it
+abbrev pub kept : List Row → Disk
+kept rows q = spot_by (spot_in rows q) (list_any (covers q) rows)
+
+-- The rows keep just these entries, each of which is found at its path.
+pub record Keeps (es : List Entry) (rows : List Row) : Type 0 where
+  pub spots : (q : Elements) → spot_in rows q ≡ found es q
+  pub folders : (q : Elements) → list_any (covers q) rows ≡ has_below es q
+  pub settled : AreSettled es
+
+-- after any entries these come
+pub record Adds (es : List Entry) (old new : List Row) : Type 0 where
+  pub after : (before : List Entry) → Keeps before old → Keeps (before ++ es) new
+
+-- The rows keep the store that offers just the commits of these wares.
+pub record Stocks (version : ℕ) (ws : List Ware) (rows : List Row) : Type 0 where
+  pub offers : List Offer
+  pub offered : AreOffersOf version ws offers
+  pub keeps : Keeps (store_entries offers) rows
+
+-- after any wares these come
+pub record Brings (version : ℕ) (ws : List Ware) (old new : List Row) : Type 0 where
+  pub after : (before : List Ware) → Stocks version before old → Stocks version (before ++ ws) new

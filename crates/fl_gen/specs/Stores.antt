@@ -1,0 +1,115 @@
+-- Stores as an export makes them, from what they offer.
+use Rattle.std.specs.Prelude.{◌≡◌, ℕ, Bool, true, leb, List, [], ◌∷◌, map, flat_map, if◌then◌else◌, Option, Some, None, codes}
+use Rattle.std.specs.List.{AllByRecursion, list_any}
+use Rattle.fp_host.specs.Paths.{Elements, is_link_text, path_eq}
+use Rattle.fp_host.specs.Outcome.{Spot, gone, folder, holds, points, Disk}
+use Rattle.fp_name.specs.Hex.{is_digest}
+use Rattle.fp_name.specs.Refs.{Ref}
+use Rattle.ost_model.specs.declared.object.Object.{Object}
+use Rattle.ost_model.specs.declared.object.Object.TheVariants as objects
+use Rattle.ost_model.specs.Objects.{object_path, object_at}
+use Rattle.ost_model.specs.Order.{In}
+use Rattle.ost_refs.specs.Files.{ref_bytes}
+use Rattle.ost_commit.specs.declared.built.Built.{Built}
+use Rattle.ost_commit.specs.declared.built.BuiltObject.{BuiltObject}
+use Rattle.ost_commit.specs.Built.{BuiltCommit}
+use Rattle.ost_commit.specs.Rows.{is_above}
+use Rattle.ost_export.specs.Exports.{config_path, config_text, ref_path}
+use Rattle.fl_gen.specs.Made.{Ware, file_mode}
+
+-- ---- what stands in a store
+
+-- a path, and the file or link that stands there
+abbrev pub Entry : Type 0
+Entry = Elements × Spot
+
+-- what is listed first for the path
+abbrev pub found : List Entry → Elements → Option Spot
+found [] q = None
+found (e ∷ es) q = if path_eq q e.0 then Some e.1 else found es q
+
+-- an entry stands below the path
+abbrev pub has_below : List Entry → Elements → Bool
+has_below es q = list_any (λ e. is_above q e.0) es
+
+abbrev pub spot_by : Option Spot → Bool → Spot
+spot_by (Some spot) below = spot
+spot_by None below = if below then folder else gone
+
+-- the entries, folders above them, and nothing else
+abbrev pub disk_of : List Entry → Disk
+disk_of es q = spot_by (found es q) (has_below es q)
+
+-- each entry is found at its path: where two have one path, they are the same
+pub record AreSettled (es : List Entry) : Type 0 where
+  pub each : (e : Entry) → In es e → found es e.0 ≡ Some e.1
+
+-- ---- what an offer puts there
+
+-- a ref, and the commit that is offered under it
+pub record Offer : Type 0 where
+  pub name : Ref
+  pub built : Built
+
+abbrev pub file_spot : List ℕ → Spot
+file_spot bytes = holds 0 file_mode bytes
+
+abbrev pub object_spot : Object → Spot
+object_spot (objects.Meta bytes) = file_spot bytes
+object_spot (objects.File mode bytes) = holds 0 mode bytes
+object_spot (objects.Link text) = points text
+
+abbrev pub config_entry : Entry
+config_entry = (config_path [], file_spot config_text)
+
+abbrev pub ref_entry : Ref → List ℕ → Entry
+ref_entry name commit = (ref_path [] name, file_spot (ref_bytes commit))
+
+abbrev pub object_entry : BuiltObject → Entry
+object_entry o = (object_path [] o.digest o.kind, object_spot o.object)
+
+abbrev pub offer_entries : Offer → List Entry
+offer_entries o = ref_entry o.name o.built.commit ∷ map object_entry o.built.objects
+
+-- `config`, the refs, and the objects
+abbrev pub store_entries : List Offer → List Entry
+store_entries offers = config_entry ∷ flat_map offer_entries offers
+
+-- ---- stores of wares
+
+-- a link's text is one
+abbrev pub has_link_text : Object → Bool
+has_link_text (objects.Meta bytes) = true
+has_link_text (objects.File mode bytes) = true
+has_link_text (objects.Link text) = is_link_text text
+
+-- permission bits are within 07777 (octal)
+abbrev pub object_bits : Object → Bool
+object_bits (objects.Meta bytes) = true
+object_bits (objects.File mode bytes) = leb mode 4095
+object_bits (objects.Link text) = true
+
+-- an object reads back from where it stands
+abbrev pub Reads : BuiltObject → Type 0
+Reads o = object_at o.kind (object_spot o.object) ≡ Some o.object
+
+-- The commit of the ware's rows, with the subject `gen` and the version as its time.
+pub record IsOfferOf (version : ℕ) (w : Ware) (o : Offer) : Type 0 where
+  pub name : o.name ≡ w.name
+  pub built : BuiltCommit w.rows w.name (codes "gen") version o.built
+  pub digits : is_digest o.built.commit ≡ true
+  pub reads : AllByRecursion Reads o.built.objects
+
+-- one for each ware, in order
+abbrev pub AreOffersOf : ℕ → List Ware → List Offer → Type 0
+AreOffersOf version [] [] = Unit {0}
+AreOffersOf version [] (o ∷ os) = ⊥
+AreOffersOf version (w ∷ ws) [] = ⊥
+AreOffersOf version (w ∷ ws) (o ∷ os) = IsOfferOf version w o × AreOffersOf version ws os
+
+-- The disk is a store that offers just the commits of these wares.
+pub record IsStoreOf (version : ℕ) (ws : List Ware) (disk : Disk) : Type 0 where
+  pub offers : List Offer
+  pub offered : AreOffersOf version ws offers
+  pub settled : AreSettled (store_entries offers)
+  pub shows : (q : Elements) → disk q ≡ disk_of (store_entries offers) q

@@ -1,0 +1,205 @@
+//! Stores that offer the commits of the generator.
+ghost use Rattle.std.specs.Prelude.{◌≡◌, ◌≤◌, ◌<◌, ◌^◌, ◌∷◌, [], map, true, IfOk, OnOk, codes};
+ghost use Rattle.std.specs.List.{AllByRecursion};
+ghost use Rattle.fp_name.specs.Hex.{is_digest};
+ghost use Rattle.ost_refs.specs.Files.{ref_bytes};
+ghost use Rattle.ost_commit.specs.Objects.{IsNamed};
+ghost use Rattle.ost_commit.specs.Built.{BuiltCommit};
+ghost use Rattle.fl_gen.specs.Made.{app_ware, each_of, runtime_ware, wares};
+ghost use Rattle.fl_gen.specs.Stores.{IsStoreOf, Reads, config_entry, file_spot, has_link_text, object_bits, object_entry, object_spot, ref_entry};
+ghost use Rattle.fl_gen.specs.Keeping.{Adds, Brings, Stocks, kept, leaf_bits, leaf_spot};
+
+use crate::naming::{app_ref, path_at_root, runtime_ref};
+use crate::series::FILE_MODE;
+use crate::store::{Leaf, Store};
+use crate::trees::{app_rows, runtime_rows};
+use fp_base::Blob;
+use fp_host::{Path, is_link_text};
+use fp_name::{Digest, RefName};
+use ost_commit::{Built, BuiltObject, TreeRow, commit_tree};
+use ost_model::Object;
+use ost_refs::{RefPlace, path_of as ref_path};
+use ost_store::path_of;
+use std::alloc::{AllocError, Global};
+use std::thread::Threads;
+
+/// What `config` says.
+const CONFIG: &[u8] = b"[core]\nrepo_version=1\nmode=bare-user-only\n";
+
+/// How many runtimes there are.
+const RUNTIMES: usize = 4;
+
+/// The subject of each commit.
+const SUBJECT: &str = "gen";
+
+/// A file of these bytes.
+fn file_of(bytes: Blob) -> Leaf
+    ensures spot { leaf_spot result ≡ file_spot bytes }
+    ensures bits { leaf_bits result ≡ true }
+{
+    Leaf::File {
+        mode: FILE_MODE,
+        bytes,
+    }
+}
+
+/// The bytes of a ref's file: 64 digits and a newline.
+fn ref_bytes(alloc: Global, commit: &Digest) -> Result<Blob, AllocError>
+    ensures bytes { IfOk result (λ bytes. bytes ≡ ref_bytes commit.now) }
+    ensures digits { is_digest commit.now ≡ true }
+{
+    let _bytes = commit.as_bytes();
+    let mut bytes = Vec::from_slice(alloc, &commit.digits())?;
+    bytes.push(b'\n')?;
+    Ok(Blob::from_vec(bytes))
+}
+
+/// Puts the file of a ref that has this commit.
+fn put_ref(
+    alloc: Global,
+    store: &mut Store,
+    name: &RefName,
+    commit: &Digest,
+) -> Result<(), AllocError>
+    ensures put { OnOk result (Adds (ref_entry name.now commit.now ∷ []) store.old.rows.items
+        store.new.rows.items) }
+    ensures digits { is_digest commit.now ≡ true }
+{
+    let bytes = ref_bytes(alloc, commit)?;
+    let place = RefPlace::Head(name.copy()?);
+    let path = ref_path(&Path::root(alloc), &place)?;
+    store.put(path, file_of(bytes))
+}
+
+/// The file or link of an object, where it is one that reads back: a link's text is one.
+fn leaf_of(object: &Object) -> Result<Leaf, AllocError>
+    ensures spot { IfOk result (λ leaf. leaf_spot leaf ≡ object_spot object.now) }
+    ensures text { OnOk result (has_link_text object.now ≡ true) }
+    ensures bits { IfOk result (λ leaf. object_bits object.now ≡ true → leaf_bits leaf ≡ true) }
+{
+    match object {
+        Object::Meta(bytes) => Ok(file_of(bytes.copy()?)),
+        Object::File { mode, bytes } => Ok(Leaf::File {
+            mode: *mode,
+            bytes: bytes.copy()?,
+        }),
+        Object::Link(text) => {
+            if is_link_text(text.as_str()) {
+                Ok(Leaf::Link(text.copy()?))
+            } else {
+                Err(AllocError)
+            }
+        }
+    }
+}
+
+/// Puts an object at its name.
+fn put_object(alloc: Global, store: &mut Store, object: &BuiltObject) -> Result<(), AllocError>
+    requires { IsNamed object.now }
+    ensures put { OnOk result (Adds (object_entry object.now ∷ []) store.old.rows.items
+        store.new.rows.items) }
+    ensures reads { OnOk result (Reads object.now) }
+{
+    let path = path_of(alloc, &Path::root(alloc), &object.digest, object.kind)?;
+    store.put(path, leaf_of(&object.object)?)
+}
+
+/// Puts objects at their names.
+fn put_objects(alloc: Global, store: &mut Store, objects: &[BuiltObject]) -> Result<(), AllocError>
+    requires { AllByRecursion IsNamed objects.now }
+    ensures put { OnOk result (Adds (map object_entry objects.now) store.old.rows.items
+        store.new.rows.items) }
+    ensures reads { OnOk result (AllByRecursion Reads objects.now) }
+{
+    for object in objects {
+        put_object(alloc, store, object)?;
+    }
+    Ok(())
+}
+
+/// Offers the commit of these rows under the ref. Rows that make none count as want of memory.
+fn offer(
+    rt: &(impl Threads + Sync),
+    alloc: Global,
+    store: &mut Store,
+    name: &RefName,
+    rows: &[TreeRow],
+    version: u64,
+) -> Result<(), AllocError>
+    ensures { OnOk result (Brings version (record { name = name.now; rows = rows.now } ∷ [])
+        store.old.rows.items store.new.rows.items) }
+{
+    let Ok(built) = commit_tree(rt, alloc, rows, name, SUBJECT, version) else {
+        return Err(AllocError);
+    };
+    put_ref(alloc, store, name, &built.commit)?;
+    put_objects(alloc, store, built.objects.as_slice())
+}
+
+/// A store that offers nothing.
+fn bare_store(alloc: Global, version: u64) -> Result<Store, AllocError>
+    ensures { IfOk result (λ store. Stocks version [] store.rows.items) }
+{
+    let path = path_at_root(alloc, "config")?;
+    let config = Blob::from_slice(alloc, CONFIG)?;
+    let mut store = Store::new(alloc);
+    store.put(path, file_of(config))?;
+    Ok(store)
+}
+
+/// Offers the runtimes.
+fn offer_runtimes(
+    rt: &(impl Threads + Sync),
+    alloc: Global,
+    store: &mut Store,
+    version: u64,
+) -> Result<(), AllocError>
+    requires { version < 2 ^ 8 }
+    ensures { OnOk result (Brings version (each_of (runtime_ware version) 4) store.old.rows.items
+        store.new.rows.items) }
+{
+    for number in 0..RUNTIMES {
+        let name = runtime_ref(alloc, number)?;
+        let rows = runtime_rows(alloc, version as usize, number)?;
+        offer(rt, alloc, store, &name, rows.as_slice(), version)?;
+    }
+    Ok(())
+}
+
+/// Offers so many applications.
+fn offer_apps(
+    rt: &(impl Threads + Sync),
+    alloc: Global,
+    store: &mut Store,
+    version: u64,
+    apps: usize,
+) -> Result<(), AllocError>
+    requires version { version < 2 ^ 8 }
+    requires few { apps ≤ 2 ^ 8 }
+    ensures { OnOk result (Brings version (each_of (app_ware version) apps) store.old.rows.items
+        store.new.rows.items) }
+{
+    for number in 0..apps {
+        let name = app_ref(alloc, number)?;
+        let rows = app_rows(alloc, version as usize, number)?;
+        offer(rt, alloc, store, &name, rows.as_slice(), version)?;
+    }
+    Ok(())
+}
+
+/// The store of the generator, in this version, for so many applications.
+pub(crate) fn made_store(
+    rt: &(impl Threads + Sync),
+    alloc: Global,
+    version: u64,
+    apps: usize,
+) -> Result<Store, AllocError>
+    requires version { version < 2 ^ 8 }
+    requires few { apps ≤ 2 ^ 8 }
+    ensures { IfOk result (λ store. IsStoreOf version (wares version apps) (kept store.rows.items)) }
+{
+    let mut store = bare_store(alloc, version)?;
+    offer_runtimes(rt, alloc, &mut store, version)?;
+    offer_apps(rt, alloc, &mut store, version, apps)?;
+    Ok(store)
+}

@@ -1,0 +1,15 @@
+//! Made remotes: what the generator's stores hold, and the commands that are run over them.
+#![tactic(auto)]
+
+mod commands;
+mod copying;
+mod filling;
+pub mod laws;
+mod naming;
+mod remotes;
+mod series;
+mod store;
+mod trees;
+
+pub use commands::exercise_commands;
+pub use remotes::GenRemotes;

@@ -1,0 +1,183 @@
+//! A store in memory: what stands at its paths.
+ghost use Rattle.std.specs.Prelude.{◌≡◌, ◌≤◌, ◌↔◌, ◌∷◌, [], ◌++◌, true, None, IsTrue, IfOk, IfSome, OnOk, IsErrOf, length};
+ghost use Rattle.std.specs.List.{list_all, list_any};
+ghost use Rattle.std.specs.Option.{option_copied};
+ghost use Rattle.fp_host.specs.Remote.{IsNode, HasNodeBits, CameFrom, bytes_of};
+ghost use Rattle.fp_host.specs.Outcome.{Spot, holds, points};
+ghost use Rattle.ost_export.specs.Remotes.{held_of};
+ghost use Rattle.fl_gen.specs.Stores.{spot_by};
+ghost use Rattle.fl_gen.specs.Keeping.{Adds, covers as is_below, has_bits, kept, leaf_bits, leaf_spot, row_at, row_spot_of};
+
+use crate::copying::copy_out;
+use fp_base::{Blob, Text};
+use fp_host::{Node, Path, RemoteError};
+use std::alloc::{AllocError, Global};
+
+/// What stands at a path that is no folder.
+#[derive(Drop)]
+pub(crate) enum Leaf {
+    /// A file's permission bits, at most 0o7777, and its bytes.
+    File { mode: u32, bytes: Blob },
+    /// A symlink's text.
+    Link(Text),
+}
+
+/// A path, and what stands there.
+#[derive(Drop)]
+pub(crate) struct Row {
+    path: Path,
+    leaf: Leaf,
+}
+
+/// A store: files and links by their paths, each of which stands once. There are folders above them.
+#[derive(Drop)]
+pub(crate) struct Store {
+    rows: Vec<Row>,
+    ghost bits: { list_all has_bits rows.items ≡ true },
+}
+
+/// Whether it is a file with these permission bits and bytes.
+fn is_file(leaf: &Leaf, mode: u32, bytes: &[u8]) -> bool
+    ensures { IsTrue result ↔ (leaf_spot leaf.now ≡ holds 0 mode bytes.now) }
+{
+    match leaf {
+        Leaf::File {
+            mode: other,
+            bytes: others,
+        } => *other == mode && others.as_slice() == bytes,
+        Leaf::Link(_) => false,
+    }
+}
+
+/// Whether it is a link with this text.
+fn is_link(leaf: &Leaf, text: &str) -> bool
+    ensures { IsTrue result ↔ (leaf_spot leaf.now ≡ points text.now) }
+{
+    match leaf {
+        Leaf::Link(other) => other.as_str() == text,
+        Leaf::File { .. } => false,
+    }
+}
+
+/// Whether the two are one file or one link.
+fn are_same(a: &Leaf, b: &Leaf) -> bool
+    ensures { IsTrue result ↔ (leaf_spot b.now ≡ leaf_spot a.now) }
+{
+    match a {
+        Leaf::File { mode, bytes } => is_file(b, *mode, bytes.as_slice()),
+        Leaf::Link(text) => is_link(b, text.as_str()),
+    }
+}
+
+/// Whether the two are one file or one link; where they aren't, memory is said to be lacking.
+fn agree(there: &Leaf, leaf: &Leaf) -> Result<(), AllocError>
+    ensures { OnOk result (leaf_spot there.now ≡ leaf_spot leaf.now) }
+{
+    if are_same(leaf, there) {
+        Ok(())
+    } else {
+        Err(AllocError)
+    }
+}
+
+/// The row of the path.
+fn find<'a>(rows: &'a [Row], path: &Path) -> Option<&'a Row>
+    ensures { option_copied result ≡ row_at rows.now path.now }
+{
+    rows.iter().find(|row| path.is(&row.path))
+}
+
+/// Whether the row is below the path.
+fn is_below(row: &Row, path: &Path) -> bool
+    ensures { result ≡ is_below path.now row.now }
+{
+    path.is_above(&row.path)
+}
+
+/// Whether a row is below the path.
+fn is_folder(rows: &[Row], path: &Path) -> bool
+    ensures { result ≡ list_any (is_below path.now) rows.now }
+{
+    rows.iter().any(|row| is_below(row, path))
+}
+
+/// What stands in a row, or else a folder or nothing.
+fn node_of(row: Option<&Row>, is_folder: bool) -> Result<Node, RemoteError>
+    requires { IfSome row (λ r. has_bits r.now ≡ true) }
+    ensures node { IfOk result (IsNode (held_of (spot_by (row_spot_of (option_copied row.entry)) is_folder))) }
+    ensures bits { IfOk result HasNodeBits }
+    ensures never { IsErrOf result RemoteError.Failed → ⊥ }
+{
+    match row {
+        Some(row) => match &row.leaf {
+            Leaf::File { mode, bytes } => Ok(Node::File {
+                mode: *mode,
+                size: bytes.len() as u64,
+            }),
+            Leaf::Link(text) => match text.copy() {
+                Ok(text) => Ok(Node::Link(text)),
+                Err(_) => Err(RemoteError::NoMemory),
+            },
+        },
+        None if is_folder => Ok(Node::Dir),
+        None => Ok(Node::Absent),
+    }
+}
+
+/// Bytes of a row's file; a link has none.
+fn read_row(row: &Row, at: u64, into: &mut [u8]) -> usize
+    ensures came { CameFrom (bytes_of (held_of (leaf_spot row.now.leaf))) at into.new result }
+    ensures bound { result ≤ length into.old }
+{
+    match &row.leaf {
+        Leaf::File { bytes, .. } => copy_out(bytes.as_slice(), at, into),
+        Leaf::Link(_) => 0,
+    }
+}
+
+impl Store {
+    /// Nothing.
+    pub(crate) fn new(alloc: Global) -> Self
+        ensures { result.rows.items ≡ [] }
+    {
+        Store {
+            rows: Vec::new(alloc),
+        }
+    }
+
+    /// Puts a file or a link at the path. What is there already has to be the same; where it isn't, since two objects have one
+    /// digest, that counts as want of memory.
+    pub(crate) fn put(&mut self, path: Path, leaf: Leaf) -> Result<(), AllocError>
+        requires { leaf_bits leaf ≡ true }
+        ensures { OnOk result (Adds ((path, leaf_spot leaf) ∷ []) self.old.rows.items self.new.rows.items) }
+    {
+        match find(&self.rows, &path) {
+            Some(there) => agree(&there.leaf, &leaf),
+            None => {
+                self.rows.push(Row { path, leaf })?;
+                Ok(())
+            }
+        }
+    }
+
+    /// What stands at the path.
+    pub(crate) fn node(&self, path: &Path) -> Result<Node, RemoteError>
+        ensures node { IfOk result (IsNode (held_of (kept self.now.rows.items path.now))) }
+        ensures bits { IfOk result HasNodeBits }
+        ensures never { IsErrOf result RemoteError.Failed → ⊥ }
+    {
+        let is_folder = is_folder(&self.rows, path);
+        node_of(find(&self.rows, path), is_folder)
+    }
+
+    /// Copies bytes of the file at the path, from a place on, as many as there is room for; what is no file has none.
+    pub(crate) fn read_at(&self, path: &Path, at: u64, into: &mut [u8]) -> usize
+        ensures came { CameFrom (bytes_of (held_of (kept self.now.rows.items path.now))) at into.new result }
+        ensures bound { result ≤ length into.old }
+    {
+        match find(&self.rows, path) {
+            Some(row) => read_row(row, at, into),
+            None => 0,
+        }
+    }
+}

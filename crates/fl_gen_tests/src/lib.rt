@@ -1,0 +1,5 @@
+//! Tests of made remotes.
+#![tactic(auto)]
+
+#[cfg(test)]
+mod remotes;
