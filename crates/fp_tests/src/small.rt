@@ -121,19 +121,16 @@ const WRITTEN: [(&str, &str); 3] = [
 ];
 
 /// Whether what a `config` says is written so.
-fn is_written(rt: &impl Abort, alloc: Global, text: &str, want: &str) -> bool {
-    let settings = settings_of(rt, alloc, text);
-    let (remotes, pins) = (settings.remotes.as_slice(), settings.pins.as_slice());
-    write_config(alloc, remotes, pins)
-        .expect(rt, "memory")
-        .as_str()
-        == want
+fn is_written(alloc: Global, text: &str, want: &str) -> Result<bool, ConfigFault> {
+    let settings = read_config(alloc, text.as_bytes())?;
+    let written = write_config(alloc, settings.remotes.as_slice(), settings.pins.as_slice())?;
+    Ok(written.as_str() == want)
 }
 
 #[test]
 fn written_configs(rt: HostRuntime) {
     for (text, want) in &WRITTEN {
-        agree(&rt, text, is_written(&rt, rt.alloc(), text, want));
+        agree(&rt, text, is_written(rt.alloc(), text, want) == Ok(true));
     }
 }
 
@@ -378,7 +375,7 @@ fn longest_config(rt: &impl Abort, alloc: Global) -> String {
 #[test]
 fn longest_settings(rt: HostRuntime) {
     let text = longest_config(&rt, rt.alloc());
-    assert!(rt; is_written(&rt, rt.alloc(), &text, &text));
+    assert!(rt; is_written(rt.alloc(), &text, &text) == Ok(true));
 }
 
 /// Whether these bytes are loaded from the file.
