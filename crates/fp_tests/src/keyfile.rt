@@ -1,11 +1,13 @@
 //! Key files with what they read as, worked out from the rules by hand.
 
-use fp_base::{Items, KeyRule, Text};
+use crate::rows::agree;
+use fp_base::{Items, KeyRule};
 use fp_keyfile::{
     Group, KeyError, KeyFault, KeyFile, Pair, is_group_name, is_pair_key, is_pair_value, trim_front,
 };
-use std::alloc::{AllocError, Global};
-use std::test::Fail;
+use std::alloc::Global;
+use std::panic::Expect;
+use std::process::Abort;
 
 /// Bytes that are a key file, and the text that is written for it.
 const FILES: [(&str, &str); 44] = [
@@ -67,6 +69,26 @@ const FILES: [(&str, &str); 44] = [
     ("[b]\n[a]\nk=\n", "[b]\n[a]\nk=\n"),
 ];
 
+/// The key file of the text.
+fn file_of(rt: &impl Abort, alloc: Global, text: &str) -> KeyFile {
+    KeyFile::parse(alloc, text.as_bytes()).expect(rt, "a key file")
+}
+
+/// Whether the file of the text is written so.
+fn is_written(rt: &impl Abort, alloc: Global, text: &str, want: &str) -> bool {
+    let written = file_of(rt, alloc, text).write().expect(rt, "memory");
+    written.as_str() == want
+}
+
+/// What is written for a file is written again as it is.
+#[test]
+fn reads_and_writes(rt: HostRuntime) {
+    for (text, want) in &FILES {
+        agree(&rt, text, is_written(&rt, rt.alloc(), text, want));
+        agree(&rt, want, is_written(&rt, rt.alloc(), want, want));
+    }
+}
+
 /// Texts that are no key file, and the first bad line with its rule.
 const FAULTS: [(&str, u64, KeyRule); 36] = [
     ("a=1", 1, KeyRule::NoGroup),
@@ -108,100 +130,64 @@ const FAULTS: [(&str, u64, KeyRule); 36] = [
     ("\u{0}\n[", 1, KeyRule::Text),
 ];
 
-/// Bytes that aren't UTF-8, and the line where that is.
-const NO_TEXTS: [([u8; 7], u64); 6] = [
-    // `[g]`, and then a value with a byte that begins no character
-    ([0x5b, 0x67, 0x5d, 0x0a, 0x61, 0x3d, 0xff], 2),
-    // a comment that ends within a character
-    ([0x23, 0x20, 0x20, 0x20, 0x20, 0x20, 0xc3], 1),
-    // a character with a newline in its midst
-    ([0x23, 0xc3, 0x0a, 0xa4, 0x0a, 0x0a, 0x0a], 1),
-    // an overlong zero
-    ([0x0a, 0x0a, 0x23, 0xc0, 0x80, 0x0a, 0x0a], 3),
-    // a surrogate
-    ([0x0a, 0x23, 0xed, 0xa0, 0x80, 0x0a, 0x0a], 2),
-    // past the last character
-    ([0x23, 0xf4, 0x90, 0x80, 0x80, 0x0a, 0x0a], 1),
-];
-
-/// The bytes read, and written.
-fn written(alloc: Global, bytes: &str) -> Result<Text, KeyError> {
-    Ok(KeyFile::parse(alloc, bytes.as_bytes())?.write()?)
-}
-
-/// The first of the files that isn't written as it should be.
-fn first_misread<'a>(
-    alloc: Global,
-    files: &'a [(&'a str, &'a str)],
-) -> Result<Option<&'a str>, KeyError> {
-    for (bytes, want) in files {
-        if written(alloc, bytes)?.as_str() != *want {
-            return Ok(Some(*bytes));
-        }
-    }
-    Ok(None)
-}
-
-/// The first of the written texts that isn't written again as it is.
-fn first_changed<'a>(
-    alloc: Global,
-    files: &'a [(&'a str, &'a str)],
-) -> Result<Option<&'a str>, KeyError> {
-    for (_, text) in files {
-        if written(alloc, text)?.as_str() != *text {
-            return Ok(Some(*text));
-        }
-    }
-    Ok(None)
-}
-
-#[test]
-fn reads_and_writes(rt: HostRuntime) -> Result<(), Fail> {
-    assert_eq!(rt; first_misread(rt.alloc(), &FILES)?, None);
-    assert_eq!(rt; first_changed(rt.alloc(), &FILES)?, None);
-    Ok(())
-}
-
-/// The fault of these bytes.
-fn fault_of(alloc: Global, bytes: &[u8]) -> Option<KeyFault> {
+/// Whether these bytes have this fault.
+fn has_fault(alloc: Global, bytes: &[u8], line: u64, rule: KeyRule) -> bool {
     match KeyFile::parse(alloc, bytes) {
-        Err(KeyError::Fault(fault)) => Some(fault),
-        _ => None,
+        Err(KeyError::Fault(fault)) => fault == KeyFault { line, rule },
+        _ => false,
     }
-}
-
-/// The first of the texts that has another fault.
-fn first_other_fault<'a>(alloc: Global, texts: &'a [(&'a str, u64, KeyRule)]) -> Option<&'a str> {
-    for (bytes, line, rule) in texts {
-        let fault = KeyFault {
-            line: *line,
-            rule: *rule,
-        };
-        if fault_of(alloc, bytes.as_bytes()) != Some(fault) {
-            return Some(*bytes);
-        }
-    }
-    None
-}
-
-/// The place of the first bytes that have another fault than that of a text.
-fn first_text(alloc: Global, texts: &[([u8; 7], u64)]) -> Option<usize> {
-    for (at, (bytes, line)) in texts.iter().enumerate() {
-        let fault = KeyFault {
-            line: *line,
-            rule: KeyRule::Text,
-        };
-        if fault_of(alloc, bytes) != Some(fault) {
-            return Some(at);
-        }
-    }
-    None
 }
 
 #[test]
 fn names_the_first_fault(rt: HostRuntime) {
-    assert_eq!(rt; first_other_fault(rt.alloc(), &FAULTS), None);
-    assert_eq!(rt; first_text(rt.alloc(), &NO_TEXTS), None);
+    for (text, line, rule) in &FAULTS {
+        agree(
+            &rt,
+            text,
+            has_fault(rt.alloc(), text.as_bytes(), *line, *rule),
+        );
+    }
+}
+
+/// What bytes have that aren't UTF-8, the bytes, and the line where that is.
+const NO_TEXTS: [(&str, [u8; 7], u64); 6] = [
+    (
+        "`[g]`, and then a value with a byte that begins no character",
+        [0x5b, 0x67, 0x5d, 0x0a, 0x61, 0x3d, 0xff],
+        2,
+    ),
+    (
+        "a comment that ends within a character",
+        [0x23, 0x20, 0x20, 0x20, 0x20, 0x20, 0xc3],
+        1,
+    ),
+    (
+        "a character with a newline in its midst",
+        [0x23, 0xc3, 0x0a, 0xa4, 0x0a, 0x0a, 0x0a],
+        1,
+    ),
+    (
+        "an overlong zero",
+        [0x0a, 0x0a, 0x23, 0xc0, 0x80, 0x0a, 0x0a],
+        3,
+    ),
+    ("a surrogate", [0x0a, 0x23, 0xed, 0xa0, 0x80, 0x0a, 0x0a], 2),
+    (
+        "a number past the last character",
+        [0x23, 0xf4, 0x90, 0x80, 0x80, 0x0a, 0x0a],
+        1,
+    ),
+];
+
+#[test]
+fn names_the_first_line_that_is_no_text(rt: HostRuntime) {
+    for (what, bytes, line) in &NO_TEXTS {
+        agree(
+            &rt,
+            what,
+            has_fault(rt.alloc(), bytes, *line, KeyRule::Text),
+        );
+    }
 }
 
 /// A pair that is set, or taken away where there is no value, and the text of the file after it.
@@ -221,128 +207,108 @@ const CHANGES: [(&str, &str, Option<&str>, &str); 12] = [
 ];
 
 /// Sets a pair that can be written, or takes it away.
-fn change(
-    file: &mut KeyFile,
-    group: &str,
-    key: &str,
-    value: Option<&str>,
-) -> Result<(), AllocError> {
+fn change(rt: &impl Abort, file: &mut KeyFile, group: &str, key: &str, value: Option<&str>) {
     match value {
         None => {
             let _ = file.remove(group, key);
-            Ok(())
         }
-        Some(value) if is_group_name(group) && is_pair_key(key) && is_pair_value(value) => {
-            file.set(group, key, value)
+        Some(value) => {
+            if is_group_name(group) && is_pair_key(key) && is_pair_value(value) {
+                file.set(group, key, value).expect(rt, "memory");
+            }
         }
-        Some(_) => Ok(()),
     }
 }
 
-/// Whether a copy of the file is written so, and has this value.
-fn is_now(
-    file: &KeyFile,
-    group: &str,
-    key: &str,
-    value: Option<&str>,
-    text: &str,
-) -> Result<bool, AllocError> {
-    Ok(file.copy()?.write()?.as_str() == text && file.get(group, key) == value)
-}
-
-/// The place of the first change that leaves another file.
-fn first_other_change(
-    alloc: Global,
-    changes: &[(&str, &str, Option<&str>, &str)],
-) -> Result<Option<usize>, AllocError> {
-    let mut file = KeyFile::new(alloc);
-    for (at, (group, key, value, text)) in changes.iter().enumerate() {
-        change(&mut file, group, key, *value)?;
-        if !is_now(&file, group, key, *value, text)? {
-            return Ok(Some(at));
-        }
-    }
-    Ok(None)
+/// Whether a copy of the file is written so.
+fn is_now(rt: &impl Abort, file: &KeyFile, text: &str) -> bool {
+    let copy = file.copy().expect(rt, "memory");
+    copy.write().expect(rt, "memory").as_str() == text
 }
 
 #[test]
-fn changes(rt: HostRuntime) -> Result<(), Fail> {
-    assert_eq!(rt; first_other_change(rt.alloc(), &CHANGES)?, None);
-    Ok(())
-}
-
-/// What is taken from a file.
-fn taken(alloc: Global, bytes: &str, group: &str, key: &str) -> Result<Option<Text>, KeyError> {
-    let mut file = KeyFile::parse(alloc, bytes.as_bytes())?;
-    Ok(file.remove(group, key))
-}
-
-/// How many groups are read, copied, and made a file again, which is written so.
-fn group_count(alloc: Global, bytes: &str) -> Result<Option<usize>, KeyError> {
-    let groups = KeyFile::parse(alloc, bytes.as_bytes())?.into_groups();
-    let count = groups.len();
-    let text = KeyFile::from_groups(groups).write()?;
-    Ok(if text.as_str() == bytes {
-        Some(count)
-    } else {
-        None
-    })
-}
-
-/// How many pairs the groups have, and copies of them.
-fn pair_counts(groups: &[Group]) -> Result<(usize, usize), AllocError> {
-    let mut pairs = 0usize;
-    let mut copied = 0usize;
-    for group in groups {
-        pairs = pairs.wrapping_add(group.pairs.len());
-        copied = copied.wrapping_add(group.copy()?.pairs.len());
+fn changes(rt: HostRuntime) {
+    let mut file = KeyFile::new(rt.alloc());
+    for (group, key, value, text) in &CHANGES {
+        change(&rt, &mut file, group, key, *value);
+        agree(
+            &rt,
+            text,
+            is_now(&rt, &file, text) && file.get(group, key) == *value,
+        );
     }
-    Ok((pairs, copied))
 }
 
-/// How long the key is that a list of one pair keeps.
-fn key_length(alloc: Global, key: &str) -> Result<usize, AllocError> {
-    let mut pairs = Items::new(alloc);
-    pairs.push(Pair::new(alloc, key, "v")?)?;
-    let mut length = 0;
-    for pair in Items::from_vec(pairs.into_vec()).as_slice() {
-        length = pair.copy()?.key.copy()?.into_string().len();
-    }
-    Ok(length)
-}
-
-/// How many pairs the groups of a file have, and copies of them.
-fn counts(alloc: Global, bytes: &str) -> Result<(usize, usize), KeyError> {
-    let file = KeyFile::parse(alloc, bytes.as_bytes())?;
-    Ok(pair_counts(file.groups().as_slice())?)
-}
-
-/// Whether what is taken is this.
+/// Whether what is taken from the file of the text is this, and nothing where the wanted text is empty.
 fn is_taken(
+    rt: &impl Abort,
     alloc: Global,
-    bytes: &str,
+    text: &str,
     group: &str,
     key: &str,
     want: &str,
-) -> Result<bool, KeyError> {
-    Ok(match taken(alloc, bytes, group, key)? {
-        Some(text) => text.as_str() == want,
+) -> bool {
+    let mut file = file_of(rt, alloc, text);
+    match file.remove(group, key) {
+        Some(value) => value.as_str() == want,
         None => want.is_empty(),
-    })
+    }
+}
+
+/// Whether the text has this many groups, and is written again of them.
+fn has_groups(rt: &impl Abort, alloc: Global, text: &str, count: usize) -> bool {
+    let groups = file_of(rt, alloc, text).into_groups();
+    let is_count = groups.len() == count;
+    let written = KeyFile::from_groups(groups).write().expect(rt, "memory");
+    is_count && written.as_str() == text
+}
+
+/// How many pairs the groups have, and copies of them.
+fn pair_counts(rt: &impl Abort, groups: &[Group]) -> (usize, usize) {
+    let mut pairs = 0usize;
+    let mut copied = 0usize;
+    for group in groups {
+        let copy = group.copy().expect(rt, "memory");
+        pairs = pairs.wrapping_add(group.pairs.len());
+        copied = copied.wrapping_add(copy.pairs.len());
+    }
+    (pairs, copied)
+}
+
+/// Whether the groups of the text, and copies of them, have this many pairs.
+fn has_pairs(rt: &impl Abort, alloc: Global, text: &str, count: usize) -> bool {
+    let file = file_of(rt, alloc, text);
+    pair_counts(rt, file.groups().as_slice()) == (count, count)
+}
+
+/// Whether a copy of the pair has this key.
+fn has_key(rt: &impl Abort, pair: &Pair, key: &str) -> bool {
+    let copy = pair.copy().expect(rt, "memory");
+    copy.key.copy().expect(rt, "memory").into_string().as_str() == key
+}
+
+/// Whether a list of one pair keeps its key.
+fn keeps_key(rt: &impl Abort, alloc: Global, key: &str) -> bool {
+    let mut pairs = Items::new(alloc);
+    let pair = Pair::new(alloc, key, "v").expect(rt, "memory");
+    pairs.push(pair).expect(rt, "memory");
+    match Items::from_vec(pairs.into_vec()).as_slice() {
+        [pair] => has_key(rt, pair, key),
+        _ => false,
+    }
 }
 
 #[test]
-fn plain_groups(rt: HostRuntime) -> Result<(), Fail> {
+fn plain_groups(rt: HostRuntime) {
+    let alloc = rt.alloc();
     let text = "[a]\nx=1\ny=2\n[b]\n";
     assert!(rt;
-        is_taken(rt.alloc(), text, "b", "x", "")? && is_taken(rt.alloc(), text, "a", "y", "2")?
+        is_taken(&rt, alloc, text, "b", "x", "")
+            && is_taken(&rt, alloc, text, "a", "y", "2")
+            && has_groups(&rt, alloc, text, 2)
+            && has_pairs(&rt, alloc, text, 2)
+            && keeps_key(&rt, alloc, "key")
     );
-    assert!(rt;
-        group_count(rt.alloc(), text)? == Some(2)
-            && counts(rt.alloc(), text)? == (2, 2)
-            && key_length(rt.alloc(), "key")? == 3
-    );
-    Ok(())
 }
 
 /// Texts, and whether each is a group's name, a key and a value.
@@ -366,66 +332,64 @@ const PARTS: [(&str, bool, bool, bool); 17] = [
     ("\u{e9}", true, true, true),
 ];
 
-/// The first of the texts that passes other tests.
-fn first_other_part<'a>(texts: &'a [(&'a str, bool, bool, bool)]) -> Option<&'a str> {
-    for (text, name, key, value) in texts {
-        if is_group_name(text) != *name
-            || is_pair_key(text) != *key
-            || is_pair_value(text) != *value
-        {
-            return Some(*text);
-        }
-    }
-    None
-}
-
 #[test]
 fn parts(rt: HostRuntime) {
-    assert_eq!(rt; first_other_part(&PARTS), None);
-    assert_eq!(rt; trim_front(" \t a "), "a ");
+    for (text, name, key, value) in &PARTS {
+        agree(&rt, text, is_group_name(text) == *name);
+        agree(&rt, text, is_pair_key(text) == *key);
+        agree(&rt, text, is_pair_value(text) == *value);
+    }
+    assert!(rt; trim_front(" \t a ") == "a ");
 }
 
-/// A file of so many groups with a pair each, whose value has so many bytes.
-fn many_groups(alloc: Global, count: usize, length: usize) -> Result<String, AllocError> {
-    let value = "v".repeat(alloc, length)?;
+/// A file of this many groups with a pair each, whose value has this many bytes.
+fn many_groups(rt: &impl Abort, alloc: Global, count: usize, length: usize) -> String {
+    let value = "v".repeat(alloc, length).expect(rt, "memory");
     let mut text = String::new(alloc);
     for number in 0..count {
-        let group = format!(in alloc; "[g{number}]\nk=")?;
-        text.push_str(&group)?;
-        text.push_str(&value)?;
-        text.push('\n')?;
+        let group = format!(in alloc; "[g{number}]\nk={value}\n").expect(rt, "memory");
+        text.push_str(&group).expect(rt, "memory");
     }
-    Ok(text)
+    text
 }
 
-/// How many groups a file has after so many pairs of one group and so many groups were set in it, and how long it is
-/// written.
-fn grown(alloc: Global, count: usize) -> Result<(usize, usize), AllocError> {
+/// A file of one value of a mebibyte is read, written and copied.
+#[test]
+fn long_value(rt: HostRuntime) {
+    let alloc = rt.alloc();
+    let text = many_groups(&rt, alloc, 1, 1 << 20);
+    let value = "v".repeat(alloc, 1 << 20).expect(&rt, "memory");
+    assert!(rt;
+        has_groups(&rt, alloc, &text, 1)
+            && is_taken(&rt, alloc, &text, "g0", "k", &value)
+            && keeps_key(&rt, alloc, &value)
+    );
+}
+
+/// A file of a mebibyte in 1,100 groups is read, written and copied.
+#[test]
+fn many_groups_are_kept(rt: HostRuntime) {
+    let text = many_groups(&rt, rt.alloc(), 1_100, 1_000);
+    assert!(rt;
+        has_groups(&rt, rt.alloc(), &text, 1_100) && has_pairs(&rt, rt.alloc(), &text, 1_100)
+    );
+}
+
+/// A file in which this many pairs of one group, and this many groups, were set.
+fn grown(rt: &impl Abort, alloc: Global, count: usize) -> KeyFile {
     let mut file = KeyFile::new(alloc);
     for number in 0..count {
-        let name = format!(in alloc; "n{number:04}")?;
-        change(&mut file, "g", &name, Some("v"))?;
-        change(&mut file, &name, "k", Some("v"))?;
+        let name = format!(in alloc; "n{number:04}").expect(rt, "memory");
+        change(rt, &mut file, "g", &name, Some("v"));
+        change(rt, &mut file, &name, "k", Some("v"));
     }
-    let copy = file.copy()?;
-    Ok((copy.groups().len(), copy.write()?.as_str().len()))
+    file
 }
 
-/// Files of a mebibyte, in one value and in 1,100 groups, are read, written and copied.
 #[test]
-fn long_files(rt: HostRuntime) -> Result<(), Fail> {
-    let alloc = rt.alloc();
-    let one = many_groups(alloc, 1, 1 << 20)?;
-    let many = many_groups(alloc, 1_100, 1_000)?;
-    assert!(rt;
-        group_count(alloc, &one)? == Some(1)
-            && group_count(alloc, &many)? == Some(1_100)
-            && counts(alloc, &many)? == (1_100, 1_100)
-    );
-    assert!(rt; is_taken(alloc, &one, "g0", "k", &"v".repeat(alloc, 1 << 20)?)?);
-    assert!(rt;
-        grown(alloc, 1_100)? == (1_101, 4 + 1_100 * 8 + 1_100 * 12)
-            && key_length(alloc, &"k".repeat(alloc, 1 << 20)?)? == 1 << 20
-    );
-    Ok(())
+fn many_pairs_are_set(rt: HostRuntime) {
+    let file = grown(&rt, rt.alloc(), 1_100);
+    let copy = file.copy().expect(&rt, "memory");
+    let text = copy.write().expect(&rt, "memory");
+    assert!(rt; copy.groups().len() == 1_101 && text.as_str().len() == 4 + 1_100 * 8 + 1_100 * 12);
 }

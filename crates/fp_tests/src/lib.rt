@@ -10,4 +10,6 @@ mod memhost;
 #[cfg(test)]
 mod name;
 #[cfg(test)]
+mod rows;
+#[cfg(test)]
 mod small;

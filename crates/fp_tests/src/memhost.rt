@@ -1,10 +1,17 @@
 //! The host, remotes and source in memory: what is found after a stop, and calls that fail.
 
+use crate::rows::agree_at;
 use fp_base::{Blob, Items};
-use fp_host::{Entry, Host, Node, Path, PathFault, Remotes, Source, Stat, Taken};
+use fp_host::{Entry, Host, Node, Path, Remotes, Source, Stat, Taken};
 use fp_memhost::{Choice, FileRow, Image, MemHost, MemNode, MemRemotes, MemSource};
-use std::alloc::{AllocError, Global};
-use std::test::Fail;
+use std::alloc::Global;
+use std::panic::Expect;
+use std::process::Abort;
+
+/// The path of the text.
+fn path(rt: &impl Abort, alloc: Global, text: &str) -> Path {
+    Path::parse(alloc, text).expect(rt, "a path")
+}
 
 /// A folder, a file that is staged in it, and the name that it is moved to.
 #[derive(Drop)]
@@ -14,12 +21,12 @@ struct Places {
     config: Path,
 }
 
-fn make_places(alloc: Global) -> Result<Places, PathFault> {
-    Ok(Places {
-        tmp: Path::parse(alloc, "tmp")?,
-        new: Path::parse(alloc, "tmp/new")?,
-        config: Path::parse(alloc, "config")?,
-    })
+fn make_places(rt: &impl Abort, alloc: Global) -> Places {
+    Places {
+        tmp: path(rt, alloc, "tmp"),
+        new: path(rt, alloc, "tmp/new"),
+        config: path(rt, alloc, "config"),
+    }
 }
 
 /// Six calls. What a call answers changes nothing of what comes then.
@@ -33,230 +40,193 @@ fn replace<H: Host>(host: &mut H, at: &Places) {
 }
 
 /// The host after these calls, of which one fails: it is done all the same, or a stop may still bring it about.
-fn replaced(
-    alloc: Global,
-    at: &Places,
-    failing: u64,
-    is_done: bool,
-) -> Result<MemHost, AllocError> {
-    let mut host = MemHost::new(alloc)?;
-    host.fail_calls(&[(failing, is_done)])?;
+fn replaced(rt: &impl Abort, alloc: Global, at: &Places, failing: u64, is_done: bool) -> MemHost {
+    let mut host = MemHost::new(alloc).expect(rt, "memory");
+    host.fail_calls(&[(failing, is_done)]).expect(rt, "memory");
     replace(&mut host, at);
-    Ok(host)
+    host
 }
 
 fn has_file<H: Host>(host: &mut H, at: &Path, bytes: u64) -> bool {
     matches!(host.stat(at), Ok(Stat::File { size, .. }) if size == bytes)
 }
 
-/// Where a file of so many bytes is found.
-fn place<H: Host>(host: &mut H, at: &Places, bytes: u64) -> &'static str {
-    let is_there = has_file(host, &at.config, bytes);
-    let is_staged = has_file(host, &at.new, bytes);
+/// Where a file of three bytes is found.
+fn place<H: Host>(host: &mut H, at: &Places) -> &'static str {
+    let is_there = has_file(host, &at.config, 3);
+    let is_staged = has_file(host, &at.new, 3);
     match (is_there, is_staged) {
-        (true, true) => "both ",
-        (true, false) => "config ",
-        (false, true) => "new ",
-        (false, false) => "neither ",
+        (true, true) => "both",
+        (true, false) => "config",
+        (false, true) => "new",
+        (false, false) => "neither",
     }
 }
 
-/// Which entries of the two names are chosen, and which bytes of file 0.
-fn choice(
+/// The chosen entries of the two names.
+fn chosen_names(
+    rt: &impl Abort,
     alloc: Global,
     at: &Places,
     config: u64,
     staged: u64,
-    bytes: &[u8],
-) -> Result<Choice, AllocError> {
-    let mut names = Vec::new(alloc);
-    names.push((at.config.copy()?, config))?;
-    names.push((at.new.copy()?, staged))?;
-    let mut files = Vec::new(alloc);
-    if !bytes.is_empty() {
-        files.push((0, Blob::from_vec(bytes.to_vec(alloc)?)))?;
-    }
-    Ok(Choice {
-        names: Items::from_vec(names),
-        files: Items::from_vec(files),
-    })
+) -> Items<(Path, u64)> {
+    let mut names = Items::new(alloc);
+    let path = at.config.copy().expect(rt, "memory");
+    names.push((path, config)).expect(rt, "memory");
+    let path = at.new.copy().expect(rt, "memory");
+    names.push((path, staged)).expect(rt, "memory");
+    names
 }
 
-/// Where the file is found after a stop.
+/// The chosen bytes of file 0, where there are any.
+fn chosen_files(rt: &impl Abort, alloc: Global, bytes: &[u8]) -> Items<(u64, Blob)> {
+    let mut files = Items::new(alloc);
+    if !bytes.is_empty() {
+        files.push((0, blob(rt, alloc, bytes))).expect(rt, "memory");
+    }
+    files
+}
+
+fn blob(rt: &impl Abort, alloc: Global, bytes: &[u8]) -> Blob {
+    Blob::from_vec(bytes.to_vec(alloc).expect(rt, "memory"))
+}
+
+/// Where the file is found in what a stop leaves after these calls.
 fn left(
+    rt: &impl Abort,
     alloc: Global,
     host: &MemHost,
     calls: u64,
     choice: &Choice,
     at: &Places,
-) -> Result<&'static str, AllocError> {
-    match host.image_after(calls, choice)? {
-        Some(image) => {
-            let mut again = MemHost::from_image(alloc, image)?;
-            Ok(place(&mut again, at, 3))
-        }
-        None => Ok("none "),
+) -> &'static str {
+    match host.image_after(calls, choice).expect(rt, "memory") {
+        Some(image) => place(
+            &mut MemHost::from_image(alloc, image).expect(rt, "memory"),
+            at,
+        ),
+        None => "none",
     }
 }
 
-/// The same for calls and the chosen entries of the two names.
-fn all_left(alloc: Global, at: &Places, cases: &[(u64, u64, u64)]) -> Result<String, AllocError> {
-    let host = replaced(alloc, at, 99, true)?;
-    let mut text = String::new(alloc);
-    for (calls, config, staged) in cases {
-        let choice = choice(alloc, at, *config, *staged, b"")?;
-        text.push_str(left(alloc, &host, *calls, &choice, at)?)?;
-    }
-    Ok(text)
-}
-
-/// Calls that were made, the entries chosen of the two names, and where the file is found.
-const UNDONE: [(u64, u64, u64); 9] = [
-    (5, 0, 0),
-    (5, 0, 1),
-    (5, 1, 0),
-    (5, 1, 1),
-    (4, 0, 0),
+/// Calls that were made, the entries chosen of the two names, the bytes that are chosen for file 0, and where the file is found.
+const LEFT: [(u64, u64, u64, &[u8], &str); 12] = [
+    (5, 0, 0, b"", "config"),
+    (5, 0, 1, b"", "both"),
+    (5, 1, 0, b"", "neither"),
+    (5, 1, 1, b"", "new"),
+    (4, 0, 0, b"", "new"),
     // no such choice
-    (5, 2, 0),
-    (5, 0, 2),
-    (4, 1, 0),
-    (7, 0, 0),
+    (5, 2, 0, b"", "none"),
+    (5, 0, 2, b"", "none"),
+    (4, 1, 0, b"", "none"),
+    (7, 0, 0, b"", "none"),
+    // a new file may hold anything until the sync
+    (2, 0, 0, b"xyz", "new"),
+    (3, 0, 0, b"longer", "neither"),
+    (4, 0, 0, b"xyz", "none"),
 ];
 
 #[test]
-fn a_rename_may_be_undone(rt: HostRuntime) -> Result<(), Fail> {
-    let at = make_places(rt.alloc())?;
-    let found = all_left(rt.alloc(), &at, &UNDONE)?;
-    assert_eq!(rt;
-        found.as_str(),
-        "config both neither new new none none none none "
-    );
-    Ok(())
-}
-
-/// Where the file is where one call failed, and how many names may change then.
-fn all_failed(alloc: Global, at: &Places, cases: &[(u64, bool)]) -> Result<String, AllocError> {
-    let mut text = String::new(alloc);
-    for (failing, is_done) in cases {
-        let mut host = replaced(alloc, at, *failing, *is_done)?;
-        let names = host.choices(host.calls())?;
-        text.push_str(if names.len() == 2 {
-            "two "
-        } else {
-            "more or less "
-        })?;
-        text.push_str(place(&mut host, at, 3))?;
+fn a_stop_leaves_what_is_chosen(rt: HostRuntime) {
+    let alloc = rt.alloc();
+    let at = make_places(&rt, alloc);
+    let host = replaced(&rt, alloc, &at, 99, true);
+    for (row, (calls, config, staged, bytes, want)) in LEFT.iter().enumerate() {
+        let names = chosen_names(&rt, alloc, &at, *config, *staged);
+        let files = chosen_files(&rt, alloc, bytes);
+        let found = left(&rt, alloc, &host, *calls, &Choice { names, files }, &at);
+        agree_at(&rt, row, found == *want);
     }
-    Ok(text)
 }
 
-/// Which call fails, and whether it is done all the same.
-const FAILING: [(u64, bool); 6] = [
-    (99, true),
-    (0, false),
-    (0, true),
-    (3, true),
-    (4, false),
-    (4, true),
+/// Which call fails, whether it is done all the same, whether two names may change then, and where the file is found.
+const FAILING: [(u64, bool, bool, &str); 6] = [
+    (99, true, true, "config"),
+    (0, false, false, "neither"),
+    (0, true, true, "config"),
+    (3, true, false, "config"),
+    (4, false, true, "new"),
+    (4, true, true, "config"),
 ];
 
-#[test]
-fn calls_fail_as_listed(rt: HostRuntime) -> Result<(), Fail> {
-    let at = make_places(rt.alloc())?;
-    let found = all_failed(rt.alloc(), &at, &FAILING)?;
-    assert_eq!(rt;
-        found.as_str(),
-        "two config more or less neither two config more or less config two new two config "
-    );
-    Ok(())
+/// How many names may change at the end.
+fn count_choices(rt: &impl Abort, host: &MemHost) -> usize {
+    host.choices(host.calls()).expect(rt, "memory").len()
 }
 
-/// Whether the host tells what was done with it.
-fn is_told(alloc: Global, at: &Places) -> Result<bool, AllocError> {
-    let host = replaced(alloc, at, 99, true)?;
-    Ok(
+#[test]
+fn calls_fail_as_listed(rt: HostRuntime) {
+    let at = make_places(&rt, rt.alloc());
+    for (row, (failing, is_done, are_two, want)) in FAILING.iter().enumerate() {
+        let mut host = replaced(&rt, rt.alloc(), &at, *failing, *is_done);
+        agree_at(&rt, row, (count_choices(&rt, &host) == 2) == *are_two);
+        agree_at(&rt, row, place(&mut host, &at) == *want);
+    }
+}
+
+/// The host says what was done with it.
+#[test]
+fn a_host_counts(rt: HostRuntime) {
+    let at = make_places(&rt, rt.alloc());
+    let host = replaced(&rt, rt.alloc(), &at, 99, true);
+    assert!(rt;
         host.printed() == b"done".as_slice()
             && host.calls() == 6
             && host.starved() == 0
             && host.appended(&at.tmp) == 3
-            && host.appended(&at.new) == 0,
-    )
-}
-
-/// Where the file is found after so many calls, where it may have these bytes.
-fn left_with(
-    alloc: Global,
-    at: &Places,
-    calls: u64,
-    bytes: &[u8],
-) -> Result<&'static str, AllocError> {
-    let host = replaced(alloc, at, 99, true)?;
-    let choice = choice(alloc, at, 0, 0, bytes)?;
-    left(alloc, &host, calls, &choice, at)
-}
-
-#[test]
-fn a_new_file_may_hold_anything(rt: HostRuntime) -> Result<(), Fail> {
-    let alloc = rt.alloc();
-    let at = make_places(alloc)?;
-    assert!(rt; is_told(alloc, &at)?);
-    assert!(rt;
-        left_with(alloc, &at, 2, b"xyz")? == "new "
-            && left_with(alloc, &at, 3, b"longer")? == "neither "
-            && left_with(alloc, &at, 4, b"xyz")? == "none "
+            && host.appended(&at.new) == 0
     );
-    Ok(())
 }
 
 /// A file that two names have, one of them in a folder that isn't there.
-fn names(alloc: Global, at: &Places) -> Result<Items<(Path, Entry)>, AllocError> {
-    let mut names = Vec::with_capacity(alloc, 2)?;
-    names.push((at.config.copy()?, Entry::File(7)))?;
-    names.push((at.new.copy()?, Entry::File(7)))?;
-    Ok(Items::from_vec(names))
+fn names(rt: &impl Abort, alloc: Global, at: &Places) -> Items<(Path, Entry)> {
+    let mut names = Items::new(alloc);
+    let path = at.config.copy().expect(rt, "memory");
+    names.push((path, Entry::File(7))).expect(rt, "memory");
+    let path = at.new.copy().expect(rt, "memory");
+    names.push((path, Entry::File(7))).expect(rt, "memory");
+    names
 }
 
-fn abc(alloc: Global) -> Result<Blob, AllocError> {
-    Ok(Blob::from_vec(b"abc".to_vec(alloc)?))
+fn rows(rt: &impl Abort, alloc: Global, id: u64, mode: u32) -> Items<FileRow> {
+    let bytes = blob(rt, alloc, b"abc");
+    let mut files = Items::new(alloc);
+    files.push(FileRow { id, mode, bytes }).expect(rt, "memory");
+    files
 }
 
-fn rows(alloc: Global, id: u64, mode: u32) -> Result<Items<FileRow>, AllocError> {
-    let bytes = abc(alloc)?;
-    let mut files = Vec::new(alloc);
-    files.push(FileRow { id, mode, bytes })?;
-    Ok(Items::from_vec(files))
-}
-
-fn image(alloc: Global, at: &Places, id: u64, mode: u32) -> Result<Image, AllocError> {
-    let names = names(alloc, at)?;
-    let files = rows(alloc, id, mode)?;
-    Ok(Image { names, files })
-}
-
-fn found(alloc: Global, image: Image, at: &Places) -> Result<&'static str, AllocError> {
+fn found(rt: &impl Abort, alloc: Global, image: Image, at: &Places) -> &'static str {
     if !image.is_good() {
-        return Ok("bad ");
+        return "bad";
     }
-    let mut host = MemHost::from_image(alloc, image)?;
-    Ok(place(&mut host, at, 3))
+    place(
+        &mut MemHost::from_image(alloc, image).expect(rt, "memory"),
+        at,
+    )
 }
 
-/// Where the file is found in an image whose one file has this id and these permission bits.
-fn found_in(alloc: Global, at: &Places, id: u64, mode: u32) -> Result<&'static str, AllocError> {
-    found(alloc, image(alloc, at, id, mode)?, at)
-}
+/// The id and the permission bits of the one file of an image, and where it is found.
+const IMAGES: [(u64, u32, &str); 3] = [
+    (7, 0o7777, "config"),
+    (8, 0o644, "bad"),
+    (7, 0o10000, "bad"),
+];
 
 #[test]
-fn an_image_is_opened_again(rt: HostRuntime) -> Result<(), Fail> {
+fn an_image_is_opened_again(rt: HostRuntime) {
     let alloc = rt.alloc();
-    let at = make_places(alloc)?;
-    assert!(rt;
-        found_in(alloc, &at, 7, 0o7777)? == "config "
-            && found_in(alloc, &at, 8, 0o644)? == "bad "
-            && found_in(alloc, &at, 7, 0o10000)? == "bad "
-    );
-    Ok(())
+    let at = make_places(&rt, alloc);
+    for (row, (id, mode, want)) in IMAGES.iter().enumerate() {
+        let names = names(&rt, alloc, &at);
+        let files = rows(&rt, alloc, *id, *mode);
+        agree_at(
+            &rt,
+            row,
+            found(&rt, alloc, Image { names, files }, &at) == *want,
+        );
+    }
 }
 
 /// Puts the node where it may be put.
@@ -264,9 +234,9 @@ fn put(remotes: &mut MemRemotes, at: &Path, node: MemNode) -> bool {
     remotes.can_put("lab", at, &node) && remotes.put("lab", at, node).is_ok()
 }
 
-fn put_file(remotes: &mut MemRemotes, alloc: Global, at: &Path) -> Result<bool, AllocError> {
-    let bytes = abc(alloc)?;
-    Ok(put(remotes, at, MemNode::File { mode: 0o644, bytes }))
+fn put_file(rt: &impl Abort, remotes: &mut MemRemotes, alloc: Global, at: &Path) -> bool {
+    let bytes = blob(rt, alloc, b"abc");
+    put(remotes, at, MemNode::File { mode: 0o644, bytes })
 }
 
 fn node<R: Remotes>(remotes: &mut R, alloc: Global, at: &Path) -> &'static str {
@@ -279,131 +249,143 @@ fn node<R: Remotes>(remotes: &mut R, alloc: Global, at: &Path) -> &'static str {
     }
 }
 
-/// What stands at the places, and at the first of them once more.
-fn nodes<R: Remotes>(remotes: &mut R, alloc: Global, at: &Places) -> [&'static str; 4] {
-    [
-        node(remotes, alloc, &at.tmp),
-        node(remotes, alloc, &at.tmp),
-        node(remotes, alloc, &at.new),
-        node(remotes, alloc, &at.config),
-    ]
-}
-
-/// Puts a file, and another one where the folder of the first stands. The second call fails.
-fn filled(alloc: Global, at: &Places) -> Result<MemRemotes, AllocError> {
-    let mut remotes = MemRemotes::new(alloc)?;
-    let _put = put_file(&mut remotes, alloc, &at.new)?;
-    let _refused = put_file(&mut remotes, alloc, &at.tmp)?;
-    remotes.fail_calls(&[1])?;
-    Ok(remotes)
-}
-
+/// What stands at the first of the places, at it once more where the call fails, and at the others, where a file was put, and
+/// one was refused where the folder of the first stands.
 #[test]
-fn remotes_hold_what_was_put(rt: HostRuntime) -> Result<(), Fail> {
+fn remotes_hold_what_was_put(rt: HostRuntime) {
     let alloc = rt.alloc();
-    let at = make_places(alloc)?;
-    let mut remotes = filled(alloc, &at)?;
-    let found = nodes(&mut remotes, alloc, &at);
-    assert_eq!(rt; found, ["folder", "failed", "file", "nothing"]);
-    Ok(())
+    let at = make_places(&rt, alloc);
+    let mut remotes = MemRemotes::new(alloc).expect(&rt, "memory");
+    let _put = put_file(&rt, &mut remotes, alloc, &at.new);
+    let _refused = put_file(&rt, &mut remotes, alloc, &at.tmp);
+    remotes.fail_calls(&[1]).expect(&rt, "memory");
+    assert!(rt;
+        node(&mut remotes, alloc, &at.tmp) == "folder"
+            && node(&mut remotes, alloc, &at.tmp) == "failed"
+            && node(&mut remotes, alloc, &at.new) == "file"
+            && node(&mut remotes, alloc, &at.config) == "nothing"
+    );
 }
 
-/// Whether the source gives its steps, of which the second fails.
-fn gives_its_steps(alloc: Global) -> Result<bool, AllocError> {
-    let bytes = Blob::from_vec(b"abc".to_vec(alloc)?);
-    let mut source = MemSource::new(bytes, 2, Some(1));
+/// A source gives its steps, of which the second fails.
+#[test]
+fn a_source_gives_its_steps(rt: HostRuntime) {
+    let mut source = MemSource::new(blob(&rt, rt.alloc(), b"abc"), 2, Some(1));
     let mut into = [0u8; 4];
-    Ok(
+    assert!(rt;
         source.take(&mut into) == Taken::Took(2)
             && source.take(&mut into) == Taken::Failed
             && source.take(&mut into) == Taken::Took(1)
-            && source.take(&mut into) == Taken::End,
-    )
+            && source.take(&mut into) == Taken::End
+    );
 }
 
-#[test]
-fn a_source_gives_its_steps(rt: HostRuntime) -> Result<(), Fail> {
-    assert!(rt; gives_its_steps(rt.alloc())?);
-    Ok(())
+/// Where a file of this number is.
+fn numbered(rt: &impl Abort, alloc: Global, number: usize) -> Path {
+    let name = format!(in alloc; "f{number:04}").expect(rt, "memory");
+    path(rt, alloc, &name)
 }
 
-/// Whether a host of 1,100 files and one of a mebibyte is left by a stop as it is.
-fn keeps_much(alloc: Global) -> Result<bool, Fail> {
-    let mut host = MemHost::new(alloc)?;
-    let long = vec![in alloc; 7u8; 1 << 20]?;
+/// A mebibyte.
+fn mebibyte(rt: &impl Abort, alloc: Global) -> Vec<u8> {
+    vec![in alloc; 7u8; 1 << 20].expect(rt, "memory")
+}
+
+/// A host of 1,100 files, the last of a mebibyte, that said a mebibyte.
+fn filled(rt: &impl Abort, alloc: Global) -> MemHost {
+    let mut host = MemHost::new(alloc).expect(rt, "memory");
+    let long = mebibyte(rt, alloc);
     for number in 0..1_100 {
-        let name = format!(in alloc; "f{number:04}")?;
-        host.create(&Path::parse(alloc, &name)?, 0o644)?;
+        let at = numbered(rt, alloc, number);
+        host.create(&at, 0o644).expect(rt, "a new file");
     }
-    let last = Path::parse(alloc, "f1099")?;
-    host.append(&last, &long)?;
-    host.say(&long)?;
-    let names = host.list(alloc, &Path::root(alloc))?;
-    let changed = host.choices(host.calls())?;
-    let is_all = names.len() == 1_100 && changed.len() == 1_100;
-    host.sync()?;
-    Ok(is_all && host.printed().len() == 1 << 20 && is_left(alloc, &host, &last)?)
+    host.append(&numbered(rt, alloc, 1_099), &long)
+        .expect(rt, "a file");
+    host.say(&long).expect(rt, "said");
+    host
+}
+
+/// A host of 1,100 files and one of a mebibyte is left by a stop as it is.
+#[test]
+fn much_is_kept(rt: HostRuntime) {
+    let mut host = filled(&rt, rt.alloc());
+    let names = host
+        .list(rt.alloc(), &Path::root(rt.alloc()))
+        .expect(&rt, "names");
+    assert!(rt; names.len() == 1_100 && count_choices(&rt, &host) == 1_100);
+    host.sync().expect(&rt, "a sync");
+    let last = numbered(&rt, rt.alloc(), 1_099);
+    assert!(rt; host.printed().len() == 1 << 20 && is_left(&rt, rt.alloc(), &host, &last));
 }
 
 /// Whether a stop now leaves the file with a mebibyte.
-fn is_left(alloc: Global, host: &MemHost, at: &Path) -> Result<bool, AllocError> {
+fn is_left(rt: &impl Abort, alloc: Global, host: &MemHost, at: &Path) -> bool {
     let choice = Choice {
-        names: Items::from_vec(Vec::new(alloc)),
-        files: Items::from_vec(Vec::new(alloc)),
+        names: Items::new(alloc),
+        files: Items::new(alloc),
     };
-    match host.image_after(host.calls(), &choice)? {
+    match host.image_after(host.calls(), &choice).expect(rt, "memory") {
         Some(image) => {
-            let mut again = MemHost::from_image(alloc, image)?;
-            Ok(has_file(&mut again, at, 1 << 20))
+            let mut again = MemHost::from_image(alloc, image).expect(rt, "memory");
+            has_file(&mut again, at, 1 << 20)
         }
-        None => Ok(false),
+        None => false,
     }
 }
 
-/// Whether the last of 1,100 listed calls fails, and a path of 100 elements is made before it.
-fn lists_many(alloc: Global) -> Result<bool, Fail> {
-    let mut host = MemHost::new(alloc)?;
+/// A host of which the calls from 100 to 1,199 fail.
+fn failing(rt: &impl Abort, alloc: Global) -> MemHost {
     let mut list = Vec::new(alloc);
     for number in 100..1_200 {
-        list.push((number, false))?;
+        list.push((number, false)).expect(rt, "memory");
     }
-    host.fail_calls(&list)?;
-    let mut path = Path::root(alloc);
-    for _ in 0..100 {
-        path = path.child("e")?;
-        host.make_dir(&path)?;
-    }
-    Ok(host.stat(&path).is_err() && host.calls() == 101)
+    let mut host = MemHost::new(alloc).expect(rt, "memory");
+    host.fail_calls(&list).expect(rt, "memory");
+    host
 }
 
-/// Whether remotes hold 1,100 files, the last of a mebibyte.
-fn remotes_hold_much(alloc: Global) -> Result<bool, Fail> {
-    let mut remotes = MemRemotes::new(alloc)?;
-    for number in 0..1_100 {
-        let name = format!(in alloc; "f{number:04}")?;
-        let at = Path::parse(alloc, &name)?;
-        let bytes = Blob::from_vec(vec![in alloc; 7u8; if number == 1_099 { 1 << 20 } else { 1 }]?);
-        if !put(&mut remotes, &at, MemNode::File { mode: 0o644, bytes }) {
-            return Ok(false);
-        }
-    }
-    let last = Path::parse(alloc, "f1099")?;
-    let mut into = vec![in alloc; 0u8; 1 << 20]?;
-    Ok(remotes.read_at("lab", &last, 0, &mut into)? == 1 << 20)
-}
-
-/// Whether a source of a mebibyte gives it at once.
-fn gives_much(alloc: Global) -> Result<bool, AllocError> {
-    let bytes = Blob::from_vec(vec![in alloc; 7u8; 1 << 20]?);
-    let mut source = MemSource::new(bytes, 1 << 20, None);
-    let mut into = vec![in alloc; 0u8; 1 << 20]?;
-    Ok(source.take(&mut into) == Taken::Took(1 << 20))
-}
-
+/// A path of 100 elements is made before the calls that fail.
 #[test]
-fn much(rt: HostRuntime) -> Result<(), Fail> {
-    assert!(rt; keeps_much(rt.alloc())?);
-    assert!(rt; lists_many(rt.alloc())?);
-    assert!(rt; remotes_hold_much(rt.alloc())? && gives_much(rt.alloc())?);
-    Ok(())
+fn many_calls_fail(rt: HostRuntime) {
+    let mut host = failing(&rt, rt.alloc());
+    let mut path = Path::root(rt.alloc());
+    for _ in 0..100 {
+        path = path.child("e").expect(&rt, "memory");
+        host.make_dir(&path).expect(&rt, "a folder");
+    }
+    assert!(rt; host.stat(&path).is_err() && host.calls() == 101);
+}
+
+/// The bytes of the file of this number: one byte, and of the last a mebibyte.
+fn bytes_of(rt: &impl Abort, alloc: Global, number: usize) -> Blob {
+    let length = if number == 1_099 { 1 << 20 } else { 1 };
+    Blob::from_vec(vec![in alloc; 7u8; length].expect(rt, "memory"))
+}
+
+/// Remotes hold 1,100 files, the last of a mebibyte.
+#[test]
+fn remotes_hold_much(rt: HostRuntime) {
+    let alloc = rt.alloc();
+    let mut remotes = MemRemotes::new(alloc).expect(&rt, "memory");
+    for number in 0..1_100 {
+        let at = numbered(&rt, alloc, number);
+        let bytes = bytes_of(&rt, alloc, number);
+        agree_at(
+            &rt,
+            number,
+            put(&mut remotes, &at, MemNode::File { mode: 0o644, bytes }),
+        );
+    }
+    let mut into = mebibyte(&rt, alloc);
+    let read = remotes.read_at("lab", &numbered(&rt, alloc, 1_099), 0, &mut into);
+    assert!(rt; read == Ok(1 << 20));
+}
+
+/// A source of a mebibyte gives it at once.
+#[test]
+fn a_source_gives_much(rt: HostRuntime) {
+    let bytes = Blob::from_vec(mebibyte(&rt, rt.alloc()));
+    let mut source = MemSource::new(bytes, 1 << 20, None);
+    let mut into = mebibyte(&rt, rt.alloc());
+    assert!(rt; source.take(&mut into) == Taken::Took(1 << 20));
 }

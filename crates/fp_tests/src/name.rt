@@ -1,26 +1,28 @@
 //! Names of applications, runtimes and remotes, and digests.
 
+use crate::rows::agree;
 use fp_base::Text;
 use fp_name::{
     AppId, Digest, NameFault, PinPattern, RefKind, RefName, RemoteName, RemoteUrl, is_arch,
     is_branch, is_id, is_pin, is_ref,
 };
-use std::alloc::{AllocError, Global};
+use std::alloc::Global;
 use std::cmp::Ordering;
-use std::test::Fail;
+use std::panic::Expect;
+use std::process::Abort;
 
-/// What a text that is in no grammar gives, and a text that is in it.
-fn fault_if(good: bool) -> Option<NameFault> {
-    if good { None } else { Some(NameFault::Bad) }
+/// Whether a text that is in a grammar has no fault, and another one has it.
+fn is_fault(fault: Option<NameFault>, good: bool) -> bool {
+    fault == if good { None } else { Some(NameFault::Bad) }
 }
 
 /// A text of `length` bytes or more: the front, and letters after it.
-fn filled(alloc: Global, front: &str, length: usize) -> Result<String, AllocError> {
-    let mut text = String::from_str(alloc, front)?;
+fn filled(rt: &impl Abort, alloc: Global, front: &str, length: usize) -> String {
+    let mut text = String::from_str(alloc, front).expect(rt, "memory");
     for _ in front.len()..length {
-        text.push('a')?;
+        text.push('a').expect(rt, "memory");
     }
-    Ok(text)
+    text
 }
 
 /// Texts, and whether each is an ID.
@@ -61,32 +63,12 @@ const IDS: [(&str, bool); 34] = [
     ("org.x.Y[", false),
 ];
 
-/// The first of the texts for which the calls that read IDs answer otherwise.
-fn first_other_id<'a>(alloc: Global, texts: &'a [(&'a str, bool)]) -> Option<&'a str> {
-    for (text, good) in texts {
-        let read = AppId::parse(alloc, text.as_bytes()).err();
-        if read != fault_if(*good) || is_id(text) != *good {
-            return Some(*text);
-        }
-    }
-    None
-}
-
-/// Whether an ID of this many bytes is read.
-fn reads_id(alloc: Global, length: usize) -> Result<bool, AllocError> {
-    let text = filled(alloc, "org.x.", length)?;
-    Ok(AppId::parse(alloc, text.as_bytes()).is_ok())
-}
-
 #[test]
-fn ids(rt: HostRuntime) -> Result<(), Fail> {
-    assert_eq!(rt; first_other_id(rt.alloc(), &IDS), None);
-    assert!(rt;
-        AppId::parse(rt.alloc(), b"org.x.\xff").err() == Some(NameFault::Bad)
-            && reads_id(rt.alloc(), 255)?
-            && !reads_id(rt.alloc(), 256)?
-    );
-    Ok(())
+fn ids(rt: HostRuntime) {
+    for (text, good) in &IDS {
+        let fault = AppId::parse(rt.alloc(), text.as_bytes()).err();
+        agree(&rt, text, is_fault(fault, *good) && is_id(text) == *good);
+    }
 }
 
 /// Texts, whether each is an ARCH, and whether it is a BRANCH.
@@ -119,31 +101,15 @@ const ARCHS_AND_BRANCHES: [(&str, bool, bool); 26] = [
     ("a,b", false, false),
 ];
 
-/// The first of the texts for which the tests answer otherwise.
-fn first_other_branch<'a>(texts: &'a [(&'a str, bool, bool)]) -> Option<&'a str> {
-    for (text, arch, branch) in texts {
-        if is_arch(text) != *arch || is_branch(text) != *branch {
-            return Some(*text);
-        }
-    }
-    None
-}
-
-/// Whether a text of this many letters is an ARCH and a BRANCH.
-fn reads_branch(alloc: Global, length: usize) -> Result<(bool, bool), AllocError> {
-    let text = filled(alloc, "", length)?;
-    Ok((is_arch(text.as_str()), is_branch(text.as_str())))
-}
-
 #[test]
-fn archs_and_branches(rt: HostRuntime) -> Result<(), Fail> {
-    assert_eq!(rt; first_other_branch(&ARCHS_AND_BRANCHES), None);
-    assert!(rt;
-        reads_branch(rt.alloc(), 1)? == (true, true)
-            && reads_branch(rt.alloc(), 255)? == (true, true)
-            && reads_branch(rt.alloc(), 256)? == (false, false)
-    );
-    Ok(())
+fn archs_and_branches(rt: HostRuntime) {
+    for (text, arch, branch) in &ARCHS_AND_BRANCHES {
+        agree(
+            &rt,
+            text,
+            is_arch(text) == *arch && is_branch(text) == *branch,
+        );
+    }
 }
 
 /// Texts, and whether each is the name of a remote.
@@ -164,6 +130,14 @@ const REMOTES: [(&str, bool); 15] = [
     ("\u{e9}", false),
     ("a\"b", false),
 ];
+
+#[test]
+fn names_of_remotes(rt: HostRuntime) {
+    for (text, good) in &REMOTES {
+        let fault = RemoteName::parse(rt.alloc(), text.as_bytes()).err();
+        agree(&rt, text, is_fault(fault, *good));
+    }
+}
 
 /// Texts, and whether each is the url of a remote.
 const URLS: [(&str, bool); 18] = [
@@ -187,51 +161,12 @@ const URLS: [(&str, bool); 18] = [
     ("file//:/", false),
 ];
 
-/// The first of the texts for which the call that reads names of remotes answers otherwise.
-fn first_other_remote<'a>(alloc: Global, texts: &'a [(&'a str, bool)]) -> Option<&'a str> {
-    for (text, good) in texts {
-        if RemoteName::parse(alloc, text.as_bytes()).err() != fault_if(*good) {
-            return Some(*text);
-        }
-    }
-    None
-}
-
-/// The first of the texts for which the call that reads urls answers otherwise.
-fn first_other_url<'a>(alloc: Global, texts: &'a [(&'a str, bool)]) -> Option<&'a str> {
-    for (text, good) in texts {
-        if RemoteUrl::parse(alloc, text.as_bytes()).err() != fault_if(*good) {
-            return Some(*text);
-        }
-    }
-    None
-}
-
-/// Whether a name of a remote of this many bytes is read.
-fn reads_remote(alloc: Global, length: usize) -> Result<bool, AllocError> {
-    let text = filled(alloc, "a", length)?;
-    Ok(RemoteName::parse(alloc, text.as_bytes()).is_ok())
-}
-
-/// Whether a url of this many bytes is read.
-fn reads_url(alloc: Global, length: usize) -> Result<bool, AllocError> {
-    let text = filled(alloc, "file:///", length)?;
-    Ok(RemoteUrl::parse(alloc, text.as_bytes()).is_ok())
-}
-
 #[test]
-fn remotes(rt: HostRuntime) -> Result<(), Fail> {
-    assert_eq!(rt; first_other_remote(rt.alloc(), &REMOTES), None);
-    assert_eq!(rt; first_other_url(rt.alloc(), &URLS), None);
-    assert!(rt;
-        RemoteName::parse(rt.alloc(), b"a\x80").is_err()
-            && RemoteUrl::parse(rt.alloc(), b"file:///\xc3").is_err()
-            && reads_remote(rt.alloc(), 64)?
-            && !reads_remote(rt.alloc(), 65)?
-            && reads_url(rt.alloc(), 1024)?
-            && !reads_url(rt.alloc(), 1025)?
-    );
-    Ok(())
+fn urls_of_remotes(rt: HostRuntime) {
+    for (text, good) in &URLS {
+        let fault = RemoteUrl::parse(rt.alloc(), text.as_bytes()).err();
+        agree(&rt, text, is_fault(fault, *good));
+    }
 }
 
 /// Texts, whether each is a ref, and whether it is a pattern.
@@ -268,75 +203,131 @@ const REFS_AND_PATTERNS: [(&str, bool, bool); 30] = [
     ("app/*/*/*/*", false, false),
 ];
 
-/// The first of the texts for which the calls that read refs answer otherwise.
-fn first_other_ref<'a>(alloc: Global, texts: &'a [(&'a str, bool, bool)]) -> Option<&'a str> {
-    for (text, name, _) in texts {
-        let read = RefName::parse(alloc, text.as_bytes()).err();
-        if read != fault_if(*name) || is_ref(text) != *name {
-            return Some(*text);
-        }
+#[test]
+fn refs_and_patterns(rt: HostRuntime) {
+    for (text, name, pattern) in &REFS_AND_PATTERNS {
+        let fault = RefName::parse(rt.alloc(), text.as_bytes()).err();
+        agree(&rt, text, is_fault(fault, *name) && is_ref(text) == *name);
+        let fault = PinPattern::parse(rt.alloc(), text.as_bytes()).err();
+        agree(
+            &rt,
+            text,
+            is_fault(fault, *pattern) && is_pin(text) == *pattern,
+        );
     }
-    None
-}
-
-/// The first of the texts for which the calls that read patterns answer otherwise.
-fn first_other_pattern<'a>(alloc: Global, texts: &'a [(&'a str, bool, bool)]) -> Option<&'a str> {
-    for (text, _, pattern) in texts {
-        let read = PinPattern::parse(alloc, text.as_bytes()).err();
-        if read != fault_if(*pattern) || is_pin(text) != *pattern {
-            return Some(*text);
-        }
-    }
-    None
 }
 
 #[test]
-fn refs_and_patterns(rt: HostRuntime) {
-    assert_eq!(rt; first_other_ref(rt.alloc(), &REFS_AND_PATTERNS), None);
-    assert_eq!(rt; first_other_pattern(rt.alloc(), &REFS_AND_PATTERNS), None);
-    let odd = b"app/org.x.App/x86_64/\xfe";
+fn bytes_that_are_no_text(rt: HostRuntime) {
+    let alloc = rt.alloc();
+    let no_ref = b"app/org.x.App/x86_64/\xfe";
     assert!(rt;
-        RefName::parse(rt.alloc(), odd).err() == Some(NameFault::Bad)
-            && PinPattern::parse(rt.alloc(), odd).err() == Some(NameFault::Bad)
+        is_fault(AppId::parse(alloc, b"org.x.\xff").err(), false)
+            && is_fault(RemoteName::parse(alloc, b"a\x80").err(), false)
+            && is_fault(RemoteUrl::parse(alloc, b"file:///\xc3").err(), false)
+            && is_fault(RefName::parse(alloc, no_ref).err(), false)
+            && is_fault(PinPattern::parse(alloc, no_ref).err(), false)
     );
+}
+
+/// Grammars of texts whose length has a bound.
+#[derive(Clone, Copy)]
+enum Grammar {
+    Id,
+    Arch,
+    Branch,
+    Remote,
+    Url,
+}
+
+fn is_in(alloc: Global, grammar: Grammar, text: &str) -> bool {
+    match grammar {
+        Grammar::Id => AppId::parse(alloc, text.as_bytes()).is_ok(),
+        Grammar::Arch => is_arch(text),
+        Grammar::Branch => is_branch(text),
+        Grammar::Remote => RemoteName::parse(alloc, text.as_bytes()).is_ok(),
+        Grammar::Url => RemoteUrl::parse(alloc, text.as_bytes()).is_ok(),
+    }
+}
+
+/// Texts that begin so and have this many bytes, and whether each is in the grammar.
+const LENGTHS: [(Grammar, &str, usize, bool); 12] = [
+    (Grammar::Id, "org.x.", 255, true),
+    (Grammar::Id, "org.x.", 256, false),
+    (Grammar::Arch, "", 1, true),
+    (Grammar::Arch, "", 255, true),
+    (Grammar::Arch, "", 256, false),
+    (Grammar::Branch, "", 1, true),
+    (Grammar::Branch, "", 255, true),
+    (Grammar::Branch, "", 256, false),
+    (Grammar::Remote, "a", 64, true),
+    (Grammar::Remote, "a", 65, false),
+    (Grammar::Url, "file:///", 1024, true),
+    (Grammar::Url, "file:///", 1025, false),
+];
+
+#[test]
+fn lengths(rt: HostRuntime) {
+    for (grammar, front, length, good) in &LENGTHS {
+        let text = filled(&rt, rt.alloc(), front, *length);
+        agree(&rt, &text, is_in(rt.alloc(), *grammar, &text) == *good);
+    }
+}
+
+/// The ref of the text.
+fn ref_of(rt: &impl Abort, alloc: Global, text: &str) -> RefName {
+    RefName::parse(alloc, text.as_bytes()).expect(rt, "a ref")
+}
+
+/// The pattern of the text.
+fn pattern_of(rt: &impl Abort, alloc: Global, text: &str) -> PinPattern {
+    PinPattern::parse(alloc, text.as_bytes()).expect(rt, "a pattern")
 }
 
 fn has_parts(name: &RefName, kind: RefKind, id: &str, arch: &str, branch: &str) -> bool {
     name.kind() == kind && name.id() == id && name.arch() == arch && name.branch() == branch
 }
 
-fn is_written(name: &RefName, text: &str) -> Result<bool, AllocError> {
-    let written = name.write()?;
-    let path = name.path()?;
-    Ok(name.as_str() == text && written.as_str() == text && path.as_str() == text)
+fn is_written(rt: &impl Abort, name: &RefName, text: &str) -> bool {
+    let written = name.write().expect(rt, "memory");
+    let path = name.path().expect(rt, "memory");
+    name.as_str() == text && written.as_str() == text && path.as_str() == text
 }
 
-fn is_copied(name: &RefName) -> Result<bool, AllocError> {
-    let copy = name.copy()?;
-    let id = name.app_id()?;
-    Ok(copy == *name && id.as_str() == name.id())
+fn is_copied(rt: &impl Abort, name: &RefName) -> bool {
+    let copy = name.copy().expect(rt, "memory");
+    let id = name.app_id().expect(rt, "memory");
+    copy == *name && id.as_str() == name.id()
 }
 
-fn of_kind_alike(alloc: Global, kind: RefKind, rest: &str, text: &str) -> Result<bool, NameFault> {
-    let made = RefName::of_kind(alloc, kind, rest)?;
-    let read = RefName::parse(alloc, text.as_bytes())?;
-    Ok(made == read)
+/// Whether a runtime's ref is made of these parts.
+fn is_made(alloc: Global, name: &RefName, id: &str, arch: &str, branch: &str) -> bool {
+    match RefName::new(alloc, RefKind::Runtime, id, arch, branch) {
+        Ok(made) => made == *name,
+        Err(_) => false,
+    }
 }
 
-fn made_alike(alloc: Global, kind: RefKind, id: &str, text: &str) -> Result<bool, NameFault> {
-    let made = RefName::new(alloc, kind, id, "x86_64", "22.08")?;
-    let read = RefName::parse(alloc, text.as_bytes())?;
-    Ok(made == read)
+/// Whether a runtime's ref is made of the text after its kind.
+fn is_made_of(alloc: Global, name: &RefName, rest: &str) -> bool {
+    match RefName::of_kind(alloc, RefKind::Runtime, rest) {
+        Ok(made) => made == *name,
+        Err(_) => false,
+    }
 }
 
-/// Whether the text is read as these parts, written and copied.
-fn is_whole(alloc: Global, text: &str) -> Result<bool, NameFault> {
-    let name = RefName::parse(alloc, text.as_bytes())?;
-    Ok(
+#[test]
+fn refs_of_parts(rt: HostRuntime) {
+    let alloc = rt.alloc();
+    let text = "runtime/org.x.Y-z/x86_64/22.08";
+    let name = ref_of(&rt, alloc, text);
+    assert!(rt;
         has_parts(&name, RefKind::Runtime, "org.x.Y-z", "x86_64", "22.08")
-            && is_written(&name, text)?
-            && is_copied(&name)?,
-    )
+            && is_written(&rt, &name, text)
+            && is_copied(&rt, &name)
+            && is_made(alloc, &name, "org.x.Y-z", "x86_64", "22.08")
+            && is_made_of(alloc, &name, "org.x.Y-z/x86_64/22.08")
+    );
 }
 
 /// Texts after a kind that make no ref.
@@ -348,45 +339,48 @@ const NO_REFS: [&str; 5] = [
     "",
 ];
 
-/// The first of the texts that makes a ref.
-fn first_made<'a>(alloc: Global, texts: &'a [&'a str]) -> Option<&'a str> {
-    for text in texts {
-        if RefName::of_kind(alloc, RefKind::App, text).err() != Some(NameFault::Bad) {
-            return Some(*text);
-        }
+#[test]
+fn texts_that_make_no_ref(rt: HostRuntime) {
+    for text in &NO_REFS {
+        let fault = RefName::of_kind(rt.alloc(), RefKind::App, text).err();
+        agree(&rt, text, is_fault(fault, false));
     }
-    None
 }
 
-fn is_no_ref(alloc: Global, id: &str, arch: &str, branch: &str) -> bool {
-    RefName::new(alloc, RefKind::App, id, arch, branch).err() == Some(NameFault::Bad)
-}
+/// An ID, an ARCH and a BRANCH that make no ref.
+const NO_PARTS: [(&str, &str, &str); 3] = [
+    ("org.x", "a", "1"),
+    ("a.b.c", "", "1"),
+    ("a.b.c", "a", "1/2"),
+];
 
 #[test]
-fn refs_of_parts(rt: HostRuntime) -> Result<(), Fail> {
-    let text = "runtime/org.x.Y-z/x86_64/22.08";
-    let rest = "org.x.Y-z/x86_64/22.08";
-    assert!(rt;
-        is_whole(rt.alloc(), text)?
-            && made_alike(rt.alloc(), RefKind::Runtime, "org.x.Y-z", text)?
-            && of_kind_alike(rt.alloc(), RefKind::Runtime, rest, text)?
-    );
-    assert_eq!(rt; first_made(rt.alloc(), &NO_REFS), None);
-    assert!(rt;
-        is_no_ref(rt.alloc(), "org.x", "a", "1")
-            && is_no_ref(rt.alloc(), "a.b.c", "", "1")
-            && is_no_ref(rt.alloc(), "a.b.c", "a", "1/2")
-    );
-    Ok(())
+fn parts_that_make_no_ref(rt: HostRuntime) {
+    for (id, arch, branch) in &NO_PARTS {
+        let fault = RefName::new(rt.alloc(), RefKind::App, id, arch, branch).err();
+        agree(&rt, id, is_fault(fault, false));
+    }
 }
 
-/// How two refs compare, and how the patterns of their texts do.
-fn compared(alloc: Global, left: &str, right: &str) -> Result<(Ordering, Ordering), NameFault> {
-    let first = RefName::parse(alloc, left.as_bytes())?;
-    let second = RefName::parse(alloc, right.as_bytes())?;
-    let pattern = PinPattern::parse(alloc, left.as_bytes())?;
-    let other = PinPattern::parse(alloc, right.as_bytes())?;
-    Ok((first.cmp(&second), pattern.cmp(&other)))
+/// Whether the first is the same as the second, and less than the third.
+fn ascend<T: Ord>(first: &T, same: &T, greater: &T) -> bool {
+    first.cmp(same) == Ordering::Equal
+        && first.cmp(greater) == Ordering::Less
+        && greater.cmp(first) == Ordering::Greater
+}
+
+/// Whether the refs of the texts ascend.
+fn refs_ascend(rt: &impl Abort, alloc: Global, left: &str, right: &str) -> bool {
+    let first = ref_of(rt, alloc, left);
+    let same = ref_of(rt, alloc, left);
+    ascend(&first, &same, &ref_of(rt, alloc, right))
+}
+
+/// Whether the patterns of the texts ascend.
+fn patterns_ascend(rt: &impl Abort, alloc: Global, left: &str, right: &str) -> bool {
+    let first = pattern_of(rt, alloc, left);
+    let same = pattern_of(rt, alloc, left);
+    ascend(&first, &same, &pattern_of(rt, alloc, right))
 }
 
 /// By the bytes of the texts the left ref comes first. The first two have the other order by their parts, since `-` and
@@ -404,27 +398,17 @@ const ORDERED: [(&str, &str); 10] = [
     ("app/org.x.A/x86_64/10", "app/org.x.A/x86_64/9"),
 ];
 
-/// Whether two refs compare so, and the patterns of their texts too.
-fn is_order(alloc: Global, left: &str, right: &str, order: Ordering) -> bool {
-    compared(alloc, left, right).ok() == Some((order, order))
-}
-
-/// The first of the left texts that compares otherwise.
-fn first_misordered<'a>(alloc: Global, texts: &'a [(&'a str, &'a str)]) -> Option<&'a str> {
-    for (left, right) in texts {
-        if !is_order(alloc, left, right, Ordering::Less)
-            || !is_order(alloc, right, left, Ordering::Greater)
-            || !is_order(alloc, left, left, Ordering::Equal)
-        {
-            return Some(*left);
-        }
-    }
-    None
-}
-
 #[test]
 fn order(rt: HostRuntime) {
-    assert_eq!(rt; first_misordered(rt.alloc(), &ORDERED), None);
+    let alloc = rt.alloc();
+    for (left, right) in &ORDERED {
+        let are_ordered = refs_ascend(&rt, alloc, left, right);
+        agree(
+            &rt,
+            left,
+            are_ordered && patterns_ascend(&rt, alloc, left, right),
+        );
+    }
 }
 
 /// Patterns, and whether each matches `app/org.x.App/x86_64/stable`.
@@ -447,35 +431,17 @@ const PATTERNS: [(&str, bool); 16] = [
     ("app/*/aarch64/stable", false),
 ];
 
-/// Whether the pattern matches the ref.
-fn is_match(alloc: Global, pattern: &str, name: &str) -> Result<bool, NameFault> {
-    let pattern = PinPattern::parse(alloc, pattern.as_bytes())?;
-    let name = RefName::parse(alloc, name.as_bytes())?;
-    Ok(pattern.matches(&name))
-}
-
-/// The first of the patterns that matches otherwise.
-fn first_mismatch<'a>(alloc: Global, patterns: &'a [(&'a str, bool)]) -> Option<&'a str> {
-    for (pattern, matches) in patterns {
-        if is_match(alloc, pattern, "app/org.x.App/x86_64/stable") != Ok(*matches) {
-            return Some(*pattern);
-        }
-    }
-    None
-}
-
 #[test]
 fn matching(rt: HostRuntime) {
-    assert_eq!(rt; first_mismatch(rt.alloc(), &PATTERNS), None);
+    let name = ref_of(&rt, rt.alloc(), "app/org.x.App/x86_64/stable");
+    for (text, matches) in &PATTERNS {
+        let pattern = pattern_of(&rt, rt.alloc(), text);
+        agree(&rt, text, pattern.matches(&name) == *matches);
+    }
 }
 
-// SHA-256 of no bytes.
+/// SHA-256 of no bytes.
 const EMPTY: &str = "e3b0c44298fc1c149afbf4c8996fb92427ae41e4649b934ca495991b7852b855";
-
-fn digest_is_written(alloc: Global, digest: &Digest, text: &str) -> Result<bool, AllocError> {
-    let written = digest.write(alloc)?;
-    Ok(written.as_str() == text && digest.digits().as_slice() == text.as_bytes())
-}
 
 /// The same digest as bytes.
 const EMPTY_BYTES: [u8; 32] = [
@@ -484,9 +450,10 @@ const EMPTY_BYTES: [u8; 32] = [
 ];
 
 #[test]
-fn digest(rt: HostRuntime) -> Result<(), Fail> {
+fn digest(rt: HostRuntime) {
     let digest = Digest::from_bytes(EMPTY_BYTES);
-    assert!(rt; digest_is_written(rt.alloc(), &digest, EMPTY)?);
+    let written = digest.write(rt.alloc()).expect(&rt, "memory");
+    assert!(rt; written.as_str() == EMPTY && digest.digits().as_slice() == EMPTY.as_bytes());
     assert!(rt;
         Digest::parse(EMPTY.as_bytes()) == Ok(digest)
             && *digest.as_bytes() == EMPTY_BYTES
@@ -494,7 +461,6 @@ fn digest(rt: HostRuntime) -> Result<(), Fail> {
             && Digest::from_slice(&EMPTY_BYTES[1..]) == None
             && Digest::from_bytes([0; 32]) < digest
     );
-    Ok(())
 }
 
 /// Texts that are no digests.
@@ -513,107 +479,109 @@ const NO_DIGESTS: [&str; 12] = [
     "e3b0c44298fc1c149afbf4c8996fb92427ae41e4649b934ca495991b7852b85`",
 ];
 
-/// The first of the texts that reads as a digest.
-fn first_digest<'a>(texts: &'a [&'a str]) -> Option<&'a str> {
-    for text in texts {
-        if Digest::parse(text.as_bytes()) != Err(NameFault::Bad) {
-            return Some(*text);
-        }
+#[test]
+fn no_digests(rt: HostRuntime) {
+    for text in &NO_DIGESTS {
+        agree(
+            &rt,
+            text,
+            is_fault(Digest::parse(text.as_bytes()).err(), false),
+        );
     }
-    None
+}
+
+fn id_is_written(rt: &impl Abort, alloc: Global, text: &str) -> bool {
+    let id = AppId::parse(alloc, text.as_bytes()).expect(rt, "an ID");
+    let copy = id.copy().expect(rt, "memory");
+    id.write().expect(rt, "memory").as_str() == text && copy == id
+}
+
+fn remote_is_written(rt: &impl Abort, alloc: Global, text: &str) -> bool {
+    let name = RemoteName::parse(alloc, text.as_bytes()).expect(rt, "a name");
+    let copy = name.copy().expect(rt, "memory");
+    name.write().expect(rt, "memory").as_str() == text && copy == name
+}
+
+fn url_is_written(rt: &impl Abort, alloc: Global, text: &str) -> bool {
+    let url = RemoteUrl::parse(alloc, text.as_bytes()).expect(rt, "a url");
+    let copy = url.copy().expect(rt, "memory");
+    url.write().expect(rt, "memory").as_str() == text && copy == url
+}
+
+fn pattern_is_written(rt: &impl Abort, pattern: &PinPattern, text: &str) -> bool {
+    let copy = pattern.copy().expect(rt, "memory");
+    pattern.write().expect(rt, "memory").as_str() == text && copy == *pattern
 }
 
 #[test]
-fn no_digests(rt: HostRuntime) {
-    assert_eq!(rt; first_digest(&NO_DIGESTS), None);
+fn texts_of_names(rt: HostRuntime) {
+    let alloc = rt.alloc();
+    assert!(rt;
+        id_is_written(&rt, alloc, "org.x.App")
+            && remote_is_written(&rt, alloc, "flathub")
+            && url_is_written(&rt, alloc, "file:///srv")
+            && pattern_is_written(
+                &rt,
+                &pattern_of(&rt, alloc, "app/*/*/stable"),
+                "app/*/*/stable"
+            )
+    );
 }
 
-fn id_is_written(alloc: Global, text: &str) -> Result<bool, NameFault> {
-    let id = AppId::parse(alloc, text.as_bytes())?;
-    let written = id.write()?;
-    let copy = id.copy()?;
-    Ok(written.as_str() == text && copy == id)
-}
-
-fn remote_is_written(alloc: Global, text: &str) -> Result<bool, NameFault> {
-    let name = RemoteName::parse(alloc, text.as_bytes())?;
-    let written = name.write()?;
-    let copy = name.copy()?;
-    Ok(written.as_str() == text && copy == name)
-}
-
-fn url_is_written(alloc: Global, text: &str) -> Result<bool, NameFault> {
-    let url = RemoteUrl::parse(alloc, text.as_bytes())?;
-    let written = url.write()?;
-    let copy = url.copy()?;
-    Ok(written.as_str() == text && copy == url)
-}
-
-fn pattern_is_written(alloc: Global, text: &str) -> Result<bool, NameFault> {
-    let pattern = PinPattern::parse(alloc, text.as_bytes())?;
-    let written = pattern.write()?;
-    let copy = pattern.copy()?;
-    Ok(written.as_str() == text && copy == pattern)
-}
-
-fn text_is_copied(alloc: Global) -> Result<bool, AllocError> {
-    let text = Text::from_str(alloc, "b")?;
-    let copy = text.copy()?;
-    let less = Text::from_string(String::from_str(alloc, "a")?);
-    Ok(copy.into_string().as_str() == "b" && less < text)
+/// The longest names are written and copied.
+#[test]
+fn texts_of_long_names(rt: HostRuntime) {
+    let alloc = rt.alloc();
+    assert!(rt;
+        id_is_written(&rt, alloc, &filled(&rt, alloc, "org.x.", 255))
+            && remote_is_written(&rt, alloc, &filled(&rt, alloc, "", 64))
+            && url_is_written(&rt, alloc, &filled(&rt, alloc, "file:///", 1024))
+    );
 }
 
 /// The longest ref: an ID, an ARCH and a BRANCH of 255 bytes each.
-fn longest(alloc: Global) -> Result<String, AllocError> {
-    let mut text = String::from_str(alloc, "runtime/")?;
-    text.push_str(&filled(alloc, "org.x.", 255)?)?;
-    for _ in 0..2 {
-        text.push('/')?;
-        text.push_str(&filled(alloc, "", 255)?)?;
-    }
-    Ok(text)
+fn longest(rt: &impl Abort, alloc: Global) -> String {
+    let id = filled(rt, alloc, "org.x.", 255);
+    let part = filled(rt, alloc, "", 255);
+    ["runtime", &id, &part, &part]
+        .join(alloc, "/")
+        .expect(rt, "memory")
 }
 
-/// Whether the longest ref is read, taken apart and made again, and its text is a pattern that matches it.
-fn longest_is_read(alloc: Global) -> Result<bool, NameFault> {
-    let text = longest(alloc)?;
-    let name = RefName::parse(alloc, text.as_bytes())?;
-    let made = RefName::new(alloc, name.kind(), name.id(), name.arch(), name.branch())?;
-    if made != name || !is_written(&name, &text)? || !is_copied(&name)? {
-        return Ok(false);
-    }
-    Ok(pattern_is_written(alloc, &text)? && is_match(alloc, &text, &text)?)
-}
-
-/// Whether the longest id, name of a remote and url are written and copied.
-fn longest_are_written(alloc: Global) -> Result<bool, NameFault> {
-    let id = filled(alloc, "org.x.", 255)?;
-    let remote = filled(alloc, "", 64)?;
-    let url = filled(alloc, "file:///", 1024)?;
-    Ok(
-        id_is_written(alloc, &id)?
-            && remote_is_written(alloc, &remote)?
-            && url_is_written(alloc, &url)?,
-    )
-}
-
-/// Whether a text of a mebibyte is copied.
-fn copies_long(alloc: Global) -> Result<bool, AllocError> {
-    let text = Text::from_str(alloc, &filled(alloc, "", 1 << 20)?)?;
-    Ok(text.copy()?.as_str().len() == 1 << 20)
-}
-
+/// The longest ref is written, copied and made again of its parts.
 #[test]
-fn texts_of_names(rt: HostRuntime) -> Result<(), Fail> {
+fn longest_ref(rt: HostRuntime) {
+    let text = longest(&rt, rt.alloc());
+    let name = ref_of(&rt, rt.alloc(), &text);
     assert!(rt;
-        id_is_written(rt.alloc(), "org.x.App")?
-            && remote_is_written(rt.alloc(), "flathub")?
-            && url_is_written(rt.alloc(), "file:///srv")?
-            && pattern_is_written(rt.alloc(), "app/*/*/stable")?
-            && text_is_copied(rt.alloc())?
+        is_made(rt.alloc(), &name, name.id(), name.arch(), name.branch())
+            && name.kind() == RefKind::Runtime
+            && is_written(&rt, &name, &text)
+            && is_copied(&rt, &name)
     );
-    assert!(rt;
-        longest_is_read(rt.alloc())? && longest_are_written(rt.alloc())? && copies_long(rt.alloc())?
-    );
-    Ok(())
+}
+
+/// The text of the longest ref is a pattern that matches it.
+#[test]
+fn longest_pattern(rt: HostRuntime) {
+    let text = longest(&rt, rt.alloc());
+    let pattern = pattern_of(&rt, rt.alloc(), &text);
+    let name = ref_of(&rt, rt.alloc(), &text);
+    assert!(rt; pattern_is_written(&rt, &pattern, &text) && pattern.matches(&name));
+}
+
+/// Whether the text is copied.
+fn text_is_copied(rt: &impl Abort, text: &Text) -> bool {
+    let copy = text.copy().expect(rt, "memory");
+    copy.as_str() == text.as_str()
+}
+
+/// A short text is copied and comes after a lesser one, and a text of a mebibyte is copied.
+#[test]
+fn texts(rt: HostRuntime) {
+    let text = Text::from_str(rt.alloc(), "b").expect(&rt, "memory");
+    let less = Text::from_str(rt.alloc(), "a").expect(&rt, "memory");
+    assert!(rt; text_is_copied(&rt, &text) && less < text);
+    let long = Text::from_string(filled(&rt, rt.alloc(), "", 1 << 20));
+    assert!(rt; text_is_copied(&rt, &long) && long.as_str().len() == 1 << 20);
 }

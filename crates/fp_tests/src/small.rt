@@ -1,6 +1,8 @@
 //! The small files of an installation, in the layout of today and the one before.
 
-use fp_host::{Host, HostEnd, Path, Stat};
+use crate::rows::agree;
+use fp_base::Items;
+use fp_host::{Host, Path, Stat};
 use fp_memhost::MemHost;
 use fp_name::{PinPattern, RemoteName, RemoteUrl};
 use fp_small::{
@@ -8,34 +10,39 @@ use fp_small::{
     insert_remote, load, make_above, read_config, read_pins, read_remotes, remove_pin,
     remove_remote, replace, take_away, write_config,
 };
-use std::alloc::{AllocError, Global};
-use std::test::Fail;
+use std::alloc::Global;
+use std::panic::Expect;
+use std::process::Abort;
 
 /// Each remote with its url.
-fn add_remotes(text: &mut String, remotes: &[RemoteRow]) -> Result<(), AllocError> {
+fn add_remotes(rt: &impl Abort, text: &mut String, remotes: &[RemoteRow]) {
     for row in remotes {
-        text.push_str(row.name.as_str())?;
-        text.push('=')?;
-        text.push_str(row.url.as_str())?;
-        text.push(' ')?;
+        text.push_str(row.name.as_str()).expect(rt, "memory");
+        text.push('=').expect(rt, "memory");
+        text.push_str(row.url.as_str()).expect(rt, "memory");
+        text.push(' ').expect(rt, "memory");
     }
-    Ok(())
 }
 
-fn add_pins(text: &mut String, pins: &[PinPattern]) -> Result<(), AllocError> {
+fn add_pins(rt: &impl Abort, text: &mut String, pins: &[PinPattern]) {
     for pin in pins {
-        text.push_str(pin.as_str())?;
-        text.push(' ')?;
+        text.push_str(pin.as_str()).expect(rt, "memory");
+        text.push(' ').expect(rt, "memory");
     }
-    Ok(())
 }
 
-/// What the settings say, in order.
-fn said(alloc: Global, settings: &Settings) -> Result<String, AllocError> {
-    let mut text = String::new(alloc);
-    add_remotes(&mut text, settings.remotes.as_slice())?;
-    add_pins(&mut text, settings.pins.as_slice())?;
-    Ok(text)
+/// The settings of a `config`.
+fn settings_of(rt: &impl Abort, alloc: Global, text: &str) -> Settings {
+    read_config(alloc, text.as_bytes()).expect(rt, "a config")
+}
+
+/// What a `config` says, in order.
+fn said_by_config(rt: &impl Abort, alloc: Global, text: &str) -> String {
+    let settings = settings_of(rt, alloc, text);
+    let mut said = String::new(alloc);
+    add_remotes(rt, &mut said, settings.remotes.as_slice());
+    add_pins(rt, &mut said, settings.pins.as_slice());
+    said
 }
 
 /// A `config`, and what it says.
@@ -60,23 +67,15 @@ const GOOD: [(&str, &str); 6] = [
     ),
 ];
 
-/// Whether the file says this.
-fn says(alloc: Global, text: &str, want: &str) -> Result<bool, ConfigFault> {
-    let settings = read_config(alloc, text.as_bytes())?;
-    Ok(said(alloc, &settings)?.as_str() == want)
-}
-
-/// The first of the files that says something else.
-fn first_other<'a>(
-    alloc: Global,
-    files: &'a [(&'a str, &'a str)],
-) -> Result<Option<&'a str>, ConfigFault> {
-    for (text, want) in files {
-        if !says(alloc, text, want)? {
-            return Ok(Some(*text));
-        }
+#[test]
+fn configs(rt: HostRuntime) {
+    for (text, want) in &GOOD {
+        agree(
+            &rt,
+            text,
+            said_by_config(&rt, rt.alloc(), text).as_str() == *want,
+        );
     }
-    Ok(None)
 }
 
 /// Texts that are no `config`.
@@ -97,88 +96,72 @@ const BAD: [&str; 14] = [
     "[installation]\nlayout=2\n[pins]\nx\n",
 ];
 
-fn is_bad(alloc: Global, text: &str) -> bool {
-    matches!(read_config(alloc, text.as_bytes()), Err(ConfigFault::Bad))
-}
-
-/// The first of the texts that is a `config`.
-fn first_good<'a>(alloc: Global, texts: &'a [&'a str]) -> Option<&'a str> {
-    for text in texts {
-        if !is_bad(alloc, text) {
-            return Some(*text);
-        }
-    }
-    None
-}
-
 #[test]
-fn configs(rt: HostRuntime) -> Result<(), Fail> {
-    assert_eq!(rt; first_other(rt.alloc(), &GOOD)?, None);
-    assert_eq!(rt; first_good(rt.alloc(), &BAD), None);
-    Ok(())
+fn no_configs(rt: HostRuntime) {
+    for text in &BAD {
+        let fault = read_config(rt.alloc(), text.as_bytes()).err();
+        agree(&rt, text, fault == Some(ConfigFault::Bad));
+    }
 }
 
-/// The `config` of what a text says.
-fn written(alloc: Global, text: &str) -> Result<String, ConfigFault> {
-    let settings = read_config(alloc, text.as_bytes())?;
-    let text = write_config(alloc, settings.remotes.as_slice(), settings.pins.as_slice())?;
-    Ok(text.as_str().to_string(alloc)?)
-}
-
-/// Which of the files is read, and how its settings are written.
-const WRITTEN: [(usize, &str); 3] = [
+/// A `config`, and how its settings are written.
+const WRITTEN: [(&str, &str); 3] = [
     (
-        3,
+        "[pins]\nruntime/org.x.B/*/*=true\nruntime/org.x.A/*/*=true\n[installation]\nlayout=2\n",
         "[installation]\nlayout=2\n[pins]\nruntime/org.x.A/*/*=true\nruntime/org.x.B/*/*=true\n",
     ),
     (
-        5,
+        "# ours\n[installation]\nlayout=2\n[remote \"b\"]\nurl=file:///b\n[remote \"a\"]\nurl=file:///a\n",
         "[installation]\nlayout=2\n[remote \"a\"]\nurl=file:///a\n[remote \"b\"]\nurl=file:///b\n",
     ),
-    (1, "[installation]\nlayout=2\n"),
+    (
+        "[installation]\nlayout=2\n[pins]\n",
+        "[installation]\nlayout=2\n",
+    ),
 ];
 
-/// The first of the files that is written otherwise.
-fn first_other_text<'a>(
-    alloc: Global,
-    rows: &'a [(usize, &'a str)],
-) -> Result<Option<&'a str>, ConfigFault> {
-    for (at, want) in rows {
-        let text = match GOOD.get(*at) {
-            Some((text, _)) => written(alloc, text)?,
-            None => return Ok(Some(*want)),
-        };
-        if text.as_str() != *want {
-            return Ok(Some(*want));
-        }
-    }
-    Ok(None)
-}
-
-/// Whether a pin is there from when it is put in until it is taken away.
-fn comes_and_goes(alloc: Global, pin: &PinPattern) -> Result<bool, AllocError> {
-    let mut pins = Vec::new(alloc);
-    let before = has_pin(&pins, pin);
-    insert_pin(&mut pins, pin.copy()?)?;
-    let there = has_pin(&pins, pin);
-    remove_pin(&mut pins, pin);
-    Ok(!before && there && pins.is_empty())
+/// Whether what a `config` says is written so.
+fn is_written(alloc: Global, text: &str, want: &str) -> Result<bool, ConfigFault> {
+    let settings = read_config(alloc, text.as_bytes())?;
+    let written = write_config(alloc, settings.remotes.as_slice(), settings.pins.as_slice())?;
+    Ok(written.as_str() == want)
 }
 
 #[test]
-fn written_configs(rt: HostRuntime) -> Result<(), Fail> {
-    assert_eq!(rt; first_other_text(rt.alloc(), &WRITTEN)?, None);
-    let pin = PinPattern::parse(rt.alloc(), b"runtime/org.x.Platform/*/*")?;
-    assert!(rt; comes_and_goes(rt.alloc(), &pin)?);
-    Ok(())
+fn written_configs(rt: HostRuntime) {
+    for (text, want) in &WRITTEN {
+        agree(&rt, text, is_written(rt.alloc(), text, want) == Ok(true));
+    }
 }
 
-/// The remotes of a `remotes.conf`, in order.
-fn old_rows(alloc: Global, text: &str) -> Result<String, ConfigFault> {
-    let rows = read_remotes(alloc, text.as_bytes())?;
+/// The pattern of the text.
+fn pattern_of(rt: &impl Abort, alloc: Global, text: &str) -> PinPattern {
+    PinPattern::parse(alloc, text.as_bytes()).expect(rt, "a pattern")
+}
+
+/// A pin is there from when it is put in until it is taken away.
+#[test]
+fn a_pin_comes_and_goes(rt: HostRuntime) {
+    let pin = pattern_of(&rt, rt.alloc(), "runtime/org.x.Platform/*/*");
+    let mut pins = Vec::new(rt.alloc());
+    assert!(rt; !has_pin(&pins, &pin));
+    let copy = pin.copy().expect(&rt, "memory");
+    insert_pin(&mut pins, copy).expect(&rt, "memory");
+    assert!(rt; has_pin(&pins, &pin));
+    remove_pin(&mut pins, &pin);
+    assert!(rt; pins.is_empty());
+}
+
+/// The remotes of a `remotes.conf`.
+fn remotes_of(rt: &impl Abort, alloc: Global, text: &str) -> Items<RemoteRow> {
+    read_remotes(alloc, text.as_bytes()).expect(rt, "a remotes.conf")
+}
+
+/// What a `remotes.conf` says, in order.
+fn said_by_remotes(rt: &impl Abort, alloc: Global, text: &str) -> String {
     let mut said = String::new(alloc);
-    add_remotes(&mut said, rows.as_slice())?;
-    Ok(said)
+    add_remotes(rt, &mut said, remotes_of(rt, alloc, text).as_slice());
+    said
 }
 
 /// A `remotes.conf`, and what it says.
@@ -192,17 +175,15 @@ const OLD_REMOTES: [(&str, &str); 4] = [
     ),
 ];
 
-/// The first of the files that says something else.
-fn first_other_remotes<'a>(
-    alloc: Global,
-    files: &'a [(&'a str, &'a str)],
-) -> Result<Option<&'a str>, ConfigFault> {
-    for (text, want) in files {
-        if old_rows(alloc, text)?.as_str() != *want {
-            return Ok(Some(*text));
-        }
+#[test]
+fn old_remotes(rt: HostRuntime) {
+    for (text, want) in &OLD_REMOTES {
+        agree(
+            &rt,
+            text,
+            said_by_remotes(&rt, rt.alloc(), text).as_str() == *want,
+        );
     }
-    Ok(None)
 }
 
 /// Texts that are no `remotes.conf`.
@@ -218,51 +199,48 @@ const BAD_OLD_REMOTES: [&str; 9] = [
     "[remote \"lab\"]\nurl=file:///lab\n[other]\n",
 ];
 
-fn is_bad_old_remotes(alloc: Global, text: &str) -> bool {
-    matches!(read_remotes(alloc, text.as_bytes()), Err(ConfigFault::Bad))
-}
-
-/// The first of the texts that is a `remotes.conf`.
-fn first_good_remotes<'a>(alloc: Global, texts: &'a [&'a str]) -> Option<&'a str> {
-    for text in texts {
-        if !is_bad_old_remotes(alloc, text) {
-            return Some(*text);
-        }
-    }
-    None
-}
-
-/// A `remotes.conf` of so many remotes.
-fn many_remotes(alloc: Global, count: u32) -> Result<String, AllocError> {
-    let mut text = String::new(alloc);
-    for number in 0..count {
-        let group = format!(in alloc; "[remote \"r{number}\"]\nurl=file:///r\n")?;
-        text.push_str(&group)?;
-    }
-    Ok(text)
-}
-
-/// How many remotes a `remotes.conf` of so many has.
-fn count_remotes(alloc: Global, count: u32) -> Result<usize, ConfigFault> {
-    let text = many_remotes(alloc, count)?;
-    Ok(read_remotes(alloc, text.as_bytes())?.as_slice().len())
+/// Whether a text is no `remotes.conf`.
+fn is_bad_remotes(alloc: Global, text: &str) -> bool {
+    read_remotes(alloc, text.as_bytes()).err() == Some(ConfigFault::Bad)
 }
 
 #[test]
-fn old_remotes(rt: HostRuntime) -> Result<(), Fail> {
-    assert_eq!(rt; first_other_remotes(rt.alloc(), &OLD_REMOTES)?, None);
-    assert_eq!(rt; first_good_remotes(rt.alloc(), &BAD_OLD_REMOTES), None);
-    assert!(rt; count_remotes(rt.alloc(), 256)? == 256);
-    assert!(rt; matches!(count_remotes(rt.alloc(), 257), Err(ConfigFault::Bad)));
-    Ok(())
+fn no_old_remotes(rt: HostRuntime) {
+    for text in &BAD_OLD_REMOTES {
+        agree(&rt, text, is_bad_remotes(rt.alloc(), text));
+    }
 }
 
-/// The pins of a `pins`, in order.
-fn old_pins(alloc: Global, text: &str) -> Result<String, ConfigFault> {
-    let pins = read_pins(alloc, text.as_bytes())?;
+/// A `remotes.conf` of this many remotes.
+fn many_remotes(rt: &impl Abort, alloc: Global, count: u32) -> String {
+    let mut text = String::new(alloc);
+    for number in 0..count {
+        let group = format!(in alloc; "[remote \"r{number}\"]\nurl=file:///r\n");
+        text.push_str(&group.expect(rt, "memory"))
+            .expect(rt, "memory");
+    }
+    text
+}
+
+/// A `remotes.conf` has at most 256 remotes.
+#[test]
+fn many_old_remotes(rt: HostRuntime) {
+    let alloc = rt.alloc();
+    let most = many_remotes(&rt, alloc, 256);
+    assert!(rt; remotes_of(&rt, alloc, &most).len() == 256);
+    assert!(rt; is_bad_remotes(alloc, &many_remotes(&rt, alloc, 257)));
+}
+
+/// The pins of a `pins`.
+fn pins_of(rt: &impl Abort, alloc: Global, text: &str) -> Items<PinPattern> {
+    read_pins(alloc, text.as_bytes()).expect(rt, "a pins")
+}
+
+/// What a `pins` says, in order.
+fn said_by_pins(rt: &impl Abort, alloc: Global, text: &str) -> String {
     let mut said = String::new(alloc);
-    add_pins(&mut said, pins.as_slice())?;
-    Ok(said)
+    add_pins(rt, &mut said, pins_of(rt, alloc, text).as_slice());
+    said
 }
 
 /// A `pins`, and what it says.
@@ -275,17 +253,15 @@ const OLD_PINS: [(&str, &str); 3] = [
     ),
 ];
 
-/// The first of the files that says something else.
-fn first_other_pins<'a>(
-    alloc: Global,
-    files: &'a [(&'a str, &'a str)],
-) -> Result<Option<&'a str>, ConfigFault> {
-    for (text, want) in files {
-        if old_pins(alloc, text)?.as_str() != *want {
-            return Ok(Some(*text));
-        }
+#[test]
+fn old_pins(rt: HostRuntime) {
+    for (text, want) in &OLD_PINS {
+        agree(
+            &rt,
+            text,
+            said_by_pins(&rt, rt.alloc(), text).as_str() == *want,
+        );
     }
-    Ok(None)
 }
 
 /// Texts that are no `pins`.
@@ -300,161 +276,178 @@ const BAD_OLD_PINS: [&str; 8] = [
     "app/*/*\n",
 ];
 
-fn is_bad_old_pins(alloc: Global, text: &str) -> bool {
-    matches!(read_pins(alloc, text.as_bytes()), Err(ConfigFault::Bad))
-}
-
-/// The first of the texts that is a `pins`.
-fn first_good_pins<'a>(alloc: Global, texts: &'a [&'a str]) -> Option<&'a str> {
-    for text in texts {
-        if !is_bad_old_pins(alloc, text) {
-            return Some(*text);
-        }
-    }
-    None
-}
-
-/// A `pins` of so many patterns.
-fn many_pins(alloc: Global, count: u32) -> Result<String, AllocError> {
-    let mut text = String::new(alloc);
-    for number in 0..count {
-        let line = format!(in alloc; "app/org.x.A{number:04}/*/*\n")?;
-        text.push_str(&line)?;
-    }
-    Ok(text)
-}
-
-/// How many pins a `pins` of so many has.
-fn count_pins(alloc: Global, count: u32) -> Result<usize, ConfigFault> {
-    let text = many_pins(alloc, count)?;
-    Ok(read_pins(alloc, text.as_bytes())?.as_slice().len())
+/// Whether a text is no `pins`.
+fn is_bad_pins(alloc: Global, text: &str) -> bool {
+    read_pins(alloc, text.as_bytes()).err() == Some(ConfigFault::Bad)
 }
 
 #[test]
-fn pins_of_the_old_layout(rt: HostRuntime) -> Result<(), Fail> {
-    assert_eq!(rt; first_other_pins(rt.alloc(), &OLD_PINS)?, None);
-    assert_eq!(rt; first_good_pins(rt.alloc(), &BAD_OLD_PINS), None);
-    assert!(rt; count_pins(rt.alloc(), 1024)? == 1024);
-    assert!(rt; matches!(count_pins(rt.alloc(), 1025), Err(ConfigFault::Bad)));
-    Ok(())
+fn no_old_pins(rt: HostRuntime) {
+    for text in &BAD_OLD_PINS {
+        agree(&rt, text, is_bad_pins(rt.alloc(), text));
+    }
+}
+
+/// The lines of a `pins` of this many patterns, with these letters at the end of each.
+fn many_pins(rt: &impl Abort, alloc: Global, count: u32, end: &str) -> String {
+    let mut text = String::new(alloc);
+    for number in 0..count {
+        let line = format!(in alloc; "app/org.x.A{number:04}/*/*{end}\n");
+        text.push_str(&line.expect(rt, "memory"))
+            .expect(rt, "memory");
+    }
+    text
+}
+
+/// A `pins` has at most 1,024 patterns.
+#[test]
+fn many_old_pins(rt: HostRuntime) {
+    let alloc = rt.alloc();
+    let most = many_pins(&rt, alloc, 1_024, "");
+    assert!(rt; pins_of(&rt, alloc, &most).len() == 1_024);
+    assert!(rt; is_bad_pins(alloc, &many_pins(&rt, alloc, 1_025, "")));
 }
 
 /// A remote of this number.
-fn numbered_remote(alloc: Global, number: u32) -> Result<RemoteRow, Fail> {
-    let name = format!(in alloc; "r{number:04}")?;
-    Ok(RemoteRow {
-        name: RemoteName::parse(alloc, name.as_bytes())?,
-        url: RemoteUrl::parse(alloc, b"file:///r")?,
-    })
+fn numbered_remote(rt: &impl Abort, alloc: Global, number: u32) -> RemoteRow {
+    let name = format!(in alloc; "r{number:04}").expect(rt, "memory");
+    RemoteRow {
+        name: RemoteName::parse(alloc, name.as_bytes()).expect(rt, "a name"),
+        url: RemoteUrl::parse(alloc, b"file:///r").expect(rt, "a url"),
+    }
 }
 
-/// Whether 256 remotes come and go.
-fn many_come_and_go(alloc: Global) -> Result<bool, Fail> {
+/// 256 remotes, the last first.
+fn inserted_remotes(rt: &impl Abort, alloc: Global) -> Vec<RemoteRow> {
     let mut remotes = Vec::new(alloc);
     for number in 0..256 {
-        insert_remote(&mut remotes, numbered_remote(alloc, 255 - number)?)?;
+        let row = numbered_remote(rt, alloc, 255 - number);
+        insert_remote(&mut remotes, row).expect(rt, "memory");
     }
-    let last = numbered_remote(alloc, 255)?.copy()?;
-    let is_there = has_remote(&remotes, &last.name) && remotes.len() == 256;
-    remove_remote(&mut remotes, &last.name);
-    Ok(is_there && !has_remote(&remotes, &last.name) && remotes.len() == 255)
+    remotes
 }
 
-/// Whether 1,024 pins come and go.
-fn many_pins_come_and_go(alloc: Global) -> Result<bool, Fail> {
-    let text = many_pins(alloc, 1_024)?;
+#[test]
+fn many_remotes_come_and_go(rt: HostRuntime) {
+    let mut remotes = inserted_remotes(&rt, rt.alloc());
+    let last = numbered_remote(&rt, rt.alloc(), 255)
+        .copy()
+        .expect(&rt, "memory");
+    assert!(rt; has_remote(&remotes, &last.name) && remotes.len() == 256);
+    remove_remote(&mut remotes, &last.name);
+    assert!(rt; !has_remote(&remotes, &last.name) && remotes.len() == 255);
+}
+
+/// The pins of a `pins`, put in one after another.
+fn inserted_pins(rt: &impl Abort, alloc: Global, text: &str) -> Vec<PinPattern> {
     let mut pins = Vec::new(alloc);
-    for pin in read_pins(alloc, text.as_bytes())?.as_slice() {
-        insert_pin(&mut pins, pin.copy()?)?;
+    for pin in pins_of(rt, alloc, text).as_slice() {
+        let copy = pin.copy().expect(rt, "memory");
+        insert_pin(&mut pins, copy).expect(rt, "memory");
     }
-    let last = PinPattern::parse(alloc, b"app/org.x.A1023/*/*")?;
-    let is_there = has_pin(&pins, &last) && pins.len() == 1_024;
+    pins
+}
+
+#[test]
+fn many_pins_come_and_go(rt: HostRuntime) {
+    let mut pins = inserted_pins(&rt, rt.alloc(), &many_pins(&rt, rt.alloc(), 1_024, ""));
+    let last = pattern_of(&rt, rt.alloc(), "app/org.x.A1023/*/*");
+    assert!(rt; has_pin(&pins, &last) && pins.len() == 1_024);
     remove_pin(&mut pins, &last);
-    Ok(is_there && !has_pin(&pins, &last) && pins.len() == 1_023)
+    assert!(rt; !has_pin(&pins, &last) && pins.len() == 1_023);
 }
 
 /// A `config` of 256 remotes and 1,024 pins, as it is written.
-fn long_config(alloc: Global) -> Result<String, AllocError> {
-    let mut text = String::from_str(alloc, "[installation]\nlayout=2\n")?;
+fn longest_config(rt: &impl Abort, alloc: Global) -> String {
+    let mut text = String::from_str(alloc, "[installation]\nlayout=2\n").expect(rt, "memory");
     for number in 100..356 {
-        let group = format!(in alloc; "[remote \"r{number}\"]\nurl=file:///r\n")?;
-        text.push_str(&group)?;
+        let group = format!(in alloc; "[remote \"r{number}\"]\nurl=file:///r\n");
+        text.push_str(&group.expect(rt, "memory"))
+            .expect(rt, "memory");
     }
-    text.push_str("[pins]\n")?;
-    for number in 0..1_024 {
-        let line = format!(in alloc; "app/org.x.A{number:04}/*/*=true\n")?;
-        text.push_str(&line)?;
-    }
-    Ok(text)
+    text.push_str("[pins]\n").expect(rt, "memory");
+    text.push_str(&many_pins(rt, alloc, 1_024, "=true"))
+        .expect(rt, "memory");
+    text
 }
 
-/// Whether the longest `config` is read, and written as it was.
-fn longest_is_written_back(alloc: Global) -> Result<bool, ConfigFault> {
-    let text = long_config(alloc)?;
-    Ok(written(alloc, &text)?.as_str() == text.as_str())
-}
-
+/// The longest `config` is read, and written as it was.
 #[test]
-fn longest_settings(rt: HostRuntime) -> Result<(), Fail> {
-    assert!(rt; many_come_and_go(rt.alloc())? && many_pins_come_and_go(rt.alloc())?);
-    assert!(rt; longest_is_written_back(rt.alloc())?);
-    Ok(())
+fn longest_settings(rt: HostRuntime) {
+    let text = longest_config(&rt, rt.alloc());
+    assert!(rt; is_written(rt.alloc(), &text, &text) == Ok(true));
 }
 
-/// Whether a mebibyte that takes the place of the file is loaded.
-fn is_replaced(alloc: Global, host: &mut MemHost, path: &Path) -> Result<bool, HostEnd> {
-    let bytes = vec![in alloc; 7u8; 1 << 20]?;
-    replace(alloc, host, path, b"short")?;
-    replace(alloc, host, path, &bytes)?;
-    match load(alloc, host, path, 1 << 20)? {
-        Loaded::Bytes(found) => Ok(found.as_slice() == bytes.as_slice()),
-        _ => Ok(false),
+/// Whether these bytes are loaded from the file.
+fn is_loaded(rt: &impl Abort, alloc: Global, host: &mut MemHost, path: &Path, want: &[u8]) -> bool {
+    match load(alloc, host, path, 1 << 20).expect(rt, "a file") {
+        Loaded::Bytes(found) => found.as_slice() == want,
+        _ => false,
     }
 }
 
-/// Makes so many empty files in the folder.
-fn fill(alloc: Global, host: &mut MemHost, folder: &Path, count: u32) -> Result<(), Fail> {
+/// A mebibyte takes the place of a file.
+#[test]
+fn much_is_replaced(rt: HostRuntime) {
+    let alloc = rt.alloc();
+    let mut host = MemHost::new(alloc).expect(&rt, "memory");
+    let path = Path::parse(alloc, "etc/config").expect(&rt, "a path");
+    let bytes = vec![in alloc; 7u8; 1 << 20].expect(&rt, "memory");
+    replace(alloc, &mut host, &path, b"short").expect(&rt, "replaced");
+    replace(alloc, &mut host, &path, &bytes).expect(&rt, "replaced");
+    assert!(rt; is_loaded(&rt, alloc, &mut host, &path, &bytes));
+}
+
+/// Makes this many empty files in the folder.
+fn fill(rt: &impl Abort, alloc: Global, host: &mut MemHost, folder: &Path, count: u32) {
     for number in 0..count {
-        let name = format!(in alloc; "f{number:04}")?;
-        host.create(&folder.join(&name)?, 0o644)?;
+        let name = format!(in alloc; "f{number:04}").expect(rt, "memory");
+        let path = folder.join(&name).expect(rt, "an element");
+        host.create(&path, 0o644).expect(rt, "a new file");
     }
-    Ok(())
 }
 
-/// A path of so many elements.
-fn path_of(alloc: Global, elements: usize) -> Result<Path, Fail> {
+/// A path of this many elements.
+fn path_of(rt: &impl Abort, alloc: Global, elements: usize) -> Path {
     let mut path = Path::root(alloc);
     for _ in 0..elements {
-        path = path.child("e")?;
+        path = path.child("e").expect(rt, "memory");
     }
-    Ok(path)
+    path
 }
 
-/// Whether the folders above a path of 128 elements are made, filled with 1,100 files, emptied and taken away.
-fn is_cleared(alloc: Global) -> Result<bool, Fail> {
-    let mut host = MemHost::new(alloc)?;
-    let path = path_of(alloc, 126)?;
-    make_above(alloc, &mut host, &path)?;
-    host.make_dir(&path)?;
-    fill(alloc, &mut host, &path, 1_100)?;
-    take_away(&mut host, &path.join("f0000")?)?;
-    let many = host.list(alloc, &path)?.len();
-    clear_below(alloc, &mut host, &path)?;
-    let none = host.list(alloc, &path)?.len();
-    clear(alloc, &mut host, &path_of(alloc, 1)?)?;
-    let gone = host.stat(&path_of(alloc, 1)?)? == Stat::Absent;
-    Ok(many == 1_099 && none == 0 && gone)
+/// How many names a folder has.
+fn count_names(rt: &impl Abort, alloc: Global, host: &mut MemHost, folder: &Path) -> usize {
+    host.list(alloc, folder).expect(rt, "names").len()
 }
 
-/// Whether a file of a mebibyte takes the place of another.
-fn replaces_much(alloc: Global) -> Result<bool, Fail> {
-    let mut host = MemHost::new(alloc)?;
-    Ok(is_replaced(alloc, &mut host, &Path::parse(alloc, "etc/config")?)?)
+/// A host with 1,100 files in the folder, and with the folders above it.
+fn filled(rt: &impl Abort, alloc: Global, folder: &Path) -> MemHost {
+    let mut host = MemHost::new(alloc).expect(rt, "memory");
+    make_above(alloc, &mut host, folder).expect(rt, "folders");
+    host.make_dir(folder).expect(rt, "a folder");
+    fill(rt, alloc, &mut host, folder, 1_100);
+    host
 }
 
+/// A folder below 125 others is filled with 1,100 files, loses one, and is emptied.
 #[test]
-fn much_on_a_host(rt: HostRuntime) -> Result<(), Fail> {
-    assert!(rt; is_cleared(rt.alloc())?);
-    assert!(rt; replaces_much(rt.alloc())?);
-    Ok(())
+fn many_files_are_cleared(rt: HostRuntime) {
+    let alloc = rt.alloc();
+    let folder = path_of(&rt, alloc, 126);
+    let mut host = filled(&rt, alloc, &folder);
+    take_away(&mut host, &folder.join("f0000").expect(&rt, "an element")).expect(&rt, "taken");
+    assert!(rt; count_names(&rt, alloc, &mut host, &folder) == 1_099);
+    clear_below(alloc, &mut host, &folder).expect(&rt, "cleared");
+    assert!(rt; count_names(&rt, alloc, &mut host, &folder) == 0);
+}
+
+/// The folders above 1,100 files are taken away with them.
+#[test]
+fn many_folders_are_cleared(rt: HostRuntime) {
+    let alloc = rt.alloc();
+    let mut host = filled(&rt, alloc, &path_of(&rt, alloc, 126));
+    let top = path_of(&rt, alloc, 1);
+    clear(alloc, &mut host, &top).expect(&rt, "cleared");
+    assert!(rt; host.stat(&top) == Ok(Stat::Absent));
 }

@@ -4,13 +4,15 @@ ghost use Rattle.std.specs.Prelude.{◌≡◌, ◌<◌, true};
 ghost use Rattle.ost_model.specs.Contents.{file_digest as digest_of_file, is_permission as may_be_mode};
 
 use crate::made_contents::{FILES, LINKS, LONG_LINKS, METADATA};
+use crate::rows::{agree, agree_at};
 use fp_host::is_link_text;
 use fp_name::Digest;
 use ost_content::{
     ContentHasher, file_digest, header, is_permission, link_digest, link_header, meta_digest,
 };
 use std::alloc::Global;
-use std::test::Fail;
+use std::panic::Expect;
+use std::process::Abort;
 
 /// Whether the header of a link with this text is these bytes.
 fn is_link_header(alloc: Global, text: &str, want: &[u8]) -> bool {
@@ -36,7 +38,7 @@ fn is_written(digest: &Digest, name: &str) -> bool {
     digest.digits().as_slice() == name.as_bytes()
 }
 
-/// The digest of a file whose content comes in pieces of so many bytes. The contracts of the hasher prove that it is the file's.
+/// The digest of a file whose content comes in pieces of this many bytes. The contracts of the hasher prove that it is the file's.
 fn digest_in_pieces(mode: u32, bytes: &[u8], size: usize) -> Digest
     requires permission { may_be_mode mode ≡ true }
     requires size { 0 < size }
@@ -68,18 +70,17 @@ fn is_file_named(mode: u32, bytes: &[u8], name: &str) -> bool {
     true
 }
 
-/// The first of the files that has another name.
-fn first_other_file<'a>(
-    alloc: Global,
-    files: &'a [(u32, &'a str, &'a str)],
-) -> Result<Option<&'a str>, Fail> {
-    for (mode, digits, name) in files {
-        let bytes = hex::decode(alloc, digits)?;
-        if !is_file_named(*mode, &bytes, name) {
-            return Ok(Some(*name));
-        }
+/// The bytes of the digits.
+fn decoded(rt: &impl Abort, alloc: Global, digits: &str) -> Vec<u8> {
+    hex::decode(alloc, digits).expect(rt, "digits")
+}
+
+#[test]
+fn files_of_a_repository(rt: HostRuntime) {
+    for (mode, digits, name) in &FILES {
+        let bytes = decoded(&rt, rt.alloc(), digits);
+        agree(&rt, name, is_file_named(*mode, &bytes, name));
     }
-    Ok(None)
 }
 
 /// Whether a link has a name.
@@ -93,51 +94,32 @@ fn is_link_named(alloc: Global, text: &str, name: &str) -> bool {
     }
 }
 
-/// The first of the links that has another name.
-fn first_other_link<'a>(alloc: Global, links: &'a [(&'a str, &'a str)]) -> Option<&'a str> {
-    for (text, name) in links {
-        if !is_link_named(alloc, text, name) {
-            return Some(*name);
-        }
+#[test]
+fn links_of_a_repository(rt: HostRuntime) {
+    for (text, name) in &LINKS {
+        agree(&rt, name, is_link_named(rt.alloc(), text, name));
     }
-    None
 }
 
-/// The first of the links of so many letters that has another name.
-fn first_other_long_link<'a>(
-    alloc: Global,
-    links: &'a [(usize, &'a str)],
-) -> Result<Option<&'a str>, Fail> {
-    for (count, name) in links {
-        let text = "n".repeat(alloc, *count)?;
-        if !is_link_named(alloc, &text, name) {
-            return Ok(Some(*name));
-        }
+/// Links of many letters.
+#[test]
+fn long_links_of_a_repository(rt: HostRuntime) {
+    for (count, name) in &LONG_LINKS {
+        let text = "n".repeat(rt.alloc(), *count).expect(&rt, "memory");
+        agree(&rt, name, is_link_named(rt.alloc(), &text, name));
     }
-    Ok(None)
 }
 
-/// The first of the metadata objects that has another name.
-fn first_other_metadata<'a>(
-    alloc: Global,
-    objects: &'a [(&'a str, &'a str)],
-) -> Result<Option<&'a str>, Fail> {
-    for (digits, name) in objects {
-        let bytes = hex::decode(alloc, digits)?;
-        if !is_written(&meta_digest(&bytes), name) {
-            return Ok(Some(*name));
-        }
-    }
-    Ok(None)
+/// Whether the metadata object of the digits has a name.
+fn is_metadata_named(rt: &impl Abort, alloc: Global, digits: &str, name: &str) -> bool {
+    is_written(&meta_digest(&decoded(rt, alloc, digits)), name)
 }
 
 #[test]
-fn objects_of_a_repository(rt: HostRuntime) -> Result<(), Fail> {
-    assert_eq!(rt; first_other_file(rt.alloc(), &FILES)?, None);
-    assert_eq!(rt; first_other_link(rt.alloc(), &LINKS), None);
-    assert_eq!(rt; first_other_long_link(rt.alloc(), &LONG_LINKS)?, None);
-    assert_eq!(rt; first_other_metadata(rt.alloc(), &METADATA)?, None);
-    Ok(())
+fn metadata_of_a_repository(rt: HostRuntime) {
+    for (digits, name) in &METADATA {
+        agree(&rt, name, is_metadata_named(&rt, rt.alloc(), digits, name));
+    }
 }
 
 /// The bytes of an empty directory, which are one zero byte, and no bytes, with the digests that `sha256sum` writes.
@@ -151,6 +133,13 @@ const EMPTY: [(&str, &str); 2] = [
         "e3b0c44298fc1c149afbf4c8996fb92427ae41e4649b934ca495991b7852b855",
     ),
 ];
+
+#[test]
+fn empty_metadata(rt: HostRuntime) {
+    for (digits, name) in &EMPTY {
+        agree(&rt, name, is_metadata_named(&rt, rt.alloc(), digits, name));
+    }
+}
 
 /// Permission bits, and whether files have them.
 const MODES: [(u32, bool); 15] = [
@@ -171,19 +160,9 @@ const MODES: [(u32, bool); 15] = [
     (0o100644, false),
 ];
 
-/// The first of the modes that is taken otherwise.
-fn first_other_mode(modes: &[(u32, bool)]) -> Option<u32> {
-    for (mode, good) in modes {
-        if is_permission(*mode) != *good {
-            return Some(*mode);
-        }
-    }
-    None
-}
-
 #[test]
-fn metadata_and_modes(rt: HostRuntime) -> Result<(), Fail> {
-    assert_eq!(rt; first_other_metadata(rt.alloc(), &EMPTY)?, None);
-    assert_eq!(rt; first_other_mode(&MODES), None);
-    Ok(())
+fn modes(rt: HostRuntime) {
+    for (row, (mode, good)) in MODES.iter().enumerate() {
+        agree_at(&rt, row, is_permission(*mode) == *good);
+    }
 }

@@ -17,7 +17,7 @@ fn item(alloc: Global, head: &str, body: &str) -> Result<Item, AllocError> {
     })
 }
 
-/// So many items, whose texts are `item 0`, `item 1` and so on.
+/// This many items, whose texts are `item 0`, `item 1` and so on.
 fn numbered(alloc: Global, count: usize) -> Result<Vec<Item>, AllocError> {
     let mut items = Vec::with_capacity(alloc, count)?;
     for number in 0..count {
@@ -153,7 +153,7 @@ fn digests_of_items(rt: HostRuntime) -> Result<(), Fail> {
     Ok(())
 }
 
-/// Whether both halves of so many items were at work, or nothing was told where the items aren't cut.
+/// Whether both halves of this many items were at work, or nothing was told where the items aren't cut.
 fn is_as_due(gate: &HoldingGate, count: usize) -> bool {
     if count > 16 {
         gate.both_worked()

@@ -16,6 +16,8 @@ mod object;
 #[cfg(test)]
 mod refs;
 #[cfg(test)]
+mod rows;
+#[cfg(test)]
 mod shown_objects;
 #[cfg(test)]
 mod store;

@@ -1,6 +1,7 @@
 //! Metadata objects: what they are read as, the first rule that they break, and how they are written.
 
 use crate::made_objects::OBJECTS;
+use crate::rows::{agree, agree_at};
 use crate::shown_objects::SHOWN;
 use fp_base::{Blob, Items, ObjKind, Rule, Text};
 use fp_name::Digest;
@@ -12,14 +13,15 @@ use ost_object::{
     read_dirtree, write_commit, write_dirmeta, write_dirtree,
 };
 use std::alloc::Global;
-use std::test::Fail;
+use std::panic::Expect;
+use std::process::Abort;
 
-/// The rule that a reading named; None where there is one object.
-fn rule_of<T: Drop>(read: Result<T, ObjectError>) -> Result<Option<Rule>, ObjectError> {
-    match read {
-        Ok(_object) => Ok(None),
-        Err(ObjectError::Malformed(rule)) => Ok(Some(rule)),
-        Err(ObjectError::NoMemory) => Err(ObjectError::NoMemory),
+/// The rule that a call named; None where it didn't fail.
+fn rule_of<T: Drop>(rt: &impl Abort, done: Result<T, ObjectError>) -> Option<Rule> {
+    match done {
+        Ok(_object) => None,
+        Err(ObjectError::Malformed(rule)) => Some(rule),
+        Err(ObjectError::NoMemory) => rt.abort(),
     }
 }
 
@@ -97,84 +99,86 @@ const METAS: [(&str, Option<Rule>); 4] = [
     ("0000000000000000000081a4", Some(Rule::Kind)),
 ];
 
-/// The rule that the reading of an object names.
-fn read_rule(alloc: Global, kind: ObjKind, bytes: &[u8]) -> Result<Option<Rule>, ObjectError> {
-    match kind {
-        ObjKind::Commit => rule_of(read_commit(alloc, bytes)),
-        ObjKind::DirTree => rule_of(read_dirtree(alloc, bytes)),
-        _ => rule_of(read_dirmeta(alloc, bytes)),
-    }
-}
-
-/// The first of the objects that breaks another rule.
-fn first_other_rule<'a>(
-    alloc: Global,
-    kind: ObjKind,
-    rows: &'a [(&'a str, Option<Rule>)],
-) -> Result<Option<&'a str>, Fail> {
-    for (digits, rule) in rows {
-        let bytes = hex::decode(alloc, digits)?;
-        if read_rule(alloc, kind, &bytes)? != *rule {
-            return Ok(Some(*digits));
-        }
-    }
-    Ok(None)
+/// The bytes of the digits.
+fn decoded(rt: &impl Abort, alloc: Global, digits: &str) -> Vec<u8> {
+    hex::decode(alloc, digits).expect(rt, "digits")
 }
 
 #[test]
-fn names_the_first_broken_rule(rt: HostRuntime) -> Result<(), Fail> {
-    let alloc = rt.alloc();
-    assert_eq!(rt; first_other_rule(alloc, ObjKind::Commit, &COMMITS)?, None);
-    assert_eq!(rt; first_other_rule(alloc, ObjKind::DirTree, &TREES)?, None);
-    assert_eq!(rt; first_other_rule(alloc, ObjKind::DirMeta, &METAS)?, None);
-    Ok(())
-}
-
-/// How many files and directories a dirtree has.
-fn counts(alloc: Global, bytes: &[u8]) -> Result<(usize, usize), Fail> {
-    let tree = read_dirtree(alloc, bytes)?;
-    Ok((tree.files.len(), tree.dirs.len()))
-}
-
-/// The mode of a dirmeta.
-fn mode_of(alloc: Global, bytes: &[u8]) -> Result<u32, Fail> {
-    Ok(read_dirmeta(alloc, bytes)?.mode)
-}
-
-/// The timestamp of a commit, and how long its subject and its body are.
-fn lengths_of(alloc: Global, digits: &str) -> Result<(u64, usize, usize), Fail> {
-    let bytes = hex::decode(alloc, digits)?;
-    let commit = read_commit(alloc, &bytes)?;
-    Ok((
-        commit.timestamp,
-        commit.subject.as_str().len(),
-        commit.body.as_str().len(),
-    ))
+fn commits_break_rules(rt: HostRuntime) {
+    for (digits, rule) in &COMMITS {
+        let bytes = decoded(&rt, rt.alloc(), digits);
+        let found = rule_of(&rt, read_commit(rt.alloc(), &bytes));
+        agree(&rt, digits, found == *rule);
+    }
 }
 
 #[test]
-fn reads_real_commits(rt: HostRuntime) -> Result<(), Fail> {
-    let alloc = rt.alloc();
-    assert!(rt;
-        lengths_of(alloc, OBJECTS[0].1)? == (1000000000, 9, 0)
-            && lengths_of(alloc, OBJECTS[10].1)? == (1700000000, 18, 19)
-    );
-    assert!(rt;
-        counts(alloc, b"\0")? == (0, 0)
-            && mode_of(alloc, b"\0\0\0\0\0\0\0\0\0\0\x41\xed")? == 0o40755
-    );
-    assert!(rt; is_bound_to(alloc, OBJECTS[0].1, "app/org.x.App/x86_64/stable")?);
-    assert_eq!(rt; first_other_binding(alloc, &BOUND)?, None);
-    Ok(())
+fn dirtrees_break_rules(rt: HostRuntime) {
+    for (digits, rule) in &TREES {
+        let bytes = decoded(&rt, rt.alloc(), digits);
+        let found = rule_of(&rt, read_dirtree(rt.alloc(), &bytes));
+        agree(&rt, digits, found == *rule);
+    }
+}
+
+#[test]
+fn dirmetas_break_rules(rt: HostRuntime) {
+    for (digits, rule) in &METAS {
+        let bytes = decoded(&rt, rt.alloc(), digits);
+        let found = rule_of(&rt, read_dirmeta(rt.alloc(), &bytes));
+        agree(&rt, digits, found == *rule);
+    }
+}
+
+/// The commit of the digits.
+fn commit_of(rt: &impl Abort, alloc: Global, digits: &str) -> Commit {
+    read_commit(alloc, &decoded(rt, alloc, digits)).expect(rt, "a commit")
+}
+
+/// The dirtree of the bytes.
+fn tree_of(rt: &impl Abort, alloc: Global, bytes: &[u8]) -> DirTree {
+    read_dirtree(alloc, bytes).expect(rt, "a dirtree")
+}
+
+/// The dirmeta of the bytes.
+fn meta_of(rt: &impl Abort, alloc: Global, bytes: &[u8]) -> DirMeta {
+    read_dirmeta(alloc, bytes).expect(rt, "a dirmeta")
+}
+
+/// Whether a commit has this timestamp, and a subject and a body of these lengths.
+fn has_lengths(commit: &Commit, timestamp: u64, subject: usize, body: usize) -> bool {
+    commit.timestamp == timestamp
+        && commit.subject.as_str().len() == subject
+        && commit.body.as_str().len() == body
+}
+
+/// Whether a dirtree has this many files and directories.
+fn has_counts(tree: &DirTree, files: usize, dirs: usize) -> bool {
+    tree.files.len() == files && tree.dirs.len() == dirs
+}
+
+#[test]
+fn reads_real_commits(rt: HostRuntime) {
+    let first = commit_of(&rt, rt.alloc(), OBJECTS[0].1);
+    assert!(rt; has_lengths(&first, 1000000000, 9, 0));
+    assert!(rt; is_bound_to(&rt, rt.alloc(), &first, "app/org.x.App/x86_64/stable"));
+    let other = commit_of(&rt, rt.alloc(), OBJECTS[10].1);
+    assert!(rt; has_lengths(&other, 1700000000, 18, 19));
+}
+
+#[test]
+fn reads_small_objects(rt: HostRuntime) {
+    assert!(rt; has_counts(&tree_of(&rt, rt.alloc(), b"\0"), 0, 0));
+    let meta = meta_of(&rt, rt.alloc(), b"\0\0\0\0\0\0\0\0\0\0\x41\xed");
+    assert!(rt; meta.mode == 0o40755);
 }
 
 /// Whether a commit is bound to this ref alone.
-fn is_bound_to(alloc: Global, digits: &str, text: &str) -> Result<bool, Fail> {
-    let bytes = hex::decode(alloc, digits)?;
-    let commit = read_commit(alloc, &bytes)?;
-    match binding(alloc, &commit)? {
-        Some(texts) => Ok(is_only(texts.as_slice(), text)),
-        None => Ok(false),
+fn is_bound_to(rt: &impl Abort, alloc: Global, commit: &Commit, text: &str) -> bool {
+    match binding(alloc, commit).expect(rt, "memory") {
+        Some(texts) => is_only(texts.as_slice(), text),
+        None => false,
     }
 }
 
@@ -202,14 +206,16 @@ const BOUND: [(&str, bool); 3] = [
     ),
 ];
 
-/// The place of the first commit that is bound otherwise.
-fn first_other_binding(alloc: Global, rows: &[(&str, bool)]) -> Result<Option<usize>, Fail> {
-    for (at, (digits, bound)) in rows.iter().enumerate() {
-        if is_bound_to(alloc, digits, "b")? != *bound {
-            return Ok(Some(at));
-        }
+#[test]
+fn the_last_binding_decides(rt: HostRuntime) {
+    for (row, (digits, bound)) in BOUND.iter().enumerate() {
+        let commit = commit_of(&rt, rt.alloc(), digits);
+        agree_at(
+            &rt,
+            row,
+            is_bound_to(&rt, rt.alloc(), &commit, "b") == *bound,
+        );
     }
-    Ok(None)
 }
 
 /// The kind at the end of an object's name.
@@ -224,81 +230,96 @@ fn kind_of(name: &str) -> ObjKind {
 }
 
 /// Whether an object is written as it was read.
-fn is_written_back(alloc: Global, kind: ObjKind, bytes: &[u8]) -> Result<bool, ObjectError> {
+fn is_written_back(rt: &impl Abort, alloc: Global, kind: ObjKind, bytes: &[u8]) -> bool {
     match kind {
-        ObjKind::Commit => commit_is_written_back(alloc, bytes),
-        ObjKind::DirTree => tree_is_written_back(alloc, bytes),
-        _ => meta_is_written_back(alloc, bytes),
+        ObjKind::Commit => commit_is_written_back(rt, alloc, bytes),
+        ObjKind::DirTree => tree_is_written_back(rt, alloc, bytes),
+        _ => meta_is_written_back(rt, alloc, bytes),
     }
 }
 
 /// Whether a commit is written as it was read.
-fn commit_is_written_back(alloc: Global, bytes: &[u8]) -> Result<bool, ObjectError> {
-    let commit = read_commit(alloc, bytes)?;
-    Ok(write_commit(alloc, &commit)?.as_slice() == bytes)
+fn commit_is_written_back(rt: &impl Abort, alloc: Global, bytes: &[u8]) -> bool {
+    let commit = read_commit(alloc, bytes).expect(rt, "a commit");
+    write_commit(alloc, &commit)
+        .expect(rt, "written")
+        .as_slice()
+        == bytes
 }
 
 /// Whether a dirtree is written as it was read.
-fn tree_is_written_back(alloc: Global, bytes: &[u8]) -> Result<bool, ObjectError> {
-    let tree = read_dirtree(alloc, bytes)?;
-    Ok(write_dirtree(alloc, &tree)?.as_slice() == bytes)
+fn tree_is_written_back(rt: &impl Abort, alloc: Global, bytes: &[u8]) -> bool {
+    let tree = tree_of(rt, alloc, bytes);
+    write_dirtree(alloc, &tree).expect(rt, "written").as_slice() == bytes
 }
 
 /// Whether a dirmeta is written as it was read.
-fn meta_is_written_back(alloc: Global, bytes: &[u8]) -> Result<bool, ObjectError> {
-    let meta = read_dirmeta(alloc, bytes)?;
-    Ok(write_dirmeta(alloc, &meta)?.as_slice() == bytes)
+fn meta_is_written_back(rt: &impl Abort, alloc: Global, bytes: &[u8]) -> bool {
+    let meta = meta_of(rt, alloc, bytes);
+    write_dirmeta(alloc, &meta).expect(rt, "written").as_slice() == bytes
 }
 
-/// The first of the real objects that has another name, or isn't written as it was read.
-fn first_changed<'a>(
-    alloc: Global,
-    objects: &'a [(&'a str, &'a str)],
-) -> Result<Option<&'a str>, Fail> {
-    for (name, digits) in objects {
-        let bytes = hex::decode(alloc, digits)?;
-        let digest = meta_digest(&bytes).digits();
-        if !name.as_bytes().starts_with(digest.as_slice())
-            || !is_written_back(alloc, kind_of(name), &bytes)?
-        {
-            return Ok(Some(*name));
-        }
-    }
-    Ok(None)
+/// Whether the object has this name, and is written as it was read.
+fn is_unchanged(rt: &impl Abort, alloc: Global, name: &str, digits: &str) -> bool {
+    let bytes = decoded(rt, alloc, digits);
+    let digest = meta_digest(&bytes).digits();
+    name.as_bytes().starts_with(digest.as_slice())
+        && is_written_back(rt, alloc, kind_of(name), &bytes)
 }
 
 #[test]
-fn writes_real_objects_back(rt: HostRuntime) -> Result<(), Fail> {
-    assert_eq!(rt; first_changed(rt.alloc(), &OBJECTS)?, None);
-    assert_eq!(rt; first_changed(rt.alloc(), &SHOWN)?, None);
-    Ok(())
-}
-
-/// The rule that the writing of a dirmeta of this mode names.
-fn written_meta_rule(alloc: Global, mode: u32) -> Result<Option<Rule>, Fail> {
-    Ok(rule_of(write_dirmeta(alloc, &DirMeta { mode }))?)
-}
-
-/// The rule that the writing of a dirtree of files of these names and one directory `d` names.
-fn written_tree_rule(alloc: Global, names: &[&str]) -> Result<Option<Rule>, Fail> {
-    let digest = Digest::from_bytes([1; 32]);
-    let mut files = Vec::new(alloc);
-    for name in names {
-        let name = Text::from_string(String::from_str(alloc, name)?);
-        files.push(FileEntry { name, digest })?;
+fn writes_made_objects_back(rt: HostRuntime) {
+    for (name, digits) in &OBJECTS {
+        agree(&rt, name, is_unchanged(&rt, rt.alloc(), name, digits));
     }
-    let name = Text::from_string(String::from_str(alloc, "d")?);
-    let mut dirs = Vec::new(alloc);
-    dirs.push(DirEntry {
+}
+
+#[test]
+fn writes_shown_objects_back(rt: HostRuntime) {
+    for (name, digits) in &SHOWN {
+        agree(&rt, name, is_unchanged(&rt, rt.alloc(), name, digits));
+    }
+}
+
+/// The text.
+fn text_of(rt: &impl Abort, alloc: Global, text: &str) -> Text {
+    Text::from_str(alloc, text).expect(rt, "memory")
+}
+
+/// The digest of objects that are named and not looked at.
+fn some_digest() -> Digest {
+    Digest::from_bytes([1; 32])
+}
+
+/// The file of this name.
+fn file_entry(name: Text) -> FileEntry {
+    FileEntry {
         name,
-        tree: digest,
-        meta: digest,
-    })?;
-    let tree = DirTree {
-        files: Items::from_vec(files),
-        dirs: Items::from_vec(dirs),
-    };
-    Ok(rule_of(write_dirtree(alloc, &tree))?)
+        digest: some_digest(),
+    }
+}
+
+/// The directory of this name.
+fn dir_entry(name: Text) -> DirEntry {
+    DirEntry {
+        name,
+        tree: some_digest(),
+        meta: some_digest(),
+    }
+}
+
+/// A dirtree of files of these names and one directory `d`.
+fn tree_of_names(rt: &impl Abort, alloc: Global, names: &[&str]) -> DirTree {
+    let mut files = Items::new(alloc);
+    for name in names {
+        files
+            .push(file_entry(text_of(rt, alloc, name)))
+            .expect(rt, "memory");
+    }
+    let mut dirs = Items::new(alloc);
+    dirs.push(dir_entry(text_of(rt, alloc, "d")))
+        .expect(rt, "memory");
+    DirTree { files, dirs }
 }
 
 /// Names of files beside the directory `d`, and the first rule that they break.
@@ -309,181 +330,193 @@ const NAMES: [(&[&str], Option<Rule>); 4] = [
     (&["d"], Some(Rule::Both)),
 ];
 
-/// The place of the first names that break another rule.
-fn first_other_names(
-    alloc: Global,
-    rows: &[(&[&str], Option<Rule>)],
-) -> Result<Option<usize>, Fail> {
-    for (at, (names, rule)) in rows.iter().enumerate() {
-        if written_tree_rule(alloc, names)? != *rule {
-            return Ok(Some(at));
-        }
+#[test]
+fn writes_names_in_order_alone(rt: HostRuntime) {
+    for (row, (names, rule)) in NAMES.iter().enumerate() {
+        let tree = tree_of_names(&rt, rt.alloc(), names);
+        let found = rule_of(&rt, write_dirtree(rt.alloc(), &tree));
+        agree_at(&rt, row, found == *rule);
     }
-    Ok(None)
 }
 
 /// A commit with nothing in it but its subject.
-fn bare_commit(alloc: Global, subject: &str) -> Result<Commit, Fail> {
-    let subject = Text::from_string(String::from_str(alloc, subject)?);
-    Ok(Commit {
+fn bare_commit(rt: &impl Abort, alloc: Global, subject: &str) -> Commit {
+    Commit {
         metadata: Blob::from_vec(Vec::new(alloc)),
         parent: None,
         related: Blob::from_vec(Vec::new(alloc)),
-        subject,
+        subject: text_of(rt, alloc, subject),
         body: Text::from_string(String::new(alloc)),
         timestamp: 0,
-        tree: Digest::from_bytes([1; 32]),
-        meta: Digest::from_bytes([1; 32]),
-    })
+        tree: some_digest(),
+        meta: some_digest(),
+    }
 }
 
-/// Whether a bare commit is written as these bytes.
-fn bare_is(alloc: Global, digits: &str) -> Result<bool, Fail> {
-    let bytes = hex::decode(alloc, digits)?;
-    let commit = bare_commit(alloc, "")?;
-    Ok(write_commit(alloc, &commit)?.as_slice() == bytes.as_slice())
+/// Modes of dirmetas, and the first rule that each breaks.
+const MODES: [(u32, Option<Rule>); 2] = [(0o40755, None), (0o100755, Some(Rule::Kind))];
+
+#[test]
+fn writes_modes_of_directories_alone(rt: HostRuntime) {
+    for (row, (mode, rule)) in MODES.iter().enumerate() {
+        let found = rule_of(&rt, write_dirmeta(rt.alloc(), &DirMeta { mode: *mode }));
+        agree_at(&rt, row, found == *rule);
+    }
 }
 
-/// The rule that the writing of a commit of this subject names.
-fn written_commit_rule(alloc: Global, subject: &str) -> Result<Option<Rule>, Fail> {
-    let commit = bare_commit(alloc, subject)?;
-    Ok(rule_of(write_commit(alloc, &commit))?)
+/// Subjects of commits, and the first rule that each breaks.
+const SUBJECTS: [(&str, Option<Rule>); 2] = [("a subject", None), ("a\0b", Some(Rule::Value))];
+
+#[test]
+fn writes_subjects_without_zeros_alone(rt: HostRuntime) {
+    for (subject, rule) in &SUBJECTS {
+        let commit = bare_commit(&rt, rt.alloc(), subject);
+        let found = rule_of(&rt, write_commit(rt.alloc(), &commit));
+        agree(&rt, subject, found == *rule);
+    }
 }
 
 #[test]
-fn writes_what_keeps_the_rules_alone(rt: HostRuntime) -> Result<(), Fail> {
-    let alloc = rt.alloc();
-    assert_eq!(rt; first_other_names(alloc, &NAMES)?, None);
-    assert!(rt;
-        written_meta_rule(alloc, 0o40755)? == None
-            && written_meta_rule(alloc, 0o100755)? == Some(Rule::Kind)
-            && written_commit_rule(alloc, "a subject")? == None
-            && written_commit_rule(alloc, "a\0b")? == Some(Rule::Value)
-            && bare_is(alloc, COMMITS[0].0)?
-    );
-    Ok(())
+fn writes_a_bare_commit(rt: HostRuntime) {
+    let bytes = decoded(&rt, rt.alloc(), COMMITS[0].0);
+    let commit = bare_commit(&rt, rt.alloc(), "");
+    let written = write_commit(rt.alloc(), &commit).expect(&rt, "written");
+    assert!(rt; written.as_slice() == bytes.as_slice());
 }
 
 /// The text in a value.
-fn string(alloc: Global, text: &str) -> Result<GvValue, Fail> {
-    Ok(GvValue::Str(Text::from_string(String::from_str(alloc, text)?)))
+fn string(rt: &impl Abort, alloc: Global, text: &str) -> GvValue {
+    GvValue::Str(text_of(rt, alloc, text))
 }
 
-/// So many equal bytes in a value.
-fn bytes(alloc: Global, count: usize, byte: u8) -> Result<GvValue, Fail> {
-    Ok(GvValue::Bytes(Blob::from_vec(vec![in alloc; byte; count]?)))
+/// This many equal bytes in a value.
+fn bytes(rt: &impl Abort, alloc: Global, count: usize, byte: u8) -> GvValue {
+    GvValue::Bytes(Blob::from_vec(vec![in alloc; byte; count].expect(rt, "memory")))
 }
 
-/// So many texts `r0000`, `r0001` and so on in a value.
-fn many_texts(alloc: Global, count: usize) -> Result<GvValue, Fail> {
+/// This many texts `r0000`, `r0001` and so on in a value.
+fn many_texts(rt: &impl Abort, alloc: Global, count: usize) -> GvValue {
     let mut texts = Vec::new(alloc);
     for number in 0..count {
-        texts.push(string(alloc, &numbered(alloc, "r", number)?)?)?;
+        let text = numbered(rt, alloc, "r", number);
+        texts.push(GvValue::Str(text)).expect(rt, "memory");
     }
-    Ok(GvValue::Array(texts))
+    GvValue::Array(texts)
 }
 
 /// A letter and a number of four digits.
-fn numbered(alloc: Global, letter: &str, number: usize) -> Result<String, Fail> {
-    Ok(format!(in alloc; "{letter}{number:04}")?)
+fn numbered(rt: &impl Abort, alloc: Global, letter: &str, number: usize) -> Text {
+    Text::from_string(format!(in alloc; "{letter}{number:04}").expect(rt, "memory"))
+}
+
+/// A value of a type in a variant.
+fn variant(rt: &impl Abort, alloc: Global, of: &str, value: GvValue) -> GvValue {
+    let of = GvType::parse(alloc, of.as_bytes()).expect(rt, "a type");
+    let of = Box::new(alloc, of).expect(rt, "memory");
+    GvValue::Variant(of, Box::new(alloc, value).expect(rt, "memory"))
 }
 
 /// An entry of metadata.
-fn entry(alloc: Global, key: &str, of: &str, value: GvValue) -> Result<GvValue, Fail> {
-    let of = Box::new(alloc, GvType::parse(alloc, of.as_bytes())?)?;
-    let value = Box::new(alloc, GvValue::Variant(of, Box::new(alloc, value)?))?;
-    let key = Box::new(alloc, string(alloc, key)?)?;
-    Ok(GvValue::Entry(key, value))
+fn entry(rt: &impl Abort, alloc: Global, key: &str, value: GvValue) -> GvValue {
+    let key = Box::new(alloc, string(rt, alloc, key)).expect(rt, "memory");
+    GvValue::Entry(key, Box::new(alloc, value).expect(rt, "memory"))
 }
 
-/// Metadata of 100 KiB, with a binding to so many refs.
-fn long_metadata(alloc: Global, count: usize) -> Result<GvValue, Fail> {
-    let mut entries = Vec::new(alloc);
-    entries.push(entry(alloc, "a", "ay", bytes(alloc, 100 << 10, 7)?)?)?;
-    let refs = many_texts(alloc, count)?;
-    entries.push(entry(alloc, "ostree.ref-binding", "as", refs)?)?;
-    Ok(GvValue::Array(entries))
+/// Two values in a list.
+fn pair(rt: &impl Abort, alloc: Global, first: GvValue, second: GvValue) -> Vec<GvValue> {
+    let mut members = Vec::new(alloc);
+    members.push(first).expect(rt, "memory");
+    members.push(second).expect(rt, "memory");
+    members
 }
 
-/// So many related objects.
-fn many_related(alloc: Global, count: usize) -> Result<GvValue, Fail> {
+/// Metadata of 100 KiB, with a binding to this many refs.
+fn long_metadata(rt: &impl Abort, alloc: Global, count: usize) -> GvValue {
+    let long = variant(rt, alloc, "ay", bytes(rt, alloc, 100 << 10, 7));
+    let refs = variant(rt, alloc, "as", many_texts(rt, alloc, count));
+    let first = entry(rt, alloc, "a", long);
+    let second = entry(rt, alloc, "ostree.ref-binding", refs);
+    GvValue::Array(pair(rt, alloc, first, second))
+}
+
+/// This many related objects.
+fn many_related(rt: &impl Abort, alloc: Global, count: usize) -> GvValue {
     let mut rows = Vec::new(alloc);
     for number in 0..count {
-        let name = string(alloc, &numbered(alloc, "o", number)?)?;
-        rows.push(tuple(alloc, name, bytes(alloc, 32, 1)?)?)?;
+        let name = GvValue::Str(numbered(rt, alloc, "o", number));
+        let row = pair(rt, alloc, name, bytes(rt, alloc, 32, 1));
+        rows.push(GvValue::Tuple(row)).expect(rt, "memory");
     }
-    Ok(GvValue::Array(rows))
+    GvValue::Array(rows)
 }
 
-/// A tuple of two.
-fn tuple(alloc: Global, first: GvValue, second: GvValue) -> Result<GvValue, Fail> {
-    let mut members = Vec::new(alloc);
-    members.push(first)?;
-    members.push(second)?;
-    Ok(GvValue::Tuple(members))
+/// The parts of a commit that are all long.
+fn long_parts(rt: &impl Abort, alloc: Global) -> Vec<GvValue> {
+    let text = "t".repeat(alloc, 100 << 10).expect(rt, "memory");
+    let (first, second) = (long_metadata(rt, alloc, 1_100), bytes(rt, alloc, 32, 2));
+    let mut parts = pair(rt, alloc, first, second);
+    parts
+        .push(many_related(rt, alloc, 1_100))
+        .expect(rt, "memory");
+    parts.push(string(rt, alloc, &text)).expect(rt, "memory");
+    parts.push(string(rt, alloc, &text)).expect(rt, "memory");
+    parts.push(GvValue::Uint64(1)).expect(rt, "memory");
+    parts.push(bytes(rt, alloc, 32, 3)).expect(rt, "memory");
+    parts.push(bytes(rt, alloc, 32, 4)).expect(rt, "memory");
+    parts
 }
 
 /// A commit whose parts are all long, in GVariant's spelling.
-fn long_commit(alloc: Global) -> Result<Blob, Fail> {
-    let of = GvType::parse(alloc, b"(a{sv}aya(say)sstayay)")?;
-    let text = "t".repeat(alloc, 100 << 10)?;
-    let mut members = Vec::new(alloc);
-    members.push(long_metadata(alloc, 1_100)?)?;
-    members.push(bytes(alloc, 32, 2)?)?;
-    members.push(many_related(alloc, 1_100)?)?;
-    members.push(string(alloc, &text)?)?;
-    members.push(string(alloc, &text)?)?;
-    members.push(GvValue::Uint64(1))?;
-    members.push(bytes(alloc, 32, 3)?)?;
-    members.push(bytes(alloc, 32, 4)?)?;
-    Ok(encode(alloc, &of, &GvValue::Tuple(members))?)
+fn long_commit(rt: &impl Abort, alloc: Global) -> Blob {
+    let of = GvType::parse(alloc, b"(a{sv}aya(say)sstayay)").expect(rt, "a type");
+    let value = GvValue::Tuple(long_parts(rt, alloc));
+    encode(alloc, &of, &value).expect(rt, "encoded")
 }
 
 /// How many refs a commit is bound to.
-fn bound(alloc: Global, bytes: &[u8]) -> Result<Option<usize>, Fail> {
-    let commit = read_commit(alloc, bytes)?;
-    Ok(match binding(alloc, &commit)? {
-        Some(texts) => Some(texts.as_slice().len()),
-        None => None,
-    })
-}
-
-/// So many files and as many directories.
-fn long_tree(alloc: Global, count: usize) -> Result<DirTree, Fail> {
-    let digest = Digest::from_bytes([1; 32]);
-    let mut files = Vec::new(alloc);
-    let mut dirs = Vec::new(alloc);
-    for number in 0..count {
-        let name = Text::from_string(numbered(alloc, "f", number)?);
-        files.push(FileEntry { name, digest })?;
-        let name = Text::from_string(numbered(alloc, "d", number)?);
-        dirs.push(DirEntry {
-            name,
-            tree: digest,
-            meta: digest,
-        })?;
+fn bound(rt: &impl Abort, alloc: Global, bytes: &[u8]) -> usize {
+    let commit = read_commit(alloc, bytes).expect(rt, "a commit");
+    match binding(alloc, &commit).expect(rt, "memory") {
+        Some(texts) => texts.as_slice().len(),
+        None => 0,
     }
-    Ok(DirTree {
-        files: Items::from_vec(files),
-        dirs: Items::from_vec(dirs),
-    })
-}
-
-/// Whether a dirtree of 1,100 files and as many directories is written, read and written again.
-fn long_tree_is_written(alloc: Global) -> Result<bool, Fail> {
-    let bytes = write_dirtree(alloc, &long_tree(alloc, 1_100)?)?;
-    Ok(
-        counts(alloc, bytes.as_slice())? == (1_100, 1_100)
-            && tree_is_written_back(alloc, bytes.as_slice())?,
-    )
 }
 
 #[test]
-fn long_objects(rt: HostRuntime) -> Result<(), Fail> {
-    let alloc = rt.alloc();
-    let commit = long_commit(alloc)?;
-    assert!(rt; commit_is_written_back(alloc, commit.as_slice())?);
-    assert!(rt; bound(alloc, commit.as_slice())? == Some(1_100));
-    assert!(rt; long_tree_is_written(alloc)?);
-    Ok(())
+fn a_long_commit_is_written_back(rt: HostRuntime) {
+    let commit = long_commit(&rt, rt.alloc());
+    assert!(rt; commit_is_written_back(&rt, rt.alloc(), commit.as_slice()));
+    assert!(rt; bound(&rt, rt.alloc(), commit.as_slice()) == 1_100);
+}
+
+/// This many files.
+fn many_files(rt: &impl Abort, alloc: Global, count: usize) -> Items<FileEntry> {
+    let mut files = Items::new(alloc);
+    for number in 0..count {
+        files
+            .push(file_entry(numbered(rt, alloc, "f", number)))
+            .expect(rt, "memory");
+    }
+    files
+}
+
+/// This many directories.
+fn many_dirs(rt: &impl Abort, alloc: Global, count: usize) -> Items<DirEntry> {
+    let mut dirs = Items::new(alloc);
+    for number in 0..count {
+        dirs.push(dir_entry(numbered(rt, alloc, "d", number)))
+            .expect(rt, "memory");
+    }
+    dirs
+}
+
+/// A dirtree of 1,100 files and as many directories is written, read and written again.
+#[test]
+fn a_long_dirtree_is_written_back(rt: HostRuntime) {
+    let files = many_files(&rt, rt.alloc(), 1_100);
+    let dirs = many_dirs(&rt, rt.alloc(), 1_100);
+    let written = write_dirtree(rt.alloc(), &DirTree { files, dirs }).expect(&rt, "written");
+    let bytes = written.as_slice();
+    assert!(rt; has_counts(&tree_of(&rt, rt.alloc(), bytes), 1_100, 1_100));
+    assert!(rt; tree_is_written_back(&rt, rt.alloc(), bytes));
 }

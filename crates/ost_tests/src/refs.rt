@@ -1,101 +1,148 @@
 //! Refs of a store in the host in memory.
 
-use fp_host::{Host, HostEnd, Path, Stat};
+use crate::rows::agree;
+use fp_host::{Host, Path, Stat};
 use fp_memhost::MemHost;
-use fp_name::{Digest, NameFault, RefName, RemoteName};
+use fp_name::{Digest, RefName, RemoteName};
 use ost_refs::{RefFile, RefPlace, drop_ref, list_refs, read_ref, write_ref};
-use std::alloc::{AllocError, Global};
-use std::test::Fail;
+use std::alloc::Global;
+use std::panic::Expect;
+use std::process::Abort;
 
 const EDITOR: &str = "app/org.x.Editor/x86_64/stable";
 
 const DIGITS: &str = "0123456789abcdef0123456789abcdef0123456789abcdef0123456789abcdef";
 
-fn head(alloc: Global, text: &str) -> Result<RefPlace, NameFault> {
-    Ok(RefPlace::Head(RefName::parse(alloc, text.as_bytes())?))
+/// The path of the text.
+fn path(rt: &impl Abort, alloc: Global, text: &str) -> Path {
+    Path::parse(alloc, text).expect(rt, "a path")
 }
 
-fn remote(alloc: Global, origin: &str, text: &str) -> Result<RefPlace, NameFault> {
-    let origin = RemoteName::parse(alloc, origin.as_bytes())?;
-    let name = RefName::parse(alloc, text.as_bytes())?;
-    Ok(RefPlace::Remote(origin, name))
+/// An empty host.
+fn new_host(rt: &impl Abort, alloc: Global) -> MemHost {
+    MemHost::new(alloc).expect(rt, "memory")
 }
 
-/// Makes the folders above the path that are absent, and a file of these bytes.
-fn put_file(alloc: Global, host: &mut MemHost, text: &str, bytes: &str) -> Result<(), HostEnd> {
-    let path = Path::parse(alloc, text)?;
+fn digest(rt: &impl Abort) -> Digest {
+    Digest::parse(DIGITS.as_bytes()).expect(rt, "a digest")
+}
+
+fn editor(rt: &impl Abort, alloc: Global) -> RefName {
+    RefName::parse(alloc, EDITOR.as_bytes()).expect(rt, "a ref")
+}
+
+/// The editor's ref in the store.
+fn head(rt: &impl Abort, alloc: Global) -> RefPlace {
+    RefPlace::Head(editor(rt, alloc))
+}
+
+/// The editor's ref of the remote `lab`.
+fn remote(rt: &impl Abort, alloc: Global) -> RefPlace {
+    let lab = RemoteName::parse(alloc, b"lab").expect(rt, "a name");
+    RefPlace::Remote(lab, editor(rt, alloc))
+}
+
+/// What the ref says in the store in `repo`.
+fn said(rt: &impl Abort, alloc: Global, host: &mut MemHost, place: &RefPlace) -> RefFile {
+    read_ref(alloc, host, &path(rt, alloc, "repo"), place).expect(rt, "an answer")
+}
+
+/// Writes a digest at the place in the store in `repo`.
+fn write(rt: &impl Abort, alloc: Global, host: &mut MemHost, place: &RefPlace) {
+    let root = path(rt, alloc, "repo");
+    write_ref(alloc, host, &root, place, &digest(rt)).expect(rt, "written");
+}
+
+/// Drops the ref at the place in the store in `repo`.
+fn drop_at(rt: &impl Abort, alloc: Global, host: &mut MemHost, place: &RefPlace) {
+    drop_ref(alloc, host, &path(rt, alloc, "repo"), place).expect(rt, "dropped");
+}
+
+/// Makes the folders above the path that are absent.
+fn make_folders(rt: &impl Abort, host: &mut MemHost, path: &Path) {
     for at in 1..path.len() {
-        let folder = path.folder(path.len() - at)?;
-        if host.stat(&folder)? == Stat::Absent {
-            host.make_dir(&folder)?;
+        let folder = path.folder(path.len() - at).expect(rt, "memory");
+        if host.stat(&folder) == Ok(Stat::Absent) {
+            host.make_dir(&folder).expect(rt, "a folder");
         }
     }
-    host.create(&path, 0o644)?;
-    host.append(&path, bytes.as_bytes())?;
-    Ok(())
+}
+
+/// Makes a file of these bytes.
+fn put_file(rt: &impl Abort, alloc: Global, host: &mut MemHost, text: &str, bytes: &str) {
+    let path = path(rt, alloc, text);
+    make_folders(rt, host, &path);
+    host.create(&path, 0o644).expect(rt, "a new file");
+    host.append(&path, bytes.as_bytes()).expect(rt, "a file");
 }
 
 /// Whether the file at the path has these bytes.
-fn holds(alloc: Global, host: &mut MemHost, text: &str, want: &str) -> Result<bool, HostEnd> {
-    let path = Path::parse(alloc, text)?;
+fn holds(rt: &impl Abort, alloc: Global, host: &mut MemHost, text: &str, want: &str) -> bool {
     let mut bytes = [0u8; 128];
-    let n = host.read_at(&path, 0, &mut bytes)?;
-    Ok(bytes.get(..n) == Some(want.as_bytes()))
+    let count = host
+        .read_at(&path(rt, alloc, text), 0, &mut bytes)
+        .expect(rt, "a file");
+    bytes.get(..count) == Some(want.as_bytes())
 }
 
-/// What the ref says in a store where its file has these bytes.
-fn said(alloc: Global, bytes: &str) -> Result<RefFile, Fail> {
-    let mut host = MemHost::new(alloc)?;
-    let text = format!(in alloc; "repo/refs/heads/{EDITOR}")?;
-    put_file(alloc, &mut host, &text, bytes)?;
-    let root = Path::parse(alloc, "repo")?;
-    Ok(read_ref(alloc, &mut host, &root, &head(alloc, EDITOR)?)?)
-}
-
-/// Whether the ref is absent, then reads as it is written, and its file is its digest and a newline.
-fn is_written(alloc: Global, host: &mut MemHost) -> Result<bool, Fail> {
-    let root = Path::parse(alloc, "repo")?;
-    let place = remote(alloc, "lab", EDITOR)?;
-    let digest = Digest::parse(DIGITS.as_bytes())?;
-    let before = read_ref(alloc, host, &root, &place)?;
-    write_ref(alloc, host, &root, &place, &digest)?;
-    let after = read_ref(alloc, host, &root, &place)?;
-    let want = format!(in alloc; "{DIGITS}\n")?;
-    Ok(
-        before == RefFile::Absent
-            && after == RefFile::Digest(digest)
-            && holds(
-                alloc,
-                host,
-                "repo/refs/remotes/lab/app/org.x.Editor/x86_64/stable",
-                &want,
-            )?,
-    )
-}
-
-/// Whether the ref is absent after it is dropped, as often as it is, and a stop leaves that.
-fn is_dropped(alloc: Global, host: &mut MemHost) -> Result<bool, Fail> {
-    let root = Path::parse(alloc, "repo")?;
-    let place = head(alloc, EDITOR)?;
-    let digest = Digest::parse(DIGITS.as_bytes())?;
-    drop_ref(alloc, host, &root, &place)?;
-    write_ref(alloc, host, &root, &place, &digest)?;
-    drop_ref(alloc, host, &root, &place)?;
-    let after = read_ref(alloc, host, &root, &place)?;
-    drop_ref(alloc, host, &root, &place)?;
-    Ok(after == RefFile::Absent && host.choices(host.calls())?.as_slice().is_empty())
-}
-
+/// The ref is absent, then reads as it is written, and its file is its digest and a newline.
 #[test]
-fn refs_come_and_go(rt: HostRuntime) -> Result<(), Fail> {
+fn a_ref_is_written(rt: HostRuntime) {
     let alloc = rt.alloc();
-    assert!(rt; is_written(alloc, &mut MemHost::new(alloc)?)?);
-    assert!(rt; is_dropped(alloc, &mut MemHost::new(alloc)?)?);
-    Ok(())
+    let mut host = new_host(&rt, alloc);
+    let place = remote(&rt, alloc);
+    assert!(rt; said(&rt, alloc, &mut host, &place) == RefFile::Absent);
+    write(&rt, alloc, &mut host, &place);
+    assert!(rt; said(&rt, alloc, &mut host, &place) == RefFile::Digest(digest(&rt)));
+    let file = "repo/refs/remotes/lab/app/org.x.Editor/x86_64/stable";
+    let want = format!(in alloc; "{DIGITS}\n").expect(&rt, "memory");
+    assert!(rt; holds(&rt, alloc, &mut host, file, &want));
 }
+
+/// The ref is absent after it is dropped, as often as it is, and a stop leaves that.
+#[test]
+fn a_ref_is_dropped(rt: HostRuntime) {
+    let alloc = rt.alloc();
+    let mut host = new_host(&rt, alloc);
+    let place = head(&rt, alloc);
+    drop_at(&rt, alloc, &mut host, &place);
+    write(&rt, alloc, &mut host, &place);
+    drop_at(&rt, alloc, &mut host, &place);
+    assert!(rt; said(&rt, alloc, &mut host, &place) == RefFile::Absent);
+    drop_at(&rt, alloc, &mut host, &place);
+    let choices = host.choices(host.calls()).expect(&rt, "memory");
+    assert!(rt; choices.as_slice().is_empty());
+}
+
+/// What the ref says in a store where this file has these bytes.
+fn said_by_file(rt: &impl Abort, alloc: Global, text: &str, bytes: &str) -> RefFile {
+    let mut host = new_host(rt, alloc);
+    put_file(rt, alloc, &mut host, text, bytes);
+    said(rt, alloc, &mut host, &head(rt, alloc))
+}
+
+/// The file of the editor's ref.
+const FILE: &str = "repo/refs/heads/app/org.x.Editor/x86_64/stable";
 
 /// What follows 64 digits in a file, and whether it is a ref.
 const ENDINGS: [(&str, bool); 4] = [("\n", true), ("", false), ("\n\n", false), (" ", false)];
+
+#[test]
+fn a_ref_has_64_digits_and_a_newline(rt: HostRuntime) {
+    for (ending, good) in &ENDINGS {
+        let bytes = format!(in rt.alloc(); "{DIGITS}{ending}").expect(&rt, "memory");
+        let want = if *good {
+            RefFile::Digest(digest(&rt))
+        } else {
+            RefFile::Bad
+        };
+        agree(
+            &rt,
+            ending,
+            said_by_file(&rt, rt.alloc(), FILE, &bytes) == want,
+        );
+    }
+}
 
 /// Files that are no refs.
 const NO_REFS: [&str; 2] = [
@@ -103,84 +150,48 @@ const NO_REFS: [&str; 2] = [
     "0123456789ABCDEF0123456789abcdef0123456789abcdef0123456789abcdef\n",
 ];
 
-/// The first of the endings after which the ref says something else.
-fn first_other_ending<'a>(
-    alloc: Global,
-    endings: &'a [(&'a str, bool)],
-) -> Result<Option<&'a str>, Fail> {
-    let digest = Digest::parse(DIGITS.as_bytes())?;
-    for (ending, good) in endings {
-        let bytes = format!(in alloc; "{DIGITS}{ending}")?;
-        let want = if *good {
-            RefFile::Digest(digest)
-        } else {
-            RefFile::Bad
-        };
-        if said(alloc, &bytes)? != want {
-            return Ok(Some(*ending));
-        }
-    }
-    Ok(None)
-}
-
-/// The first of the files that is a ref.
-fn first_ref<'a>(alloc: Global, files: &'a [&'a str]) -> Result<Option<&'a str>, Fail> {
-    for bytes in files {
-        if said(alloc, bytes)? != RefFile::Bad {
-            return Ok(Some(*bytes));
-        }
-    }
-    Ok(None)
-}
-
-/// What a ref says where a folder stands.
-fn said_by_folder(alloc: Global) -> Result<RefFile, Fail> {
-    let mut host = MemHost::new(alloc)?;
-    let root = Path::parse(alloc, "repo")?;
-    put_file(
-        alloc,
-        &mut host,
-        "repo/refs/heads/app/org.x.Editor/x86_64/stable/x",
-        "",
-    )?;
-    Ok(read_ref(alloc, &mut host, &root, &head(alloc, EDITOR)?)?)
-}
-
-/// A file of a mebibyte is no ref either.
 #[test]
-fn only_64_digits_and_a_newline_are_a_ref(rt: HostRuntime) -> Result<(), Fail> {
+fn other_files_are_no_refs(rt: HostRuntime) {
+    for bytes in &NO_REFS {
+        agree(
+            &rt,
+            bytes,
+            said_by_file(&rt, rt.alloc(), FILE, bytes) == RefFile::Bad,
+        );
+    }
+}
+
+/// A file of a mebibyte is no ref, and a folder with a ref's name isn't.
+#[test]
+fn a_long_file_and_a_folder_are_no_refs(rt: HostRuntime) {
     let alloc = rt.alloc();
-    assert_eq!(rt; first_other_ending(alloc, &ENDINGS)?, None);
-    assert_eq!(rt; first_ref(alloc, &NO_REFS)?, None);
-    assert!(rt;
-        said(alloc, &"a".repeat(alloc, 1 << 20)?)? == RefFile::Bad
-            && said_by_folder(alloc)? == RefFile::Bad
-    );
-    Ok(())
+    let long = "a".repeat(alloc, 1 << 20).expect(&rt, "memory");
+    let below = "repo/refs/heads/app/org.x.Editor/x86_64/stable/x";
+    assert!(rt; said_by_file(&rt, alloc, FILE, &long) == RefFile::Bad);
+    assert!(rt; said_by_file(&rt, alloc, below, "") == RefFile::Bad);
 }
 
 /// Adds the place's name, and a newline.
-fn add_name(text: &mut String, place: &RefPlace) -> Result<(), AllocError> {
+fn add_name(rt: &impl Abort, text: &mut String, place: &RefPlace) {
     match place {
-        RefPlace::Head(name) => text.push_str(name.as_str())?,
+        RefPlace::Head(name) => text.push_str(name.as_str()).expect(rt, "memory"),
         RefPlace::Remote(origin, name) => {
-            text.push_str(origin.as_str())?;
-            text.push(':')?;
-            text.push_str(name.as_str())?;
+            text.push_str(origin.as_str()).expect(rt, "memory");
+            text.push(':').expect(rt, "memory");
+            text.push_str(name.as_str()).expect(rt, "memory");
         }
     }
-    text.push('\n')
+    text.push('\n').expect(rt, "memory");
 }
 
 /// The places of the store in `repo`, one a line.
-fn listed(alloc: Global, host: &mut MemHost) -> Result<String, HostEnd> {
-    let root = Path::parse(alloc, "repo")?;
-    let places = list_refs(alloc, host, &root)?;
+fn listed(rt: &impl Abort, alloc: Global, host: &mut MemHost) -> String {
+    let places = list_refs(alloc, host, &path(rt, alloc, "repo")).expect(rt, "places");
     let mut text = String::new(alloc);
     for place in places.as_slice() {
-        add_name(&mut text, place)?;
+        add_name(rt, &mut text, place);
     }
-    Ok(text)
+    text
 }
 
 const FILES: [&str; 10] = [
@@ -196,40 +207,35 @@ const FILES: [&str; 10] = [
     "repo/refs/heads/app/org.x.Editor/aarch64/stable/x",
 ];
 
-const LISTED: &str =
-    "app/org.x.Editor-2/x86_64/stable\napp/org.x.Editor/x86_64/stable\nlab-2:app/org.x.Editor/x86_64/stable\nlab:app/org.x.Editor/x86_64/stable\nlab:runtime/org.x.Platform/x86_64/1\n";
-
-/// Puts these files.
-fn put_files(alloc: Global, host: &mut MemHost, files: &[&str]) -> Result<(), HostEnd> {
-    for text in files {
-        put_file(alloc, host, text, "")?;
-    }
-    Ok(())
-}
+const LISTED: &str = "\
+app/org.x.Editor-2/x86_64/stable
+app/org.x.Editor/x86_64/stable
+lab-2:app/org.x.Editor/x86_64/stable
+lab:app/org.x.Editor/x86_64/stable
+lab:runtime/org.x.Platform/x86_64/1
+";
 
 #[test]
-fn refs_are_listed_in_the_order_of_their_paths(rt: HostRuntime) -> Result<(), Fail> {
+fn refs_are_listed_in_the_order_of_their_paths(rt: HostRuntime) {
     let alloc = rt.alloc();
-    let mut host = MemHost::new(alloc)?;
-    assert_eq!(rt; listed(alloc, &mut host)?.as_str(), "");
-    put_files(alloc, &mut host, &FILES)?;
-    assert_eq!(rt; listed(alloc, &mut host)?.as_str(), LISTED);
-    Ok(())
-}
-
-/// How many refs are listed where so many branches of a name stand.
-fn count_of(alloc: Global, branches: usize) -> Result<usize, Fail> {
-    let mut host = MemHost::new(alloc)?;
-    for number in 0..branches {
-        let text = format!(in alloc; "repo/refs/heads/app/org.x.Editor/x86_64/{number}")?;
-        put_file(alloc, &mut host, &text, "")?;
+    let mut host = new_host(&rt, alloc);
+    assert!(rt; listed(&rt, alloc, &mut host).is_empty());
+    for text in &FILES {
+        put_file(&rt, alloc, &mut host, text, "");
     }
-    let root = Path::parse(alloc, "repo")?;
-    Ok(list_refs(alloc, &mut host, &root)?.len())
+    let text = listed(&rt, alloc, &mut host);
+    assert!(rt; text.as_str() == LISTED, "{text}");
 }
 
+/// All of 1,100 branches of a name are listed.
 #[test]
-fn many_refs(rt: HostRuntime) -> Result<(), Fail> {
-    assert!(rt; count_of(rt.alloc(), 1_100)? == 1_100);
-    Ok(())
+fn many_refs(rt: HostRuntime) {
+    let alloc = rt.alloc();
+    let mut host = new_host(&rt, alloc);
+    for number in 0..1_100 {
+        let text = format!(in alloc; "repo/refs/heads/app/org.x.Editor/x86_64/{number}");
+        put_file(&rt, alloc, &mut host, &text.expect(&rt, "memory"), "");
+    }
+    let places = list_refs(alloc, &mut host, &path(&rt, alloc, "repo")).expect(&rt, "places");
+    assert!(rt; places.len() == 1_100);
 }
