@@ -1,7 +1,6 @@
 -- A target of an update: what it leaves, and when there is nothing to do for it.
-use Rattle.std.proofs.Common.{◌≡◌, ◌⊎◌, inl, inr, ℕ, List, [], ◌∷◌, map, Bool, true, false, Option, Some, None, Result, Ok, Err, refl, sym, ◌∙◌, ap, subst}
+use Rattle.std.proofs.Common.{◌≡◌, ◌⊎◌, inl, inr, ℕ, List, [], map, Bool, true, false, Option, Some, None, Result, Ok, Err, refl, sym, ◌∙◌, ap, subst}
 use Rattle.std.specs.Prelude.{if◌then◌else◌}
-use Rattle.std.specs.Str.{bytes_eq}
 use Rattle.fp_host.specs.Reads.{is_ascending}
 use Rattle.fp_host.specs.Remote.{Holdings}
 use Rattle.fp_name.specs.Refs.{Ref}
@@ -24,11 +23,11 @@ use Rattle.fl_plan.proofs.Taking.{plan_settles}
 use Rattle.fl_plan.proofs.Turns.{deployed_row}
 use Rattle.fl_change.specs.World.{World}
 use Rattle.fl_change.specs.Answer.{Answer, nothing, refusal_answer, ops_of}
-use Rattle.fl_change.specs.Refs.{ops_over, planned, skipped, is_no_offer, unless_skipped, updated_from, target_over}
+use Rattle.fl_change.specs.Refs.{ops_over, skipped, is_no_offer, unless_skipped, updated_from, target_over}
 use Rattle.fl_change.proofs.Commands.{target_none, target_gone, target_there}
 use Rattle.fl_idle.specs.Current.{IsUnoffered, IsCurrentFrom, IsCurrentRow}
 use Rattle.fl_idle.proofs.Rows.{at_has_name}
-use Rattle.fl_idle.proofs.Steps.{Current, Goes, goes_nowhere, stays_current, BroughtAll, bring_all}
+use Rattle.fl_idle.proofs.Steps.{Current, Goes, goes_nowhere, bring_all}
 
 -- the row of this ref, if there is one, says this very ref
 abbrev pub Named : State → Ref → Type 0
@@ -103,12 +102,12 @@ module _ (held : Holdings) (x : World) where
       planned_left (Err refusal) plan none = by (is_no_offer refusal) refl none
         where
           by : (b : Bool) → is_no_offer refusal ≡ b → (if b then skipped name else refusal_answer refusal).refusal ≡ None → Left name (if b then skipped name else refusal_answer refusal)
-          by true no none =
-              let which = no_offer refusal no in
+          by true unoffered still_none =
+              let which = no_offer refusal unoffered in
               still name (skipped name) refl
               (current_if (λ said. unoffered_current name row is remote there said which.0 which.1
               (only_own_ref held x.have x.state remote name which.0 which.1 (plan ∙ ap (λ (r : Refusal). Err r) which.2))))
-          by false no none = absurd (cc none)
+          by false offers still_none = absurd (cc still_none)
 
     pub target_left : Named x.state name ⊎ Current held x.state name → (target_over name held x).refusal ≡ None → Left name (target_over name held x)
     target_left fits none = by_found (row_at x.state name) refl

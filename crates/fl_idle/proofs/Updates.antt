@@ -1,6 +1,6 @@
 -- Updates of all that is installed.
 use Rattle.std.proofs.Common.{◌≡◌, ◌⊎◌, inl, inr, ℕ, List, [], ◌∷◌, ◌++◌, map, Bool, true, false, Option, Some, None, refl, sym, ◌∙◌, ap, subst}
-use Rattle.std.specs.Prelude.{cond, filter, if◌then◌else◌}
+use Rattle.std.specs.Prelude.{cond, filter}
 use Rattle.std.specs.List.{AllByRecursion}
 use Rattle.std.specs.Str.{bytes_eq}
 use Rattle.std.proofs.lemmas.Bool.{cases_Bool}
@@ -12,7 +12,6 @@ use Rattle.fp_name.specs.Refs.{Ref, ref_text}
 use Rattle.fp_name.specs.declared.kind.RefKind.{RefKind}
 use Rattle.fp_name.specs.declared.kind.RefKind.TheVariants.{App, Runtime}
 use Rattle.fp_small.specs.Config.{name_of}
-use Rattle.fp_small.proofs.Ordered.{bytes_eq-is}
 use Rattle.fp_small.specs.declared.refusal.Refusal.{Refusal}
 use Rattle.fp_small.specs.declared.state.Layout.{Layout}
 use Rattle.fp_small.specs.declared.state.Layout.TheVariants.{One, Two}
@@ -27,7 +26,7 @@ use Rattle.fl_plan.specs.Targets.{is_kind, names_of, names_in, targets_of}
 use Rattle.fl_words.specs.declared.command.Change.{Change}
 use Rattle.fl_words.specs.declared.command.Change.TheVariants.{UpdateAll}
 use Rattle.fl_change.specs.World.{World, world_after, worlds_after}
-use Rattle.fl_change.specs.Answer.{Answer, Piece, IsIdle, IsUnpulled, nothing, continued, followed, then_over, each_over, ops_in, ops_of}
+use Rattle.fl_change.specs.Answer.{Answer, Piece, IsIdle, IsUnpulled, nothing, continued, then_over, each_over, ops_in, ops_of}
 use Rattle.fl_change.specs.Refs.{target_over, update_all_over}
 use Rattle.fl_change.specs.Turns.{in_turn, by_layout, changing}
 use Rattle.fl_change.proofs.Turning.{ops-append, after-append}
@@ -35,7 +34,7 @@ use Rattle.fl_change.proofs.Worlds.{worlds_state}
 use Rattle.fl_idle.specs.Current.{IsCurrent, IsCurrentRow}
 use Rattle.fl_idle.proofs.Rows.{at_has_name, all_append, all_front, all_back, all_filter, all_on, all_map}
 use Rattle.fl_idle.proofs.Steps.{Current, Goes, goes_nowhere, goes_on, stays_current}
-use Rattle.fl_idle.proofs.Targets.{Named, IsStill, Left, target_left, target_still}
+use Rattle.fl_idle.proofs.Targets.{Named, IsStill, target_left, target_still}
 
 -- ---- targets
 
@@ -95,7 +94,7 @@ module _ (held : Holdings) where
   pub all_left : (names : List Ref) (x : World) → is_ascending (map name_of x.state.remotes) ≡ true → AllByRecursion (Fits x.state) names
       → (each_over target_over names held x).refusal ≡ None → AllLeft x names (each_over target_over names held x)
   all_left [] x ascend fits none = record { goes = goes_nowhere held x.state; own = tt }
-  all_left (name ∷ names) x ascend fits none = by a.refusal refl none
+  all_left (name ∷ names) x ascend fits none = by a.refusal refl none (λ up fit left. all_left names y up fit left)
     where
       a : Answer
       a = target_over name held x
@@ -106,13 +105,14 @@ module _ (held : Holdings) where
       next : Answer
       next = each_over target_over names held y
 
-      by : (refused : Option Refusal) → a.refusal ≡ refused → (continued a.pieces refused next).refusal ≡ None → AllLeft x (name ∷ names) (each_over target_over (name ∷ names) held x)
-      by (Some r) is none = absurd (cc none)
-      by None is none =
+      by : (refused : Option Refusal) → a.refusal ≡ refused → (continued a.pieces refused next).refusal ≡ None
+          → (is_ascending (map name_of y.state.remotes) ≡ true → AllByRecursion (Fits y.state) names → next.refusal ≡ None → AllLeft y names next) → AllLeft x (name ∷ names) (each_over target_over (name ∷ names) held x)
+      by (Some r) is none again = absurd (cc none)
+      by None is none again =
           let left = target_left held x ascend name fits.0 is in
           let state : y.state ≡ after_all x.state (ops_of a) = worlds_state held x (ops_of a) in
           let goes : Goes held x.state y.state = subst (Goes held x.state) (sym state) left.goes in
-          let rest = all_left names y (ap (λ (rows : List RemoteRow). is_ascending (map name_of rows)) goes.remotes ∙ ascend) (all_on (Fits x.state) (Fits y.state) (fits_on x.state y.state goes) names fits.1) none in
+          let rest = again (ap (λ (rows : List RemoteRow). is_ascending (map name_of rows)) goes.remotes ∙ ascend) (all_on (Fits x.state) (Fits y.state) (fits_on x.state y.state goes) names fits.1) none in
           let ops : ops_of (each_over target_over (name ∷ names) held x) ≡ ops_of a ++ ops_of next = ap (λ (r : Option Refusal). ops_of (continued a.pieces r next)) is ∙ ops-append a.pieces next.pieces in
           let last : after_all x.state (ops_of (each_over target_over (name ∷ names) held x)) ≡ after_all y.state (ops_of next)
           = ap (after_all x.state) ops ∙ after-append (ops_of a) (ops_of next) x.state ∙ ap (λ (s : State). after_all s (ops_of next)) (sym state) in
