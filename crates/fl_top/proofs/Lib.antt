@@ -8,7 +8,7 @@ pub mod Asked
 pub mod Finishing
 pub mod Joining
 pub mod Ending
-pub mod Exporting
+pub mod Refreshed
 pub mod ExportLaws
 pub mod Refusing
 pub mod Reading

@@ -1,7 +1,7 @@
 -- A command that makes a remote.
-use Rattle.std.proofs.Common.{◌≡◌, inl, inr, ℕ, List, [], ◌∷◌, ◌++◌, Option, Some, None, Result, Ok, Err, IsErrAnd, IsErrOf, refl, sym, ◌∙◌, ap, subst}
+use Rattle.std.proofs.Common.{◌≡◌, inl, inr, ℕ, List, [], ◌∷◌, ◌++◌, Option, None, Result, Ok, Err, IsErrAnd, IsErrOf, refl, sym, ◌∙◌, ap, subst}
 use Rattle.std.proofs.lemmas.List.{append-nil}
-use Rattle.fp_host.specs.Paths.{Elements, absent, dir}
+use Rattle.fp_host.specs.Paths.{Elements}
 use Rattle.fp_host.specs.View.{View}
 use Rattle.fp_host.specs.Outcome.{Disk, Leaves, shows}
 use Rattle.fp_host.specs.Frame.{AtEnd, Unchanged}
@@ -14,7 +14,6 @@ use Rattle.fp_host.proofs.Goes.{begins, goes_on}
 use Rattle.fp_name.specs.Refs.{Ref}
 use Rattle.fp_small.specs.declared.refusal.Refusal.TheVariants.{BadRecord}
 use Rattle.fp_small.specs.declared.state.State.{State}
-use Rattle.ost_commit.specs.declared.built.Built.{Built}
 use Rattle.ost_commit.specs.Objects.{have_of}
 use Rattle.ost_description.specs.Commits.{IsDescribed, IsRead}
 use Rattle.ost_description.specs.Descriptions.{described}
@@ -22,9 +21,8 @@ use Rattle.ost_export.specs.Exports.{IsOffered}
 use Rattle.dep_states.specs.Shown.{Shows}
 use Rattle.dep_states.specs.Sound.{IsSound}
 use Rattle.fl_lines.specs.Lines.{made_text}
-use Rattle.fl_words.specs.declared.command.Command.{Command}
 use Rattle.fl_words.specs.declared.command.Command.TheVariants.{Export as Exporting}
-use Rattle.fl_make.specs.Making.{made, Makes, WasMade, IsMakeFault, CanMake}
+use Rattle.fl_make.specs.Making.{made, Makes, WasMade, IsMakeFault}
 use Rattle.fl_make.specs.declared.end.MakeEnd.{MakeEnd}
 use Rattle.fl_make.specs.declared.end.MakeEnd.TheVariants as make
 use Rattle.fl_change.specs.World.{World}
@@ -40,7 +38,7 @@ use Rattle.fl_top.specs.Asked.{OpsBy}
 use Rattle.fl_top.specs.Ends.{end_of_run, end_of_make}
 use Rattle.fl_top.specs.Exports.{made_by, Alters, made_at, OnlyRests}
 use Rattle.fl_top.specs.Input.{IsWhole}
-use Rattle.fl_top.specs.Remotes.{MakesBy, MadeBy, LeavesRemote}
+use Rattle.fl_top.specs.Remotes.{MakesBy, MadeBy}
 use Rattle.fl_top.specs.Runs.{Runs, Stands, Told, IsGivenTo, IsJust}
 use Rattle.fl_top.specs.RunsOver.{RunsOn, EndedOn, Closed, Completes}
 use Rattle.fl_top.specs.declared.command_end.CommandEnd.{CommandEnd}

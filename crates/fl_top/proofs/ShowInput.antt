@@ -1,7 +1,6 @@
 -- A command that shows its input.
 use Rattle.std.proofs.Common.{◌≡◌, ℕ, List, IsErrOf, Option, Some, Result, Ok, Err, IsErrAnd, refl, sym, ◌∙◌, ap, subst}
 use Rattle.fp_host.specs.Paths.{Elements}
-use Rattle.fp_host.specs.Remote.{Holdings}
 use Rattle.fp_host.specs.View.{View}
 use Rattle.fp_host.specs.Outcome.{shows}
 use Rattle.fp_host.specs.Causes.{IsCaused}

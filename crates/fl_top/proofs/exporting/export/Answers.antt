@@ -1,5 +1,5 @@
-use Rattle.std.proofs.Common.{◌≡◌, ◌∙◌, ℕ, List, Ok, Err, arith, ap, subst}
-use Rattle.fp_host.specs.Frame.{AtEnd, Unchanged}
+use Rattle.std.proofs.Common.{◌≡◌, ◌∙◌, ℕ, List, Ok, Err, arith, ap, subst, rules}
+use Rattle.fp_host.specs.Frame.{AtEnd}
 use Rattle.fp_host.specs.Moments.{Always, Goes}
 use Rattle.fl_words.specs.declared.command.Command.TheVariants.{Export as Exporting}
 use Rattle.fl_change.specs.Ends.{end_of_host}

@@ -9,7 +9,7 @@ use Rattle.fl_export.specs.Steps.{Refreshes, WasRefreshed}
 use Rattle.fl_change.specs.Turns.{changing, MayDo}
 use Rattle.fl_change.specs.declared.end.RunEnd.TheVariants as run
 use Rattle.fl_top.proofs.Asked.{not_asked, asks_work}
-use Rattle.fl_top.proofs.Exporting.{goes_refreshed, goes_not_refreshed, exports_stand, refresh_fault, refresh_remote, caused_refresh}
+use Rattle.fl_top.proofs.Refreshed.{goes_refreshed, goes_not_refreshed, exports_stand, refresh_fault, refresh_remote, caused_refresh}
 use Rattle.fl_top.proofs.Opening.{goes_not_opened, goes_failed, goes_changed, caused_open, caused_work, open_fault, open_remote, same_end}
 use Rattle.fl_top.proofs.Refusing.{changing_late}
 use Rattle.fl_top.proofs.running.make_changes.Goals as goal
