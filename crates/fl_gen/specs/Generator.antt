@@ -30,7 +30,7 @@ held_by first second url q = held_of (disk_by (at_urls first second url) q)
 abbrev pub holdings_of : GenRemotes → Holdings
 holdings_of g = held_by (kept g.first.rows.items) (kept g.second.rows.items)
 
--- The remotes of the generator for so many applications: the stores of its two versions, and nothing elsewhere.
+-- The remotes of the generator for this number of applications: the stores of its two versions, and nothing elsewhere.
 pub record IsGenerated (apps : ℕ) (held : Holdings) : Type 0 where
   pub first : Disk
   pub second : Disk

@@ -8,11 +8,11 @@ use Rattle.ost_commit.specs.declared.row.TreeRow.{TreeRow}
 use Rattle.ost_commit.specs.declared.row.TreeRow.TheVariants as row
 use Rattle.fl_gen.specs.declared.series.Series.{Series}
 
--- f at 0, 1 and so on, so many
+-- f at 0, 1 and so on, this number of times
 unfoldable pub each_of : {A : Type 0} → (ℕ → A) → ℕ → List A
 each_of f n = map f (range_with_len 0 n)
 
--- so many bytes: the first is the number modulo 251, and each goes on by 1
+-- this number of bytes: the first is the number modulo 251, and each goes on by 1
 abbrev pub counted_bytes : ℕ → ℕ → List ℕ
 counted_bytes start count = each_of (λ i. (start + i) % 251) count
 
@@ -91,6 +91,6 @@ runtime_ware version r = record { name = runtime_ref r; rows = runtime_rows vers
 abbrev pub app_ware : ℕ → ℕ → Ware
 app_ware version k = record { name = app_ref k; rows = app_rows version k }
 
--- four runtimes, and so many applications
+-- four runtimes, and this number of applications
 abbrev pub wares : ℕ → ℕ → List Ware
 wares version apps = each_of (runtime_ware version) 4 ++ each_of (app_ware version) apps

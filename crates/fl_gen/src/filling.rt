@@ -117,7 +117,7 @@ fn put_objects(alloc: Global, store: &mut Store, objects: &[BuiltObject]) -> Res
     Ok(())
 }
 
-/// Offers the commit of these rows under the ref. Rows that make none count as want of memory.
+/// Offers the commit of these rows under the ref. Rows that make none count as out of memory.
 fn offer(
     rt: &(impl Threads + Sync),
     alloc: Global,
@@ -166,7 +166,7 @@ fn offer_runtimes(
     Ok(())
 }
 
-/// Offers so many applications.
+/// Offers this number of applications.
 fn offer_apps(
     rt: &(impl Threads + Sync),
     alloc: Global,
@@ -187,7 +187,7 @@ fn offer_apps(
     Ok(())
 }
 
-/// The store of the generator, in this version, for so many applications.
+/// The store of the generator, in this version, for this number of applications.
 pub(crate) fn made_store(
     rt: &(impl Threads + Sync),
     alloc: Global,

@@ -15,7 +15,7 @@ pub(crate) fn numbered(alloc: Global, word: &str, number: usize) -> Result<Strin
     format!(in alloc; "{word}{number}")
 }
 
-/// The path with one element more. A name that may be no element of a path counts as want of memory; none is made.
+/// The path with one element more. A name that may be no element of a path counts as out of memory; none is made.
 fn path_below(above: &Path, name: &str) -> Result<Path, AllocError>
     ensures { IfOk result (λ path. path ≡ name.now ∷ above.now) }
 {
@@ -39,7 +39,7 @@ pub(crate) fn path_in_files(alloc: Global, name: &str) -> Result<Path, AllocErro
     path_below(&path_at_root(alloc, "files")?, name)
 }
 
-/// The ref of this kind and ID, for `x86_64` and of branch 1. An ID that is none counts as want of memory; none is made.
+/// The ref of this kind and ID, for `x86_64` and of branch 1. An ID that is none counts as out of memory; none is made.
 fn ref_of(alloc: Global, kind: RefKind, id: &str) -> Result<RefName, AllocError>
     ensures { IfOk result (λ name. name ≡ ref_with kind id.now (codes "x86_64") (codes "1")) }
 {
@@ -94,7 +94,7 @@ pub(crate) fn remote_name(alloc: Global) -> Result<RemoteName, AllocError>
     }
 }
 
-/// A url. What is none counts as want of memory; none is made.
+/// A url. What is none counts as out of memory; none is made.
 pub(crate) fn url_of(alloc: Global, text: &str) -> Result<RemoteUrl, AllocError>
     ensures { IfOk result (λ url. url ≡ text.now) }
 {

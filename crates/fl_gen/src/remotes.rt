@@ -24,7 +24,7 @@ pub struct GenRemotes {
 }
 
 impl GenRemotes {
-    /// The remotes for so many applications, 1 to 64: at each of two urls a store of four runtimes and these applications.
+    /// The remotes for this number of applications, 1 to 64: at each of two urls a store of four runtimes and these applications.
     pub fn new(rt: &(impl Threads + Sync), alloc: Global, apps: u32) -> Result<Self, AllocError>
         requires { apps ≤ 64 }
         ensures holds { IfOk result (λ r. ⟦<GenRemotes as Remotes>⟧.holds r ≡ Some (holdings_of r)) }

@@ -79,7 +79,7 @@ fn file_row(alloc: Global, word: &str, series: Series, number: usize) -> Result<
     })
 }
 
-/// Adds the first so many files to the rows.
+/// Adds this many files, from the first on, to the rows.
 pub(crate) fn push_series(
     alloc: Global,
     rows: &mut Items<TreeRow>,

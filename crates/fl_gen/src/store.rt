@@ -146,7 +146,7 @@ impl Store {
     }
 
     /// Puts a file or a link at the path. What is there already has to be the same; where it isn't, since two objects have one
-    /// digest, that counts as want of memory.
+    /// digest, that counts as out of memory.
     pub(crate) fn put(&mut self, path: Path, leaf: Leaf) -> Result<(), AllocError>
         requires { leaf_bits leaf ≡ true }
         ensures { OnOk result (Adds ((path, leaf_spot leaf) ∷ []) self.old.rows.items self.new.rows.items) }
