@@ -19,7 +19,7 @@ use std::thread::Threads;
 /// The most paths that are looked at together.
 const MOST_IN_BATCH: usize = 64;
 
-/// Looks at each of these paths in the store in this folder, so many together.
+/// Looks at each of these paths in the store in this folder, a batch after the other.
 fn check_all<T: Threads + Sync, H: Host, G: Gate + Sync>(
     rt: &T,
     alloc: Global,
