@@ -186,4 +186,4 @@ made_text commit = line_of (codes "commit" ∷ hex commit ∷ [])
 -- of an exercise of this number, how many applications and runtimes are deployed at its end
 abbrev pub exercise_text : ℕ → ℕ → ℕ → List ℕ
 exercise_text count applications runtimes =
-    line (codes "exercise " ++ (decimal count ++ (codes ": " ++ (decimal applications ++ (codes " applications, " ++ (decimal runtimes ++ codes " runtimes"))))))
+    codes "exercise " ++ (decimal count ++ (codes ": " ++ (decimal applications ++ (codes " applications, " ++ (decimal runtimes ++ codes " runtimes\n")))))
