@@ -2,5 +2,6 @@
 #![tactic(auto)]
 
 mod exercising;
+pub mod laws;
 
 pub use exercising::make_exercise;
