@@ -74,7 +74,7 @@ module _ (words : List (List ℕ)) (command : Command) (left : Option (List ℕ)
 -- ---- an exercise
 
 -- it could be made, or there was no memory
-pub exercise_made : {a b : Option Moments} (apps : ℕ) (left holds : _) (held : Holdings) (status : ℕ) → holds ≡ Some held → IsGenerated apps held → Goes a b (RunsOn (Exercising apps) (told left holds a)) (RanOn (Exercising apps) (told left holds a) status) → IsExercised apps left status a b
+pub exercise_made : {a b : Option Moments} (apps : ℕ) (left : Option (List ℕ)) (holds : Option Holdings) (held : Holdings) (status : ℕ) → holds ≡ Some held → IsGenerated apps held → Goes a b (RunsOn (Exercising apps) (told left holds a)) (RanOn (Exercising apps) (told left holds a) status) → IsExercised apps left status a b
 exercise_made {a = a} {b = b} apps left holds held status is generated goes =
     inl (held, generated, subst (λ (h : Option Holdings). Goes a b (RunsOn (Exercising apps) (told left h a)) (RanOn (Exercising apps) (told left h a) status)) is goes)
 
