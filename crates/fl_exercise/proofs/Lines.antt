@@ -50,6 +50,10 @@ told held text s {x = x} {y = y} opens was = record {
   config = λ not. was.untouched.names _;
 }
 
+while_told : (holds : Option Holdings) (f : Holdings → World → Answer) (s : State) (text : List ℕ) → ((held : Holdings) (x : View) → f held (world_at s x) ≡ text_answer text)
+    → (x y : View) → Says text x y → PerformsOver (Opens s) holds f s x y
+while_told holds f s text is x y says = record { performs = λ held known opens. subst (λ (a : Answer). Performs a s x y) (sym (is held x)) (telling text s opens says) }
+
 module _ {May : Op → Type 0} (f : Holdings → World → Answer) (s : State) where
   -- want of memory
   pub acts_halted : {o : Outside} → IsTold o.told → Acts (Opens s) May f s (Err NoMemory) o o
@@ -59,16 +63,13 @@ module _ {May : Op → Type 0} (f : Holdings → World → Answer) (s : State) w
 
   -- the text of each such answer
   module _ (text piece : List ℕ) {u v : Outside} (is : (held : Holdings) (x : View) → f held (world_at s x) ≡ text_answer text) (same : piece ≡ text) where
-    while_told : (x y : View) → Says text x y → PerformsOver (Opens s) u.holdings f s x y
-    while_told x y says = record { performs = λ held known opens. subst (λ (a : Answer). Performs a s x y) (sym (is held x)) (telling text s opens says) }
-
     pub acts_told : Saying piece (Ok tt) u v → Acts (Opens s) May f s (Ok s) u v
-    acts_told call = works_as (λ x y first p. while_told x y p)
+    acts_told call = works_as (λ x y first p. while_told u.holdings f s text is x y p)
         (λ x y first p q. record { performed = λ held known opens. subst (λ (a : Answer). Performed held a (world_at s x) (Ok s) x y) (sym (is held x)) (refl, refl, told held text s opens q) })
         (works_said text s piece same call)
 
     pub acts_not_told : (e : HostError) → Saying piece (Err e) u v → Acts (Opens s) May f s (Err (end_of_host (end_of e))) u v
-    acts_not_told e call = works_as (λ x y first p. while_told x y p)
+    acts_not_told e call = works_as (λ x y first p. while_told u.holdings f s text is x y p)
         (λ x y first p q. subst (λ (r : RunEnd). PerformedOver (Opens s) u.holdings f s (Err r) x y) (sym q) (record { performed = λ held known opens. tt }))
         (works_not_said text s piece e same call)
 
