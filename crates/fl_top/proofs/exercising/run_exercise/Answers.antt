@@ -1,5 +1,5 @@
-use Rattle.std.proofs.Common.{◌≡◌, inr, refl, arith}
-use Rattle.fl_gen.specs.Generator.{holdings_of}
+use Rattle.std.proofs.Common.{◌≡◌, ℕ, inr, refl, subst, arith}
+use Rattle.fl_gen.specs.Generator.{IsGenerated, holdings_of}
 use Rattle.fl_top.proofs.Exercises.{exercise_made, nothing_done}
 use Rattle.fl_top.proofs.exercising.run_exercise.Goals as goal
 
@@ -7,7 +7,8 @@ use Rattle.fl_top.proofs.exercising.run_exercise.Goals as goal
 
 pub returns-in-Ok-clause-runs : goal.returns-in-Ok-clause-runs
 returns-in-Ok-clause-runs g c =
-    exercise_made c.args.apps (g.I.Source.left c.args.input.now) _ (holdings_of c.in-Ok.remotes) c.run_command.result c.in-Ok.ensures.holds c.in-Ok.ensures.generated c.run_command.ensures.any_moment
+    let generated = subst (λ (n : ℕ). IsGenerated n (holdings_of c.in-Ok.remotes)) c.number.ensures.number c.in-Ok.ensures.generated in
+    exercise_made c.args.apps (g.I.Source.left c.args.input.now) _ (holdings_of c.in-Ok.remotes) c.run_command.result c.in-Ok.ensures.holds generated c.run_command.ensures.any_moment
 
 pub returns-in-Ok-clause-fault_has_cause : goal.returns-in-Ok-clause-fault_has_cause
 returns-in-Ok-clause-fault_has_cause g c =
