@@ -10,6 +10,8 @@ use Rattle.fp_host.specs.Remote.{Holdings}
 use Rattle.fp_host.specs.Frame.{AtEnd, Unchanged}
 use Rattle.fp_host.proofs.Framed.{IsTold}
 use Rattle.fp_host.proofs.Ending.{ends_goes, ends_looks}
+use Rattle.fp_host.proofs.Looking.{looks_start}
+use Rattle.fp_name.specs.Hex.{is_digest}
 use Rattle.fp_base.specs.declared.object.ObjKind.{ObjKind}
 use Rattle.par_digest.specs.declared.item.Item.{Item}
 use Rattle.par_digest.specs.Digests.{item_digest, item_digests}
@@ -26,9 +28,11 @@ use Rattle.ost_pull.specs.declared.batches.Turn.{Turn}
 use Rattle.ost_pull.specs.declared.batches.Turn.TheVariants as turns
 use Rattle.ost_pull.specs.Batches.{object_in, IsParted, IsBatched, IsBatchedAt, IsReady, AreReady, AddsTurn}
 use Rattle.ost_pull.specs.Pulls.{IsApart}
-use Rattle.ost_pull.specs.Work.{Works}
+use Rattle.ost_pull.specs.Takes.{TakesOne}
+use Rattle.ost_pull.specs.Work.{Works, Adds, KeepsOne}
 use Rattle.ost_pull.proofs.Apart.{works_object}
 use Rattle.ost_pull.proofs.Kept.{Named}
+use Rattle.ost_pull.proofs.Taken.{lacked, new_taken}
 
 -- ---- what a host has goes on
 
@@ -160,3 +164,9 @@ new_is {url = url} d kind object s new =
 
 pub new_good : {root : Elements} {url : List ℕ} {told : Option Moments} {holds : Option Holdings} {have : Have} (d : List ℕ) (kind : ObjKind) (object : Object) → Supplies root (Some url) told holds have → IsNew root url told holds d kind object → object_fault d kind (Some object) ≡ None → IsGood have d kind
 new_good d kind object s new good = record { good = ap (object_fault d kind) (new_is d kind object s new) ∙ good }
+
+-- ---- an object that was read whole is kept
+
+pub read_taken : {root t : Elements} {url : List ℕ} {holds : Option Holdings} {a b : Option Moments} → IsApart root t → (o : Named) (object : Object) (before after : List Named) → is_digest o.0 ≡ true → Adds o before after → IsTold a → IsTold b → IsNew root url a holds o.0 o.1 object
+    → Always (Works t) a b → AtEnd (KeepsOne t url holds o before after) a b → AtEnd (TakesOne root t url holds o before after) a b
+read_taken apart o object before after good adds told told' new works keeps = new_taken apart o before after good adds told told' (lacked o (looks_start told) new.none) works keeps

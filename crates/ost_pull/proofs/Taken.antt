@@ -273,6 +273,13 @@ never_refused P ends.HostFault none = tt
 never_refused P ends.RemoteFault none = tt
 never_refused P ends.NoMemory none = tt
 
+-- nor by one that is no refusal
+pub never_named : {A : Type 0} (P : WalkFault → Type 0) (end : WalkEnd) → ((w : WalkFault) → IsErrOf {T = A} (Err end) (ends.Refused w) → ⊥) → RefusesBy P end
+never_named P (ends.Refused w) none = absurd (none w refl)
+never_named P ends.HostFault none = tt
+never_named P ends.RemoteFault none = tt
+never_named P ends.NoMemory none = tt
+
 -- the objects that are given stay the same where nothing changes
 pub still_supplied : {a b : Option Moments} {holds holds' : Option Holdings} {root : Elements} {url : Option (List ℕ)} {have : Have} → Unchanged a b → holds' ≡ holds → Supplies root url a holds have → Supplies root url b holds' have
 still_supplied {root = root} {url = url} still same s =
