@@ -151,6 +151,7 @@ impl<'a, R: Files + AllocGlobal> Files for Logged<'a, R> {
     }
 
     fn open_dir(&self, path: &str) -> io::Result<R::Dir> {
+        self.log.note_look(path)?;
         self.log.rt.open_dir(path)
     }
 

@@ -24,8 +24,8 @@ const ASKED: [(Step<'static>, &str); 24] = [
     (Step::Append("d/f", "some"), "write order/root/d/f\n"),
     (
         Step::Sync,
-        "sync .\nsync order\nsync order/root\n\
-         sync order/root/d/f\nsync .\nsync order\nsync order/root\nsync order/root/d\n\
+        "sync order/root/d/f\nsync .\nsync order\nsync order/root\n\
+         sync .\nsync order\nsync order/root\nsync order/root/d\n\
          cut order/root/.lock\n",
     ),
     (Step::Sync, ""),
@@ -327,8 +327,9 @@ fn a_folder_without_a_lock_is_synced_once(rt: HostRuntime) -> Result<(), Fail> {
     Ok(())
 }
 
-// What is looked at: the root, and what isn't known to be there or absent.
-const LOOKS: [(Step<'static>, &str); 20] = [
+// What is looked at: the root, and what isn't known to be there or absent. A file that was written while it had two names is looked
+// at again.
+const LOOKS: [(Step<'static>, &str); 27] = [
     (
         Step::Stat("none"),
         "look looks/root\nmake looks\nmake looks/root\nlock looks/root/.lock\n\
@@ -343,12 +344,19 @@ const LOOKS: [(Step<'static>, &str); 20] = [
     (Step::Stat("d"), ""),
     (Step::Stat("d/x"), ""),
     (Step::Create("d/x", 0o644), "create looks/root/d/x\n"),
-    (Step::Stat("d/x"), "look looks/root/d/x\n"),
     (Step::Stat("d/x"), ""),
     (Step::Append("d/x", "more"), "write looks/root/d/x\n"),
-    (Step::Stat("d/x"), "look looks/root/d/x\n"),
+    (Step::Stat("d/x"), ""),
     (Step::Read("d/x"), ""),
+    (Step::List("d"), ""),
+    (Step::List("e"), ""),
+    (Step::List(""), "look looks/root/\n"),
     (Step::Link("d/x", "d/y"), "link looks/root/d/y\n"),
+    (Step::Stat("d/y"), ""),
+    (Step::Append("d/y", "more"), "write looks/root/d/y\n"),
+    (Step::Stat("d/x"), "look looks/root/d/x\n"),
+    (Step::Stat("d/x"), ""),
+    (Step::Stat("d/y"), "look looks/root/d/y\n"),
     (Step::Rename("d/x", "d/z"), "rename to looks/root/d/z\n"),
     (Step::Stat("d/e/f"), ""),
     (Step::Unlink("d/y"), "remove looks/root/d/y\n"),
@@ -404,5 +412,18 @@ fn many_files_are_synced(rt: HostRuntime) -> Result<(), Fail> {
     let log = Log::new(&rt, "many.log", "sync many/root/f47");
     assert!(rt; !synced(&log, "many/root", 60)?.1);
     clear(&rt, "many");
+    Ok(())
+}
+
+// Where more files are open than may be, they are synced before the next one is created.
+#[test]
+fn files_are_synced_early(rt: HostRuntime) -> Result<(), Fail> {
+    clear(&rt, "early");
+    let log = Log::new(&rt, "early.log", "");
+    assert!(rt; synced(&log, "early/root", 300)? == (44, true));
+    clear(&rt, "early");
+    let log = Log::new(&rt, "early.log", "sync early/root/f47");
+    assert!(rt; synced(&log, "early/root", 300)? == (0, false));
+    clear(&rt, "early");
     Ok(())
 }
