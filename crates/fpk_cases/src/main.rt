@@ -4,7 +4,7 @@
 
 use fl_top::run;
 use fp_host::{Host, Remotes, Source};
-use fpk_case_hosts::{Program, is_for_folder};
+use fpk_case_hosts::{Program, is_for_folder, is_for_memory};
 use fpk_case_play::{play_in_folder, play_in_memory, play_stops};
 use fpk_case_system::System;
 use fpk_case_text::{Case, Fault, Parser, Wrong};
@@ -128,7 +128,7 @@ fn try_cases<R: System>(rt: &R, alloc: Global, name: &str, cases: &[Case]) -> io
 
 /// Tries a case each way, prints what isn't as it says, and answers how much that is.
 fn try_case<R: System>(rt: &R, alloc: Global, name: &str, case: &Case) -> io::Result<u64> {
-    if let Some(wrong) = play_in_memory(&Fpk, rt, alloc, case)? {
+    if let Some(wrong) = in_memory(rt, alloc, case)? {
         return say(rt, name, case, "in memory", &wrong);
     }
     if let Some(wrong) = in_folder(rt, alloc, case)? {
@@ -138,6 +138,14 @@ fn try_case<R: System>(rt: &R, alloc: Global, name: &str, case: &Case) -> io::Re
         return say(rt, name, case, "with stops", &wrong);
     }
     Ok(0)
+}
+
+/// Plays a case in memory where it can be.
+fn in_memory<R: System>(rt: &R, alloc: Global, case: &Case) -> io::Result<Option<Wrong>> {
+    match is_for_memory(case) {
+        true => Ok(play_in_memory(&Fpk, rt, alloc, case)?),
+        false => Ok(None),
+    }
 }
 
 /// Plays a case over a folder where it can be.
