@@ -121,17 +121,13 @@ fn push_pieces(
     }
 }
 
-/// A recording of what is sent, in pieces of at most this many bytes.
-fn recording(rt: &impl Abort, alloc: Global, sent: &str, most: usize) -> Recording {
+/// What is sent, in pieces of at most this many bytes.
+fn pieces(rt: &impl Abort, alloc: Global, sent: &str, most: usize) -> Items<(Side, Blob)> {
     let mut pieces = Items::new(alloc);
     for message in sent.split_terminator(' ') {
         push_pieces(rt, &mut pieces, alloc, message, most);
     }
-    Recording {
-        client: None,
-        owners: Items::new(alloc),
-        pieces,
-    }
+    pieces
 }
 
 /// Whether a message that goes to a side is the one of this word.
@@ -151,16 +147,21 @@ fn are_sent(rt: &impl Abort, alloc: Global, messages: &[Out], words: &str) -> bo
 }
 
 /// What becomes of messages where `org.bar` has a level.
-fn filtered(rt: &impl Abort, alloc: Global, level: Level, recording: &Recording) -> Filtered {
+fn filtered(rt: &impl Abort, alloc: Global, level: Level, pieces: Items<(Side, Blob)>) -> Filtered {
     let mut policy = Policy::new(alloc);
     policy.add(alloc, "org.bar", level).expect(rt, "a rule");
-    filter(alloc, policy, recording).expect(rt, "memory")
+    let recording = Recording {
+        client: None,
+        owners: Items::new(alloc),
+        pieces,
+    };
+    filter(alloc, policy, &recording).expect(rt, "memory")
 }
 
 /// Whether a case comes to what it has to, cut into pieces of at most this many bytes.
 fn is_filtered(rt: &impl Abort, alloc: Global, case: &Case, most: usize) -> bool {
-    let recording = recording(rt, alloc, case.sent, most);
-    let filtered = filtered(rt, alloc, case.level, &recording);
+    let pieces = pieces(rt, alloc, case.sent, most);
+    let filtered = filtered(rt, alloc, case.level, pieces);
     filtered.bad.is_none() && are_sent(rt, alloc, filtered.out.as_slice(), case.wanted)
 }
 
