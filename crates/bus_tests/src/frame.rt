@@ -1,12 +1,13 @@
 //! Worked messages: the header that is read, the rule that is broken, and what is written.
 
-use crate::told::{body_line, front_line, spelled, with_byte, word_at};
+use crate::told::{body_line, bytes_of, front_line, spelled, with_byte, word_at};
 use bus_frame::{
     error_frame, is_bus_name, is_interface_name, is_member_name, is_object_path, is_unique_name,
     is_well_known_name,
 };
-use std::alloc::{AllocError, Global};
-use std::test::Fail;
+use std::alloc::Global;
+use std::panic::Expect;
+use std::process::Abort;
 
 /// The call of the method `M` at the path `/a` of `org.bar`, with serial 1.
 const CALL: &[u8] = b"l\x01\0\x01\0\0\0\0\x01\0\0\0\x30\0\0\0\
@@ -39,33 +40,32 @@ const BODIES: &str = "\
 420200010000001900000002000000100501750000000001080167000261730000000015000000076f72672e62617200000000043a312e3100 B 32 - - names:org.bar,:1.1,
 420200010000000400000002000000100501750000000001080167000261730000000000 B 32 - - names:";
 
-/// The first of the lines whose message is read otherwise.
-pub fn first_other_front<'a>(alloc: Global, table: &'a str) -> Result<Option<&'a str>, Fail> {
-    for line in table.lines() {
-        let (words, wanted) = line.split_once(' ').ok_or("line")?;
-        if front_line(alloc, &spelled(alloc, words)?)?.as_str() != wanted {
-            return Ok(Some(line));
-        }
-    }
-    Ok(None)
+/// Ends the test at a line whose message is read otherwise.
+pub fn agree_on_front(rt: &impl Abort, alloc: Global, line: &str) {
+    let (words, wanted) = line.split_once(' ').unwrap_or((line, ""));
+    let read = front_line(rt, alloc, &spelled(rt, alloc, words));
+    assert!(rt; read.as_str() == wanted, "{line}");
 }
 
-/// The first of the lines whose message has another body.
-fn first_other_body<'a>(alloc: Global, table: &'a str) -> Result<Option<&'a str>, Fail> {
-    for line in table.lines() {
-        let (words, wanted) = line.split_once(' ').ok_or("line")?;
-        if body_line(alloc, &spelled(alloc, words)?)?.as_str() != wanted {
-            return Ok(Some(line));
-        }
-    }
-    Ok(None)
+/// Ends the test at a line whose message has another body.
+fn agree_on_body(rt: &impl Abort, alloc: Global, line: &str) {
+    let (words, wanted) = line.split_once(' ').unwrap_or((line, ""));
+    let read = body_line(rt, alloc, &spelled(rt, alloc, words));
+    assert!(rt; read.as_str() == wanted, "{line}");
 }
 
 #[test]
-fn worked_messages(rt: HostRuntime) -> Result<(), Fail> {
-    assert_eq!(rt; first_other_front(rt.alloc(), FRONTS)?, None);
-    assert_eq!(rt; first_other_body(rt.alloc(), BODIES)?, None);
-    Ok(())
+fn worked_messages(rt: HostRuntime) {
+    for line in FRONTS.lines() {
+        agree_on_front(&rt, rt.alloc(), line);
+    }
+}
+
+#[test]
+fn worked_bodies(rt: HostRuntime) {
+    for line in BODIES.lines() {
+        agree_on_body(&rt, rt.alloc(), line);
+    }
 }
 
 /// How long a beginning of the worked call is, and what is read: what its fixed part says, and what follows that isn't
@@ -78,18 +78,12 @@ const LENGTHS: [(usize, &str); 5] = [
     (63, "lacks 1"),
 ];
 
-/// The first of the lengths of which something else is read.
-fn first_other_length(
-    alloc: Global,
-    lengths: &[(usize, &str)],
-) -> Result<Option<usize>, AllocError> {
-    for (count, wanted) in lengths {
-        let line = front_line(alloc, CALL.get(..*count).unwrap_or(&[]))?;
-        if line.as_str() != *wanted {
-            return Ok(Some(*count));
-        }
+#[test]
+fn beginnings(rt: HostRuntime) {
+    for (count, wanted) in &LENGTHS {
+        let line = front_line(&rt, rt.alloc(), CALL.get(..*count).unwrap_or(&[]));
+        assert!(rt; line.as_str() == *wanted, "{wanted}");
     }
-    Ok(None)
 }
 
 /// One byte of the worked call changed, and the rule that it then breaks.
@@ -125,68 +119,53 @@ const BROKEN: [(usize, u8, &str); 27] = [
     (1, 4, "breaks Required"),
 ];
 
-/// The first of the changes of the worked call of which something else is read.
-fn first_other_change(
-    alloc: Global,
-    rows: &[(usize, u8, &str)],
-) -> Result<Option<(usize, u8)>, AllocError> {
-    for (at, byte, wanted) in rows {
-        let line = front_line(alloc, &with_byte(alloc, CALL, *at, *byte)?)?;
-        if line.as_str() != *wanted {
-            return Ok(Some((*at, *byte)));
-        }
-    }
-    Ok(None)
-}
-
 #[test]
-fn broken_messages(rt: HostRuntime) -> Result<(), Fail> {
-    assert_eq!(rt; first_other_length(rt.alloc(), &LENGTHS)?, None);
-    assert_eq!(rt; first_other_change(rt.alloc(), &BROKEN)?, None);
-    Ok(())
+fn broken_messages(rt: HostRuntime) {
+    for (at, byte, wanted) in &BROKEN {
+        let changed = with_byte(&rt, rt.alloc(), CALL, *at, *byte);
+        let line = front_line(&rt, rt.alloc(), &changed);
+        assert!(rt; line.as_str() == *wanted, "{at} {wanted}");
+    }
 }
 
 /// Whether the answer to the worked call is this, byte for byte.
-fn is_answered(alloc: Global) -> Result<bool, AllocError> {
+fn is_answered(rt: &impl Abort, alloc: Global) -> bool {
     let name = "org.freedesktop.DBus.Error.ServiceUnknown";
-    Ok(error_frame(alloc, true, name, 1, None)?.as_slice() == ANSWER)
+    let answer = error_frame(alloc, true, name, 1, None).expect(rt, "memory");
+    answer.as_slice() == ANSWER
 }
 
 /// Whether an answer in big endian to a caller with a name is read.
-fn other_is_answered(alloc: Global) -> Result<bool, AllocError> {
-    let answer = error_frame(alloc, false, "a.b", 7, Some(":1.1"))?;
-    let line = front_line(alloc, answer.as_slice())?;
-    Ok(
-        answer.as_slice().first() == Some(&b'B')
-            && line.as_str() == "3 1 4294967295 - - - a.b 7 :1.1 org.freedesktop.DBus - 0",
-    )
+fn other_is_answered(rt: &impl Abort, alloc: Global) -> bool {
+    let answer = error_frame(alloc, false, "a.b", 7, Some(":1.1")).expect(rt, "memory");
+    let line = front_line(rt, alloc, answer.as_slice());
+    answer.as_slice().first() == Some(&b'B')
+        && line.as_str() == "3 1 4294967295 - - - a.b 7 :1.1 org.freedesktop.DBus - 0"
 }
 
 /// A name of 255 bytes.
-fn longest_name(alloc: Global) -> Result<String, AllocError> {
-    let mut name = String::from_str(alloc, "a.")?;
-    name.push_str(&"b".repeat(alloc, 253)?)?;
-    Ok(name)
+fn longest_name(rt: &impl Abort, alloc: Global) -> String {
+    let mut name = String::from_str(alloc, "a.").expect(rt, "memory");
+    let part = "b".repeat(alloc, 253).expect(rt, "memory");
+    name.push_str(&part).expect(rt, "memory");
+    name
 }
 
 /// Whether the answer with this name to a caller of this name is read.
-fn is_answered_to(alloc: Global, name: &str) -> Result<bool, AllocError> {
-    if name.len() > 255 {
-        return Ok(false);
+fn is_answered_to(rt: &impl Abort, alloc: Global, name: &str) -> bool {
+    if name.len() != 255 {
+        return false;
     }
-    let answer = error_frame(alloc, true, name, 1, Some(name))?;
-    let line = front_line(alloc, answer.as_slice())?;
-    Ok(word_at(&line, 6) == name && word_at(&line, 8) == name)
+    let answer = error_frame(alloc, true, name, 1, Some(name)).expect(rt, "memory");
+    let line = front_line(rt, alloc, answer.as_slice());
+    word_at(&line, 6) == name && word_at(&line, 8) == name
 }
 
 #[test]
-fn answers(rt: HostRuntime) -> Result<(), Fail> {
-    assert!(rt;
-        is_answered(rt.alloc())?
-            && other_is_answered(rt.alloc())?
-            && is_answered_to(rt.alloc(), &longest_name(rt.alloc())?)?
-    );
-    Ok(())
+fn answers(rt: HostRuntime) {
+    let name = longest_name(&rt, rt.alloc());
+    assert!(rt; is_answered(&rt, rt.alloc()) && other_is_answered(&rt, rt.alloc()));
+    assert!(rt; is_answered_to(&rt, rt.alloc(), &name));
 }
 
 /// Names, and what they are: interface, member, unique, well-known, bus name, path.
@@ -224,19 +203,14 @@ fn kinds_of(name: &[u8]) -> [u8; 6] {
     ]
 }
 
-/// The first of the names that is something else.
-fn first_other_kind<'a>(names: &'a [(&'a str, &'a str)]) -> Option<&'a str> {
-    for (name, kinds) in names {
-        if kinds_of(name.as_bytes()).as_slice() != kinds.as_bytes() {
-            return Some(*name);
-        }
-    }
-    None
-}
-
 #[test]
 fn kinds_of_names(rt: HostRuntime) {
-    assert_eq!(rt; first_other_kind(&KINDS), None);
+    for (name, kinds) in &KINDS {
+        assert!(rt;
+            kinds_of(name.as_bytes()).as_slice() == kinds.as_bytes(),
+            "{name}"
+        );
+    }
 }
 
 /// A call with each of the known fields, whose body is the text `t`.
@@ -249,22 +223,21 @@ const WHOLE: &str = "\
 const AFTER_TYPE: &str = " 0 1 /a a.b M a.b.Error 9 org.bar :1.1 s 6";
 
 /// Whether a message is read whole where it is of this type.
-fn is_read_as(alloc: Global, message: &[u8], kind: u8) -> Result<bool, AllocError> {
-    let bytes = with_byte(alloc, message, 1, kind)?;
-    let wanted = format!(in alloc; "{kind}{}", AFTER_TYPE)?;
-    let body = body_line(alloc, &bytes)?;
-    Ok(front_line(alloc, &bytes)?.as_str() == wanted.as_str() && body.as_str() == "l 136 t - -")
+fn is_read_as(rt: &impl Abort, alloc: Global, message: &[u8], kind: u8) -> bool {
+    let bytes = with_byte(rt, alloc, message, 1, kind);
+    let front = front_line(rt, alloc, &bytes);
+    let number = format!(in alloc; "{kind}").expect(rt, "memory");
+    front.strip_prefix(number.as_str()) == Some(AFTER_TYPE)
+        && body_line(rt, alloc, &bytes).as_str() == "l 136 t - -"
 }
 
-/// The first type of 1 to 255 of which a message isn't read whole, with each of its fields.
-fn first_unread(alloc: Global) -> Result<Option<u8>, Fail> {
-    let message = hex::decode(alloc, WHOLE)?;
+/// A message of each type is read whole, with each of its fields.
+#[test]
+fn each_type(rt: HostRuntime) {
+    let message = bytes_of(&rt, rt.alloc(), WHOLE);
     for kind in 1..=255u8 {
-        if !is_read_as(alloc, &message, kind)? {
-            return Ok(Some(kind));
-        }
+        assert!(rt; is_read_as(&rt, rt.alloc(), &message, kind), "{kind}");
     }
-    Ok(None)
 }
 
 /// A call whose path has 100 KiB and whose text a mebibyte.
@@ -281,23 +254,18 @@ const MANY: &str = "\
 6f72672e6261720007017300040000003a312e31000000000501750009000000080167000261730090330000+0700000\
 06f72672e62617200*1100";
 
-/// Whether a message whose path and body have 100 KiB and a mebibyte is read.
-fn long_is_read(alloc: Global) -> Result<bool, Fail> {
-    let bytes = spelled(alloc, LONG)?;
-    let line = front_line(alloc, &bytes)?;
-    let body = body_line(alloc, &bytes)?;
-    Ok(word_at(&line, 3).len() == (100 << 10) + 1 && word_at(&body, 2).len() == 1 << 20)
-}
-
-/// Whether 1,100 names are read.
-fn many_are_read(alloc: Global) -> Result<bool, Fail> {
-    let body = body_line(alloc, &spelled(alloc, MANY)?)?;
-    Ok(word_at(&body, 4).split(',').count() == 1_101)
-}
-
+/// A message whose path and body have 100 KiB and a mebibyte is read.
 #[test]
-fn each_type_and_long_messages(rt: HostRuntime) -> Result<(), Fail> {
-    assert_eq!(rt; first_unread(rt.alloc())?, None);
-    assert!(rt; long_is_read(rt.alloc())? && many_are_read(rt.alloc())?);
-    Ok(())
+fn long_message(rt: HostRuntime) {
+    let bytes = spelled(&rt, rt.alloc(), LONG);
+    let line = front_line(&rt, rt.alloc(), &bytes);
+    let body = body_line(&rt, rt.alloc(), &bytes);
+    assert!(rt; word_at(&line, 3).len() == (100 << 10) + 1 && word_at(&body, 2).len() == 1 << 20);
+}
+
+/// 1,100 names are read.
+#[test]
+fn many_names(rt: HostRuntime) {
+    let body = body_line(&rt, rt.alloc(), &spelled(&rt, rt.alloc(), MANY));
+    assert!(rt; word_at(&body, 4).split(',').count() == 1_101);
 }

@@ -1,11 +1,12 @@
 //! Worked policies: levels of names, and what becomes of messages one after another.
 
-use crate::told::word_at;
+use crate::told::{bytes_of, word_at};
 use bus_frame::{Flags, Header, MessageType};
 use bus_policy::{Level, Policy, PolicyError, RuleKind, Verdict, Watch};
 use fp_base::{Items, Side, Text};
-use std::alloc::{AllocError, Global};
-use std::test::Fail;
+use std::alloc::Global;
+use std::panic::Expect;
+use std::process::Abort;
 
 /// A step is a message and what becomes of it, as words: its side, type, flags, serial, the serial that it replies to, sender,
 /// destination, interface, member, signature, body in hexadecimal, and the verdict. Where `-` stands there is none.
@@ -16,10 +17,10 @@ fn word<'a>(step: &'a str, at: usize) -> Option<&'a str> {
     if word == "-" { None } else { Some(word) }
 }
 
-fn text(alloc: Global, step: &str, at: usize) -> Result<Option<Text>, AllocError> {
+fn text(rt: &impl Abort, alloc: Global, step: &str, at: usize) -> Option<Text> {
     match word(step, at) {
-        Some(word) => Ok(Some(Text::from_str(alloc, word)?)),
-        None => Ok(None),
+        Some(word) => Some(Text::from_str(alloc, word).expect(rt, "memory")),
+        None => None,
     }
 }
 
@@ -27,59 +28,30 @@ fn number(step: &str, at: usize) -> u32 {
     word_at(step, at).parse::<u32>().unwrap_or(0)
 }
 
-/// Between whom a message goes.
-#[derive(Drop)]
-struct Ends {
-    sender: Option<Text>,
-    destination: Option<Text>,
+fn byte(step: &str, at: usize) -> u8 {
+    word_at(step, at).parse::<u8>().unwrap_or(0)
 }
 
-fn ends_of(alloc: Global, step: &str) -> Result<Ends, AllocError> {
-    Ok(Ends {
-        sender: text(alloc, step, 5)?,
-        destination: text(alloc, step, 6)?,
-    })
-}
-
-/// What a message is about, and the types of its body.
-#[derive(Drop)]
-struct Subject {
-    interface: Option<Text>,
-    member: Option<Text>,
-    signature: Option<Text>,
-}
-
-fn subject_of(alloc: Global, step: &str) -> Result<Subject, AllocError> {
-    Ok(Subject {
-        interface: text(alloc, step, 7)?,
-        member: text(alloc, step, 8)?,
-        signature: text(alloc, step, 9)?,
-    })
-}
-
-/// The header of a step with a body of so many bytes.
-fn header(alloc: Global, step: &str, body_len: u64) -> Result<Header, AllocError> {
-    let path = Text::from_str(alloc, "/x/y")?;
-    let subject = subject_of(alloc, step)?;
-    let ends = ends_of(alloc, step)?;
-    Ok(Header {
+/// The header of a step with a body of this length.
+fn header(rt: &impl Abort, alloc: Global, step: &str, body_len: u64) -> Header {
+    Header {
         little: true,
-        kind: MessageType::from_code(u8::try_from(number(step, 1)).unwrap_or(0)),
+        kind: MessageType::from_code(byte(step, 1)),
         flags: Flags {
-            bits: u8::try_from(number(step, 2)).unwrap_or(0),
+            bits: byte(step, 2),
         },
         serial: number(step, 3),
-        path: Some(path),
-        interface: subject.interface,
-        member: subject.member,
+        path: Some(Text::from_str(alloc, "/x/y").expect(rt, "memory")),
+        interface: text(rt, alloc, step, 7),
+        member: text(rt, alloc, step, 8),
         error_name: None,
         reply_serial: word(step, 4).map(|_| number(step, 4)),
-        destination: ends.destination,
-        sender: ends.sender,
-        signature: subject.signature,
+        destination: text(rt, alloc, step, 6),
+        sender: text(rt, alloc, step, 5),
+        signature: text(rt, alloc, step, 9),
         body_at: 0,
         body_len,
-    })
+    }
 }
 
 fn side(step: &str) -> Side {
@@ -102,36 +74,19 @@ fn verdict_word(verdict: Verdict) -> &'static str {
 }
 
 /// Notes a message of a step, and whether it goes as it is to.
-fn goes_so(
-    watch: &mut Watch,
-    step: &str,
-    header: &Header,
-    body: &[u8],
-) -> Result<bool, AllocError> {
+fn goes_so(rt: &impl Abort, watch: &mut Watch, step: &str, header: &Header, body: &[u8]) -> bool {
     let verdict = watch.verdict(side(step), header, body);
-    watch.note(side(step), header, body, verdict)?;
-    Ok(word_at(step, 11) == verdict_word(verdict))
+    watch
+        .note(side(step), header, body, verdict)
+        .expect(rt, "memory");
+    word_at(step, 11) == verdict_word(verdict)
 }
 
 /// Notes a step, and whether it goes as it is to.
-fn goes(alloc: Global, watch: &mut Watch, step: &str) -> Result<bool, Fail> {
-    let body = hex::decode(alloc, word(step, 10).unwrap_or(""))?;
-    let header = header(alloc, step, body.len() as u64)?;
-    Ok(goes_so(watch, step, &header, &body)?)
-}
-
-/// The first of the steps that goes otherwise.
-fn first_other_step<'a>(
-    alloc: Global,
-    watch: &mut Watch,
-    steps: &'a str,
-) -> Result<Option<&'a str>, Fail> {
-    for step in steps.lines() {
-        if !goes(alloc, watch, step)? {
-            return Ok(Some(step));
-        }
-    }
-    Ok(None)
+fn goes(rt: &impl Abort, alloc: Global, watch: &mut Watch, step: &str) -> bool {
+    let body = bytes_of(rt, alloc, word(step, 10).unwrap_or(""));
+    let header = header(rt, alloc, step, body.len() as u64);
+    goes_so(rt, watch, step, &header, &body)
 }
 
 /// Names that are open at a level, and rules for calls and broadcasts.
@@ -142,29 +97,65 @@ const LEVELS: [(&str, Level); 4] = [
     ("org.foo.less", Level::See),
 ];
 
-fn policy(alloc: Global) -> Result<Policy, Fail> {
+fn policy(rt: &impl Abort, alloc: Global) -> Policy {
     let mut policy = Policy::new(alloc);
     for (pattern, level) in &LEVELS {
-        policy.add(alloc, pattern, *level)?;
+        policy.add(alloc, pattern, *level).expect(rt, "a rule");
     }
-    policy.add_rule(alloc, RuleKind::Call, "org.ruled.*", "a.b.C@/x/*")?;
-    policy.add_rule(alloc, RuleKind::Broadcast, "org.cast", "a.b.*")?;
-    Ok(policy)
+    add_rule(
+        rt,
+        alloc,
+        &mut policy,
+        RuleKind::Call,
+        "org.ruled.*",
+        "a.b.C@/x/*",
+    );
+    add_rule(
+        rt,
+        alloc,
+        &mut policy,
+        RuleKind::Broadcast,
+        "org.cast",
+        "a.b.*",
+    );
+    policy
 }
 
-/// A watch of this policy for the client `:1.1`, where `:1.7` owns `org.foo`.
-fn watch(alloc: Global) -> Result<Watch, Fail> {
-    let mut owners = Vec::new(alloc);
-    owners.push((
-        Text::from_str(alloc, "org.foo")?,
-        Text::from_str(alloc, ":1.7")?,
-    ))?;
-    Ok(Watch::new(
-        alloc,
-        policy(alloc)?,
-        Some(":1.1"),
-        &Items::from_vec(owners),
-    )?)
+fn add_rule(
+    rt: &impl Abort,
+    alloc: Global,
+    policy: &mut Policy,
+    kind: RuleKind,
+    pattern: &str,
+    rule: &str,
+) {
+    policy
+        .add_rule(alloc, kind, pattern, rule)
+        .expect(rt, "a rule");
+}
+
+fn push_owner(
+    rt: &impl Abort,
+    alloc: Global,
+    owners: &mut Items<(Text, Text)>,
+    name: &str,
+    owner: &str,
+) {
+    let name = Text::from_str(alloc, name).expect(rt, "memory");
+    let owner = Text::from_str(alloc, owner).expect(rt, "memory");
+    owners.push((name, owner)).expect(rt, "memory");
+}
+
+/// A watch of a policy for the client `:1.1`.
+fn watch_of(rt: &impl Abort, alloc: Global, policy: Policy, owners: &Items<(Text, Text)>) -> Watch {
+    Watch::new(alloc, policy, Some(":1.1"), owners).expect(rt, "memory")
+}
+
+/// A watch of this policy where `:1.7` owns `org.foo`.
+fn watch(rt: &impl Abort, alloc: Global) -> Watch {
+    let mut owners = Items::new(alloc);
+    push_owner(rt, alloc, &mut owners, "org.foo", ":1.7");
+    watch_of(rt, alloc, policy(rt, alloc), &owners)
 }
 
 /// Names and their levels at the opening.
@@ -185,29 +176,12 @@ const NAMES: [(&str, Level); 14] = [
     (":1.8", Level::None),
 ];
 
-/// The first of the names that is at another level.
-fn first_other_level<'a>(watch: &Watch, names: &'a [(&'a str, Level)]) -> Option<&'a str> {
-    for (name, level) in names {
-        if watch.level(name) != *level {
-            return Some(*name);
-        }
-    }
-    None
-}
-
-/// The first of the names that is at another level at the opening.
-fn first_other_at_opening<'a>(
-    alloc: Global,
-    names: &'a [(&'a str, Level)],
-) -> Result<Option<&'a str>, Fail> {
-    let watch = watch(alloc)?;
-    Ok(first_other_level(&watch, names))
-}
-
 #[test]
-fn levels(rt: HostRuntime) -> Result<(), Fail> {
-    assert_eq!(rt; first_other_at_opening(rt.alloc(), &NAMES)?, None);
-    Ok(())
+fn levels(rt: HostRuntime) {
+    let watch = watch(&rt, rt.alloc());
+    for (name, level) in &NAMES {
+        assert!(rt; watch.level(name) == *level, "{name}");
+    }
 }
 
 /// Patterns that are none, and rules that are none for a name.
@@ -219,31 +193,33 @@ fn is_bad(policy: &mut Policy, alloc: Global, pattern: &str, rule: &str) -> bool
     added.err() == Some(PolicyError::Bad)
 }
 
-/// The first of the patterns that is one.
-fn first_good<'a>(policy: &mut Policy, alloc: Global, patterns: &'a [&'a str]) -> Option<&'a str> {
-    for pattern in patterns {
-        let added = policy.add(alloc, pattern, Level::Own);
-        if added.err() != Some(PolicyError::Bad) || !is_bad(policy, alloc, pattern, "*") {
-            return Some(*pattern);
-        }
-    }
-    None
-}
-
-/// Whether nothing is added at these patterns, or with a bad rule, and a level at a good pattern after that.
-fn bad_are_refused(alloc: Global, policy: &mut Policy) -> Result<bool, Fail> {
-    let are_refused = first_good(policy, alloc, &BAD_PATTERNS).is_none()
-        && is_bad(policy, alloc, "org.*", "a.b")
-        && policy.rules().len() == 6;
-    policy.add(alloc, "org.*", Level::See)?;
-    Ok(are_refused && policy.rules().len() == 7)
+/// Whether nothing is added at this pattern.
+fn is_no_pattern(policy: &mut Policy, alloc: Global, pattern: &str) -> bool {
+    let added = policy.add(alloc, pattern, Level::Own);
+    added.err() == Some(PolicyError::Bad) && is_bad(policy, alloc, pattern, "*")
 }
 
 #[test]
-fn bad_rules(rt: HostRuntime) -> Result<(), Fail> {
-    let mut policy = policy(rt.alloc())?;
-    assert!(rt; bad_are_refused(rt.alloc(), &mut policy)?);
-    Ok(())
+fn bad_patterns(rt: HostRuntime) {
+    let mut policy = policy(&rt, rt.alloc());
+    for pattern in &BAD_PATTERNS {
+        assert!(rt;
+            is_no_pattern(&mut policy, rt.alloc(), pattern),
+            "{pattern}"
+        );
+    }
+    assert!(rt; policy.rules().len() == 6);
+}
+
+/// Nothing is added with a bad rule, and a level at a good pattern after that.
+#[test]
+fn bad_rules(rt: HostRuntime) {
+    let mut policy = policy(&rt, rt.alloc());
+    assert!(rt; is_bad(&mut policy, rt.alloc(), "org.*", "a.b") && policy.rules().len() == 6);
+    policy
+        .add(rt.alloc(), "org.*", Level::See)
+        .expect(&rt, "a rule");
+    assert!(rt; policy.rules().len() == 7);
 }
 
 /// Calls of the client: to a name at talk, see, none; without a reply; by a rule and past it; to the client itself.
@@ -327,71 +303,79 @@ b 4 0 1 - :1.5 :1.1 c.d M - - Pass
 c 1 0 1 - - :1.5 - M - - Deny
 b 4 0 1 - - - c.d M - - Drop";
 
-/// Whether all steps go as they are to, from the opening on.
-fn all_go(alloc: Global, steps: &str) -> Result<bool, Fail> {
-    let mut watch = watch(alloc)?;
-    Ok(first_other_step(alloc, &mut watch, steps)?.is_none())
+/// Ends the test where a step goes otherwise than it is to, from the opening on.
+fn agree(rt: &impl Abort, alloc: Global, steps: &str) {
+    let mut watch = watch(rt, alloc);
+    for step in steps.lines() {
+        assert!(rt; goes(rt, alloc, &mut watch, step), "{step}");
+    }
 }
 
 #[test]
-fn verdicts(rt: HostRuntime) -> Result<(), Fail> {
-    assert!(rt;
-        all_go(rt.alloc(), CALLS)?
-            && all_go(rt.alloc(), DRIVER_CALLS)?
-            && all_go(rt.alloc(), REPLIES)?
-            && all_go(rt.alloc(), PEER_CALLS)?
-            && all_go(rt.alloc(), SIGNALS)?
-    );
-    Ok(())
+fn verdicts(rt: HostRuntime) {
+    for steps in [CALLS, DRIVER_CALLS, REPLIES, PEER_CALLS, SIGNALS] {
+        agree(&rt, rt.alloc(), steps);
+    }
 }
 
-/// A policy of so many rules, and as many for calls.
-fn long_policy(alloc: Global, count: usize) -> Result<Policy, Fail> {
+/// A policy of this many rules, and as many for calls.
+fn long_policy(rt: &impl Abort, alloc: Global, count: usize) -> Policy {
     let mut policy = Policy::new(alloc);
     for number in 0..count {
-        let pattern = format!(in alloc; "org.n{number}.*")?;
-        policy.add(alloc, &pattern, Level::Talk)?;
-        policy.add_rule(alloc, RuleKind::Call, &pattern, "a.b.C@/x/*")?;
+        let pattern = format!(in alloc; "org.n{number}.*").expect(rt, "memory");
+        policy
+            .add(alloc, &pattern, Level::Talk)
+            .expect(rt, "a rule");
+        add_rule(
+            rt,
+            alloc,
+            &mut policy,
+            RuleKind::Call,
+            &pattern,
+            "a.b.C@/x/*",
+        );
     }
-    Ok(policy)
+    policy
 }
 
-/// So many names, each with an owner of its own.
-fn many_owners(alloc: Global, count: usize) -> Result<Items<(Text, Text)>, Fail> {
-    let mut owners = Vec::new(alloc);
+/// This many names, each with an owner of its own.
+fn many_owners(rt: &impl Abort, alloc: Global, count: usize) -> Items<(Text, Text)> {
+    let mut owners = Items::new(alloc);
     for number in 0..count {
-        let name = Text::from_string(format!(in alloc; "org.n{number}.a")?);
-        let owner = Text::from_string(format!(in alloc; ":2.{number}")?);
-        owners.push((name, owner))?;
+        let name = format!(in alloc; "org.n{number}.a").expect(rt, "memory");
+        let owner = format!(in alloc; ":2.{number}").expect(rt, "memory");
+        push_owner(rt, alloc, &mut owners, &name, &owner);
     }
-    Ok(Items::from_vec(owners))
+    owners
 }
 
-/// Notes so many calls of the client, and whether each was forwarded.
-fn all_are_noted(alloc: Global, watch: &mut Watch, count: u32) -> Result<bool, Fail> {
-    for number in 0..count {
-        let serial = number.saturating_add(1);
-        let step = format!(in alloc; "c 1 0 {serial} - - org.n1.a - M - - Pass")?;
-        if !goes(alloc, watch, &step)? {
-            return Ok(false);
-        }
-    }
-    Ok(true)
+/// The call of the client with this serial.
+fn call(rt: &impl Abort, alloc: Global, serial: u32) -> String {
+    format!(in alloc; "c 1 0 {serial} - - org.n1.a - M - - Pass").expect(rt, "memory")
 }
 
 /// The reply to the last of 1,100 calls.
 const REPLY: &str = "b 2 0 1 1100 :2.1 :1.1 - M - - Pass";
 
-/// Whether a watch of so many rules and owners notes 1,100 calls, and forwards the reply to the last.
-fn watches(alloc: Global, rules: usize, owners: usize) -> Result<bool, Fail> {
-    let policy = long_policy(alloc, rules)?;
-    let owners = many_owners(alloc, owners)?;
-    let mut watch = Watch::new(alloc, policy, Some(":1.1"), &owners)?;
-    Ok(all_are_noted(alloc, &mut watch, 1_100)? && goes(alloc, &mut watch, REPLY)?)
+/// Ends the test where a watch of this many rules and owners doesn't forward each of 1,100 calls, and the reply to the last.
+fn agree_on_calls(rt: &impl Abort, alloc: Global, rules: usize, owners: usize) {
+    let owners = many_owners(rt, alloc, owners);
+    let mut watch = watch_of(rt, alloc, long_policy(rt, alloc, rules), &owners);
+    for serial in 1..=1_100u32 {
+        assert!(rt;
+            goes(rt, alloc, &mut watch, &call(rt, alloc, serial)),
+            "{serial}"
+        );
+    }
+    assert!(rt; goes(rt, alloc, &mut watch, REPLY));
 }
 
 #[test]
-fn much(rt: HostRuntime) -> Result<(), Fail> {
-    assert!(rt; watches(rt.alloc(), 550, 2)? && watches(rt.alloc(), 2, 1_100)?);
-    Ok(())
+fn many_rules(rt: HostRuntime) {
+    agree_on_calls(&rt, rt.alloc(), 550, 2);
+}
+
+#[test]
+fn many_names(rt: HostRuntime) {
+    agree_on_calls(&rt, rt.alloc(), 2, 1_100);
 }

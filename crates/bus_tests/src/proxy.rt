@@ -5,8 +5,9 @@ use bus_policy::{Level, Policy};
 use bus_proxy::{Filtered, Out, filter};
 use bus_stream::Recording;
 use fp_base::{Blob, Items, Side};
-use std::alloc::{AllocError, Global};
-use std::test::Fail;
+use std::alloc::Global;
+use std::panic::Expect;
+use std::process::Abort;
 
 /// The level of `org.bar`, and messages that are sent and that go to a side: each with `c` for the client or `b` for the
 /// bus.
@@ -107,76 +108,77 @@ fn side(letter: &str) -> Side {
 
 /// Adds a message in pieces of at most this many bytes.
 fn push_pieces(
-    pieces: &mut Vec<(Side, Blob)>,
+    rt: &impl Abort,
+    pieces: &mut Items<(Side, Blob)>,
     alloc: Global,
     message: &str,
     most: usize,
-) -> Result<(), Fail> {
-    let (letter, words) = message.split_once(':').ok_or("message")?;
-    for piece in spelled(alloc, words)?.chunks(most.max(1)) {
-        pieces.push((side(letter), Blob::from_slice(alloc, piece)?))?;
+) {
+    let (letter, words) = message.split_once(':').unwrap_or((message, ""));
+    for piece in spelled(rt, alloc, words).chunks(most.max(1)) {
+        let piece = Blob::from_slice(alloc, piece).expect(rt, "memory");
+        pieces.push((side(letter), piece)).expect(rt, "memory");
     }
-    Ok(())
 }
 
 /// What is sent, in pieces of at most this many bytes.
-fn pieces(alloc: Global, sent: &str, most: usize) -> Result<Vec<(Side, Blob)>, Fail> {
-    let mut pieces = Vec::new(alloc);
+fn pieces(rt: &impl Abort, alloc: Global, sent: &str, most: usize) -> Items<(Side, Blob)> {
+    let mut pieces = Items::new(alloc);
     for message in sent.split_terminator(' ') {
-        push_pieces(&mut pieces, alloc, message, most)?;
+        push_pieces(rt, &mut pieces, alloc, message, most);
     }
-    Ok(pieces)
+    pieces
 }
 
-/// Messages as words.
-fn told(alloc: Global, messages: &[Out]) -> Result<String, AllocError> {
-    let mut line = String::new(alloc);
-    for message in messages {
-        if !line.is_empty() {
-            line.push(' ')?;
+/// Whether a message that goes to a side is the one of this word.
+fn is_sent(rt: &impl Abort, alloc: Global, message: &Out, word: &str) -> bool {
+    let (letter, digits) = word.split_once(':').unwrap_or((word, ""));
+    message.to == side(letter) && message.bytes.as_slice() == spelled(rt, alloc, digits).as_slice()
+}
+
+/// Whether these are the messages of the words.
+fn are_sent(rt: &impl Abort, alloc: Global, messages: &[Out], words: &str) -> bool {
+    for (message, word) in messages.iter().zip(words.split_terminator(' ')) {
+        if !is_sent(rt, alloc, message, word) {
+            return false;
         }
-        line.push_str(if message.to == Side::Client {
-            "c:"
-        } else {
-            "b:"
-        })?;
-        line.push_str(&hex::encode(alloc, message.bytes.as_slice())?)?;
     }
-    Ok(line)
+    messages.len() == words.split_terminator(' ').count()
 }
 
 /// What becomes of messages where `org.bar` has a level.
-fn filtered(alloc: Global, level: Level, pieces: Vec<(Side, Blob)>) -> Result<Filtered, Fail> {
+fn filtered(rt: &impl Abort, alloc: Global, level: Level, pieces: Items<(Side, Blob)>) -> Filtered {
     let mut policy = Policy::new(alloc);
-    policy.add(alloc, "org.bar", level)?;
+    policy.add(alloc, "org.bar", level).expect(rt, "a rule");
     let recording = Recording {
         client: None,
         owners: Items::new(alloc),
-        pieces: Items::from_vec(pieces),
+        pieces,
     };
-    Ok(filter(alloc, policy, &recording)?)
+    filter(alloc, policy, &recording).expect(rt, "memory")
 }
 
 /// Whether a case comes to what it has to, cut into pieces of at most this many bytes.
-fn is_filtered(alloc: Global, case: &Case, most: usize) -> Result<bool, Fail> {
-    let filtered = filtered(alloc, case.level, pieces(alloc, case.sent, most)?)?;
-    let line = told(alloc, filtered.out.as_slice())?;
-    Ok(filtered.bad.is_none() && line.as_str() == case.wanted)
+fn is_filtered(rt: &impl Abort, alloc: Global, case: &Case, most: usize) -> bool {
+    let pieces = pieces(rt, alloc, case.sent, most);
+    let filtered = filtered(rt, alloc, case.level, pieces);
+    filtered.bad.is_none() && are_sent(rt, alloc, filtered.out.as_slice(), case.wanted)
 }
 
-/// Whether so it is with small pieces and with large ones.
-fn is_filtered_cut(alloc: Global, case: &Case) -> Result<bool, Fail> {
-    Ok(
-        is_filtered(alloc, case, 1)?
-            && is_filtered(alloc, case, 7)?
-            && is_filtered(alloc, case, 1000)?,
-    )
+/// Ends the test where a case comes to something else.
+fn agree(rt: &impl Abort, alloc: Global, case: &Case) {
+    for most in [1, 7, 1000] {
+        assert!(rt;
+            is_filtered(rt, alloc, case, most),
+            "{} by {most}",
+            case.sent
+        );
+    }
 }
 
 #[test]
-fn worked_streams(rt: HostRuntime) -> Result<(), Fail> {
+fn worked_streams(rt: HostRuntime) {
     for case in &[TALK, HIDDEN, NOTHING, NAMES, NO_NAMES, MANY_NAMES] {
-        assert!(rt; is_filtered_cut(rt.alloc(), case)?);
+        agree(&rt, rt.alloc(), case);
     }
-    Ok(())
 }

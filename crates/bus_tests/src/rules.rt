@@ -3,8 +3,9 @@
 use bus_frame::{Flags, Header, MessageType};
 use bus_rules::{Rule, RuleError};
 use fp_base::Text;
-use std::alloc::{AllocError, Global};
-use std::test::Fail;
+use std::alloc::Global;
+use std::panic::Expect;
+use std::process::Abort;
 
 /// Texts, and whether they are rules.
 const RULES: [(&str, bool); 34] = [
@@ -45,31 +46,20 @@ const RULES: [(&str, bool); 34] = [
     ("a.b.C @/a", false),
 ];
 
-fn is_rule(alloc: Global, text: &str) -> Result<bool, Fail> {
+/// Whether the text is a rule, or has no meaning as one.
+fn is_as_due(alloc: Global, text: &str, is_rule: bool) -> bool {
     match Rule::parse(alloc, text) {
-        Ok(_) => Ok(true),
-        Err(RuleError::Bad) => Ok(false),
-        Err(RuleError::NoMemory) => Err(Fail::from("memory")),
+        Ok(_) => is_rule,
+        Err(RuleError::Bad) => !is_rule,
+        Err(RuleError::NoMemory) => false,
     }
-}
-
-/// The first of the texts that is otherwise.
-fn first_other_rule<'a>(
-    alloc: Global,
-    texts: &'a [(&'a str, bool)],
-) -> Result<Option<&'a str>, Fail> {
-    for (text, good) in texts {
-        if is_rule(alloc, text)? != *good {
-            return Ok(Some(*text));
-        }
-    }
-    Ok(None)
 }
 
 #[test]
-fn grammar(rt: HostRuntime) -> Result<(), Fail> {
-    assert_eq!(rt; first_other_rule(rt.alloc(), &RULES)?, None);
-    Ok(())
+fn grammar(rt: HostRuntime) {
+    for (text, is_rule) in &RULES {
+        assert!(rt; is_as_due(rt.alloc(), text, *is_rule), "{text}");
+    }
 }
 
 /// Rules with a path and an interface's member, and whether a message of these matches.
@@ -100,23 +90,23 @@ const MATCHES: [(&str, &str, &str, &str, bool); 24] = [
     ("a.b.C@/a/*", "/b", "a.b", "C", false),
 ];
 
-fn some_text(alloc: Global, text: &str) -> Result<Option<Text>, AllocError> {
-    if text.is_empty() {
-        return Ok(None);
+fn some_text(rt: &impl Abort, alloc: Global, text: &str) -> Option<Text> {
+    match text {
+        "" => None,
+        text => Some(Text::from_str(alloc, text).expect(rt, "memory")),
     }
-    Ok(Some(Text::from_str(alloc, text)?))
 }
 
 /// The header of a call with these parts.
-fn header(alloc: Global, path: &str, interface: &str, member: &str) -> Result<Header, AllocError> {
-    Ok(Header {
+fn header(rt: &impl Abort, alloc: Global, path: &str, interface: &str, member: &str) -> Header {
+    Header {
         little: true,
         kind: MessageType::MethodCall,
         flags: Flags::NONE,
         serial: 1,
-        path: some_text(alloc, path)?,
-        interface: some_text(alloc, interface)?,
-        member: some_text(alloc, member)?,
+        path: some_text(rt, alloc, path),
+        interface: some_text(rt, alloc, interface),
+        member: some_text(rt, alloc, member),
         error_name: None,
         reply_serial: None,
         destination: None,
@@ -124,43 +114,31 @@ fn header(alloc: Global, path: &str, interface: &str, member: &str) -> Result<He
         signature: None,
         body_at: 16,
         body_len: 0,
-    })
-}
-
-fn is_matched(alloc: Global, text: &str, header: &Header) -> Result<bool, Fail> {
-    match Rule::parse(alloc, text) {
-        Ok(rule) => Ok(rule.matches(header)),
-        Err(_) => Err(Fail::from("no rule")),
     }
 }
 
-/// The place of the first row that matches otherwise.
-fn first_other_match(
-    alloc: Global,
-    rows: &[(&str, &str, &str, &str, bool)],
-) -> Result<Option<usize>, Fail> {
-    for (at, (text, path, interface, member, matches)) in rows.iter().enumerate() {
-        let header = header(alloc, path, interface, member)?;
-        if is_matched(alloc, text, &header)? != *matches {
-            return Ok(Some(at));
-        }
-    }
-    Ok(None)
-}
-
-/// Whether a rule whose path has 100 KiB matches a message of that path.
-fn long_is_matched(alloc: Global) -> Result<bool, Fail> {
-    let path = "/p".repeat(alloc, 50 << 10)?;
-    let mut text = String::from_str(alloc, "a.b.C@")?;
-    text.push_str(&path)?;
-    text.push_str("/*")?;
-    let header = header(alloc, &path, "a.b", "C")?;
-    is_matched(alloc, &text, &header)
+fn is_matched(rt: &impl Abort, alloc: Global, text: &str, header: &Header) -> bool {
+    Rule::parse(alloc, text)
+        .expect(rt, "a rule")
+        .matches(header)
 }
 
 #[test]
-fn matching(rt: HostRuntime) -> Result<(), Fail> {
-    assert_eq!(rt; first_other_match(rt.alloc(), &MATCHES)?, None);
-    assert!(rt; long_is_matched(rt.alloc())?);
-    Ok(())
+fn matching(rt: HostRuntime) {
+    for (text, path, interface, member, matches) in &MATCHES {
+        let header = header(&rt, rt.alloc(), path, interface, member);
+        assert!(rt;
+            is_matched(&rt, rt.alloc(), text, &header) == *matches,
+            "{text} {path}"
+        );
+    }
+}
+
+/// A rule whose path has 100 KiB matches a message of that path.
+#[test]
+fn long_rule(rt: HostRuntime) {
+    let path = "/p".repeat(rt.alloc(), 50 << 10).expect(&rt, "memory");
+    let text = format!(in rt.alloc(); "a.b.C@{path}/*").expect(&rt, "memory");
+    let header = header(&rt, rt.alloc(), &path, "a.b", "C");
+    assert!(rt; is_matched(&rt, rt.alloc(), &text, &header));
 }

@@ -1,19 +1,21 @@
 //! What no contract says: messages of the real bus, and worked streams and recordings.
 
 use crate::captured::{CAPTURED, CASES, CHANGED, DIFFERENT, PING};
-use crate::frame::first_other_front;
-use crate::told::{front_line, spelled, with_byte, word};
+use crate::frame::agree_on_front;
+use crate::told::{bytes_of, front_line, spelled, with_byte, word};
 use bus_frame::FrameError;
 use bus_stream::{Cut, Cutter, RecordError, Recording, read_recording};
 use fp_base::{FrameRule, Side};
-use std::alloc::{AllocError, Global};
-use std::test::Fail;
+use std::alloc::Global;
+use std::panic::Expect;
+use std::process::Abort;
 
 /// Real messages read as the libraries of GDBus and libdbus read them.
 #[test]
-fn real_messages(rt: HostRuntime) -> Result<(), Fail> {
-    assert_eq!(rt; first_other_front(rt.alloc(), CAPTURED)?, None);
-    Ok(())
+fn real_messages(rt: HostRuntime) {
+    for line in CAPTURED.lines() {
+        agree_on_front(&rt, rt.alloc(), line);
+    }
 }
 
 /// What the next answer of a stream means, where it ends the stream: `.` for whole messages, `?` where more is to come, `x`
@@ -33,16 +35,21 @@ fn next_mark(cutter: &mut Cutter) -> Option<u8> {
     mark(&next, cutter.pending())
 }
 
-/// What becomes of a stream of these bytes, as a mark.
-fn verdict(alloc: Global, bytes: &[u8]) -> Result<u8, AllocError> {
-    let mut cutter = Cutter::new(alloc)?;
-    cutter.feed(bytes)?;
-    for _ in 0..bytes.len() {
-        if let Some(mark) = next_mark(&mut cutter) {
-            return Ok(mark);
+/// A cutter that was fed these bytes.
+fn fed(rt: &impl Abort, alloc: Global, bytes: &[u8]) -> Cutter {
+    let mut cutter = Cutter::new(alloc).expect(rt, "memory");
+    cutter.feed(bytes).expect(rt, "memory");
+    cutter
+}
+
+/// What becomes of a stream, as a mark. It has at most this many messages.
+fn verdict(cutter: &mut Cutter, most: usize) -> u8 {
+    for _ in 0..most {
+        if let Some(mark) = next_mark(cutter) {
+            return mark;
         }
     }
-    Ok(b'.')
+    b'.'
 }
 
 /// The changes of a byte in order: 0, 1, 127, 255, and its top bit.
@@ -57,10 +64,10 @@ fn change(number: usize, byte: u8) -> u8 {
 }
 
 /// What becomes of bytes with more after them, as a mark.
-fn verdict_before(alloc: Global, bytes: &[u8], more: &[u8]) -> Result<u8, AllocError> {
-    let mut all = Vec::from_slice(alloc, bytes)?;
-    all.extend_from_slice(more)?;
-    verdict(alloc, &all)
+fn verdict_before(rt: &impl Abort, alloc: Global, bytes: &[u8], more: &[u8]) -> u8 {
+    let mut cutter = fed(rt, alloc, bytes);
+    cutter.feed(more).expect(rt, "memory");
+    verdict(&mut cutter, bytes.len() + more.len())
 }
 
 /// What the daemon does with who sends bytes of this mark.
@@ -68,28 +75,29 @@ fn daemon_mark(mark: u8) -> u8 {
     if mark == b'L' { b'x' } else { mark }
 }
 
-/// How many lines of a table are as the daemon says.
-fn count_agreed(alloc: Global, table: &str, ping: &[u8]) -> Result<usize, Fail> {
-    let mut agreed = 0usize;
-    for line in table.lines() {
-        let (digits, rest) = line.split_once(' ').ok_or("line")?;
-        let mark = verdict_before(alloc, &hex::decode(alloc, digits)?, ping)?;
-        if rest.as_bytes().first() == Some(&daemon_mark(mark)) {
-            agreed = agreed.saturating_add(1);
-        }
-    }
-    Ok(agreed)
+/// Whether a line of a table is as the daemon says.
+fn is_as_told(rt: &impl Abort, alloc: Global, line: &str, ping: &[u8]) -> bool {
+    let (digits, rest) = line.split_once(' ').unwrap_or((line, ""));
+    let mark = verdict_before(rt, alloc, &bytes_of(rt, alloc, digits), ping);
+    rest.as_bytes().first() == Some(&daemon_mark(mark))
 }
 
-/// The daemon disconnects for messages that break a rule, and for no others but those that are listed apart.
+/// The daemon disconnects for messages that break a rule.
 #[test]
-fn broken_messages(rt: HostRuntime) -> Result<(), Fail> {
-    let ping = hex::decode(rt.alloc(), PING)?;
-    assert!(rt;
-        count_agreed(rt.alloc(), CASES, &ping)? == CASES.lines().count()
-            && count_agreed(rt.alloc(), DIFFERENT, &ping)? == 0
-    );
-    Ok(())
+fn broken_messages(rt: HostRuntime) {
+    let ping = bytes_of(&rt, rt.alloc(), PING);
+    for line in CASES.lines() {
+        assert!(rt; is_as_told(&rt, rt.alloc(), line, &ping), "{line}");
+    }
+}
+
+/// And for no others but those that are listed apart.
+#[test]
+fn different_messages(rt: HostRuntime) {
+    let ping = bytes_of(&rt, rt.alloc(), PING);
+    for line in DIFFERENT.lines() {
+        assert!(rt; !is_as_told(&rt, rt.alloc(), line, &ping), "{line}");
+    }
 }
 
 /// Whether a change of a message is as the daemon says, which waits for longer messages.
@@ -97,103 +105,68 @@ fn is_agreed(ours: u8, mark: u8) -> bool {
     ours == mark || (ours == b'L' && mark != b'.')
 }
 
-/// What becomes of a message with one of its bytes in the change of this number, and more after it.
-fn mark_of_change(
-    alloc: Global,
-    message: &[u8],
-    number: usize,
-    more: &[u8],
-) -> Result<u8, AllocError> {
+/// A message with the change of this number.
+fn changed(rt: &impl Abort, alloc: Global, message: &[u8], number: usize) -> Vec<u8> {
     let at = number / 5;
     let byte = message.get(at).copied().unwrap_or(0);
-    let changed = with_byte(alloc, message, at, change(number % 5, byte))?;
-    verdict_before(alloc, &changed, more)
+    with_byte(rt, alloc, message, at, change(number % 5, byte))
 }
 
-/// How many changes of a message are as the daemon says.
-fn count_changes(
-    alloc: Global,
-    message: &[u8],
-    marks: &str,
-    ping: &[u8],
-) -> Result<usize, AllocError> {
-    let mut agreed = 0usize;
+/// Ends the test where a change of a message is taken otherwise than these marks say.
+fn agree_on_changes(rt: &impl Abort, alloc: Global, message: &[u8], marks: &str, ping: &[u8]) {
     for (number, mark) in marks.bytes().enumerate() {
-        if is_agreed(mark_of_change(alloc, message, number, ping)?, mark) {
-            agreed = agreed.saturating_add(1);
-        }
+        let changed = changed(rt, alloc, message, number);
+        assert!(rt;
+            is_agreed(verdict_before(rt, alloc, &changed, ping), mark),
+            "{number} {marks}"
+        );
     }
-    Ok(agreed)
-}
-
-/// The first of the lines of which a change is taken otherwise.
-fn first_other_change<'a>(
-    alloc: Global,
-    table: &'a str,
-    ping: &[u8],
-) -> Result<Option<&'a str>, Fail> {
-    for line in table.lines() {
-        let (digits, marks) = line.split_once(' ').ok_or("line")?;
-        let message = hex::decode(alloc, digits)?;
-        if count_changes(alloc, &message, marks, ping)? != marks.len() {
-            return Ok(Some(line));
-        }
-    }
-    Ok(None)
 }
 
 /// So it is with each byte changed.
 #[test]
-fn changed_bytes(rt: HostRuntime) -> Result<(), Fail> {
-    let ping = hex::decode(rt.alloc(), PING)?;
-    assert_eq!(rt; first_other_change(rt.alloc(), CHANGED, &ping)?, None);
-    Ok(())
+fn changed_bytes(rt: HostRuntime) {
+    let ping = bytes_of(&rt, rt.alloc(), PING);
+    for line in CHANGED.lines() {
+        let (digits, marks) = line.split_once(' ').unwrap_or((line, ""));
+        let message = bytes_of(&rt, rt.alloc(), digits);
+        agree_on_changes(&rt, rt.alloc(), &message, marks, &ping);
+    }
 }
 
-/// Whether of a message that ends here so many bytes lack as they must.
-fn is_cut(alloc: Global, message: &[u8], at: usize) -> Result<bool, AllocError> {
+/// Whether of a message that ends here as many bytes lack as they must.
+fn is_cut(rt: &impl Abort, alloc: Global, message: &[u8], at: usize) -> bool {
     let goal = if at < 16 { 16 } else { message.len() };
-    let wanted = format!(in alloc; "lacks {}", goal.saturating_sub(at))?;
-    let line = front_line(alloc, message.get(..at).unwrap_or(&[]))?;
-    Ok(line.as_str() == wanted.as_str())
+    let line = front_line(rt, alloc, message.get(..at).unwrap_or(&[]));
+    let count = line
+        .strip_prefix("lacks ")
+        .and_then(|digits| digits.parse::<usize>().ok());
+    count == Some(goal.saturating_sub(at))
 }
 
-/// Reads a message with one byte changed, whatever it is then.
-fn read_changed(alloc: Global, message: &[u8], at: usize) -> Result<(), AllocError> {
-    let byte = message.get(at).copied().unwrap_or(0);
-    for number in 0..5 {
-        front_line(alloc, &with_byte(alloc, message, at, change(number, byte))?)?;
-    }
-    Ok(())
-}
-
-/// The first place where a message that ends there lacks other bytes.
-fn first_other_end(alloc: Global, message: &[u8]) -> Result<Option<usize>, AllocError> {
+/// Ends the test where a message that ends too early lacks other bytes.
+fn agree_on_ends(rt: &impl Abort, alloc: Global, message: &[u8]) {
     for at in 0..message.len() {
-        if !is_cut(alloc, message, at)? {
-            return Ok(Some(at));
-        }
-        read_changed(alloc, message, at)?;
+        assert!(rt; is_cut(rt, alloc, message, at), "{at}");
     }
-    Ok(None)
 }
 
-/// The first of the lines whose message lacks other bytes somewhere.
-fn first_cut_otherwise<'a>(alloc: Global, table: &'a str) -> Result<Option<&'a str>, Fail> {
-    for line in table.lines() {
-        let (digits, _) = line.split_once(' ').ok_or("line")?;
-        if first_other_end(alloc, &hex::decode(alloc, digits)?)?.is_some() {
-            return Ok(Some(line));
-        }
+/// Reads a message with each of its changes, whatever it is then.
+fn read_changes(rt: &impl Abort, alloc: Global, message: &[u8]) {
+    for number in 0..message.len().saturating_mul(5) {
+        let _line = front_line(rt, alloc, &changed(rt, alloc, message, number));
     }
-    Ok(None)
 }
 
 /// Real messages that end too early, and with each byte changed.
 #[test]
-fn hostile_messages(rt: HostRuntime) -> Result<(), Fail> {
-    assert_eq!(rt; first_cut_otherwise(rt.alloc(), CAPTURED)?, None);
-    Ok(())
+fn hostile_messages(rt: HostRuntime) {
+    for line in CAPTURED.lines() {
+        let (digits, _) = line.split_once(' ').unwrap_or((line, ""));
+        let message = bytes_of(&rt, rt.alloc(), digits);
+        agree_on_ends(&rt, rt.alloc(), &message);
+        read_changes(&rt, rt.alloc(), &message);
+    }
 }
 
 /// The call of the method `M` at the path `/a` of `org.bar`, with serial 1.
@@ -215,42 +188,34 @@ fn comes(cutter: &mut Cutter, wanted: &[u8]) -> bool {
     is_message(&next, wanted)
 }
 
-/// The first byte after which the message is there or isn't, other than it should.
-fn first_early(cutter: &mut Cutter, message: &[u8]) -> Result<Option<usize>, Fail> {
-    for (i, byte) in message.iter().enumerate() {
-        cutter.feed(&[*byte])?;
-        if cutter.pending() != (i as u64).saturating_add(1) || comes(cutter, message) != (i == 63) {
-            return Ok(Some(i));
-        }
-    }
-    Ok(None)
+/// Whether after one byte more the message is there, where it is to, and that many bytes wait before.
+fn comes_at(rt: &impl Abort, cutter: &mut Cutter, message: &[u8], at: usize, byte: u8) -> bool {
+    cutter.feed(&[byte]).expect(rt, "memory");
+    let pending = cutter.pending();
+    pending == (at as u64).saturating_add(1) && comes(cutter, message) == (at == 63)
 }
 
 /// A message that comes byte by byte is there with its last byte.
 #[test]
-fn byte_by_byte(rt: HostRuntime) -> Result<(), Fail> {
-    let message = hex::decode(rt.alloc(), CALL)?;
-    let mut cutter = Cutter::new(rt.alloc())?;
-    assert_eq!(rt; first_early(&mut cutter, &message)?, None);
+fn byte_by_byte(rt: HostRuntime) {
+    let message = bytes_of(&rt, rt.alloc(), CALL);
+    let mut cutter = fed(&rt, rt.alloc(), &[]);
+    for (at, byte) in message.iter().enumerate() {
+        assert!(rt; comes_at(&rt, &mut cutter, &message, at, *byte), "{at}");
+    }
     assert!(rt; cutter.pending() == 0);
-    Ok(())
 }
 
-/// How many of so many messages come of a stream.
-fn count_cut(cutter: &mut Cutter, message: &[u8], count: usize) -> usize {
-    for at in 0..count {
-        if !comes(cutter, message) {
-            return at;
+/// Whether this many messages come where they are fed at once, and nothing is left.
+fn are_cut(rt: &impl Abort, alloc: Global, message: &[u8], count: usize) -> bool {
+    let all = message.repeat(alloc, count).expect(rt, "memory");
+    let mut cutter = fed(rt, alloc, &all);
+    for _ in 0..count {
+        if !comes(&mut cutter, message) {
+            return false;
         }
     }
-    count
-}
-
-/// Whether so many messages come where they are fed at once, and nothing is left.
-fn are_cut(alloc: Global, message: &[u8], count: usize) -> Result<bool, AllocError> {
-    let mut cutter = Cutter::new(alloc)?;
-    cutter.feed(&message.repeat(alloc, count)?)?;
-    Ok(count_cut(&mut cutter, message, count) == count && cutter.pending() == 0)
+    cutter.pending() == 0
 }
 
 /// A call whose body of bytes has a mebibyte.
@@ -261,12 +226,10 @@ const LONG: &str = "\
 
 /// A message of a mebibyte comes, and 1,100 messages at once.
 #[test]
-fn long_streams(rt: HostRuntime) -> Result<(), Fail> {
-    assert!(rt;
-        are_cut(rt.alloc(), &spelled(rt.alloc(), LONG)?, 1)?
-            && are_cut(rt.alloc(), &spelled(rt.alloc(), CALL)?, 1_100)?
-    );
-    Ok(())
+fn long_streams(rt: HostRuntime) {
+    let long = spelled(&rt, rt.alloc(), LONG);
+    let call = spelled(&rt, rt.alloc(), CALL);
+    assert!(rt; are_cut(&rt, rt.alloc(), &long, 1) && are_cut(&rt, rt.alloc(), &call, 1_100));
 }
 
 /// Recordings, and the first bad line, or 0.
@@ -298,77 +261,74 @@ const RECORDINGS: [(&str, u64); 25] = [
     ("owner org.a\n", 1),
 ];
 
-fn first_bad_line(alloc: Global, text: &str) -> Result<u64, Fail> {
+/// Whether this is the first bad line of a recording, or 0 where there is none.
+fn is_first_bad(alloc: Global, text: &str, line: u64) -> bool {
     match read_recording(alloc, text.as_bytes()) {
-        Ok(_) => Ok(0),
-        Err(RecordError::BadRecord(line)) => Ok(line),
-        Err(RecordError::NoMemory) => Err(Fail::from("memory")),
-    }
-}
-
-/// The first of the recordings with another bad line.
-fn first_other_bad<'a>(alloc: Global, rows: &'a [(&'a str, u64)]) -> Result<Option<&'a str>, Fail> {
-    for (text, line) in rows {
-        if first_bad_line(alloc, text)? != *line {
-            return Ok(Some(*text));
-        }
-    }
-    Ok(None)
-}
-
-/// What a recording holds, in one line.
-fn told(alloc: Global, recording: &Recording) -> Result<String, AllocError> {
-    let mut text = String::from_str(alloc, word(&recording.client))?;
-    for (name, owner) in recording.owners.as_slice() {
-        text.push(' ')?;
-        text.push_str(name.as_str())?;
-        text.push('=')?;
-        text.push_str(owner.as_str())?;
-    }
-    for (side, piece) in recording.pieces.as_slice() {
-        text.push_str(if *side == Side::Client { " c" } else { " b" })?;
-        text.push_str(&hex::encode(alloc, piece.as_slice())?)?;
-    }
-    Ok(text)
-}
-
-/// The recording of a text.
-fn recording_of(alloc: Global, text: &str) -> Result<Recording, Fail> {
-    match read_recording(alloc, text.as_bytes()) {
-        Ok(recording) => Ok(recording),
-        Err(_) => Err(Fail::from("no recording")),
+        Ok(_) => line == 0,
+        Err(RecordError::BadRecord(bad)) => line == bad,
+        Err(RecordError::NoMemory) => false,
     }
 }
 
 #[test]
-fn recordings(rt: HostRuntime) -> Result<(), Fail> {
-    let alloc = rt.alloc();
-    assert_eq!(rt; first_other_bad(alloc, &RECORDINGS)?, None);
+fn bad_recordings(rt: HostRuntime) {
+    for (text, line) in &RECORDINGS {
+        assert!(rt; is_first_bad(rt.alloc(), text, *line), "{text}");
+    }
+}
+
+/// The recording of a text.
+fn recording_of(rt: &impl Abort, alloc: Global, text: &str) -> Recording {
+    read_recording(alloc, text.as_bytes()).expect(rt, "a recording")
+}
+
+/// Whether these are the client and the one owner of a name.
+fn has_owner(recording: &Recording, client: &str, name: &str, owner: &str) -> bool {
+    match recording.owners.as_slice() {
+        [(first, second)] => {
+            word(&recording.client) == client && first.as_str() == name && second.as_str() == owner
+        }
+        _ => false,
+    }
+}
+
+/// Whether this is the one piece of each side, the client's first.
+fn has_pieces(recording: &Recording, client: &[u8], bus: &[u8]) -> bool {
+    match recording.pieces.as_slice() {
+        [(Side::Client, first), (Side::Bus, second)] => {
+            first.as_slice() == client && second.as_slice() == bus
+        }
+        _ => false,
+    }
+}
+
+#[test]
+fn recordings(rt: HostRuntime) {
     let text = "client :1.7\nowner org.a :1.1\nc 006c\nb ff\n";
-    assert_eq!(rt;
-        told(alloc, &recording_of(alloc, text)?)?.as_str(),
-        ":1.7 org.a=:1.1 c006c bff"
-    );
-    Ok(())
+    let recording = recording_of(&rt, rt.alloc(), text);
+    assert!(rt; has_owner(&recording, ":1.7", "org.a", ":1.1"));
+    assert!(rt; has_pieces(&recording, &[0, 0x6c], &[0xff]));
 }
 
-/// A recording of so many owners and so many pieces, and a piece of a mebibyte.
-fn long_recording(alloc: Global, count: usize) -> Result<String, AllocError> {
-    let mut text = String::new(alloc);
+/// This many owners of names.
+fn push_owners(rt: &impl Abort, alloc: Global, text: &mut String, count: usize) {
     for number in 0..count {
-        let line = format!(in alloc; "owner org.n{number} :1.{number}\n")?;
-        text.push_str(&line)?;
+        let line = format!(in alloc; "owner org.n{number} :1.{number}\n").expect(rt, "memory");
+        text.push_str(&line).expect(rt, "memory");
     }
-    for _ in 0..count {
-        text.push_str("c 00\n")?;
-    }
-    text.push_str("b ")?;
-    text.push_str(&"00".repeat(alloc, 1 << 20)?)?;
-    text.push('\n')?;
-    Ok(text)
 }
 
-/// How many owners and pieces it has, and how long the last is.
+/// This many pieces of one byte, and one of a mebibyte.
+fn push_pieces(rt: &impl Abort, alloc: Global, text: &mut String, count: usize) {
+    let pieces = "c 00\n".repeat(alloc, count).expect(rt, "memory");
+    let digits = "00".repeat(alloc, 1 << 20).expect(rt, "memory");
+    text.push_str(&pieces).expect(rt, "memory");
+    text.push_str("b ").expect(rt, "memory");
+    text.push_str(&digits).expect(rt, "memory");
+    text.push('\n').expect(rt, "memory");
+}
+
+/// How many owners and pieces a recording has, and how long the last is.
 fn counted(recording: &Recording) -> (usize, usize, usize) {
     let pieces = recording.pieces.as_slice();
     let last = match pieces.last() {
@@ -379,9 +339,10 @@ fn counted(recording: &Recording) -> (usize, usize, usize) {
 }
 
 #[test]
-fn long_recordings(rt: HostRuntime) -> Result<(), Fail> {
-    let text = long_recording(rt.alloc(), 1_100)?;
-    let recording = recording_of(rt.alloc(), &text)?;
+fn long_recordings(rt: HostRuntime) {
+    let mut text = String::new(rt.alloc());
+    push_owners(&rt, rt.alloc(), &mut text, 1_100);
+    push_pieces(&rt, rt.alloc(), &mut text, 1_100);
+    let recording = recording_of(&rt, rt.alloc(), &text);
     assert!(rt; counted(&recording) == (1_100, 1_101, 1 << 20));
-    Ok(())
 }

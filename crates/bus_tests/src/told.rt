@@ -5,34 +5,39 @@ use bus_frame::{
 };
 use fp_base::Text;
 use std::alloc::{AllocError, Global};
-use std::test::Fail;
+use std::panic::Expect;
+use std::process::Abort;
+
+/// The bytes of hexadecimal digits.
+pub fn bytes_of(rt: &impl Abort, alloc: Global, digits: &str) -> Vec<u8> {
+    hex::decode(alloc, digits).expect(rt, "digits")
+}
 
 /// Adds the bytes of a word: hexadecimal, or hexadecimal with `*` and how often it comes.
-fn push_word(bytes: &mut Vec<u8>, alloc: Global, word: &str) -> Result<(), Fail> {
+fn push_word(rt: &impl Abort, bytes: &mut Vec<u8>, alloc: Global, word: &str) {
     let (digits, count) = word.split_once('*').unwrap_or((word, "1"));
-    let part = hex::decode(alloc, digits)?;
+    let part = bytes_of(rt, alloc, digits);
     for _ in 0..count.parse::<u32>().unwrap_or(0) {
-        bytes.extend_from_slice(&part)?;
+        bytes.extend_from_slice(&part).expect(rt, "memory");
     }
-    Ok(())
 }
 
 /// The bytes of words with `+` between them.
-pub fn spelled(alloc: Global, words: &str) -> Result<Vec<u8>, Fail> {
+pub fn spelled(rt: &impl Abort, alloc: Global, words: &str) -> Vec<u8> {
     let mut bytes = Vec::new(alloc);
     for word in words.split('+') {
-        push_word(&mut bytes, alloc, word)?;
+        push_word(rt, &mut bytes, alloc, word);
     }
-    Ok(bytes)
+    bytes
 }
 
 /// Bytes with one of them changed.
-pub fn with_byte(alloc: Global, bytes: &[u8], at: usize, byte: u8) -> Result<Vec<u8>, AllocError> {
-    let mut changed = Vec::from_slice(alloc, bytes)?;
+pub fn with_byte(rt: &impl Abort, alloc: Global, bytes: &[u8], at: usize, byte: u8) -> Vec<u8> {
+    let mut changed = Vec::from_slice(alloc, bytes).expect(rt, "memory");
     if let Some(place) = changed.get_mut(at) {
         *place = byte;
     }
-    Ok(changed)
+    changed
 }
 
 /// A text, or `-` where there is none.
@@ -111,10 +116,10 @@ fn put_read(line: &mut String, alloc: Global, bytes: &[u8]) -> Result<(), AllocE
 }
 
 /// What stands at the front of some bytes: the header of a message, how many bytes lack, or the rule that is broken.
-pub fn front_line(alloc: Global, bytes: &[u8]) -> Result<String, AllocError> {
+pub fn front_line(rt: &impl Abort, alloc: Global, bytes: &[u8]) -> String {
     let mut line = String::new(alloc);
-    put_read(&mut line, alloc, bytes)?;
-    Ok(line)
+    put_read(&mut line, alloc, bytes).expect(rt, "memory");
+    line
 }
 
 /// Adds names, each with a comma.
@@ -176,8 +181,8 @@ fn put_read_body(line: &mut String, alloc: Global, bytes: &[u8]) -> Result<(), A
 }
 
 /// The body of a message: the order of its bytes and where it begins, its first text, its three texts, its names.
-pub fn body_line(alloc: Global, bytes: &[u8]) -> Result<String, AllocError> {
+pub fn body_line(rt: &impl Abort, alloc: Global, bytes: &[u8]) -> String {
     let mut line = String::new(alloc);
-    put_read_body(&mut line, alloc, bytes)?;
-    Ok(line)
+    put_read_body(&mut line, alloc, bytes).expect(rt, "memory");
+    line
 }

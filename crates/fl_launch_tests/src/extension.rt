@@ -1,12 +1,12 @@
 //! Metadata files with the points that they have, worked out from the rules by hand.
 
+use crate::given::{key_file, ref_name, row_of};
 use fl_extension::{Point, found, points};
 use fp_base::Items;
-use fp_keyfile::KeyFile;
-use fp_name::{Digest, RefName, RemoteName};
 use fp_small::{Layout, RefRow, State};
 use std::alloc::{AllocError, Global};
-use std::test::Fail;
+use std::panic::Expect;
+use std::process::Abort;
 
 /// The ref whose metadata the tables have.
 const OF: &str = "app/org.x.App/x86_64/stable";
@@ -24,15 +24,25 @@ fn push_point(out: &mut String, point: &Point) -> Result<(), AllocError> {
     out.push('|')
 }
 
-/// The points that the metadata of a ref has, as text.
-fn shown(alloc: Global, text: &str, of: &str) -> Result<String, Fail> {
-    let file = KeyFile::parse(alloc, text.as_bytes())?;
-    let of = RefName::parse(alloc, of.as_bytes())?;
+/// The points that the metadata of a ref has.
+fn points_of(rt: &impl Abort, alloc: Global, text: &str, of: &str) -> Items<Point> {
+    let file = key_file(rt, alloc, text);
+    points(alloc, &file, &ref_name(rt, alloc, of)).expect(rt, "memory")
+}
+
+/// The same as text.
+fn shown(rt: &impl Abort, alloc: Global, text: &str, of: &str) -> String {
     let mut out = String::new(alloc);
-    for point in points(alloc, &file, &of)?.as_slice() {
-        push_point(&mut out, point)?;
+    for point in points_of(rt, alloc, text, of).as_slice() {
+        push_point(&mut out, point).expect(rt, "memory");
     }
-    Ok(out)
+    out
+}
+
+/// Ends the test where the metadata of a ref has other points.
+fn agree(rt: &impl Abort, alloc: Global, text: &str, of: &str, want: &str) {
+    let points = shown(rt, alloc, text, of);
+    assert!(rt; points.as_str() == want, "{text}");
 }
 
 /// A metadata file of the usual kind.
@@ -98,17 +108,20 @@ const POINTS: [(&str, &str); 19] = [
     ),
 ];
 
-/// The first of the files that has other points.
-fn first_other_points<'a>(
-    alloc: Global,
-    files: &'a [(&'a str, &'a str)],
-) -> Result<Option<&'a str>, Fail> {
-    for (text, want) in files {
-        if shown(alloc, text, OF)?.as_str() != *want {
-            return Ok(Some(*text));
-        }
+#[test]
+fn points_of_metadata(rt: HostRuntime) {
+    for (text, want) in &POINTS {
+        agree(&rt, rt.alloc(), text, OF, want);
     }
-    Ok(None)
+    let text = "[Runtime]\nname=org.x.Platform\n[Extension org.x.Platform.GL]\ndirectory=lib/GL\n";
+    let want = "org.x.Platform.GL lib/GL auto: runtime/org.x.Platform.GL/aarch64/1 |";
+    agree(
+        &rt,
+        rt.alloc(),
+        text,
+        "runtime/org.x.Platform/aarch64/1",
+        want,
+    );
 }
 
 /// Texts of the key `directory`, and whether a group with each is a point.
@@ -142,18 +155,21 @@ const DIRECTORIES: [(&str, bool); 25] = [
     ("\u{1}", false),
 ];
 
-/// The first of the directories that is otherwise.
-fn first_other_directory<'a>(
-    alloc: Global,
-    rows: &'a [(&'a str, bool)],
-) -> Result<Option<&'a str>, Fail> {
-    for (directory, is_point) in rows {
-        let text = format!(in alloc; "[Extension org.x.E]\ndirectory={directory}\n")?;
-        if shown(alloc, &text, OF)?.is_empty() == *is_point {
-            return Ok(Some(*directory));
-        }
+/// Whether a group with this directory is a point.
+fn is_directory(rt: &impl Abort, alloc: Global, directory: &str) -> bool {
+    let text = format!(in alloc; "[Extension org.x.E]\ndirectory={directory}\n");
+    let points = points_of(rt, alloc, &text.expect(rt, "memory"), OF);
+    !points.as_slice().is_empty()
+}
+
+#[test]
+fn directories(rt: HostRuntime) {
+    for (directory, is_point) in &DIRECTORIES {
+        assert!(rt;
+            is_directory(&rt, rt.alloc(), directory) == *is_point,
+            "{directory}"
+        );
     }
-    Ok(None)
 }
 
 /// Keys of a point's group, and its candidates for an application of the branch `stable`.
@@ -194,64 +210,36 @@ const CANDIDATES: [(&str, &str); 17] = [
     ),
 ];
 
-/// The first of the keys with other candidates.
-fn first_other_candidates<'a>(
-    alloc: Global,
-    rows: &'a [(&'a str, &'a str)],
-) -> Result<Option<&'a str>, Fail> {
-    for (keys, want) in rows {
-        let text = format!(in alloc; "[Extension org.x.E]\ndirectory=e\n{keys}\n")?;
-        let want = format!(in alloc; "org.x.E e auto: {want}|")?;
-        if shown(alloc, &text, OF)?.as_str() != want.as_str() {
-            return Ok(Some(*keys));
-        }
-    }
-    Ok(None)
-}
-
-/// Whether a runtime's branch is that of its extensions.
-fn has_branch_of_runtime(alloc: Global) -> Result<bool, Fail> {
-    let text = "[Runtime]\nname=org.x.Platform\n[Extension org.x.Platform.GL]\ndirectory=lib/GL\n";
-    let told = shown(alloc, text, "runtime/org.x.Platform/aarch64/1")?;
-    Ok(told.as_str() == "org.x.Platform.GL lib/GL auto: runtime/org.x.Platform.GL/aarch64/1 |")
+/// Ends the test where a point with these keys has other candidates.
+fn agree_on_candidates(rt: &impl Abort, alloc: Global, keys: &str, want: &str) {
+    let text = format!(in alloc; "[Extension org.x.E]\ndirectory=e\n{keys}\n");
+    let want = format!(in alloc; "org.x.E e auto: {want}|");
+    let (text, want) = (text.expect(rt, "memory"), want.expect(rt, "memory"));
+    agree(rt, alloc, &text, OF, &want);
 }
 
 #[test]
-fn points_of_metadata(rt: HostRuntime) -> Result<(), Fail> {
-    let alloc = rt.alloc();
-    assert_eq!(rt; first_other_points(alloc, &POINTS)?, None);
-    assert_eq!(rt; first_other_directory(alloc, &DIRECTORIES)?, None);
-    assert_eq!(rt; first_other_candidates(alloc, &CANDIDATES)?, None);
-    assert!(rt; has_branch_of_runtime(alloc)?);
-    Ok(())
-}
-
-/// A row of the ref.
-fn row_of(alloc: Global, name: &str) -> Result<RefRow, Fail> {
-    Ok(RefRow {
-        name: RefName::parse(alloc, name.as_bytes())?,
-        origin: RemoteName::parse(alloc, b"lab")?,
-        commit: Digest::from_bytes([7; 32]),
-        timestamp: 1,
-        previous: None,
-    })
+fn candidates(rt: HostRuntime) {
+    for (keys, want) in &CANDIDATES {
+        agree_on_candidates(&rt, rt.alloc(), keys, want);
+    }
 }
 
 /// A state with the refs, which a space separates.
-fn state_of(alloc: Global, names: &str) -> Result<State, Fail> {
-    let mut refs = Vec::new(alloc);
+fn state_of(rt: &impl Abort, alloc: Global, names: &str) -> State {
+    let mut refs: Items<RefRow> = Items::new(alloc);
     for name in names.split(' ') {
         if !name.is_empty() {
-            refs.push(row_of(alloc, name)?)?;
+            refs.push(row_of(rt, alloc, name, 7)).expect(rt, "memory");
         }
     }
-    Ok(State {
+    State {
         layout: Layout::Two,
-        refs: Items::from_vec(refs),
-        remotes: Items::from_vec(Vec::new(alloc)),
-        pins: Items::from_vec(Vec::new(alloc)),
-        overrides: Items::from_vec(Vec::new(alloc)),
-    })
+        refs,
+        remotes: Items::new(alloc),
+        pins: Items::new(alloc),
+        overrides: Items::new(alloc),
+    }
 }
 
 /// Values of `versions`, the refs of a state, and the place of the candidate that is found.
@@ -280,76 +268,60 @@ const FOUND: [(&str, &str, Option<usize>); 9] = [
     ("", "runtime/org.x.E/x86_64/stable", None),
 ];
 
-/// The place that is found for the one point of the metadata.
-fn place_found(alloc: Global, text: &str, state: &State) -> Result<Option<usize>, Fail> {
-    let file = KeyFile::parse(alloc, text.as_bytes())?;
-    let of = RefName::parse(alloc, OF.as_bytes())?;
-    match points(alloc, &file, &of)?.as_slice() {
-        [point] => Ok(found(point, state)),
-        _ => Ok(Some(99)),
-    }
-}
-
-/// The place of the first row in which another candidate is found.
-fn first_other_found(
+/// The place that is found for a point of these versions, which is the one point of the metadata.
+fn place_found(
+    rt: &impl Abort,
     alloc: Global,
-    rows: &[(&str, &str, Option<usize>)],
-) -> Result<Option<usize>, Fail> {
-    for (at, (versions, refs, want)) in rows.iter().enumerate() {
-        let text = format!(in alloc; "[Extension org.x.E]\ndirectory=e\nversions={versions}\n")?;
-        let state = state_of(alloc, refs)?;
-        if place_found(alloc, &text, &state)? != *want {
-            return Ok(Some(at));
-        }
+    versions: &str,
+    state: &State,
+) -> Result<Option<usize>, usize> {
+    let text = format!(in alloc; "[Extension org.x.E]\ndirectory=e\nversions={versions}\n");
+    let points = points_of(rt, alloc, &text.expect(rt, "memory"), OF);
+    match points.as_slice() {
+        [point] => Ok(found(point, state)),
+        others => Err(others.len()),
     }
-    Ok(None)
-}
-
-/// So many versions, with a semicolon after each.
-fn many_versions(alloc: Global, count: usize) -> Result<String, AllocError> {
-    let mut text = String::new(alloc);
-    for number in 0..count {
-        let version = format!(in alloc; "v{number};")?;
-        text.push_str(&version)?;
-    }
-    Ok(text)
-}
-
-/// So many refs with a space after each, of which the last is a candidate.
-fn many_refs(alloc: Global, count: usize) -> Result<String, AllocError> {
-    let mut text = String::new(alloc);
-    for number in 0..count {
-        let name = format!(in alloc; "runtime/org.x.D{number}/x86_64/1 ")?;
-        text.push_str(&name)?;
-    }
-    text.push_str("runtime/org.x.E/x86_64/v299")?;
-    Ok(text)
-}
-
-/// The place that is found among 300 candidates in a state of 1,101 refs.
-fn found_among_many(alloc: Global) -> Result<Option<usize>, Fail> {
-    let versions = many_versions(alloc, 300)?;
-    let text = format!(in alloc; "[Extension org.x.E]\ndirectory=e\nversions={versions}\n")?;
-    place_found(alloc, &text, &state_of(alloc, &many_refs(alloc, 1_100)?)?)
-}
-
-/// How many points the metadata of so many has.
-fn count_points(alloc: Global, count: usize) -> Result<usize, Fail> {
-    let mut text = String::new(alloc);
-    for number in 0..count {
-        let group = format!(in alloc; "[Extension org.x.E{number}]\ndirectory=e\n")?;
-        text.push_str(&group)?;
-    }
-    let file = KeyFile::parse(alloc, text.as_bytes())?;
-    let of = RefName::parse(alloc, OF.as_bytes())?;
-    Ok(points(alloc, &file, &of)?.as_slice().len())
 }
 
 #[test]
-fn found_candidates(rt: HostRuntime) -> Result<(), Fail> {
-    assert_eq!(rt; first_other_found(rt.alloc(), &FOUND)?, None);
-    assert!(rt;
-        found_among_many(rt.alloc())? == Some(299) && count_points(rt.alloc(), 1_100)? == 1_100
+fn found_candidates(rt: HostRuntime) {
+    for (versions, refs, want) in &FOUND {
+        let state = state_of(&rt, rt.alloc(), refs);
+        let place = place_found(&rt, rt.alloc(), versions, &state);
+        assert!(rt; place == Ok(*want), "{versions} {refs}");
+    }
+}
+
+/// Texts with the numbers from 0, one after another, each with a head and a tail.
+fn many(rt: &impl Abort, alloc: Global, count: u32, head: &str, tail: &str) -> String {
+    let mut text = String::new(alloc);
+    for number in 0..count {
+        let one = format!(in alloc; "{head}{number}{tail}").expect(rt, "memory");
+        text.push_str(&one).expect(rt, "memory");
+    }
+    text
+}
+
+/// The place that is found among 300 candidates in a state of 1,101 refs, of which the last is a candidate.
+#[test]
+fn many_candidates(rt: HostRuntime) {
+    let alloc = rt.alloc();
+    let versions = many(&rt, alloc, 300, "v", ";");
+    let mut refs = many(&rt, alloc, 1_100, "runtime/org.x.D", "/x86_64/1 ");
+    refs.push_str("runtime/org.x.E/x86_64/v299")
+        .expect(&rt, "memory");
+    let state = state_of(&rt, alloc, &refs);
+    assert!(rt; place_found(&rt, alloc, &versions, &state) == Ok(Some(299)));
+}
+
+#[test]
+fn many_points(rt: HostRuntime) {
+    let text = many(
+        &rt,
+        rt.alloc(),
+        1_100,
+        "[Extension org.x.E",
+        "]\ndirectory=e\n",
     );
-    Ok(())
+    assert!(rt; points_of(&rt, rt.alloc(), &text, OF).as_slice().len() == 1_100);
 }

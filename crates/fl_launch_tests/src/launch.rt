@@ -2,17 +2,18 @@
 
 ghost use Rattle.std.specs.Prelude.{IsTrue, IsSome};
 
-use bus_policy::{Grant, Level, Policy};
+use crate::given::{key_file, ref_name, row_of};
+use bus_policy::{Grant, Level, Policy, PolicyRule};
 use fl_extension::{Point, points};
 use fl_launch::{LaunchText, launch, launch_extended, policy_of, policy_of_system};
 use fl_meta::{Layer, Meta, MetaKind};
 use fl_options::layer_of;
 use fp_base::{Items, Text};
-use fp_keyfile::KeyFile;
-use fp_name::{AppId, Digest, RefName, RemoteName};
+use fp_name::{AppId, RefName};
 use fp_small::{Layout, OverrideRow, RefRow, State};
-use std::alloc::{AllocError, Global};
-use std::test::Fail;
+use std::alloc::Global;
+use std::panic::Expect;
+use std::process::Abort;
 
 /// The application that is launched, and its runtime.
 const APP: &str = "app/org.x.App/x86_64/stable";
@@ -52,58 +53,52 @@ const BARE: Given<'static> = Given {
     installed: "",
 };
 
-/// A row of the ref, whose commit has this byte 32 times.
-fn row_of(alloc: Global, name: &str, byte: u8) -> Result<RefRow, Fail> {
-    Ok(RefRow {
-        name: RefName::parse(alloc, name.as_bytes())?,
-        origin: RemoteName::parse(alloc, b"lab")?,
-        commit: Digest::from_bytes([byte; 32]),
-        timestamp: 1,
-        previous: None,
-    })
-}
-
 /// The rows of the application, of the extensions and of the runtime.
-fn rows_of(alloc: Global, installed: &str) -> Result<Vec<RefRow>, Fail> {
+fn rows_of(rt: &impl Abort, alloc: Global, installed: &str) -> Vec<RefRow> {
     let mut rows = Vec::new(alloc);
-    rows.push(row_of(alloc, APP, 1)?)?;
+    rows.push(row_of(rt, alloc, APP, 1)).expect(rt, "memory");
     for name in installed.split(' ') {
         if !name.is_empty() {
-            rows.push(row_of(alloc, name, 3)?)?;
+            rows.push(row_of(rt, alloc, name, 3)).expect(rt, "memory");
         }
     }
-    rows.push(row_of(alloc, RUNTIME, 2)?)?;
-    Ok(rows)
+    rows.push(row_of(rt, alloc, RUNTIME, 2))
+        .expect(rt, "memory");
+    rows
 }
 
-/// An override of the name.
-fn override_row(alloc: Global, name: &str, text: &str) -> Result<OverrideRow, Fail> {
-    Ok(OverrideRow {
-        name: Text::from_str(alloc, name)?,
-        file: KeyFile::parse(alloc, text.as_bytes())?,
-    })
+/// Adds an override of the name.
+fn push_override(
+    rt: &impl Abort,
+    alloc: Global,
+    rows: &mut Items<OverrideRow>,
+    name: &str,
+    text: &str,
+) {
+    let name = Text::from_str(alloc, name).expect(rt, "memory");
+    let file = key_file(rt, alloc, text);
+    rows.push(OverrideRow { name, file }).expect(rt, "memory");
 }
 
-/// These overrides, and one of an application that isn't launched.
-fn overrides_of(alloc: Global, given: &Given<'_>) -> Result<Vec<OverrideRow>, Fail> {
-    let mut rows = Vec::new(alloc);
-    rows.push(override_row(alloc, "global", given.global)?)?;
-    rows.push(override_row(alloc, "org.x.App", given.own)?)?;
-    rows.push(override_row(alloc, "org.x.Other", "[Context]\nshared=!ipc\n")?)?;
-    Ok(rows)
-}
-
-/// A state with these refs and overrides.
-fn state_of(alloc: Global, given: &Given<'_>) -> Result<State, Fail> {
-    let refs = rows_of(alloc, given.installed)?;
-    let overrides = overrides_of(alloc, given)?;
-    Ok(State {
+/// A state with the refs and overrides that are given, and an override of an application that isn't launched.
+fn state_of(rt: &impl Abort, alloc: Global, given: &Given<'_>) -> State {
+    let mut overrides = Items::new(alloc);
+    push_override(rt, alloc, &mut overrides, "global", given.global);
+    push_override(rt, alloc, &mut overrides, "org.x.App", given.own);
+    push_override(
+        rt,
+        alloc,
+        &mut overrides,
+        "org.x.Other",
+        "[Context]\nshared=!ipc\n",
+    );
+    State {
         layout: Layout::Two,
-        refs: Items::from_vec(refs),
+        refs: Items::from_vec(rows_of(rt, alloc, given.installed)),
         remotes: Items::new(alloc),
         pins: Items::new(alloc),
-        overrides: Items::from_vec(overrides),
-    })
+        overrides,
+    }
 }
 
 /// What the metadata of a ref says.
@@ -113,26 +108,23 @@ struct Said {
     points: Items<Point>,
 }
 
-fn said_by(alloc: Global, file: &KeyFile, kind: MetaKind, of: &str) -> Result<Said, Fail> {
-    let of = RefName::parse(alloc, of.as_bytes())?;
-    let meta = Meta::read(alloc, file, kind)?;
-    let points = points(alloc, file, &of)?;
-    Ok(Said { meta, points })
-}
-
 /// What this metadata of a ref says.
-fn read(alloc: Global, text: &str, kind: MetaKind, of: &str) -> Result<Said, Fail> {
-    let file = KeyFile::parse(alloc, text.as_bytes())?;
-    said_by(alloc, &file, kind, of)
+fn read(rt: &impl Abort, alloc: Global, text: &str, kind: MetaKind, of: &RefName) -> Said {
+    let file = key_file(rt, alloc, text);
+    Said {
+        meta: Meta::read(alloc, &file, kind).expect(rt, "metadata"),
+        points: points(alloc, &file, of).expect(rt, "memory"),
+    }
 }
 
 /// What the options mention, which spaces separate.
-fn options_of(alloc: Global, options: &str) -> Result<Layer, Fail> {
+fn options_of(rt: &impl Abort, alloc: Global, options: &str) -> Layer {
     let mut words = Vec::new(alloc);
     for word in options.split(' ') {
-        words.push(Text::from_str(alloc, word)?)?;
+        let word = Text::from_str(alloc, word).expect(rt, "memory");
+        words.push(word).expect(rt, "memory");
     }
-    Ok(layer_of(alloc, &words)?)
+    layer_of(alloc, &words).expect(rt, "memory")
 }
 
 /// Whether the metadata names a runtime.
@@ -147,15 +139,16 @@ fn names_runtime(app: &Meta) -> bool
 
 /// The launch, where the metadata names a runtime.
 fn launched(
+    rt: &impl Abort,
     alloc: Global,
     state: &State,
     name: &RefName,
     app: &Said,
     runtime: &Said,
     words: &Layer,
-) -> Result<Option<LaunchText>, AllocError> {
+) -> Option<LaunchText> {
     if !names_runtime(&app.meta) {
-        return Ok(None);
+        return None;
     }
     let (at, under) = (&app.points, &runtime.points);
     let launch = launch_extended(
@@ -168,25 +161,26 @@ fn launched(
         under,
         words,
         None,
-    )?;
-    Ok(Some(launch))
+    );
+    Some(launch.expect(rt, "memory"))
 }
 
 /// The launch of what is given.
-fn launch_of(alloc: Global, given: &Given<'_>) -> Result<Option<LaunchText>, Fail> {
-    let state = state_of(alloc, given)?;
-    let name = RefName::parse(alloc, APP.as_bytes())?;
-    let app = read(alloc, given.app, MetaKind::App, APP)?;
-    let runtime = read(alloc, given.runtime, MetaKind::Runtime, RUNTIME)?;
-    let words = options_of(alloc, given.options)?;
-    Ok(launched(alloc, &state, &name, &app, &runtime, &words)?)
+fn launch_of(rt: &impl Abort, alloc: Global, given: &Given<'_>) -> Option<LaunchText> {
+    let name = ref_name(rt, alloc, APP);
+    let state = state_of(rt, alloc, given);
+    let app = read(rt, alloc, given.app, MetaKind::App, &name);
+    let under = ref_name(rt, alloc, RUNTIME);
+    let runtime = read(rt, alloc, given.runtime, MetaKind::Runtime, &under);
+    let words = options_of(rt, alloc, given.options);
+    launched(rt, alloc, &state, &name, &app, &runtime, &words)
 }
 
 /// Whether the text of the launch is the heading and these lines.
-fn has_lines(alloc: Global, given: &Given<'_>, lines: &str) -> Result<bool, Fail> {
-    match launch_of(alloc, given)? {
-        Some(launch) => Ok(launch.text.as_str().strip_prefix(HEADING) == Some(lines)),
-        None => Ok(false),
+fn has_lines(rt: &impl Abort, alloc: Global, given: &Given<'_>, lines: &str) -> bool {
+    match launch_of(rt, alloc, given) {
+        Some(launch) => launch.text.as_str().strip_prefix(HEADING) == Some(lines),
+        None => false,
     }
 }
 
@@ -237,50 +231,55 @@ const LAUNCHES: [(Given<'static>, &str); 4] = [
 ];
 
 #[test]
-fn texts(rt: HostRuntime) -> Result<(), Fail> {
+fn texts(rt: HostRuntime) {
     for (given, lines) in &LAUNCHES {
-        assert!(rt; has_lines(rt.alloc(), given, lines)?, "{lines}");
+        assert!(rt; has_lines(&rt, rt.alloc(), given, lines), "{lines}");
     }
-    Ok(())
 }
 
 /// The text of a launch without extension points.
 fn plain_text(
+    rt: &impl Abort,
     alloc: Global,
     state: &State,
     name: &RefName,
     app: &Meta,
     runtime: &Meta,
-) -> Result<String, AllocError> {
+) -> Option<String> {
     if !names_runtime(app) {
-        return Ok(String::new(alloc));
+        return None;
     }
     let words = Layer::new(alloc);
-    let launch = launch(alloc, state, name, app, runtime, &words, Some("sh"))?;
-    Ok(launch.text.into_string())
+    let launch = launch(alloc, state, name, app, runtime, &words, Some("sh"));
+    Some(launch.expect(rt, "memory").text.into_string())
 }
 
 /// The launch of the usual application with another command, where an extension is installed.
-fn without_points(alloc: Global) -> Result<String, Fail> {
+fn without_points(rt: &impl Abort, alloc: Global) -> Option<String> {
     let given = Given {
         installed: "runtime/org.x.App.Locale/x86_64/stable",
         ..BARE
     };
-    let state = state_of(alloc, &given)?;
-    let name = RefName::parse(alloc, APP.as_bytes())?;
-    let app = read(alloc, USUAL, MetaKind::App, APP)?;
-    let runtime = read(alloc, PLATFORM, MetaKind::Runtime, RUNTIME)?;
-    Ok(plain_text(alloc, &state, &name, &app.meta, &runtime.meta)?)
+    let state = state_of(rt, alloc, &given);
+    let name = ref_name(rt, alloc, APP);
+    let app = key_file(rt, alloc, USUAL);
+    let app = Meta::read(alloc, &app, MetaKind::App).expect(rt, "metadata");
+    let runtime = key_file(rt, alloc, PLATFORM);
+    let runtime = Meta::read(alloc, &runtime, MetaKind::Runtime).expect(rt, "metadata");
+    plain_text(rt, alloc, &state, &name, &app, &runtime)
+}
+
+/// Whether a launch has the command that is given, and no points.
+fn is_plain(text: Option<String>) -> bool {
+    match text {
+        Some(text) => text.contains("\ncommand=sh\n") && text.ends_with(LINES),
+        None => false,
+    }
 }
 
 #[test]
-fn plain_launch(rt: HostRuntime) -> Result<(), Fail> {
-    let text = without_points(rt.alloc())?;
-    assert!(rt;
-        text.contains("\ncommand=sh\n") && text.ends_with(LINES),
-        "{text}"
-    );
-    Ok(())
+fn plain_launch(rt: HostRuntime) {
+    assert!(rt; is_plain(without_points(&rt, rt.alloc())));
 }
 
 /// The word of a level.
@@ -293,43 +292,47 @@ fn word_of(level: Level) -> &'static str {
     }
 }
 
-/// The rules of a policy, `PATTERN=LEVEL` and a space for each.
-fn shown(alloc: Global, policy: &Policy) -> Result<String, AllocError> {
-    let mut out = String::new(alloc);
-    for rule in policy.rules() {
-        out.push_str(rule.pattern.as_str())?;
-        out.push('=')?;
-        match &rule.grant {
-            Grant::Level(level) => out.push_str(word_of(*level))?,
-            Grant::Rule(_, _) => out.push_str("rule")?,
+/// Whether a rule is `PATTERN=LEVEL`.
+fn is_rule(rule: &PolicyRule, want: &str) -> bool {
+    match &rule.grant {
+        Grant::Level(level) => {
+            want.split_once('=') == Some((rule.pattern.as_str(), word_of(*level)))
         }
-        out.push(' ')?;
+        Grant::Rule(_, _) => false,
     }
-    Ok(out)
 }
 
-/// The rules of a launch on the session bus and on the system bus.
-fn policies_of(alloc: Global, launch: &LaunchText) -> Result<String, Fail> {
-    let id = AppId::parse(alloc, b"org.x.App")?;
-    let mut out = shown(alloc, &policy_of(alloc, launch, &id)?)?;
-    out.push('|')?;
-    out.push_str(&shown(alloc, &policy_of_system(alloc, launch)?)?)?;
-    Ok(out)
+/// Whether these are the rules of a policy, in this order.
+fn has_rules(policy: &Policy, want: &[&str]) -> bool {
+    for (rule, want) in policy.rules().iter().zip(want) {
+        if !is_rule(rule, want) {
+            return false;
+        }
+    }
+    policy.rules().len() == want.len()
 }
 
-/// The policies of the launch where much is given.
-fn much_policies(alloc: Global) -> Result<String, Fail> {
-    match launch_of(alloc, &MUCH)? {
-        Some(launch) => policies_of(alloc, &launch),
-        None => Ok(String::new(alloc)),
-    }
+/// The rules on the session bus of the launch where much is given.
+const SESSION: [&str; 4] = [
+    "org.x.App.*=own",
+    "org.freedesktop.portal.*=talk",
+    "org.bar=see",
+    "org.g.*=talk",
+];
+
+/// And those on the system bus.
+const SYSTEM: [&str; 1] = ["org.c.d=own"];
+
+/// Whether a launch has these rules.
+fn has_policies(rt: &impl Abort, alloc: Global, launch: &LaunchText) -> bool {
+    let id = AppId::parse(alloc, b"org.x.App").expect(rt, "an ID");
+    let session = policy_of(alloc, launch, &id).expect(rt, "memory");
+    let system = policy_of_system(alloc, launch).expect(rt, "memory");
+    has_rules(&session, &SESSION) && has_rules(&system, &SYSTEM)
 }
 
 #[test]
-fn policies(rt: HostRuntime) -> Result<(), Fail> {
-    let text = much_policies(rt.alloc())?;
-    let want =
-        "org.x.App.*=own org.freedesktop.portal.*=talk org.bar=see org.g.*=talk |org.c.d=own ";
-    assert!(rt; text.as_str() == want, "{text}");
-    Ok(())
+fn policies(rt: HostRuntime) {
+    let launch = launch_of(&rt, rt.alloc(), &MUCH).expect(&rt, "a runtime");
+    assert!(rt; has_policies(&rt, rt.alloc(), &launch));
 }

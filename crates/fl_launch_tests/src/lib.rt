@@ -4,4 +4,6 @@
 #[cfg(test)]
 mod extension;
 #[cfg(test)]
+mod given;
+#[cfg(test)]
 mod launch;

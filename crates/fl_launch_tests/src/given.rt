@@ -1,0 +1,27 @@
+//! What the tests give.
+
+use fp_keyfile::KeyFile;
+use fp_name::{Digest, RefName, RemoteName};
+use fp_small::RefRow;
+use std::alloc::Global;
+use std::panic::Expect;
+use std::process::Abort;
+
+pub fn ref_name(rt: &impl Abort, alloc: Global, text: &str) -> RefName {
+    RefName::parse(alloc, text.as_bytes()).expect(rt, "a ref")
+}
+
+pub fn key_file(rt: &impl Abort, alloc: Global, text: &str) -> KeyFile {
+    KeyFile::parse(alloc, text.as_bytes()).expect(rt, "a key file")
+}
+
+/// A row of the ref, whose commit has this byte 32 times.
+pub fn row_of(rt: &impl Abort, alloc: Global, name: &str, byte: u8) -> RefRow {
+    RefRow {
+        name: ref_name(rt, alloc, name),
+        origin: RemoteName::parse(alloc, b"lab").expect(rt, "a remote"),
+        commit: Digest::from_bytes([byte; 32]),
+        timestamp: 1,
+        previous: None,
+    }
+}
