@@ -30,7 +30,7 @@ impl Fault {
             Fault::NoCommand => "this line belongs to a command, and none is above it",
             Fault::NoStops => "`shown` belongs to a line `stops`, and none is above it",
             Fault::NoNumber => "a number is expected",
-            Fault::NoMode => "remainder the path come permission bits in octal digits, or nothing",
+            Fault::NoMode => "after the path come permission bits in octal digits, or nothing",
             Fault::NoHex => "an even number of hexadecimal digits is expected",
             Fault::OneWord => "two words are expected",
             Fault::NoObject => {
