@@ -14,7 +14,7 @@ use Rattle.fl_words.specs.declared.command.Command.{Command}
 use Rattle.fl_words.specs.declared.command.Command.TheVariants.{Change as Changing, List as Listed, Show as Showing, Filter as Filtering, Batch, Fsck, Export as Exporting, Exercise as Exercising}
 use Rattle.fl_gen.specs.Generator.{IsGenerated}
 use Rattle.fl_top.specs.Asked.{OpsBy, AsksFor, AreToldFor, AsksRemotes}
-use Rattle.fl_top.specs.Exercises.{IsRunOver, IsUnmade, RunsWith, IsRun, IsExercised}
+use Rattle.fl_top.specs.Exercises.{is_exercise, IsRunOver, IsUnmade, RunsWith, IsRun, IsExercised}
 use Rattle.fl_top.specs.Fsck.{HasReport}
 use Rattle.fl_top.specs.Runs.{RunsBy, RanBy, Checks, HasCauses, WasTaken, told}
 use Rattle.fl_top.specs.RunsOver.{RunsOn, RanOn}
@@ -27,6 +27,9 @@ use Rattle.fl_top.proofs.Finishing.{goes_command, goes_unread}
 -- it is none
 abbrev pub IsNoExercise : Command → Type 0
 IsNoExercise command = (apps : ℕ) → command ≡ Exercising apps → ⊥
+
+pub no_exercise : (command : Command) → is_exercise command ≡ false → IsNoExercise command
+no_exercise command is apps same = absurd (let both : true ≡ false = subst (λ (k : Command). is_exercise k ≡ false) same is in cc both)
 
 given_is : (command : Command) (holds : Option Holdings) → IsNoExercise command → IsRunOver (Some command) holds holds
 given_is (Changing change) holds none = refl

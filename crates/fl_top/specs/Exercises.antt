@@ -1,5 +1,5 @@
 -- The remotes that a command is run over.
-use Rattle.std.specs.Prelude.{◌≡◌, ◌⊎◌, ℕ, List, Option, Some}
+use Rattle.std.specs.Prelude.{◌≡◌, ◌⊎◌, ℕ, List, Bool, true, false, Option, Some}
 use Rattle.fp_host.specs.Frame.{AtEnd, Unchanged}
 use Rattle.fp_host.specs.Moments.{Moments, Goes, Always}
 use Rattle.fp_host.specs.Remote.{Holdings}
@@ -9,6 +9,10 @@ use Rattle.fl_words.specs.declared.command.Command.TheVariants.{Exercise as Exer
 use Rattle.fl_gen.specs.Generator.{IsGenerated}
 use Rattle.fl_top.specs.Runs.{RunsBy, RanBy, told}
 use Rattle.fl_top.specs.RunsOver.{RunsOn, RanOn}
+
+abbrev pub is_exercise : Command → Bool
+is_exercise (Exercising apps) = true
+is_exercise command = false
 
 -- An exercise is run over remotes that are made for it, which hold this; every other command over those of the run.
 abbrev pub IsRunOver : Option Command → Option Holdings → Option Holdings → Type 0

@@ -1,5 +1,5 @@
 //! An exercise: the changes of made remotes.
-ghost use Rattle.std.specs.Prelude.{◌≡◌, ◌≤◌, Some, OnOk, IsErrOf};
+ghost use Rattle.std.specs.Prelude.{◌≡◌, ◌≤◌, false, Some, IfOk, IfErr, OnOk, IsErrOf};
 ghost use Rattle.fp_host.specs.Causes.{IsCaused};
 ghost use Rattle.fp_host.specs.Frame.{AtEnd};
 ghost use Rattle.fp_host.specs.Moments.{Goes};
@@ -9,7 +9,7 @@ ghost use Rattle.fl_gen.specs.Exercise.{exercise_changes};
 ghost use Rattle.fl_change.specs.Turns.{MayDo};
 ghost use Rattle.fl_exercise.specs.Exercising.{exercising};
 ghost use Rattle.fl_top.specs.Asked.{AreToldFor, AsksRemotes};
-ghost use Rattle.fl_top.specs.Exercises.{IsExercised};
+ghost use Rattle.fl_top.specs.Exercises.{is_exercise, IsExercised};
 ghost use Rattle.fl_top.specs.Exports.{LeavesExports};
 ghost use Rattle.fl_top.specs.Runs.{IsReady, HasCauses};
 ghost use Rattle.fl_top.specs.RunsOver.{RunsOver, EndedOver};
@@ -26,6 +26,24 @@ use fp_host::{Host, Remotes, Source};
 use par_digest::Gate;
 use std::alloc::Global;
 use std::thread::Threads;
+
+/// How many applications an exercise has, or the command where it is none.
+pub(crate) fn exercise_in(command: Command) -> Result<AppCount, Command>
+    ensures exercise { IfOk result (λ apps. command ≡ Exercising apps) }
+    ensures other { IfErr result (λ other. other ≡ command) }
+    ensures none { IfErr result (λ other. is_exercise other ≡ false) }
+{
+    match command {
+        Command::Exercise(apps) => Ok(apps),
+        Command::Change(change) => Err(Command::Change(change)),
+        Command::List(listing) => Err(Command::List(listing)),
+        Command::Show(thing) => Err(Command::Show(thing)),
+        Command::Filter(source) => Err(Command::Filter(source)),
+        Command::Batch => Err(Command::Batch),
+        Command::Fsck => Err(Command::Fsck),
+        Command::Export { remote, name } => Err(Command::Export { remote, name }),
+    }
+}
 
 /// Runs an exercise over remotes that are made for it.
 pub(crate) fn run_exercise<T: Threads + Sync, H: Host, I: Source, G: Gate + Sync>(

@@ -22,7 +22,7 @@ ghost use Rattle.fl_top.specs.Status.{IsStatus, IsAnswered, IsOfWords, IsOfComma
 
 use crate::checking::check;
 use crate::command_end::CommandEnd;
-use crate::exercising::{exercise, run_exercise};
+use crate::exercising::{exercise, exercise_in, run_exercise};
 use crate::exporting::export;
 use crate::filtering::filter_bytes;
 use crate::input::read_input;
@@ -119,8 +119,10 @@ pub fn run_gated<H: Host, R: Remotes, I: Source, G: Gate + Sync>(
     ensures later { I.faults input.old ≤ I.faults input.new }
 {
     match read_words(alloc, words) {
-        Ok(Command::Exercise(apps)) => run_exercise(rt, alloc, input, host, apps, gate),
-        Ok(command) => run_command(rt, alloc, input, host, remotes, command, gate),
+        Ok(command) => match exercise_in(command) {
+            Ok(apps) => run_exercise(rt, alloc, input, host, apps, gate),
+            Err(command) => run_command(rt, alloc, input, host, remotes, command, gate),
+        },
         Err(WordsError::BadWords { index }) => refuse_words(alloc, host, index),
         Err(WordsError::NoMemory) => 6,
     }

@@ -13,55 +13,55 @@ use Rattle.fl_top.proofs.Ending.{not_answered}
 use Rattle.fl_top.specs.Asked.{AsksFor}
 use Rattle.fl_top.proofs.Asked.{not_asked}
 use Rattle.fl_top.proofs.Finishing.{goes_no_command, took_nothing, starves}
-use Rattle.fl_top.proofs.Exercises.{given_runs, given_cause, given_asks, given_told, exercised_runs, exercised_words, exercised_cause, exercised_found, exercised_input, exercised_taken, no_command_runs, unread_runs}
+use Rattle.fl_top.proofs.Exercises.{no_exercise, given_runs, given_cause, given_asks, given_told, exercised_runs, exercised_words, exercised_cause, exercised_found, exercised_input, exercised_taken, no_command_runs, unread_runs}
 use Rattle.fl_top.proofs.running.run_gated.Goals as goal
 
-pub returns-in-Ok-Exercise-clause-runs : goal.returns-in-Ok-Exercise-clause-runs
-returns-in-Ok-Exercise-clause-runs g c =
-    exercised_runs (map string_bytes c.args.words.now) c.in-Ok-Exercise.apps (g.I.Source.left c.args.input.now) (g.R.Remotes.holds c.args.remotes.now) c.run_exercise.result (c.in-Ok-Exercise.ensures.ok ∙ ap (λ (k : Command). Some k) c.in-Ok-Exercise.field-0-is) (g.met.H.Host.is_tree c.args.host.now) c.run_exercise.ensures.runs
+pub returns-in-Ok-exercise_in-clause-runs : goal.returns-in-Ok-exercise_in-clause-runs
+returns-in-Ok-exercise_in-clause-runs g c =
+    exercised_runs (map string_bytes c.args.words.now) c.in-Ok-exercise_in.apps (g.I.Source.left c.args.input.now) (g.R.Remotes.holds c.args.remotes.now) c.run_exercise.result (c.in-Ok.ensures.ok ∙ ap (λ (k : Command). Some k) c.in-Ok-exercise_in.ensures.exercise) (g.met.H.Host.is_tree c.args.host.now) c.run_exercise.ensures.runs
 
-pub returns-in-Ok-Exercise-clause-words : goal.returns-in-Ok-Exercise-clause-words
-returns-in-Ok-Exercise-clause-words g c =
-    exercised_words (map string_bytes c.args.words.now) c.in-Ok-Exercise.apps (g.I.Source.left c.args.input.now) (g.R.Remotes.holds c.args.remotes.now) c.run_exercise.result (c.in-Ok-Exercise.ensures.ok ∙ ap (λ (k : Command). Some k) c.in-Ok-Exercise.field-0-is) c.run_exercise.ensures.status
+pub returns-in-Ok-exercise_in-clause-words : goal.returns-in-Ok-exercise_in-clause-words
+returns-in-Ok-exercise_in-clause-words g c =
+    exercised_words (map string_bytes c.args.words.now) c.in-Ok-exercise_in.apps (g.I.Source.left c.args.input.now) (g.R.Remotes.holds c.args.remotes.now) c.run_exercise.result (c.in-Ok.ensures.ok ∙ ap (λ (k : Command). Some k) c.in-Ok-exercise_in.ensures.exercise) c.run_exercise.ensures.status
 
-pub returns-in-Ok-Exercise-clause-fault_has_cause : goal.returns-in-Ok-Exercise-clause-fault_has_cause
-returns-in-Ok-Exercise-clause-fault_has_cause g c =
-    exercised_cause (map string_bytes c.args.words.now) c.in-Ok-Exercise.apps (g.I.Source.left c.args.input.now) (g.R.Remotes.holds c.args.remotes.now) c.run_exercise.result (c.in-Ok-Exercise.ensures.ok ∙ ap (λ (k : Command). Some k) c.in-Ok-Exercise.field-0-is) c.run_exercise.ensures.fault_has_cause
+pub returns-in-Ok-exercise_in-clause-fault_has_cause : goal.returns-in-Ok-exercise_in-clause-fault_has_cause
+returns-in-Ok-exercise_in-clause-fault_has_cause g c =
+    exercised_cause (map string_bytes c.args.words.now) c.in-Ok-exercise_in.apps (g.I.Source.left c.args.input.now) (g.R.Remotes.holds c.args.remotes.now) c.run_exercise.result (c.in-Ok.ensures.ok ∙ ap (λ (k : Command). Some k) c.in-Ok-exercise_in.ensures.exercise) c.run_exercise.ensures.fault_has_cause
 
-pub returns-in-Ok-Exercise-clause-found : goal.returns-in-Ok-Exercise-clause-found
-returns-in-Ok-Exercise-clause-found g c =
-    exercised_found (map string_bytes c.args.words.now) c.in-Ok-Exercise.apps (g.I.Source.left c.args.input.now) (g.R.Remotes.holds c.args.remotes.now) c.run_exercise.result (c.in-Ok-Exercise.ensures.ok ∙ ap (λ (k : Command). Some k) c.in-Ok-Exercise.field-0-is)
+pub returns-in-Ok-exercise_in-clause-found : goal.returns-in-Ok-exercise_in-clause-found
+returns-in-Ok-exercise_in-clause-found g c =
+    exercised_found (map string_bytes c.args.words.now) c.in-Ok-exercise_in.apps (g.I.Source.left c.args.input.now) (g.R.Remotes.holds c.args.remotes.now) c.run_exercise.result (c.in-Ok.ensures.ok ∙ ap (λ (k : Command). Some k) c.in-Ok-exercise_in.ensures.exercise)
 
-pub returns-in-Ok-Exercise-clause-exports : goal.returns-in-Ok-Exercise-clause-exports
-returns-in-Ok-Exercise-clause-exports g c change done tells = c.run_exercise.ensures.exports done
+pub returns-in-Ok-exercise_in-clause-exports : goal.returns-in-Ok-exercise_in-clause-exports
+returns-in-Ok-exercise_in-clause-exports g c change done tells = c.run_exercise.ensures.exports done
 
-pub returns-in-Ok-Exercise-clause-remotes : goal.returns-in-Ok-Exercise-clause-remotes
-returns-in-Ok-Exercise-clause-remotes g c = not_asked (AsksFor (command_of (map string_bytes c.args.words.now)) (g.I.Source.left c.args.input.now)) (c.run_exercise.result ≡ 4) (g.R.Remotes.holds c.args.remotes.now) (g.R.Remotes.faults c.args.remotes.now) c.run_exercise.ensures.no_remote_fault
+pub returns-in-Ok-exercise_in-clause-remotes : goal.returns-in-Ok-exercise_in-clause-remotes
+returns-in-Ok-exercise_in-clause-remotes g c = not_asked (AsksFor (command_of (map string_bytes c.args.words.now)) (g.I.Source.left c.args.input.now)) (c.run_exercise.result ≡ 4) (g.R.Remotes.holds c.args.remotes.now) (g.R.Remotes.faults c.args.remotes.now) c.run_exercise.ensures.no_remote_fault
 
-pub returns-in-Ok-Exercise-clause-input : goal.returns-in-Ok-Exercise-clause-input
-returns-in-Ok-Exercise-clause-input g c =
-    exercised_input (map string_bytes c.args.words.now) c.in-Ok-Exercise.apps (g.I.Source.left c.args.input.now) (g.R.Remotes.holds c.args.remotes.now) c.run_exercise.result (c.in-Ok-Exercise.ensures.ok ∙ ap (λ (k : Command). Some k) c.in-Ok-Exercise.field-0-is) c.run_exercise.ensures.status
+pub returns-in-Ok-exercise_in-clause-input : goal.returns-in-Ok-exercise_in-clause-input
+returns-in-Ok-exercise_in-clause-input g c =
+    exercised_input (map string_bytes c.args.words.now) c.in-Ok-exercise_in.apps (g.I.Source.left c.args.input.now) (g.R.Remotes.holds c.args.remotes.now) c.run_exercise.result (c.in-Ok.ensures.ok ∙ ap (λ (k : Command). Some k) c.in-Ok-exercise_in.ensures.exercise) c.run_exercise.ensures.status
 
-pub returns-in-Ok-Exercise-clause-taken : goal.returns-in-Ok-Exercise-clause-taken
-returns-in-Ok-Exercise-clause-taken g c =
-    exercised_taken (map string_bytes c.args.words.now) c.in-Ok-Exercise.apps (g.I.Source.left c.args.input.now) (g.R.Remotes.holds c.args.remotes.now) c.run_exercise.result (c.in-Ok-Exercise.ensures.ok ∙ ap (λ (k : Command). Some k) c.in-Ok-Exercise.field-0-is) c.run_exercise.ensures.left
+pub returns-in-Ok-exercise_in-clause-taken : goal.returns-in-Ok-exercise_in-clause-taken
+returns-in-Ok-exercise_in-clause-taken g c =
+    exercised_taken (map string_bytes c.args.words.now) c.in-Ok-exercise_in.apps (g.I.Source.left c.args.input.now) (g.R.Remotes.holds c.args.remotes.now) c.run_exercise.result (c.in-Ok.ensures.ok ∙ ap (λ (k : Command). Some k) c.in-Ok-exercise_in.ensures.exercise) c.run_exercise.ensures.left
 
-pub returns-in-Ok-clause-runs : goal.returns-in-Ok-clause-runs
-returns-in-Ok-clause-runs g c =
-    given_runs (map string_bytes c.args.words.now) c.in-Ok.command (g.I.Source.left c.args.input.now) (g.R.Remotes.holds c.args.remotes.now) c.run_command.result c.in-Ok.ensures.ok c.in-Ok.not-Exercise (g.met.H.Host.is_tree c.args.host.now) c.run_command.ensures.any_moment
+pub returns-in-Err-clause-runs : goal.returns-in-Err-clause-runs
+returns-in-Err-clause-runs g c =
+    given_runs (map string_bytes c.args.words.now) c.in-Err.command (g.I.Source.left c.args.input.now) (g.R.Remotes.holds c.args.remotes.now) c.run_command.result (c.in-Ok.ensures.ok ∙ ap (λ (k : Command). Some k) (sym c.in-Err.ensures.other)) (no_exercise c.in-Err.command c.in-Err.ensures.none) (g.met.H.Host.is_tree c.args.host.now) c.run_command.ensures.any_moment
 
-pub returns-in-Ok-clause-fault_has_cause : goal.returns-in-Ok-clause-fault_has_cause
-returns-in-Ok-clause-fault_has_cause g c =
-    given_cause (map string_bytes c.args.words.now) c.in-Ok.command (g.I.Source.left c.args.input.now) (g.R.Remotes.holds c.args.remotes.now) c.run_command.result c.in-Ok.ensures.ok c.in-Ok.not-Exercise c.run_command.ensures.fault_has_cause
+pub returns-in-Err-clause-fault_has_cause : goal.returns-in-Err-clause-fault_has_cause
+returns-in-Err-clause-fault_has_cause g c =
+    given_cause (map string_bytes c.args.words.now) c.in-Err.command (g.I.Source.left c.args.input.now) (g.R.Remotes.holds c.args.remotes.now) c.run_command.result (c.in-Ok.ensures.ok ∙ ap (λ (k : Command). Some k) (sym c.in-Err.ensures.other)) (no_exercise c.in-Err.command c.in-Err.ensures.none) c.run_command.ensures.fault_has_cause
 
-pub returns-in-Ok-clause-remotes : goal.returns-in-Ok-clause-remotes
-returns-in-Ok-clause-remotes g c =
-    given_asks (map string_bytes c.args.words.now) c.in-Ok.command (g.I.Source.left c.args.input.now) (g.R.Remotes.holds c.args.remotes.now) c.run_command.result c.in-Ok.ensures.ok c.in-Ok.not-Exercise c.run_command.ensures.remotes
+pub returns-in-Err-clause-remotes : goal.returns-in-Err-clause-remotes
+returns-in-Err-clause-remotes g c =
+    given_asks (map string_bytes c.args.words.now) c.in-Err.command (g.I.Source.left c.args.input.now) (g.R.Remotes.holds c.args.remotes.now) c.run_command.result (c.in-Ok.ensures.ok ∙ ap (λ (k : Command). Some k) (sym c.in-Err.ensures.other)) (no_exercise c.in-Err.command c.in-Err.ensures.none) c.run_command.ensures.remotes
 
-pub returns-in-Ok-clause-exports : goal.returns-in-Ok-clause-exports
-returns-in-Ok-clause-exports g c change done tells =
-    c.run_command.ensures.exports (subst IsChange c.in-Ok.ensures.ok change) done
-    (given_told (map string_bytes c.args.words.now) c.in-Ok.command (g.I.Source.left c.args.input.now) (g.R.Remotes.holds c.args.remotes.now) c.run_command.result c.in-Ok.ensures.ok c.in-Ok.not-Exercise tells)
+pub returns-in-Err-clause-exports : goal.returns-in-Err-clause-exports
+returns-in-Err-clause-exports g c change done tells =
+    c.run_command.ensures.exports (subst IsChange (c.in-Ok.ensures.ok ∙ ap (λ (k : Command). Some k) (sym c.in-Err.ensures.other)) change) done
+    (given_told (map string_bytes c.args.words.now) c.in-Err.command (g.I.Source.left c.args.input.now) (g.R.Remotes.holds c.args.remotes.now) c.run_command.result (c.in-Ok.ensures.ok ∙ ap (λ (k : Command). Some k) (sym c.in-Err.ensures.other)) (no_exercise c.in-Err.command c.in-Err.ensures.none) tells)
 
 pub returns-in-Err-BadWords-clause-runs : goal.returns-in-Err-BadWords-clause-runs
 returns-in-Err-BadWords-clause-runs g c =
@@ -76,8 +76,8 @@ returns-in-Err-BadWords-clause-runs g c =
 pub returns-in-Err-NoMemory-clause-runs : goal.returns-in-Err-NoMemory-clause-runs
 returns-in-Err-NoMemory-clause-runs g c = unread_runs (map string_bytes c.args.words.now) (g.I.Source.left c.args.input.now) (g.R.Remotes.holds c.args.remotes.now) (g.met.H.Host.is_tree c.args.host.now)
 
-pub returns-in-Ok-clause-taken : goal.returns-in-Ok-clause-taken
-returns-in-Ok-clause-taken g c = subst (λ (o : Option Command). WasTaken o c.run_command.result (g.I.Source.left c.args.input.now) (g.I.Source.left c.run_command.new.input)) (sym c.in-Ok.ensures.ok) c.run_command.ensures.taken
+pub returns-in-Err-clause-taken : goal.returns-in-Err-clause-taken
+returns-in-Err-clause-taken g c = subst (λ (o : Option Command). WasTaken o c.run_command.result (g.I.Source.left c.args.input.now) (g.I.Source.left c.run_command.new.input)) (sym (c.in-Ok.ensures.ok ∙ ap (λ (k : Command). Some k) (sym c.in-Err.ensures.other))) c.run_command.ensures.taken
 
 pub returns-in-Err-BadWords-clause-input : goal.returns-in-Err-BadWords-clause-input
 returns-in-Err-BadWords-clause-input g c = λ five. absurd (elim c.refuse_words.ensures.status [
@@ -100,9 +100,9 @@ returns-in-Err-NoMemory-clause-remotes g c = not_asked (AsksFor (command_of (map
 pub returns-in-Err-NoMemory-clause-words : goal.returns-in-Err-NoMemory-clause-words
 returns-in-Err-NoMemory-clause-words g c = starves (command_of (map string_bytes c.args.words.now))
 
-pub returns-in-Ok-clause-found : goal.returns-in-Ok-clause-found
-returns-in-Ok-clause-found g c =
-    subst (λ (o : Option Command). Checks o → IsAnswered c.run_command.result → AtEnd (λ u w. HasReport (shows u)) (g.H.Host.moments c.args.host.now) (g.H.Host.moments c.run_command.new.host)) (sym c.in-Ok.ensures.ok) c.run_command.ensures.found
+pub returns-in-Err-clause-found : goal.returns-in-Err-clause-found
+returns-in-Err-clause-found g c =
+    subst (λ (o : Option Command). Checks o → IsAnswered c.run_command.result → AtEnd (λ u w. HasReport (shows u)) (g.H.Host.moments c.args.host.now) (g.H.Host.moments c.run_command.new.host)) (sym (c.in-Ok.ensures.ok ∙ ap (λ (k : Command). Some k) (sym c.in-Err.ensures.other))) c.run_command.ensures.found
 
 pub returns-in-Err-BadWords-clause-found : goal.returns-in-Err-BadWords-clause-found
 returns-in-Err-BadWords-clause-found g c checks answered =
