@@ -14,7 +14,7 @@ use Rattle.fp_small.specs.declared.state.RefRow.{RefRow}
 use Rattle.fp_small.specs.declared.refusal.Refusal.TheVariants.{BadWords, PinExists, NoSuchPin, Limit, BadRecord, Damaged, RemoteInUse, WrongMode, NoSuchRef, AlreadyInstalled, NotInstalled, RuntimeMissing, RuntimeInUse, MissingObject, CorruptObject, ModeRefused, BadMetadata, RefBinding, Older, NoPrevious}
 use Rattle.fp_base.specs.declared.what.What.TheVariants.{Pins, Input}
 use Rattle.fp_small.specs.declared.op.Op.TheVariants.{Install, Update, Uninstall, AddPin, DropPin, DropOverride, Migrate, Rollback}
-use Rattle.fl_lines.specs.Lines.{refusal_text, op_text, refs_text, skipped_text, info_text, export_line, bad_text, stray_text, fsck_text, made_text}
+use Rattle.fl_lines.specs.Lines.{refusal_text, op_text, refs_text, skipped_text, info_text, export_line, bad_text, stray_text, fsck_text, made_text, exercise_text}
 
 pub words_line : refusal_text (BadWords 2) ≡ codes "error: words 2\n"
 unfolding digits
@@ -171,3 +171,14 @@ checked_line = refl
 pub made_commit_line : made_text (replicate 32 17) ≡ codes "commit 1111111111111111111111111111111111111111111111111111111111111111\n"
 unfolding hex
 made_commit_line = refl
+
+-- ---- an exercise
+
+pub exercised_line : exercise_text 64 32 2 ≡ codes "exercise 64: 32 applications, 2 runtimes\n"
+unfolding digits
+exercised_line = refl
+
+-- the words are the same for one
+pub exercised_once : exercise_text 1 1 1 ≡ codes "exercise 1: 1 applications, 1 runtimes\n"
+unfolding digits
+exercised_once = refl

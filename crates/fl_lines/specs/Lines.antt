@@ -180,3 +180,10 @@ fsck_text objects bad = line (codes "fsck " ++ (decimal objects ++ (codes " obje
 -- the commit that was made
 abbrev pub made_text : List ℕ → List ℕ
 made_text commit = line_of (codes "commit" ∷ hex commit ∷ [])
+
+-- ---- an exercise
+
+-- of an exercise of this number, how many applications and runtimes are deployed at its end
+abbrev pub exercise_text : ℕ → ℕ → ℕ → List ℕ
+exercise_text count applications runtimes =
+    codes "exercise " ++ (decimal count ++ (codes ": " ++ (decimal applications ++ (codes " applications, " ++ (decimal runtimes ++ codes " runtimes\n")))))

@@ -2,6 +2,7 @@
 #![tactic(auto)]
 
 mod escaping;
+mod exercises;
 mod exports;
 mod info;
 mod laws;
@@ -11,6 +12,7 @@ mod refusals;
 mod stores;
 
 pub use escaping::escape;
+pub use exercises::exercise_line;
 pub use exports::export_line;
 pub use info::info_text;
 pub use laws::escapes_tell_texts;

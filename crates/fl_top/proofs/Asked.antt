@@ -6,7 +6,7 @@ use Rattle.fp_small.specs.declared.op.Op.{Op}
 use Rattle.fp_small.specs.declared.state.State.{State}
 use Rattle.ost_walk.specs.Ends.{Outside}
 use Rattle.fl_words.specs.declared.command.Command.{Command}
-use Rattle.fl_words.specs.declared.command.Command.TheVariants.{Change as Changing, List as Listed, Show as Showing, Filter as Filtering, Batch, Fsck, Export as Exporting}
+use Rattle.fl_words.specs.declared.command.Command.TheVariants.{Change as Changing, List as Listed, Show as Showing, Filter as Filtering, Batch, Fsck, Export as Exporting, Exercise as Exercising}
 use Rattle.fl_change.specs.Performs.{AsksBy, Works}
 use Rattle.fl_change.specs.declared.end.RunEnd.{RunEnd}
 use Rattle.fl_change.specs.declared.end.RunEnd.TheVariants.{RemoteFault}
@@ -47,4 +47,5 @@ fails_changing (Showing thing) left asks failed = absurd ((asks.unasked (λ a. a
 fails_changing (Filtering source) left asks failed = absurd ((asks.unasked (λ a. a.1)).1 failed)
 fails_changing Batch left asks failed = refl
 fails_changing Fsck left asks failed = absurd ((asks.unasked (λ a. a.1)).1 failed)
+fails_changing (Exercising apps) left asks failed = refl
 fails_changing (Exporting remote name) left asks failed = absurd ((asks.unasked (λ a. a.1)).1 failed)

@@ -18,7 +18,7 @@ use Rattle.dep_states.specs.After.{Done, after_all}
 use Rattle.fl_lines.specs.Lines.{refusal_text, refs_text, pins_text, remotes_text}
 use Rattle.fl_words.specs.Batch.{batch_of}
 use Rattle.fl_words.specs.declared.command.Command.{Command}
-use Rattle.fl_words.specs.declared.command.Command.TheVariants.{Change as Changing, List as Listed, Show as Showing, Filter as Filtering, Batch, Fsck, Export as Exporting}
+use Rattle.fl_words.specs.declared.command.Command.TheVariants.{Change as Changing, List as Listed, Show as Showing, Filter as Filtering, Batch, Fsck, Export as Exporting, Exercise as Exercising}
 use Rattle.fl_words.specs.declared.command.Change.{Change}
 use Rattle.fl_words.specs.declared.command.Listing.{Listing}
 use Rattle.fl_words.specs.declared.command.Listing.TheVariants as listings
@@ -66,7 +66,8 @@ use Rattle.fl_top.proofs.Starting.{stood, unchanged}
 use Rattle.fl_change.proofs.Changing.{untouched_both, text_on, keeps_files}
 use Rattle.fl_top.proofs.Altering.{rest_none, rest_on}
 use Rattle.fl_change.proofs.Turning.{joined-append}
-use Rattle.fl_top.proofs.Refusing.{changing_later, known_later, launch_later}
+use Rattle.fl_exercise.specs.Exercising.{exercising}
+use Rattle.fl_top.proofs.Refusing.{changing_later, exercising_later, known_later, launch_later}
 
 -- ---- pieces
 
@@ -232,6 +233,9 @@ over_plain : (f : World → Answer) (shown : Result World Elements) → ((x : Wo
 over_plain f (Err path) plain r is = one_of_some (Damaged path) r is refl
 over_plain f (Ok x) plain r is = plain x r is
 
+exercising_plain : (apps : ℕ) (held : Holdings) (x : World) → IsPlain (exercising apps held x)
+exercising_plain apps held x r is = (exercising_later apps held x r is).one
+
 batch_plain : (read : Result (List Change) ℕ) (held : Holdings) (shown : Result World Elements) → IsPlain (of_batch read held shown)
 batch_plain (Err line) held shown r is = one_of_some (BadRecord line) r is refl
 batch_plain (Ok changes) held shown r is = over_plain (changing changes held) shown (changing_plain changes held) r is
@@ -371,4 +375,5 @@ command_plain (Showing thing) given shown = input_plain (shown_by thing) given.i
 command_plain (Filtering source) given shown = input_plain (filter_by source shown) given.input (filter_plain source shown given.input)
 command_plain Batch given shown = input_plain (λ bytes. of_batch (batch_of bytes) given.held shown) given.input (batch_plain (batch_of given.input) given.held shown)
 command_plain Fsck given shown = over_plain (checked given.report) shown (λ x. told_plain (report_text given.report))
+command_plain (Exercising apps) given shown = over_plain (exercising apps given.held) shown (exercising_plain apps given.held)
 command_plain (Exporting remote name) given shown = input_plain (commit_made given.commit) given.input (made_plain given.commit given.input)

@@ -17,7 +17,7 @@ use Rattle.fp_base.specs.declared.what.What.TheVariants.{Input}
 use Rattle.fl_lines.specs.Lines.{refusal_text}
 use Rattle.fl_words.specs.Forms.{command_of, bad_index}
 use Rattle.fl_words.specs.declared.command.Command.{Command}
-use Rattle.fl_words.specs.declared.command.Command.TheVariants.{Change as Changing, List as Listed, Show as Showing, Filter as Filtering, Batch, Fsck, Export as Exporting}
+use Rattle.fl_words.specs.declared.command.Command.TheVariants.{Change as Changing, List as Listed, Show as Showing, Filter as Filtering, Batch, Fsck, Export as Exporting, Exercise as Exercising}
 use Rattle.fl_words.specs.declared.command.Change.{Change}
 use Rattle.fl_words.specs.declared.batch.BatchError.{BatchError}
 use Rattle.fl_words.specs.declared.batch.BatchError.TheVariants as batch
@@ -48,7 +48,9 @@ use Rattle.fl_top.proofs.Altering.{alter_on, alter_to, alter_not, alter_untouche
 use Rattle.fl_top.proofs.Asked.{asks_to}
 use Rattle.fl_top.proofs.Over.{IsConstant, over_same, counts_same, counts_constant}
 use Rattle.fl_top.proofs.Starting.{begun, stood, unchanged, refused_at_once, IsLate, over_late}
-use Rattle.fl_top.proofs.Refusing.{changing_late}
+use Rattle.fl_gen.specs.Exercise.{exercise_changes}
+use Rattle.fl_exercise.specs.Exercising.{exercising}
+use Rattle.fl_top.proofs.Refusing.{changing_late, exercising_late}
 use Rattle.fl_top.proofs.Ending.{refusing, untouched_on, ran_done, ran_fault, ran_input, ran_halted, ran_refused, command_plain, not_answered}
 
 -- ---- a command
@@ -83,6 +85,7 @@ looks_not (Filtering source) is = absurd (cc is)
 looks_not Batch is = refl
 looks_not Fsck is = absurd (cc is)
 looks_not (Exporting remote name) is = absurd (cc is)
+looks_not (Exercising apps) is = refl
 
 made_none : (command : Command) (left : Option (List ℕ)) (u w : View) → changes_state command ≡ true → MadeBy command left u w
 made_none (Changing change) left u w is = tt
@@ -92,6 +95,7 @@ made_none (Filtering source) left u w is = tt
 made_none Batch left u w is = tt
 made_none Fsck left u w is = tt
 made_none (Exporting remote name) left u w is = absurd (cc is)
+made_none (Exercising apps) left u w is = tt
 
 pub look_made : (command : Command) (left : Option (List ℕ)) (u w : View) → only_looks command ≡ true → MadeBy command left u w
 look_made (Changing change) left u w is = tt
@@ -101,6 +105,7 @@ look_made (Filtering source) left u w is = tt
 look_made Batch left u w is = tt
 look_made Fsck left u w is = tt
 look_made (Exporting remote name) left u w is = absurd (cc is)
+look_made (Exercising apps) left u w is = tt
 
 -- where it was done, by an end
 pub made_where : (r : Result (Unit {0}) CommandEnd) (command : Command) (left : Option (List ℕ)) (u w : View) → MadeBy command left u w → MadeWhere r command left u w
@@ -378,6 +383,10 @@ batch_changes t bytes changes whole is = record {
 -- one change
 pub change_changes : (t : Told) (change : Change) → IsChanging (Changing change) t (MayDo (change ∷ [])) (changing (change ∷ []))
 change_changes t change = record { changes = refl; asks = refl; late = changing_late (change ∷ []); is = λ given gave shown. refl; may = λ op may. may }
+
+-- an exercise
+pub exercise_changing : (t : Told) (apps : ℕ) → IsChanging (Exercising apps) t (MayDo (exercise_changes apps)) (exercising apps)
+exercise_changing t apps = record { changes = refl; asks = refl; late = exercising_late apps; is = λ given gave shown. refl; may = λ op may. may }
 
 -- ---- what it takes of the input
 

@@ -18,3 +18,4 @@ pub mod ShowInput
 pub mod Shown
 mod Checked
 mod Making
+pub mod Exercises

@@ -56,6 +56,8 @@ use Rattle.fl_change.specs.Answer.{Answer, Piece, ops_of, done_answer, op_answer
 use Rattle.fl_change.specs.Settings.{is_pinned, add_pin_refusal, drop_pin_refusal, add_remote_refusal, remote_refusal, first_from, in_use_refusal, drop_remote_refusal}
 use Rattle.fl_change.specs.Overrides.{changed_row, long_refusal}
 use Rattle.fl_change.specs.Refs.{op_over, ops_over, planned, if_remote, from_remote, installed_refusal, install_over, update_over, skipped, is_no_offer, unless_skipped, updated_from, target_over, used_refusal, uninstall_over, unused_in, drop_over, missing_refusal, back_to, previous_commit, previous_in, going_back, reset_over}
+use Rattle.fl_exercise.specs.Exercising.{end_answer, exercising}
+use Rattle.fl_gen.specs.Exercise.{exercise_changes}
 use Rattle.fl_change.specs.Turns.{change_over, in_turn, by_layout, migrating, changing}
 use Rattle.fl_change.proofs.Pulled.{AllOf, OfHead, of_head, of_op}
 use Rattle.fl_launch.specs.declared.launching.LaunchText.{LaunchText}
@@ -386,6 +388,11 @@ changing_later changes held x =
     let y = worlds_after held x (ops_of a) in
     continued_later a.pieces a.refusal (in_turn changes held y) (layout_later x.state.layout) (each_later change_over change_later changes held y)
 
+pub exercising_later : (apps : ℕ) (held : Holdings) (x : World) → Refuses (exercising apps held x)
+exercising_later apps held x =
+    let a = changing (exercise_changes apps) held x in
+    continued_later a.pieces a.refusal (end_answer apps held (worlds_after held x (ops_of a))) (changing_later (exercise_changes apps) held x) none_later
+
 -- ---- what is known of a ref
 
 as_info_later : (m : Result Meta Refusal) → Fails m → Fails (as_info m)
@@ -427,3 +434,6 @@ answer_late a all at_once = late_by a.refusal all at_once
 
 pub changing_late : (changes : List Change) (held : Holdings) (x : World) → IsAtOnce (changing changes held x).refusal → ⊥
 changing_late changes held x = answer_late (changing changes held x) (changing_later changes held x)
+
+pub exercising_late : (apps : ℕ) (held : Holdings) (x : World) → IsAtOnce (exercising apps held x).refusal → ⊥
+exercising_late apps held x = answer_late (exercising apps held x) (exercising_later apps held x)

@@ -22,7 +22,7 @@ use Rattle.fp_small.specs.declared.state.RefRow.{RefRow}
 use Rattle.fl_installed.specs.Described.{info_in}
 use Rattle.fl_installed.specs.declared.info.Info.{Info}
 use Rattle.fl_words.specs.declared.command.Command.{Command}
-use Rattle.fl_words.specs.declared.command.Command.TheVariants.{Change as Changing, List as Listed, Show as Showing, Filter as Filtering, Batch, Fsck, Export as Exporting}
+use Rattle.fl_words.specs.declared.command.Command.TheVariants.{Change as Changing, List as Listed, Show as Showing, Filter as Filtering, Batch, Fsck, Export as Exporting, Exercise as Exercising}
 use Rattle.fl_words.specs.declared.command.Change.{Change}
 use Rattle.fl_words.specs.declared.command.Listing.{Listing}
 use Rattle.fl_words.specs.declared.command.Listing.TheVariants as listings
@@ -58,6 +58,7 @@ use Rattle.ost_model.specs.Readers.{commit_read, tree_read, meta_read}
 use Rattle.fl_lines.specs.PrintedWords.{kind_word}
 use Rattle.fl_top.specs.Objects.{head, commit_lines, tree_lines, meta_lines, normal_line}
 use Rattle.fl_change.specs.Turns.{changing}
+use Rattle.fl_exercise.specs.Exercising.{exercising}
 use Rattle.fl_change.specs.Answer.{Answer, Piece, refusal_answer, text_answer}
 
 -- What a run is given beside the installation's state: its input, what the remotes hold, what is found in the installation's store, and
@@ -225,6 +226,7 @@ answer_over (Filtering source) given shown = over_input (filter_by source shown)
 answer_over Batch given shown = over_input (λ bytes. of_batch (batch_of bytes) given.held shown) given.input
 answer_over Fsck given shown = over (checked given.report) shown
 answer_over (Exporting remote name) given shown = over_input (commit_made given.commit) given.input
+answer_over (Exercising apps) given shown = over (exercising apps given.held) shown
 
 abbrev pub answer_to : List (List ℕ) → Option Command → Given → Result World Elements → Answer
 answer_to words None given shown = refusal_answer (BadWords (bad_index words))

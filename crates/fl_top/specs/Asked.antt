@@ -5,9 +5,10 @@ use Rattle.fp_host.specs.Remote.{Holdings}
 use Rattle.fp_small.specs.declared.op.Op.{Op}
 use Rattle.op_bring.specs.Bringing.{AreTold}
 use Rattle.fl_words.specs.declared.command.Command.{Command}
-use Rattle.fl_words.specs.declared.command.Command.TheVariants.{Change as Changing, List as Listed, Show as Showing, Filter as Filtering, Batch, Fsck, Export as Exporting}
+use Rattle.fl_words.specs.declared.command.Command.TheVariants.{Change as Changing, List as Listed, Show as Showing, Filter as Filtering, Batch, Fsck, Export as Exporting, Exercise as Exercising}
 use Rattle.fl_words.specs.declared.command.Change.{Change}
 use Rattle.fl_words.specs.Batch.{batch_of}
+use Rattle.fl_gen.specs.Exercise.{exercise_changes}
 use Rattle.fl_change.specs.Performs.{AsksBy}
 use Rattle.fl_change.specs.Turns.{MayDo}
 use Rattle.fl_top.specs.Input.{IsWhole}
@@ -27,11 +28,17 @@ OpsBy (Filtering source) left op = ⊥
 OpsBy Batch left op = (changes : List Change) × IsBatch left changes × MayDo changes op
 OpsBy Fsck left op = ⊥
 OpsBy (Exporting remote name) left op = ⊥
+OpsBy (Exercising apps) left op = MayDo (exercise_changes apps) op
 
 -- words that are no command do none
 abbrev pub OpsFor : Option Command → Option (List ℕ) → Op → Type 0
 OpsFor None left op = ⊥
 OpsFor (Some command) left op = OpsBy command left op
+
+-- Those for which it may ask the remotes of the run. An exercise does its own over remotes that are made for it.
+abbrev pub AsksFor : Option Command → Option (List ℕ) → Op → Type 0
+AsksFor (Some (Exercising apps)) left op = ⊥
+AsksFor command left op = OpsFor command left op
 
 -- where one of these operations brings a commit, the remotes tell what they hold
 abbrev pub AreToldFor : (Op → Type 0) → Option Holdings → Type 0

@@ -12,3 +12,4 @@ pub mod Input
 pub mod Objects
 pub mod Telling
 pub mod Remotes
+pub mod Exercises

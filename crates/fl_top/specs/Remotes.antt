@@ -11,7 +11,7 @@ use Rattle.ost_description.specs.Commits.{IsDescribed}
 use Rattle.ost_export.specs.Exports.{AreFit, IsOffered}
 use Rattle.fl_lines.specs.Lines.{made_text}
 use Rattle.fl_words.specs.declared.command.Command.{Command}
-use Rattle.fl_words.specs.declared.command.Command.TheVariants.{Change as Changing, List as Listed, Show as Showing, Filter as Filtering, Batch, Fsck, Export as Exporting}
+use Rattle.fl_words.specs.declared.command.Command.TheVariants.{Change as Changing, List as Listed, Show as Showing, Filter as Filtering, Batch, Fsck, Export as Exporting, Exercise as Exercising}
 use Rattle.fl_make.specs.Making.{made, MayMake, CanMake}
 
 -- what names may come to hold where a remote is made
@@ -23,6 +23,7 @@ MakesBy (Filtering source) q e = ⊥
 MakesBy Batch q e = ⊥
 MakesBy Fsck q e = ⊥
 MakesBy (Exporting remote name) q e = MayMake remote name q e
+MakesBy (Exercising apps) q e = ⊥
 
 abbrev pub MakesFor : Option Command → Elements → Slot → Type 0
 MakesFor None q e = ⊥
@@ -46,6 +47,7 @@ MadeBy (Showing thing) left u w = Unit {0}
 MadeBy (Filtering source) left u w = Unit {0}
 MadeBy Batch left u w = Unit {0}
 MadeBy Fsck left u w = Unit {0}
+MadeBy (Exercising apps) left u w = Unit {0}
 MadeBy (Exporting remote name) left u w = (bytes : List ℕ) → left ≡ Some bytes → LeavesRemote remote name bytes u w
 
 abbrev pub MadeFor : Option Command → Option (List ℕ) → View → View → Type 0

@@ -13,7 +13,7 @@ use Rattle.dep_states.specs.After.{Done, after_all}
 use Rattle.dep_open.specs.Open.{NotShown}
 use Rattle.dep_states.specs.Settled.{Settled}
 use Rattle.fl_words.specs.declared.command.Command.{Command}
-use Rattle.fl_words.specs.declared.command.Command.TheVariants.{Change as Changing, List as Listed, Show as Showing, Filter as Filtering, Batch, Fsck, Export as Exporting}
+use Rattle.fl_words.specs.declared.command.Command.TheVariants.{Change as Changing, List as Listed, Show as Showing, Filter as Filtering, Batch, Fsck, Export as Exporting, Exercise as Exercising}
 use Rattle.fl_words.specs.Forms.{command_of}
 use Rattle.fl_change.specs.World.{World}
 use Rattle.fl_change.specs.Answer.{Answer, Piece, lines_of, joined, ops_in, ops_of, set_config, IsIdle}
@@ -137,6 +137,7 @@ IsMadeOf (Showing thing) left digest = Unit {0}
 IsMadeOf (Filtering source) left digest = Unit {0}
 IsMadeOf Batch left digest = Unit {0}
 IsMadeOf Fsck left digest = Unit {0}
+IsMadeOf (Exercising apps) left digest = Unit {0}
 IsMadeOf (Exporting remote name) left digest = (bytes : List ℕ) → left ≡ Some bytes → IsCommitOf name bytes digest
 
 -- The command is given this: as its input all that is left, where it reads the input; what the remotes hold, where it asks them;
@@ -175,6 +176,7 @@ IsFreeFor (Some (Filtering source)) v = Unit {0}
 IsFreeFor (Some Batch) v = Unit {0}
 IsFreeFor (Some Fsck) v = Unit {0}
 IsFreeFor (Some (Exporting remote name)) v = CanMake remote name v
+IsFreeFor (Some (Exercising apps)) v = Unit {0}
 
 -- So a fault of a command has a cause. One that looks at each object of the store needs besides that no path there is too long, and one
 -- that makes a remote that nothing is in its way.

@@ -3,7 +3,7 @@ use Rattle.std.specs.Prelude.{◌≡◌, ◌≤◌, ◌⊎◌, ℕ, Bool, true, 
 use Rattle.fp_small.specs.declared.refusal.Refusal.{Refusal}
 use Rattle.fp_small.specs.declared.refusal.Refusal.TheVariants.{BadWords}
 use Rattle.fl_words.specs.declared.command.Command.{Command}
-use Rattle.fl_words.specs.declared.command.Command.TheVariants.{Change as Changing, List as Listed, Show as Showing, Filter as Filtering, Batch, Fsck, Export as Exporting}
+use Rattle.fl_words.specs.declared.command.Command.TheVariants.{Change as Changing, List as Listed, Show as Showing, Filter as Filtering, Batch, Fsck, Export as Exporting, Exercise as Exercising}
 use Rattle.fl_change.specs.Answer.{Answer}
 
 -- 0 done, 1 refused, 2 no command, 3 a fault of the host, 4 a fault of the remotes, 5 a fault of the input, 6 want of memory
@@ -23,6 +23,7 @@ only_looks (Filtering source) = true
 only_looks Batch = false
 only_looks Fsck = true
 only_looks (Exporting remote name) = false
+only_looks (Exercising apps) = false
 
 -- it may change the installation's state
 abbrev pub changes_state : Command → Bool
@@ -33,6 +34,7 @@ changes_state (Filtering source) = false
 changes_state Batch = true
 changes_state Fsck = false
 changes_state (Exporting remote name) = false
+changes_state (Exercising apps) = true
 
 -- it makes a remote
 abbrev pub makes_remote : Command → Bool
@@ -43,6 +45,7 @@ makes_remote (Filtering source) = false
 makes_remote Batch = false
 makes_remote Fsck = false
 makes_remote (Exporting remote name) = true
+makes_remote (Exercising apps) = false
 
 abbrev pub reads_input : Command → Bool
 reads_input (Changing change) = false
@@ -52,8 +55,9 @@ reads_input (Filtering source) = true
 reads_input Batch = true
 reads_input Fsck = false
 reads_input (Exporting remote name) = true
+reads_input (Exercising apps) = false
 
--- what it does may depend on what the remotes hold
+-- what it does may depend on what remotes hold: those of the run, or those that are made for an exercise
 abbrev pub asks_remotes : Command → Bool
 asks_remotes (Changing change) = true
 asks_remotes (Listed listing) = false
@@ -62,6 +66,7 @@ asks_remotes (Filtering source) = false
 asks_remotes Batch = true
 asks_remotes Fsck = false
 asks_remotes (Exporting remote name) = false
+asks_remotes (Exercising apps) = true
 
 -- it looks at each object of the store
 abbrev pub checks_store : Command → Bool
@@ -72,6 +77,7 @@ checks_store (Filtering source) = false
 checks_store Batch = false
 checks_store Fsck = true
 checks_store (Exporting remote name) = false
+checks_store (Exercising apps) = false
 
 -- 2 for words that are no command, 1 for every other refusal
 abbrev pub status_of : Refusal → ℕ

@@ -3,6 +3,7 @@
 
 mod checking;
 mod command_end;
+mod exercising;
 mod exporting;
 mod filtering;
 mod input;

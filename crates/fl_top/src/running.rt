@@ -2,7 +2,7 @@
 ghost use Rattle.std.specs.Prelude.{◌≡◌, ◌≢◌, ◌≤◌, ◌⊎◌, true, false, Option, Some, map, string_bytes, IfOk, OnOk, IsErrOf};
 ghost use Rattle.fp_host.specs.Causes.{IsCaused, IsCounted};
 ghost use Rattle.fp_host.specs.Frame.{AtEnd, Unchanged};
-ghost use Rattle.fp_host.specs.Moments.{Goes, Rose, Always};
+ghost use Rattle.fp_host.specs.Moments.{Goes, Rose};
 ghost use Rattle.fp_host.specs.Remote.{Holdings};
 ghost use Rattle.fp_small.specs.declared.refusal.Refusal.TheVariants.{BadWords};
 ghost use Rattle.fl_lines.specs.Lines.{refusal_text};
@@ -14,13 +14,15 @@ ghost use Rattle.fp_host.specs.Outcome.{shows};
 ghost use Rattle.dep_states.specs.Sound.{IsSound};
 ghost use Rattle.fl_top.specs.Fsck.{HasReport};
 ghost use Rattle.fl_top.specs.Exports.{LeavesExports};
-ghost use Rattle.fl_top.specs.Asked.{OpsBy, OpsFor, AreToldFor, AsksRemotes};
+ghost use Rattle.fl_top.specs.Asked.{OpsBy, AsksFor, AreToldFor, AsksRemotes};
+ghost use Rattle.fl_top.specs.Exercises.{IsRun};
 ghost use Rattle.fl_top.specs.RunsOver.{RunsOver, EndedOver, RunsOn, EndedOn, RanOn, Takes, TakenBy, IsClosedBy};
-ghost use Rattle.fl_top.specs.Runs.{RunsBy, RanBy, Checks, IsChange, told, WasTaken, IsReady, HasCauses};
+ghost use Rattle.fl_top.specs.Runs.{Checks, IsChange, told, WasTaken, IsReady, HasCauses};
 ghost use Rattle.fl_top.specs.Status.{IsStatus, IsAnswered, IsOfWords, IsOfCommand, changes_state, reads_input};
 
 use crate::checking::check;
 use crate::command_end::CommandEnd;
+use crate::exercising::{exercise, exercise_in, run_exercise};
 use crate::exporting::export;
 use crate::filtering::filter_bytes;
 use crate::input::read_input;
@@ -52,14 +54,11 @@ pub fn run<H: Host, R: Remotes, I: Source>(
     ensures status { IsStatus result }
     ensures words { IsOfWords (command_of (map string_bytes words.now)) result }
     // Wherever the host stops: what was printed are the first pieces of the answer, and the installation is the one after a
-    // prefix of its operations that holds each acknowledged one.
-    ensures any_moment { Always (RunsBy (map string_bytes words.now)
-        (told (I.left input.old) (R.holds remotes.old) (H.moments host.old))) (H.moments host.old) (H.moments host.new) }
-    // What was printed, the status and the state are the answer's; every stop leaves the acknowledged operations.
-    ensures at_return { AtEnd (RanBy (map string_bytes words.now)
-        (told (I.left input.old) (R.holds remotes.old) (H.moments host.old)) result)
+    // prefix of its operations that holds each acknowledged one. At the return what was printed, the status and the state are
+    // the answer's; every stop leaves the acknowledged operations. An exercise answers over remotes that are made for it.
+    ensures runs { IsRun (map string_bytes words.now) (I.left input.old) (R.holds remotes.old) result
         (H.moments host.old) (H.moments host.new) }
-    ensures fault_has_cause { IsCaused (AreToldFor (OpsFor (command_of (map string_bytes words.now))
+    ensures fault_has_cause { IsCaused (AreToldFor (AsksFor (command_of (map string_bytes words.now))
         (I.left input.old)) (R.holds remotes.old) × (result ≡ 3)) (H.moments host.old)
         (HasCauses (command_of (map string_bytes words.now))) (H.faults host.old) (H.faults host.new) }
     // Where a command that looks at each object of the store gave its whole answer, the store has a report, or no state is shown
@@ -69,12 +68,12 @@ pub fn run<H: Host, R: Remotes, I: Source>(
     // Where a command that changes something was done, every stop leaves as the files and links at or below `exports` exactly those
     // that the applications of its state export.
     ensures exports { IsChange (command_of (map string_bytes words.now)) → result ≡ 0
-        → AreToldFor (OpsFor (command_of (map string_bytes words.now)) (I.left input.old))
+        → AreToldFor (AsksFor (command_of (map string_bytes words.now)) (I.left input.old))
         (R.holds remotes.old) → AtEnd (λ u w. IsSound u → LeavesExports w)
         (H.moments host.old) (H.moments host.new) }
-    // The remotes stay as they are. Where the command brings no commit they aren't asked, and the status isn't 4; else it comes
-    // only where their count rose.
-    ensures remotes { AsksRemotes (OpsFor (command_of (map string_bytes words.now)) (I.left input.old))
+    // The remotes stay as they are. For an exercise, and where the command brings no commit, they aren't asked, and the status
+    // isn't 4; else it comes only where their count rose.
+    ensures remotes { AsksRemotes (AsksFor (command_of (map string_bytes words.now)) (I.left input.old))
         (result ≡ 4) (R.holds remotes.old) (R.holds remotes.new)
         (R.faults remotes.old) (R.faults remotes.new) }
     // The input is read before anything is done.
@@ -99,21 +98,18 @@ pub fn run_gated<H: Host, R: Remotes, I: Source, G: Gate + Sync>(
 ) -> u8
     ensures status { IsStatus result }
     ensures words { IsOfWords (command_of (map string_bytes words.now)) result }
-    ensures any_moment { Always (RunsBy (map string_bytes words.now)
-        (told (I.left input.old) (R.holds remotes.old) (H.moments host.old))) (H.moments host.old) (H.moments host.new) }
-    ensures at_return { AtEnd (RanBy (map string_bytes words.now)
-        (told (I.left input.old) (R.holds remotes.old) (H.moments host.old)) result)
+    ensures runs { IsRun (map string_bytes words.now) (I.left input.old) (R.holds remotes.old) result
         (H.moments host.old) (H.moments host.new) }
-    ensures fault_has_cause { IsCaused (AreToldFor (OpsFor (command_of (map string_bytes words.now))
+    ensures fault_has_cause { IsCaused (AreToldFor (AsksFor (command_of (map string_bytes words.now))
         (I.left input.old)) (R.holds remotes.old) × (result ≡ 3)) (H.moments host.old)
         (HasCauses (command_of (map string_bytes words.now))) (H.faults host.old) (H.faults host.new) }
     ensures found { Checks (command_of (map string_bytes words.now)) → IsAnswered result → AtEnd
         (λ u w. HasReport (shows u)) (H.moments host.old) (H.moments host.new) }
     ensures exports { IsChange (command_of (map string_bytes words.now)) → result ≡ 0
-        → AreToldFor (OpsFor (command_of (map string_bytes words.now)) (I.left input.old))
+        → AreToldFor (AsksFor (command_of (map string_bytes words.now)) (I.left input.old))
         (R.holds remotes.old) → AtEnd (λ u w. IsSound u → LeavesExports w)
         (H.moments host.old) (H.moments host.new) }
-    ensures remotes { AsksRemotes (OpsFor (command_of (map string_bytes words.now)) (I.left input.old))
+    ensures remotes { AsksRemotes (AsksFor (command_of (map string_bytes words.now)) (I.left input.old))
         (result ≡ 4) (R.holds remotes.old) (R.holds remotes.new)
         (R.faults remotes.old) (R.faults remotes.new) }
     ensures input { result ≡ 5 → Rose (I.faults input.old) (I.faults input.new) × Unchanged
@@ -123,14 +119,17 @@ pub fn run_gated<H: Host, R: Remotes, I: Source, G: Gate + Sync>(
     ensures later { I.faults input.old ≤ I.faults input.new }
 {
     match read_words(alloc, words) {
-        Ok(command) => run_command(rt, alloc, input, host, remotes, command, gate),
+        Ok(command) => match exercise_in(command) {
+            Ok(apps) => run_exercise(rt, alloc, input, host, apps, gate),
+            Err(command) => run_command(rt, alloc, input, host, remotes, command, gate),
+        },
         Err(WordsError::BadWords { index }) => refuse_words(alloc, host, index),
         Err(WordsError::NoMemory) => 6,
     }
 }
 
-/// Runs a command, and prints the line of its refusal.
-fn run_command<T: Threads + Sync, H: Host, R: Remotes, I: Source, G: Gate + Sync>(
+/// Runs a command over these remotes, and prints the line of its refusal.
+pub(crate) fn run_command<T: Threads + Sync, H: Host, R: Remotes, I: Source, G: Gate + Sync>(
     rt: &T,
     alloc: Global,
     input: &mut I,
@@ -207,6 +206,7 @@ fn perform<T: Threads + Sync, H: Host, R: Remotes, I: Source, G: Gate + Sync>(
         Command::Batch => batch(alloc, input, host, remotes),
         Command::Fsck => Ok(check(rt, alloc, host, gate)?),
         Command::Export { remote, name } => export(rt, alloc, input, host, &remote, &name),
+        Command::Exercise(apps) => Ok(exercise(alloc, host, remotes, &apps)?),
     }
 }
 

@@ -45,6 +45,7 @@ usage: fpk filter --system --from=APP
 usage: fpk batch
 usage: fpk fsck
 usage: fpk export NAME REF
+usage: fpk exercise COUNT
 usage: fpk show commit
 usage: fpk show dirtree
 usage: fpk show dirmeta
@@ -52,7 +53,7 @@ usage: fpk show value TYPE
 ";
 
 /// Words that are no command, and what is said of them.
-const REASONS: [(&[&str], &str); 22] = [
+const REASONS: [(&[&str], &str); 24] = [
     (
         &["override", "--share"],
         "fpk: '--share' is no option\n\
@@ -138,6 +139,14 @@ const REASONS: [(&[&str], &str); 22] = [
     (
         &["show", "value", "si"],
         "fpk: 'si' is no type of GVariant\nusage: fpk show value TYPE\n",
+    ),
+    (
+        &["exercise", "65"],
+        "fpk: '65' is no number from 1 to 64\nusage: fpk exercise COUNT\n",
+    ),
+    (
+        &["exercise", "4", "4"],
+        "fpk: '4' is one word too many\nusage: fpk exercise COUNT\n",
     ),
     (
         &["batch", "a\nb\\c"],

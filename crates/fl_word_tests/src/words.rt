@@ -35,6 +35,7 @@ fn told_command(alloc: Global, command: &Command) -> Result<String, AllocError> 
         Command::Export { remote, name } => {
             spaced(alloc, &["Export", remote.as_str(), name.as_str()])
         }
+        Command::Exercise(apps) => format!(in alloc; "Exercise {}", apps.number()),
     }
 }
 
@@ -112,7 +113,7 @@ fn told_remote(alloc: Global, what: &str, row: &RemoteRow) -> Result<String, All
 }
 
 /// Words, and the command that they are, or the place of the first bad one.
-const WORDS: [(&[&str], &str); 74] = [
+const WORDS: [(&[&str], &str); 86] = [
     // remotes
     (
         &["remote-add", "lab", "file:///lab"],
@@ -156,6 +157,18 @@ const WORDS: [(&[&str], &str); 74] = [
         &["export", "lab", "app/org.x.App/x86_64/stable", "tree"],
         "bad words at 3",
     ),
+    (&["exercise", "1"], "Exercise 1"),
+    (&["exercise", "9"], "Exercise 9"),
+    (&["exercise", "10"], "Exercise 10"),
+    (&["exercise", "64"], "Exercise 64"),
+    (&["exercise"], "bad words at 1"),
+    (&["exercise", "0"], "bad words at 1"),
+    (&["exercise", "65"], "bad words at 1"),
+    (&["exercise", "01"], "bad words at 1"),
+    (&["exercise", "+1"], "bad words at 1"),
+    (&["exercise", "4294967297"], "bad words at 1"),
+    (&["exercise", ""], "bad words at 1"),
+    (&["exercise", "4", "4"], "bad words at 2"),
     (&["pin", "app/*/*/*"], "Pin app/*/*/*"),
     (
         &["pin", "runtime/org.x.Y/x86_64/1.0"],

@@ -7,7 +7,7 @@ use Rattle.fp_keyfile.specs.Lines.{lines_of}
 use Rattle.fp_keyfile.proofs.FirstPlace.{position-cons}
 use Rattle.std.specs.Prelude.{option_and_then}
 use Rattle.fl_words.specs.declared.command.Command.{Command}
-use Rattle.fl_words.specs.declared.command.Command.TheVariants.{Change as Changing, List as Listed, Show as Showing, Filter, Batch, Fsck, Export}
+use Rattle.fl_words.specs.declared.command.Command.TheVariants.{Change as Changing, List as Listed, Show as Showing, Filter, Batch, Fsck, Export, Exercise}
 use Rattle.fl_words.specs.declared.command.Change.{Change}
 use Rattle.fl_words.specs.Forms.{command_of}
 use Rattle.fl_words.specs.Words.{is_change}
@@ -25,6 +25,7 @@ change_is (Some (Filter source)) c h = absurd (cc h)
 change_is (Some Batch) c h = absurd (cc h)
 change_is (Some Fsck) c h = absurd (cc h)
 change_is (Some (Export remote name)) c h = absurd (cc h)
+change_is (Some (Exercise apps)) c h = absurd (cc h)
 
 pub line_good : (line : List ℕ) (c : Change) → batch_change line ≡ Some c → is_change c ≡ true
 unfolding batch_change

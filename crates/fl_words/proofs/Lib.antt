@@ -1,5 +1,6 @@
 pub mod Batches
 pub mod Beginnings
+pub mod Counts
 pub mod Filters
 pub mod Finding
 pub mod FirstWords

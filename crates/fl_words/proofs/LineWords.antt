@@ -18,13 +18,13 @@ use Rattle.fl_words.specs.declared.command.Command.{Command}
 use Rattle.fl_words.specs.declared.command.WordsError.{WordsError}
 use Rattle.fl_words.specs.declared.command.WordsError.TheVariants.{BadWords, NoMemory}
 use Rattle.fl_words.specs.declared.forms.Form.{Form}
-use Rattle.fl_words.specs.declared.forms.Form.TheVariants.{Filter, FilterFrom, FilterSystemFrom}
+use Rattle.fl_words.specs.declared.forms.Form.TheVariants.{Filter, FilterFrom, FilterSystemFrom, Exercise}
 use Rattle.fl_words.proofs.RefTexts.{no_text as no_text_no_ref, app_is_ref}
 use Rattle.fl_words.proofs.TypeTexts.{no_text_no_type}
 use Rattle.fl_options.specs.Options.{is_option, is_launch_option}
 use Rattle.fl_options.proofs.Lines.{no_text_no_option, no_text_no_launch_option}
 use Rattle.fl_words.specs.Types.{is_type_text}
-use Rattle.fl_words.specs.Forms.{Place, literal, pattern, remote, url, ref_name, app, app_id, type_string, permission, permissions, launch_options, filter_rules, from_app, fits, repeats, forms, slots_of, after, left_after, made, reads, command_of}
+use Rattle.fl_words.specs.Forms.{Place, literal, pattern, remote, url, ref_name, app, app_id, type_string, permission, permissions, launch_options, filter_rules, from_app, app_count, fits, repeats, forms, slots_of, after, left_after, made, reads, command_of}
 use Rattle.fl_words.specs.Reading.{IsNoCommand}
 use Rattle.fl_words.specs.Batch.{words_in, change_of, batch_change, IsNoText, IsNoRecord}
 use Rattle.fl_words.proofs.Reaching.{ends, Fit}
@@ -67,17 +67,19 @@ text_where passes none text h =
       | inr no' ↦ absurd (false≢true (sym (none text (λ u. false≢true (sym no' ∙ is_utf8-from_IsUtf8 text u))) ∙ h))
     ]
 
--- the words of the forms are such, but those of the filter, which is no change
+-- the words of the forms are such, but those of the filter and of an exercise, which are no changes
 abbrev is_plain : Place → Bool
 is_plain (literal w) = list_all is_dotted w
 is_plain filter_rules = false
 is_plain from_app = false
+is_plain app_count = false
 is_plain _ = true
 
 plain_or : (form : Form) → (list_all is_plain (slots_of form) ≡ true) ⊎ ((words : List (List ℕ)) → change_of (made form words) ≡ None)
 plain_or Filter = inr (λ words. refl)
 plain_or FilterFrom = inr (λ words. refl)
 plain_or FilterSystemFrom = inr (λ words. refl)
+plain_or Exercise = inr (λ words. refl)
 plain_or _ = inl refl
 
 fit_text : (place : Place) (text : List ℕ) → is_plain place ≡ true → fits place text ≡ true → is_utf8 text ≡ true
@@ -93,6 +95,7 @@ fit_text permission text plain fit = text_where is_option no_text_no_option text
 fit_text permissions text plain fit = text_where is_option no_text_no_option text fit
 fit_text filter_rules text plain fit = absurd (false≢true plain)
 fit_text from_app text plain fit = absurd (false≢true plain)
+fit_text app_count text plain fit = absurd (false≢true plain)
 fit_text launch_options text plain fit = text_where is_launch_option no_text_no_launch_option text fit
 
 -- a word that has a place is text, and the places that are left are such

@@ -11,9 +11,10 @@ use Rattle.fl_options.proofs.Rows.{some_option}
 use Rattle.fl_options.proofs.Lines.{uncut_no_option}
 use Rattle.fl_words.proofs.RefTexts.{some_ref, some_app}
 use Rattle.fl_words.proofs.TypeTexts.{byte_is}
+use Rattle.fl_words.proofs.Counts.{one_is}
 use Rattle.fl_words.specs.declared.forms.Form.{Form}
 use Rattle.fl_words.specs.declared.forms.Form.TheVariants.{OverrideApp}
-use Rattle.fl_words.specs.Forms.{Place, literal, pattern, remote, url, ref_name, app, app_id, type_string, permission, permissions, launch_options, filter_rules, from_app, fits, repeats, slots_of, after, left_after, reach}
+use Rattle.fl_words.specs.Forms.{Place, literal, pattern, remote, url, ref_name, app, app_id, type_string, permission, permissions, launch_options, filter_rules, from_app, app_count, fits, repeats, slots_of, after, left_after, reach}
 
 -- no place is left that needs a word
 abbrev pub ends : Option (List Place) → Bool
@@ -90,6 +91,7 @@ sample app_id = codes "a.b.c"
 sample type_string = 121 ∷ []
 sample permission = codes "--share=ipc"
 sample from_app = codes "--from=app/a.b.c/x/1"
+sample app_count = codes "1"
 sample permissions = []
 sample launch_options = []
 sample filter_rules = []
@@ -121,6 +123,7 @@ sample_fits app_id once = any_id
 sample_fits type_string once = byte_is
 sample_fits permission once = some_option
 sample_fits from_app once = some_app
+sample_fits app_count once = one_is
 sample_fits permissions once = absurd (false≢true (sym once))
 sample_fits launch_options once = absurd (false≢true (sym once))
 sample_fits filter_rules once = absurd (false≢true (sym once))

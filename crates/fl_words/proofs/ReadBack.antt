@@ -16,8 +16,8 @@ use Rattle.fl_words.specs.declared.command.Listing.TheVariants as listings
 use Rattle.fl_words.specs.declared.command.Shown.TheVariants as things
 use Rattle.std.proofs.lemmas.Bool.{and_parts, false≢true}
 use Rattle.fl_words.specs.declared.forms.Form.{Form}
-use Rattle.fl_words.specs.declared.forms.Form.TheVariants.{Pin, Unpin, RemoteAdd, RemoteModify, RemoteDelete, Install, UpdateAll, UpdateOne, Uninstall, UninstallUnused, Rollback, Override, OverrideApp, OverrideReset, OverrideResetApp, ListRefs, ListRemotes, ListPins, ListExports, Info, Launch, OverrideShow, OverrideShowApp, Filter, FilterFrom, FilterSystemFrom, Batch, Fsck, Export, ShowCommit, ShowDirTree, ShowDirMeta, ShowValue}
-use Rattle.fl_words.specs.Forms.{literal, pattern, remote, url, ref_name, app, app_id, type_string, permission, permissions, launch_options, filter_rules, from_app, fits, is_app, forms, slots_of, made, reads, command_of}
+use Rattle.fl_words.specs.declared.forms.Form.TheVariants.{Pin, Unpin, RemoteAdd, RemoteModify, RemoteDelete, Install, UpdateAll, UpdateOne, Uninstall, UninstallUnused, Rollback, Override, OverrideApp, OverrideReset, OverrideResetApp, ListRefs, ListRemotes, ListPins, ListExports, Info, Launch, OverrideShow, OverrideShowApp, Filter, FilterFrom, FilterSystemFrom, Batch, Fsck, Export, Exercise, ShowCommit, ShowDirTree, ShowDirMeta, ShowValue}
+use Rattle.fl_words.specs.Forms.{literal, pattern, remote, url, ref_name, app, app_id, type_string, permission, permissions, launch_options, filter_rules, from_app, app_count, fits, is_app, forms, slots_of, made, reads, command_of}
 use Rattle.fl_options.specs.Options.{is_option, is_launch_option}
 use Rattle.fl_options.proofs.Lines.{uncut_no_option}
 use Rattle.fl_words.specs.Words.{words_of, is_command, override_word, are_options}
@@ -25,6 +25,8 @@ use Rattle.fl_words.specs.Names.{is_override_name}
 use Rattle.fp_name.specs.Refs.{Ref, is_ref, ref_text, ref_of, ref_at}
 use Rattle.fp_name.proofs.Refs.{ref_of-ref_text}
 use Rattle.fl_words.proofs.Names.{other_than_global, id_names}
+use Rattle.fl_words.specs.Counts.{count_at}
+use Rattle.fl_words.proofs.Counts.{count_back, is_number, same_text as same_number, decimal_fits}
 use Rattle.fl_words.proofs.Filters.{no_from_rule, no_system_rule, from_same, from_good, from_is_app}
 use Rattle.fl_words.proofs.RefTexts.{same_text, is_good, ref_back, app_is_ref, app_at, unused_is_none}
 use Rattle.fl_words.proofs.Reaching.{Fit, next, one, two, three, all_taken, takes_all}
@@ -107,6 +109,7 @@ speaks FilterSystemFrom = three (literal (codes "filter")) (literal (codes "--sy
 speaks Batch = one (literal (codes "batch")) refl (Speaks Batch) (λ a h. (ap (λ (x : List ℕ). x ∷ []) (is_word a (codes "batch") h), refl))
 speaks Fsck = one (literal (codes "fsck")) refl (Speaks Fsck) (λ a h. (ap (λ (x : List ℕ). x ∷ []) (is_word a (codes "fsck") h), refl))
 speaks Export = three (literal (codes "export")) remote ref_name refl refl refl (Speaks Export) (λ a n r h g k. (ap (λ (x : List ℕ). x ∷ n ∷ r ∷ []) (is_word a (codes "export") h) ∙ ap (λ (x : List ℕ). codes "export" ∷ n ∷ x ∷ []) (same_text r k), both_true (is_remote_name n) (is_ref (ref_at r)) g (is_good r k)))
+speaks Exercise = two (literal (codes "exercise")) app_count refl refl (Speaks Exercise) (λ a n h g. (after_word (codes "exercise") a n h ∙ ap (λ (x : List ℕ). codes "exercise" ∷ x ∷ []) (same_number n g), is_number n g))
 speaks ShowCommit = two (literal (codes "show")) (literal (codes "commit")) refl refl (Speaks ShowCommit) (λ a b h g. (both_words (codes "show") (codes "commit") a b h g, refl))
 speaks ShowDirTree = two (literal (codes "show")) (literal (codes "dirtree")) refl refl (Speaks ShowDirTree) (λ a b h g. (both_words (codes "show") (codes "dirtree") a b h g, refl))
 speaks ShowDirMeta = two (literal (codes "show")) (literal (codes "dirmeta")) refl refl (Speaks ShowDirMeta) (λ a b h g. (both_words (codes "show") (codes "dirmeta") a b h g, refl))
@@ -200,3 +203,4 @@ written (Filtering (sources.System name)) h =
 written commands.Batch h = refl
 written commands.Fsck h = refl
 written (commands.Export origin name) h = let parts = and_parts (is_remote_name origin) (is_ref name) h in rw (parts.0, ref_of-ref_text name parts.1) (ap (λ (r : Ref). Some (commands.Export origin r)) (ref_back name parts.1))
+written (commands.Exercise apps) h = rw (decimal_fits apps h) (ap (λ (n : ℕ). Some (commands.Exercise n)) (count_back apps h))

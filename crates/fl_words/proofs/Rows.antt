@@ -11,7 +11,7 @@ use Rattle.fp_name.specs.Grammar.{is_id, is_arch, is_branch, is_remote_name}
 use Rattle.fp_name.specs.Refs.{Ref, ref_of}
 use Rattle.fp_name.specs.declared.kind.RefKind.TheVariants.{App}
 use Rattle.fp_name.specs.Pins.{is_pin}
-use Rattle.fl_words.specs.declared.command.Command.TheVariants.{Change as Changing, List as Listed, Show as Showing, Filter as Filtering, Batch, Fsck, Export}
+use Rattle.fl_words.specs.declared.command.Command.TheVariants.{Change as Changing, List as Listed, Show as Showing, Filter as Filtering, Batch, Fsck, Export, Exercise}
 use Rattle.fl_words.specs.declared.command.PolicySource.TheVariants.{Rules, Session, System}
 use Rattle.fl_rules.specs.Rules.{word_rule}
 use Rattle.fl_words.specs.declared.command.Change.TheVariants.{Pin, Unpin, Install, UpdateAll, UpdateOne, Uninstall, UninstallUnused, Rollback, OverrideChange}
@@ -20,6 +20,7 @@ use Rattle.fl_words.specs.declared.command.Shown.TheVariants.{Commit, DirTree, D
 use Rattle.fl_options.proofs.Rows.{some_option}
 use Rattle.fl_options.proofs.Lines.{uncut_no_option}
 use Rattle.fl_words.specs.Types.{is_type_text}
+use Rattle.fl_words.specs.Counts.{is_count_text}
 use Rattle.fl_words.specs.Forms.{command_of, bad_index}
 use Rattle.fl_words.specs.Batch.{batch_change, batch_of}
 use Rattle.fl_words.specs.Reasons.{reason_text, batch_reason_text}
@@ -117,6 +118,37 @@ export_alone = refl
 pub export_no_ref : bad_index (codes "export" ∷ codes "lab" ∷ []) ≡ 2
 unfolding is_remote_name
 export_no_ref = refl
+
+pub exercise_one : command_of (codes "exercise" ∷ codes "1" ∷ []) ≡ Some (Exercise 1)
+unfolding is_count_text digits
+exercise_one = refl
+
+pub exercise_most : command_of (codes "exercise" ∷ codes "64" ∷ []) ≡ Some (Exercise 64)
+unfolding is_count_text digits
+exercise_most = refl
+
+pub exercise_alone : bad_index (codes "exercise" ∷ []) ≡ 1
+exercise_alone = refl
+
+pub exercise_none : bad_index (codes "exercise" ∷ codes "0" ∷ []) ≡ 1
+unfolding is_count_text digits
+exercise_none = refl
+
+pub exercise_too_many : bad_index (codes "exercise" ∷ codes "65" ∷ []) ≡ 1
+unfolding is_count_text digits
+exercise_too_many = refl
+
+pub exercise_leading_zero : bad_index (codes "exercise" ∷ codes "01" ∷ []) ≡ 1
+unfolding is_count_text digits
+exercise_leading_zero = refl
+
+pub exercise_sign : bad_index (codes "exercise" ∷ codes "+1" ∷ []) ≡ 1
+unfolding is_count_text digits
+exercise_sign = refl
+
+pub exercise_and_more : bad_index (codes "exercise" ∷ codes "4" ∷ codes "4" ∷ []) ≡ 2
+unfolding is_count_text digits
+exercise_and_more = refl
 
 pub show_commit : command_of (codes "show" ∷ codes "commit" ∷ []) ≡ Some (Showing Commit)
 show_commit = refl
@@ -220,6 +252,10 @@ pub list_line : batch_of (codes "pin app/*/*/*\nlist --pins\n") ≡ Err 2
 unfolding batch_of batch_change is_pin
 list_line = refl
 
+pub exercise_line : batch_of (codes "exercise 4\n") ≡ Err 1
+unfolding batch_of batch_change is_count_text digits
+exercise_line = refl
+
 pub two_spaces : batch_of (codes "pin  app/*/*/*\n") ≡ Err 1
 unfolding batch_of batch_change is_pin
 two_spaces = refl
@@ -239,6 +275,10 @@ list_shown = refl
 
 pub one_more_word : reason_text (codes "batch" ∷ codes "x" ∷ []) ≡ codes "fpk: 'x' is one word too many\nusage: fpk batch\n"
 one_more_word = refl
+
+pub no_count : reason_text (codes "exercise" ∷ codes "65" ∷ []) ≡ codes "fpk: '65' is no number from 1 to 64\nusage: fpk exercise COUNT\n"
+unfolding is_count_text digits
+no_count = refl
 
 as_they_are : (word : List ℕ) → list_all is_dotted word ≡ true → utf8_lossy word ≡ word
 as_they_are word plain = utf8_lossy-IsUtf8 word (Utf8-from_dotted word plain)

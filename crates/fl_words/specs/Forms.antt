@@ -1,6 +1,7 @@
 -- The forms of words. A row says what stands at each place of a command line; P is the pattern of a pin, N the name of a remote
 -- and U its URL, R a ref, A a ref of an application, I the ID of one, T the type string of a type of GVariant, O an option that
--- changes permissions, L an option of a launch, and F a rule of the filter. At some places any number of words may stand.
+-- changes permissions, L an option of a launch, F a rule of the filter, and COUNT how many applications an exercise has. At some
+-- places any number of words may stand.
 use Rattle.std.specs.Prelude.{ℕ, ◌+◌, ◌-◌, ◌&&◌, List, [], ◌∷◌, length, max, take, drop, slice_index_or, Bool, true, false, Option, Some, None, option_and_then, codes, if◌then◌else◌}
 use Rattle.std.specs.List.{find, list_all}
 use Rattle.std.specs.Option.{option_map, option_map_or, is_some}
@@ -13,7 +14,7 @@ use Rattle.fp_small.specs.declared.state.RemoteRow.{RemoteRow}
 use Rattle.fl_options.specs.Options.{is_option, is_launch_option}
 use Rattle.fl_rules.specs.Rules.{is_rule}
 use Rattle.fl_words.specs.declared.command.Command.{Command}
-use Rattle.fl_words.specs.declared.command.Command.TheVariants.{Change as Changing, List as Listed, Show as Showing, Filter as Filtering, Batch as Batched, Fsck as Checked, Export as Exporting}
+use Rattle.fl_words.specs.declared.command.Command.TheVariants.{Change as Changing, List as Listed, Show as Showing, Filter as Filtering, Batch as Batched, Fsck as Checked, Export as Exporting, Exercise as Exercising}
 use Rattle.fl_words.specs.declared.command.PolicySource.TheVariants as sources
 use Rattle.fl_words.specs.declared.command.Change.TheVariants as changes
 use Rattle.fl_words.specs.declared.command.Listing.TheVariants as listings
@@ -21,12 +22,13 @@ use Rattle.fl_words.specs.declared.command.Shown.TheVariants as things
 use Rattle.fl_words.specs.declared.forms.Slot.{Slot}
 use Rattle.fl_words.specs.declared.forms.Slot.TheVariants as slots
 use Rattle.fl_words.specs.declared.forms.Form.{Form}
-use Rattle.fl_words.specs.declared.forms.Form.TheVariants.{Pin, Unpin, RemoteAdd, RemoteModify, RemoteDelete, Install, UpdateAll, UpdateOne, Uninstall, UninstallUnused, Rollback, Override, OverrideApp, OverrideReset, OverrideResetApp, ListRefs, ListRemotes, ListPins, ListExports, Info, Launch, OverrideShow, OverrideShowApp, Filter, FilterFrom, FilterSystemFrom, Batch, Fsck, Export, ShowCommit, ShowDirTree, ShowDirMeta, ShowValue}
+use Rattle.fl_words.specs.declared.forms.Form.TheVariants.{Pin, Unpin, RemoteAdd, RemoteModify, RemoteDelete, Install, UpdateAll, UpdateOne, Uninstall, UninstallUnused, Rollback, Override, OverrideApp, OverrideReset, OverrideResetApp, ListRefs, ListRemotes, ListPins, ListExports, Info, Launch, OverrideShow, OverrideShowApp, Filter, FilterFrom, FilterSystemFrom, Batch, Fsck, Export, Exercise, ShowCommit, ShowDirTree, ShowDirMeta, ShowValue}
 use Rattle.fl_words.specs.Types.{is_type_text}
+use Rattle.fl_words.specs.Counts.{count_at, is_count_text}
 
 -- ---- places
 
--- what may stand at a place: this word alone, P, N, U, R, A, I, T or O, any number of O, of L or of F, or `--from=` and A
+-- what may stand at a place: this word alone, P, N, U, R, A, I, T or O, any number of O, of L or of F, `--from=` and A, or COUNT
 pub data Place : Type 0 where
   literal : List ℕ → Place
   pattern : Place
@@ -41,6 +43,7 @@ pub data Place : Type 0 where
   launch_options : Place
   filter_rules : Place
   from_app : Place
+  app_count : Place
 
 abbrev pub place_of : Slot → Place
 place_of (slots.Word text) = literal text.now
@@ -56,6 +59,7 @@ place_of slots.Permissions = permissions
 place_of slots.LaunchOptions = launch_options
 place_of slots.Rules = filter_rules
 place_of slots.FromApp = from_app
+place_of slots.Count = app_count
 
 -- a ref of an application
 abbrev pub is_app : Ref → Bool
@@ -80,6 +84,7 @@ fits permissions text = is_option text
 fits launch_options text = is_launch_option text
 fits filter_rules text = is_rule text
 fits from_app text = bytes_eq (take 7 text) (codes "--from=") && is_app_text (drop 7 text)
+fits app_count text = is_count_text text
 
 -- any number of words may stand there
 abbrev pub repeats : Place → Bool
@@ -96,7 +101,7 @@ forms =
     ∷ Install ∷ UpdateAll ∷ UpdateOne ∷ Uninstall ∷ UninstallUnused ∷ Rollback
     ∷ Override ∷ OverrideApp ∷ OverrideReset ∷ OverrideResetApp
     ∷ ListRefs ∷ ListRemotes ∷ ListPins ∷ ListExports ∷ Info ∷ Launch ∷ OverrideShow ∷ OverrideShowApp
-    ∷ Filter ∷ FilterFrom ∷ FilterSystemFrom ∷ Batch ∷ Fsck ∷ Export
+    ∷ Filter ∷ FilterFrom ∷ FilterSystemFrom ∷ Batch ∷ Fsck ∷ Export ∷ Exercise
     ∷ ShowCommit ∷ ShowDirTree ∷ ShowDirMeta ∷ ShowValue ∷ []
 
 abbrev pub slots_of : Form → List Place
@@ -129,6 +134,7 @@ slots_of FilterSystemFrom = literal (codes "filter") ∷ literal (codes "--syste
 slots_of Batch = literal (codes "batch") ∷ []
 slots_of Fsck = literal (codes "fsck") ∷ []
 slots_of Export = literal (codes "export") ∷ remote ∷ ref_name ∷ []
+slots_of Exercise = literal (codes "exercise") ∷ app_count ∷ []
 slots_of ShowCommit = literal (codes "show") ∷ literal (codes "commit") ∷ []
 slots_of ShowDirTree = literal (codes "show") ∷ literal (codes "dirtree") ∷ []
 slots_of ShowDirMeta = literal (codes "show") ∷ literal (codes "dirmeta") ∷ []
@@ -176,6 +182,7 @@ made FilterSystemFrom words = Filtering (sources.System (ref_at (drop 7 (word_at
 made Batch words = Batched
 made Fsck words = Checked
 made Export words = Exporting (word_at 1 words) (ref_at (word_at 2 words))
+made Exercise words = Exercising (count_at (word_at 1 words))
 made ShowCommit words = Showing things.Commit
 made ShowDirTree words = Showing things.DirTree
 made ShowDirMeta words = Showing things.DirMeta

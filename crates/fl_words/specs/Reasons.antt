@@ -6,7 +6,7 @@ use Rattle.fp_keyfile.specs.Lines.{lines_of}
 use Rattle.fl_words.specs.declared.command.Change.{Change}
 use Rattle.fl_words.specs.declared.forms.Form.{Form}
 use Rattle.fl_words.specs.declared.forms.Form.TheVariants.{Pin, Unpin, RemoteAdd, RemoteModify, RemoteDelete, Install, UpdateAll, UpdateOne, Uninstall, UninstallUnused, Rollback, Override, OverrideApp, OverrideReset, OverrideResetApp}
-use Rattle.fl_words.specs.Forms.{Place, literal, pattern, remote, url, ref_name, app, app_id, type_string, permission, permissions, launch_options, filter_rules, from_app, forms, slots_of, left_after, most}
+use Rattle.fl_words.specs.Forms.{Place, literal, pattern, remote, url, ref_name, app, app_id, type_string, permission, permissions, launch_options, filter_rules, from_app, app_count, forms, slots_of, left_after, most}
 use Rattle.fl_words.specs.Batch.{words_in, batch_of}
 use Rattle.fl_lines.specs.Lines.{line, escaped}
 
@@ -27,6 +27,7 @@ place_name permissions = codes "[OPTION..]"
 place_name launch_options = codes "[OPTION..]"
 place_name filter_rules = codes "[RULE..]"
 place_name from_app = codes "--from=APP"
+place_name app_count = codes "COUNT"
 
 abbrev pub named_place : Place → List ℕ
 named_place place = 32 ∷ place_name place
@@ -35,18 +36,18 @@ named_place place = 32 ∷ place_name place
 abbrev pub usage : List ℕ → Form → List ℕ
 usage program form = line (codes "usage:" ++ (program ++ flat_map named_place (slots_of form)))
 
--- the places of the form that are left once each of so many words, from the first on, has one
+-- the places of the form that are left once each of this number of words, from the first on, has one
 abbrev pub places_left : List (List ℕ) → ℕ → Form → Option (List Place)
 places_left words count form = left_after (slots_of form) (take count words)
 
--- each of so many of the words has a place of the form
+-- each of this number of words, from the first on, has a place of the form
 abbrev pub begins : List (List ℕ) → ℕ → Form → Bool
 begins words count form = is_some (places_left words count form)
 
 abbrev pub usage_begun : List ℕ → List (List ℕ) → ℕ → Form → List ℕ
 usage_begun program words count form = if begins words count form then usage program form else []
 
--- the usage of the forms that so many of the words begin
+-- the usage of the forms that this number of words begin
 abbrev pub usages : List ℕ → List (List ℕ) → ℕ → List Form → List ℕ
 usages program words count fs = flat_map (usage_begun program words count) fs
 
@@ -77,6 +78,7 @@ fault_at (Some permissions) = codes "is no option"
 fault_at (Some launch_options) = codes "is no option of a launch"
 fault_at (Some filter_rules) = codes "is no rule of the filter"
 fault_at (Some from_app) = codes "isn't --from=APP: --from=app/ID/ARCH/BRANCH"
+fault_at (Some app_count) = codes "is no number from 1 to 64"
 
 -- the word there, and what is wrong with it, or that there is none
 abbrev pub fault_text : Option (List ℕ) → Option Place → List ℕ

@@ -1,12 +1,12 @@
 -- The words of commands.
-use Rattle.std.specs.Prelude.{ℕ, List, [], ◌∷◌, ◌++◌, ◌&&◌, Bool, true, false, IsSome, codes, if◌then◌else◌}
+use Rattle.std.specs.Prelude.{ℕ, List, [], ◌∷◌, ◌++◌, ◌&&◌, Bool, true, false, IsSome, codes, decimal, if◌then◌else◌}
 use Rattle.std.specs.List.{list_all}
 use Rattle.std.specs.Str.{bytes_eq}
 use Rattle.fp_name.specs.Grammar.{is_remote_name, is_url}
 use Rattle.fp_name.specs.Pins.{is_pin}
 use Rattle.fp_name.specs.Refs.{Ref, is_ref, ref_text}
 use Rattle.fl_words.specs.declared.command.Command.{Command}
-use Rattle.fl_words.specs.declared.command.Command.TheVariants.{Change as Changing, List as Listed, Show as Showing, Filter, Batch, Fsck, Export}
+use Rattle.fl_words.specs.declared.command.Command.TheVariants.{Change as Changing, List as Listed, Show as Showing, Filter, Batch, Fsck, Export, Exercise}
 use Rattle.fl_words.specs.declared.command.Change.{Change}
 use Rattle.fl_words.specs.declared.command.Change.TheVariants.{Pin, Unpin, RemoteAdd, RemoteModify, RemoteDelete, Install, UpdateAll, UpdateOne, Uninstall, UninstallUnused, Rollback, OverrideChange, OverrideReset}
 use Rattle.fl_words.specs.declared.command.Listing.{Listing}
@@ -20,6 +20,7 @@ use Rattle.fl_rules.specs.Rules.{is_rule}
 use Rattle.fl_words.specs.Forms.{is_app, command_of}
 use Rattle.fl_words.specs.Names.{is_override_name}
 use Rattle.fl_words.specs.Types.{is_type_text}
+use Rattle.fl_words.specs.Counts.{is_app_count}
 
 -- the word for it, which is left out for the global one
 abbrev pub override_word : List ℕ → List (List ℕ)
@@ -57,6 +58,7 @@ words_of (Filter (System name)) = codes "filter" ∷ codes "--system" ∷ from_w
 words_of Batch = codes "batch" ∷ []
 words_of Fsck = codes "fsck" ∷ []
 words_of (Export remote name) = codes "export" ∷ remote ∷ ref_text name ∷ []
+words_of (Exercise apps) = codes "exercise" ∷ decimal apps ∷ []
 words_of (Showing Commit) = codes "show" ∷ codes "commit" ∷ []
 words_of (Showing DirTree) = codes "show" ∷ codes "dirtree" ∷ []
 words_of (Showing DirMeta) = codes "show" ∷ codes "dirmeta" ∷ []
@@ -71,6 +73,7 @@ may_change (Filter source) = false
 may_change Batch = true
 may_change Fsck = false
 may_change (Export remote name) = true
+may_change (Exercise apps) = true
 
 -- one option or more that change permissions
 abbrev pub are_options : List (List ℕ) → Bool
@@ -121,6 +124,7 @@ is_command (Filter source) = is_source source
 is_command Batch = true
 is_command Fsck = true
 is_command (Export remote name) = is_remote_name remote && is_ref name
+is_command (Exercise apps) = is_app_count apps
 
 -- the words are a command, or are one with more words after them
 pub record Begins (words : List (List ℕ)) : Type 0 where

@@ -94,7 +94,8 @@ fn change_of(command: Command) -> Option<Change>
         | Command::Filter(_)
         | Command::Batch
         | Command::Fsck
-        | Command::Export { .. } => None,
+        | Command::Export { .. }
+        | Command::Exercise(_) => None,
     }
 }
 

@@ -3,6 +3,7 @@ ghost use Rattle.std.specs.Prelude.{◌≡◌};
 ghost use Rattle.fl_words.specs.Words.{may_change};
 ghost use Rattle.fl_words.specs.declared.command.WordsError.TheVariants.{NoMemory};
 
+use crate::app_count::AppCount;
 use crate::override_name::OverrideName;
 use crate::value_type::ValueType;
 use fp_base::{Items, Text};
@@ -30,6 +31,8 @@ pub enum Command {
     /// `export N REF`: makes the commit of the tree that the input describes, and offers it under the ref in a store that serves as
     /// a remote.
     Export { remote: RemoteName, name: RefName },
+    /// `exercise COUNT`: does the changes of an exercise of this number of applications, over remotes that are made for it.
+    Exercise(AppCount),
 }
 
 impl Command {
@@ -39,7 +42,7 @@ impl Command {
     {
         matches!(
             self,
-            Command::Change(_) | Command::Batch | Command::Export { .. }
+            Command::Change(_) | Command::Batch | Command::Export { .. } | Command::Exercise(_)
         )
     }
 }

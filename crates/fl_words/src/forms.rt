@@ -7,8 +7,8 @@ ghost use Rattle.fl_words.specs.Reasons.{change_forms};
 use crate::command::{Change, Command, Listing, PolicySource, Shown, WordsError};
 use crate::override_name::OverrideName;
 use crate::values::{
-    app_override, from_at, global_name, id_at, name_at, override_at, pattern_at, ref_at, remote_in,
-    texts_from, type_at,
+    app_override, count_at, from_at, global_name, id_at, name_at, override_at, pattern_at, ref_at,
+    remote_in, texts_from, type_at,
 };
 use std::alloc::Global;
 
@@ -41,6 +41,8 @@ pub enum Slot {
     Rules,
     /// `--from=` and a ref of an application.
     FromApp,
+    /// How many applications an exercise has.
+    Count,
 }
 
 impl Slot {
@@ -84,6 +86,7 @@ pub enum Form {
     Batch,
     Fsck,
     Export,
+    Exercise,
     ShowCommit,
     ShowDirTree,
     ShowDirMeta,
@@ -125,6 +128,7 @@ impl Form {
             Form::Batch,
             Form::Fsck,
             Form::Export,
+            Form::Exercise,
             Form::ShowCommit,
             Form::ShowDirTree,
             Form::ShowDirMeta,
@@ -198,6 +202,7 @@ impl Form {
             Form::Batch => &[Slot::Word("batch")],
             Form::Fsck => &[Slot::Word("fsck")],
             Form::Export => &[Slot::Word("export"), Slot::Remote, Slot::Ref],
+            Form::Exercise => &[Slot::Word("exercise"), Slot::Count],
             Form::ShowCommit => &[Slot::Word("show"), Slot::Word("commit")],
             Form::ShowDirTree => &[Slot::Word("show"), Slot::Word("dirtree")],
             Form::ShowDirMeta => &[Slot::Word("show"), Slot::Word("dirmeta")],
@@ -263,6 +268,7 @@ impl Form {
                 let name = ref_at(alloc, words, 2)?;
                 Command::Export { remote, name }
             }
+            Form::Exercise => Command::Exercise(count_at(alloc, words, 1)?),
             Form::ShowCommit => Command::Show(Shown::Commit),
             Form::ShowDirTree => Command::Show(Shown::DirTree),
             Form::ShowDirMeta => Command::Show(Shown::DirMeta),

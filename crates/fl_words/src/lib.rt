@@ -1,6 +1,7 @@
 //! The words of a command line, read as a command, and the commands of a batch; and why other words are none.
 #![tactic(auto)]
 
+mod app_count;
 mod batch;
 mod batch_reasons;
 mod command;
@@ -12,6 +13,7 @@ mod reasons;
 mod value_type;
 mod values;
 
+pub use app_count::AppCount;
 pub use batch::{BatchError, read_batch};
 pub use batch_reasons::batch_reason;
 pub use command::{Change, Command, Listing, PolicySource, Shown, WordsError};

@@ -103,7 +103,7 @@ fn slot_begun(
     }
 }
 
-/// The places of a form that are left once each of so many words, from the first on, has one.
+/// The places of a form that are left once each of this number of words, from the first on, has one.
 fn places_left(
     alloc: Global,
     form: Form,
@@ -117,7 +117,7 @@ fn places_left(
     left_after(alloc, form.slots(), &words[..count])
 }
 
-/// Whether each of so many of the words, from the first on, has a place of a form.
+/// Whether each of this number of words, from the first on, has a place of a form.
 fn begins(alloc: Global, form: Form, words: &[String], count: usize) -> Result<bool, AllocError>
     requires { count ≤ length words.now }
     ensures { IfOk result (λ b. b ≡ does_begin (map string_bytes words.now) count form) }
@@ -142,10 +142,11 @@ fn fault_of(slot: &Slot) -> &'static str
         Slot::LaunchOptions => "is no option of a launch",
         Slot::Rules => "is no rule of the filter",
         Slot::FromApp => "isn't --from=APP: --from=app/ID/ARCH/BRANCH",
+        Slot::Count => "is no number from 1 to 64",
     }
 }
 
-/// Puts after a text the usage of the forms that so many of the words begin.
+/// Puts after a text the usage of the forms that this number of words begin.
 fn push_usages(
     alloc: Global,
     text: &mut String,
@@ -164,7 +165,7 @@ fn push_usages(
     Ok(())
 }
 
-/// Puts after a text the usage of a form, where so many of the words begin it.
+/// Puts after a text the usage of a form, where this number of words begin it.
 fn push_if_begun(
     alloc: Global,
     text: &mut String,
@@ -224,5 +225,6 @@ fn name_of(slot: &Slot) -> &str
         Slot::Permissions | Slot::LaunchOptions => "[OPTION..]",
         Slot::Rules => "[RULE..]",
         Slot::FromApp => "--from=APP",
+        Slot::Count => "COUNT",
     }
 }

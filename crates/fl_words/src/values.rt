@@ -1,10 +1,12 @@
 //! What stands at the places of a command line.
 ghost use Rattle.std.specs.Prelude.{◌≡◌, ◌++◌, ◌∷◌, [], Ok, IfOk, IfErr, OnOk, take, drop, map, string_bytes, codes};
-ghost use Rattle.fl_words.specs.Forms.{place_of, fits as may_stand, word_at as text_at, remote_in as remote_of, last_place, pattern, remote, url, ref_name, app, app_id, type_string, from_app};
+ghost use Rattle.fl_words.specs.Forms.{place_of, fits as may_stand, word_at as text_at, remote_in as remote_of, last_place, pattern, remote, url, ref_name, app, app_id, type_string, from_app, app_count};
 ghost use Rattle.fl_words.specs.declared.command.Change.TheVariants.{OverrideChange};
 ghost use Rattle.fp_name.specs.Refs.{ref_at as ref_of_text};
+ghost use Rattle.fl_words.specs.Counts.{count_at as count_of_text};
 ghost use Rattle.fl_words.specs.Reading.{IsMisplaced, IsRemoteMisplaced, IsReadBy, IsUnread};
 
+use crate::app_count::AppCount;
 use crate::command::{Change, WordsError};
 use crate::forms::Slot;
 use crate::override_name::OverrideName;
@@ -33,6 +35,7 @@ pub fn fits(alloc: Global, slot: &Slot, word: &str) -> Result<bool, AllocError>
         Slot::LaunchOptions => is_launch_option(alloc, word),
         Slot::Rules => is_rule(alloc, word),
         Slot::FromApp => is_from_app(alloc, word),
+        Slot::Count => is_read(AppCount::parse(alloc, word)),
     }
 }
 
@@ -222,6 +225,19 @@ pub(crate) fn type_at(
         (map string_bytes words.now))) }
 {
     placed(ValueType::parse(alloc, word_at(words, place).as_bytes()))
+}
+
+/// The number of applications at a place.
+pub(crate) fn count_at(
+    alloc: Global,
+    words: &[String],
+    place: usize,
+) -> Result<AppCount, WordsError>
+    ensures ok { IfOk result (λ count. count ≡ count_of_text
+        (text_at place (map string_bytes words.now))) }
+    ensures bad { IfErr result (IsMisplaced app_count (text_at place (map string_bytes words.now))) }
+{
+    placed(AppCount::parse(alloc, word_at(words, place)))
 }
 
 /// The remote whose name and URL stand after the first word.

@@ -6,17 +6,19 @@ use Rattle.fp_host.specs.Moments.{Goes}
 use Rattle.dep_states.specs.Sound.{IsSound}
 use Rattle.fl_top.specs.Exports.{LeavesExports}
 use Rattle.fl_words.specs.declared.command.Command.{Command}
-use Rattle.fl_words.specs.declared.command.Command.TheVariants.{Change as Changing, List as Listed, Show as Showing, Filter as Filtering, Batch, Fsck, Export as Exporting}
+use Rattle.fl_words.specs.declared.command.Command.TheVariants.{Change as Changing, List as Listed, Show as Showing, Filter as Filtering, Batch, Fsck, Export as Exporting, Exercise as Exercising}
 use Rattle.fl_top.specs.Asked.{OpsBy, AreToldFor, AsksRemotes}
 use Rattle.fl_top.specs.Runs.{told, HasCauses, IsFreeFor}
+use Rattle.fl_gen.specs.Exercise.{exercise_changes}
 use Rattle.fl_change.specs.Turns.{changing, MayDo}
+use Rattle.fl_exercise.specs.Exercising.{exercising}
 use Rattle.fl_top.specs.Answer.{listed}
 use Rattle.fl_top.specs.RunsOver.{RunsOn, EndedOn}
 use Rattle.fl_top.specs.Status.{checks_store}
 use Rattle.fl_top.specs.Ends.{end_of_run}
 use Rattle.fl_top.specs.declared.command_end.CommandEnd.TheVariants.{Fault, RemoteFault}
 use Rattle.fl_top.proofs.Asked.{asks_more}
-use Rattle.fl_top.proofs.Finishing.{goes_look, goes_not_looked, change_changes, goes_change, goes_not_changed, caused_change, run_fault, run_remote}
+use Rattle.fl_top.proofs.Finishing.{goes_look, goes_not_looked, change_changes, exercise_changing, goes_change, goes_not_changed, caused_change, run_fault, run_remote}
 use Rattle.fp_host.proofs.Ending.{ends_goes, ends_to}
 use Rattle.fl_top.specs.RunsOver.{IsClosedBy}
 use Rattle.fl_top.proofs.Finishing.{given_by, is_end}
@@ -203,3 +205,60 @@ returns-in-Export-clause-found g c checks by = absurd (not_checks c.args.command
 
 pub returns-in-Export-clause-exports : goal.returns-in-Export-clause-exports
 returns-in-Export-clause-exports g c change = absurd (not_changes c.args.command (Exporting c.in-Export.remote c.in-Export.name) c.in-Export.is refl change)
+
+-- ---- an exercise
+
+pub returns-in_err-exercise-in-Exercise-clause-any_moment : goal.returns-in_err-exercise-in-Exercise-clause-any_moment
+returns-in_err-exercise-in-Exercise-clause-any_moment g c =
+    let t = told (g.I.Source.left c.args.input.now) (g.R.Remotes.holds c.args.remotes.now) (g.H.Host.moments c.args.host.now) in
+    let a = g.H.Host.moments c.args.host.now in
+    let b = g.H.Host.moments c.exercise.new.host in
+    let r = c.from_residual-in_err-exercise-in-Exercise.result in
+    let apps = c.in-Exercise.apps in
+    subst (λ (k : Command). Goes a b (RunsOn k t) (EndedOn k t r)) (sym c.in-Exercise.is)
+    (goes_not_changed (Exercising apps) t (MayDo (exercise_changes apps)) (exercising apps) c.in_err-exercise-in-Exercise.field-0.0 r (g.met.H.Host.is_tree c.args.host.now) (exercise_changing t apps) c.in_err-exercise-in-Exercise.ensures.any_moment c.from_residual-in_err-exercise-in-Exercise.ensures.1)
+
+pub returns-in_ok-exercise-in-Exercise-clause-any_moment : goal.returns-in_ok-exercise-in-Exercise-clause-any_moment
+returns-in_ok-exercise-in-Exercise-clause-any_moment g c =
+    let t = told (g.I.Source.left c.args.input.now) (g.R.Remotes.holds c.args.remotes.now) (g.H.Host.moments c.args.host.now) in
+    let a = g.H.Host.moments c.args.host.now in
+    let b = g.H.Host.moments c.exercise.new.host in
+    let apps = c.in-Exercise.apps in
+    subst (λ (k : Command). Goes a b (RunsOn k t) (EndedOn k t (Ok tt))) (sym c.in-Exercise.is)
+    (goes_change (Exercising apps) t (MayDo (exercise_changes apps)) (exercising apps) (g.met.H.Host.is_tree c.args.host.now) (exercise_changing t apps) c.in_ok-exercise-in-Exercise.ensures.any_moment)
+
+pub returns-in_err-exercise-in-Exercise-clause-fault_has_cause : goal.returns-in_err-exercise-in-Exercise-clause-fault_has_cause
+returns-in_err-exercise-in-Exercise-clause-fault_has_cause g c =
+    let left = g.I.Source.left c.args.input.now in
+    let holds = g.R.Remotes.holds c.args.remotes.now in
+    let r = c.from_residual-in_err-exercise-in-Exercise.result in
+    subst (λ (k : Command). IsCaused (AreToldFor (OpsBy k left) holds × IsErrOf r Fault) (g.H.Host.moments c.args.host.now) (HasCauses (Some k)) (g.H.Host.faults c.args.host.now) (g.H.Host.faults c.exercise.new.host)) (sym c.in-Exercise.is)
+    (caused_change (Exercising c.in-Exercise.apps) _ _ refl c.exercise.ensures.fault_has_cause (λ is. (is.0, run_fault c.exercise.result r c.in_err-exercise-in-Exercise.field-0.0 c.in_err-exercise-in-Exercise.was c.from_residual-in_err-exercise-in-Exercise.ensures.1 is.1)))
+
+pub returns-in_ok-exercise-in-Exercise-clause-fault_has_cause : goal.returns-in_ok-exercise-in-Exercise-clause-fault_has_cause
+returns-in_ok-exercise-in-Exercise-clause-fault_has_cause g c = record { later = c.exercise.ensures.fault_has_cause.later; fault = λ is. absurd (cc is.1) }
+
+pub returns-in_err-exercise-in-Exercise-clause-remotes : goal.returns-in_err-exercise-in-Exercise-clause-remotes
+returns-in_err-exercise-in-Exercise-clause-remotes g c =
+    let left = g.I.Source.left c.args.input.now in
+    let r = c.from_residual-in_err-exercise-in-Exercise.result in
+    subst (λ (k : Command). AsksRemotes (OpsBy k left) (IsErrOf r RemoteFault) (g.R.Remotes.holds c.args.remotes.now) (g.R.Remotes.holds c.exercise.new.remotes) (g.R.Remotes.faults c.args.remotes.now) (g.R.Remotes.faults c.exercise.new.remotes)) (sym c.in-Exercise.is)
+    (asks_more (λ op may. may) (run_remote c.exercise.result r c.in_err-exercise-in-Exercise.field-0.0 c.in_err-exercise-in-Exercise.was c.from_residual-in_err-exercise-in-Exercise.ensures.1) c.exercise.ensures.remotes)
+
+pub returns-in_ok-exercise-in-Exercise-clause-remotes : goal.returns-in_ok-exercise-in-Exercise-clause-remotes
+returns-in_ok-exercise-in-Exercise-clause-remotes g c =
+    let left = g.I.Source.left c.args.input.now in
+    subst (λ (k : Command). AsksRemotes (OpsBy k left) (IsErrOf {T = Unit {0}} (Ok tt) RemoteFault) (g.R.Remotes.holds c.args.remotes.now) (g.R.Remotes.holds c.exercise.new.remotes) (g.R.Remotes.faults c.args.remotes.now) (g.R.Remotes.faults c.exercise.new.remotes)) (sym c.in-Exercise.is)
+    (asks_more (λ op may. may) (λ is. absurd (cc is)) c.exercise.ensures.remotes)
+
+pub returns-in_err-exercise-in-Exercise-clause-found : goal.returns-in_err-exercise-in-Exercise-clause-found
+returns-in_err-exercise-in-Exercise-clause-found g c checks by = absurd (not_checks c.args.command (Exercising c.in-Exercise.apps) c.in-Exercise.is refl checks)
+
+pub returns-in_ok-exercise-in-Exercise-clause-found : goal.returns-in_ok-exercise-in-Exercise-clause-found
+returns-in_ok-exercise-in-Exercise-clause-found g c checks by = absurd (not_checks c.args.command (Exercising c.in-Exercise.apps) c.in-Exercise.is refl checks)
+
+pub returns-in_ok-exercise-in-Exercise-clause-exports : goal.returns-in_ok-exercise-in-Exercise-clause-exports
+returns-in_ok-exercise-in-Exercise-clause-exports g c change =
+    let left = g.I.Source.left c.args.input.now in
+    let holds = g.R.Remotes.holds c.args.remotes.now in
+    subst (λ (k : Command). AreToldFor (OpsBy k left) holds → AtEnd (λ u w. IsSound u → LeavesExports w) (g.H.Host.moments c.args.host.now) (g.H.Host.moments c.exercise.new.host)) (sym c.in-Exercise.is) c.in_ok-exercise-in-Exercise.ensures.exports

@@ -1,9 +1,8 @@
-use Rattle.std.proofs.Common.{◌≡◌, Option, map, string_bytes, sym, subst, inl, inr, arith}
+use Rattle.std.proofs.Common.{◌≡◌, ◌∙◌, Option, Some, map, string_bytes, ap, sym, subst, inl, inr, arith}
 use Rattle.fl_words.specs.Forms.{command_of}
-use Rattle.fp_host.proofs.Ending.{ends_goes, goes_last}
 use Rattle.fl_words.specs.Reading.{IsNoCommand}
 use Rattle.fl_words.specs.declared.command.Command.{Command}
-use Rattle.fl_top.specs.Runs.{WasTaken, Checks, IsChange, told, HasCauses}
+use Rattle.fl_top.specs.Runs.{WasTaken, Checks, IsChange, told}
 use Rattle.fp_host.specs.Frame.{AtEnd}
 use Rattle.fp_host.specs.Outcome.{shows}
 use Rattle.dep_states.specs.Sound.{IsSound}
@@ -11,43 +10,74 @@ use Rattle.fl_top.specs.Exports.{LeavesExports}
 use Rattle.fl_top.specs.Fsck.{HasReport}
 use Rattle.fl_top.specs.Status.{IsAnswered}
 use Rattle.fl_top.proofs.Ending.{not_answered}
-use Rattle.fp_host.specs.Causes.{IsCaused}
-use Rattle.fl_top.specs.Asked.{OpsFor, AreToldFor, AsksRemotes}
+use Rattle.fl_top.specs.Asked.{AsksFor}
 use Rattle.fl_top.proofs.Asked.{not_asked}
-use Rattle.fl_top.proofs.Finishing.{goes_command, goes_no_command, goes_unread, took_nothing, starves}
+use Rattle.fl_top.proofs.Finishing.{goes_no_command, took_nothing, starves}
+use Rattle.fl_top.proofs.Exercises.{no_exercise, given_runs, given_cause, given_asks, given_told, exercised_runs, exercised_words, exercised_cause, exercised_found, exercised_input, exercised_taken, no_command_runs, unread_runs}
 use Rattle.fl_top.proofs.running.run_gated.Goals as goal
 
-pub returns-in-Ok-clause-any_moment : goal.returns-in-Ok-clause-any_moment
-returns-in-Ok-clause-any_moment g c = goes_last (goes_command (map string_bytes c.args.words.now) (told (g.I.Source.left c.args.input.now) (g.R.Remotes.holds c.args.remotes.now) (g.H.Host.moments c.args.host.now)) c.in-Ok.command c.run_command.result (g.met.H.Host.is_tree c.args.host.now) c.in-Ok.ensures.ok c.run_command.ensures.any_moment)
+pub returns-in-Ok-exercise_in-clause-runs : goal.returns-in-Ok-exercise_in-clause-runs
+returns-in-Ok-exercise_in-clause-runs g c =
+    exercised_runs (map string_bytes c.args.words.now) c.in-Ok-exercise_in.apps (g.I.Source.left c.args.input.now) (g.R.Remotes.holds c.args.remotes.now) c.run_exercise.result (c.in-Ok.ensures.ok ∙ ap (λ (k : Command). Some k) c.in-Ok-exercise_in.ensures.exercise) (g.met.H.Host.is_tree c.args.host.now) c.run_exercise.ensures.runs
 
-pub returns-in-Ok-clause-at_return : goal.returns-in-Ok-clause-at_return
-returns-in-Ok-clause-at_return g c =
-    let t = g.met.H.Host.is_tree c.args.host.now in
-    ends_goes t (goes_command (map string_bytes c.args.words.now) (told (g.I.Source.left c.args.input.now) (g.R.Remotes.holds c.args.remotes.now) (g.H.Host.moments c.args.host.now)) c.in-Ok.command c.run_command.result t c.in-Ok.ensures.ok c.run_command.ensures.any_moment)
+pub returns-in-Ok-exercise_in-clause-words : goal.returns-in-Ok-exercise_in-clause-words
+returns-in-Ok-exercise_in-clause-words g c =
+    exercised_words (map string_bytes c.args.words.now) c.in-Ok-exercise_in.apps (g.I.Source.left c.args.input.now) (g.R.Remotes.holds c.args.remotes.now) c.run_exercise.result (c.in-Ok.ensures.ok ∙ ap (λ (k : Command). Some k) c.in-Ok-exercise_in.ensures.exercise) c.run_exercise.ensures.status
 
-pub returns-in-Err-BadWords-clause-any_moment : goal.returns-in-Err-BadWords-clause-any_moment
-returns-in-Err-BadWords-clause-any_moment g c =
+pub returns-in-Ok-exercise_in-clause-fault_has_cause : goal.returns-in-Ok-exercise_in-clause-fault_has_cause
+returns-in-Ok-exercise_in-clause-fault_has_cause g c =
+    exercised_cause (map string_bytes c.args.words.now) c.in-Ok-exercise_in.apps (g.I.Source.left c.args.input.now) (g.R.Remotes.holds c.args.remotes.now) c.run_exercise.result (c.in-Ok.ensures.ok ∙ ap (λ (k : Command). Some k) c.in-Ok-exercise_in.ensures.exercise) c.run_exercise.ensures.fault_has_cause
+
+pub returns-in-Ok-exercise_in-clause-found : goal.returns-in-Ok-exercise_in-clause-found
+returns-in-Ok-exercise_in-clause-found g c =
+    exercised_found (map string_bytes c.args.words.now) c.in-Ok-exercise_in.apps (g.I.Source.left c.args.input.now) (g.R.Remotes.holds c.args.remotes.now) c.run_exercise.result (c.in-Ok.ensures.ok ∙ ap (λ (k : Command). Some k) c.in-Ok-exercise_in.ensures.exercise)
+
+pub returns-in-Ok-exercise_in-clause-exports : goal.returns-in-Ok-exercise_in-clause-exports
+returns-in-Ok-exercise_in-clause-exports g c change done tells = c.run_exercise.ensures.exports done
+
+pub returns-in-Ok-exercise_in-clause-remotes : goal.returns-in-Ok-exercise_in-clause-remotes
+returns-in-Ok-exercise_in-clause-remotes g c = not_asked (AsksFor (command_of (map string_bytes c.args.words.now)) (g.I.Source.left c.args.input.now)) (c.run_exercise.result ≡ 4) (g.R.Remotes.holds c.args.remotes.now) (g.R.Remotes.faults c.args.remotes.now) c.run_exercise.ensures.no_remote_fault
+
+pub returns-in-Ok-exercise_in-clause-input : goal.returns-in-Ok-exercise_in-clause-input
+returns-in-Ok-exercise_in-clause-input g c =
+    exercised_input (map string_bytes c.args.words.now) c.in-Ok-exercise_in.apps (g.I.Source.left c.args.input.now) (g.R.Remotes.holds c.args.remotes.now) c.run_exercise.result (c.in-Ok.ensures.ok ∙ ap (λ (k : Command). Some k) c.in-Ok-exercise_in.ensures.exercise) c.run_exercise.ensures.status
+
+pub returns-in-Ok-exercise_in-clause-taken : goal.returns-in-Ok-exercise_in-clause-taken
+returns-in-Ok-exercise_in-clause-taken g c =
+    exercised_taken (map string_bytes c.args.words.now) c.in-Ok-exercise_in.apps (g.I.Source.left c.args.input.now) (g.R.Remotes.holds c.args.remotes.now) c.run_exercise.result (c.in-Ok.ensures.ok ∙ ap (λ (k : Command). Some k) c.in-Ok-exercise_in.ensures.exercise) c.run_exercise.ensures.left
+
+pub returns-in-Err-clause-runs : goal.returns-in-Err-clause-runs
+returns-in-Err-clause-runs g c =
+    given_runs (map string_bytes c.args.words.now) c.in-Err.command (g.I.Source.left c.args.input.now) (g.R.Remotes.holds c.args.remotes.now) c.run_command.result (c.in-Ok.ensures.ok ∙ ap (λ (k : Command). Some k) (sym c.in-Err.ensures.other)) (no_exercise c.in-Err.command c.in-Err.ensures.none) (g.met.H.Host.is_tree c.args.host.now) c.run_command.ensures.any_moment
+
+pub returns-in-Err-clause-fault_has_cause : goal.returns-in-Err-clause-fault_has_cause
+returns-in-Err-clause-fault_has_cause g c =
+    given_cause (map string_bytes c.args.words.now) c.in-Err.command (g.I.Source.left c.args.input.now) (g.R.Remotes.holds c.args.remotes.now) c.run_command.result (c.in-Ok.ensures.ok ∙ ap (λ (k : Command). Some k) (sym c.in-Err.ensures.other)) (no_exercise c.in-Err.command c.in-Err.ensures.none) c.run_command.ensures.fault_has_cause
+
+pub returns-in-Err-clause-remotes : goal.returns-in-Err-clause-remotes
+returns-in-Err-clause-remotes g c =
+    given_asks (map string_bytes c.args.words.now) c.in-Err.command (g.I.Source.left c.args.input.now) (g.R.Remotes.holds c.args.remotes.now) c.run_command.result (c.in-Ok.ensures.ok ∙ ap (λ (k : Command). Some k) (sym c.in-Err.ensures.other)) (no_exercise c.in-Err.command c.in-Err.ensures.none) c.run_command.ensures.remotes
+
+pub returns-in-Err-clause-exports : goal.returns-in-Err-clause-exports
+returns-in-Err-clause-exports g c change done tells =
+    c.run_command.ensures.exports (subst IsChange (c.in-Ok.ensures.ok ∙ ap (λ (k : Command). Some k) (sym c.in-Err.ensures.other)) change) done
+    (given_told (map string_bytes c.args.words.now) c.in-Err.command (g.I.Source.left c.args.input.now) (g.R.Remotes.holds c.args.remotes.now) c.run_command.result (c.in-Ok.ensures.ok ∙ ap (λ (k : Command). Some k) (sym c.in-Err.ensures.other)) (no_exercise c.in-Err.command c.in-Err.ensures.none) tells)
+
+pub returns-in-Err-BadWords-clause-runs : goal.returns-in-Err-BadWords-clause-runs
+returns-in-Err-BadWords-clause-runs g c =
     let words = map string_bytes c.args.words.now in
+    let left = g.I.Source.left c.args.input.now in
+    let holds = g.R.Remotes.holds c.args.remotes.now in
+    let t = g.met.H.Host.is_tree c.args.host.now in
     let bad : IsNoCommand words c.in-Err-BadWords.field-0 = c.in-Err-BadWords.ensures.bad in
     let is = subst (IsNoCommand words) c.in-Err-BadWords.field-0-is bad in
-    goes_last (goes_no_command words (told (g.I.Source.left c.args.input.now) (g.R.Remotes.holds c.args.remotes.now) (g.H.Host.moments c.args.host.now)) c.in-Err-BadWords.index c.refuse_words.result (g.met.H.Host.is_tree c.args.host.now) is.0 is.1 c.refuse_words.ensures.any_moment)
+    no_command_runs words left holds c.refuse_words.result is.0 t (goes_no_command words (told left holds (g.H.Host.moments c.args.host.now)) c.in-Err-BadWords.index c.refuse_words.result t is.0 is.1 c.refuse_words.ensures.any_moment)
 
-pub returns-in-Err-BadWords-clause-at_return : goal.returns-in-Err-BadWords-clause-at_return
-returns-in-Err-BadWords-clause-at_return g c =
-    let words = map string_bytes c.args.words.now in
-    let bad : IsNoCommand words c.in-Err-BadWords.field-0 = c.in-Err-BadWords.ensures.bad in
-    let is = subst (IsNoCommand words) c.in-Err-BadWords.field-0-is bad in
-    let t = g.met.H.Host.is_tree c.args.host.now in
-    ends_goes t (goes_no_command words (told (g.I.Source.left c.args.input.now) (g.R.Remotes.holds c.args.remotes.now) (g.H.Host.moments c.args.host.now)) c.in-Err-BadWords.index c.refuse_words.result t is.0 is.1 c.refuse_words.ensures.any_moment)
+pub returns-in-Err-NoMemory-clause-runs : goal.returns-in-Err-NoMemory-clause-runs
+returns-in-Err-NoMemory-clause-runs g c = unread_runs (map string_bytes c.args.words.now) (g.I.Source.left c.args.input.now) (g.R.Remotes.holds c.args.remotes.now) (g.met.H.Host.is_tree c.args.host.now)
 
-pub returns-in-Err-NoMemory-clause-any_moment : goal.returns-in-Err-NoMemory-clause-any_moment
-returns-in-Err-NoMemory-clause-any_moment g c = goes_last (goes_unread (map string_bytes c.args.words.now) (told (g.I.Source.left c.args.input.now) (g.R.Remotes.holds c.args.remotes.now) (g.H.Host.moments c.args.host.now)) (g.met.H.Host.is_tree c.args.host.now))
-
-pub returns-in-Err-NoMemory-clause-at_return : goal.returns-in-Err-NoMemory-clause-at_return
-returns-in-Err-NoMemory-clause-at_return g c = let t = g.met.H.Host.is_tree c.args.host.now in ends_goes t (goes_unread (map string_bytes c.args.words.now) (told (g.I.Source.left c.args.input.now) (g.R.Remotes.holds c.args.remotes.now) (g.H.Host.moments c.args.host.now)) t)
-
-pub returns-in-Ok-clause-taken : goal.returns-in-Ok-clause-taken
-returns-in-Ok-clause-taken g c = subst (λ (o : Option Command). WasTaken o c.run_command.result (g.I.Source.left c.args.input.now) (g.I.Source.left c.run_command.new.input)) (sym c.in-Ok.ensures.ok) c.run_command.ensures.taken
+pub returns-in-Err-clause-taken : goal.returns-in-Err-clause-taken
+returns-in-Err-clause-taken g c = subst (λ (o : Option Command). WasTaken o c.run_command.result (g.I.Source.left c.args.input.now) (g.I.Source.left c.run_command.new.input)) (sym (c.in-Ok.ensures.ok ∙ ap (λ (k : Command). Some k) (sym c.in-Err.ensures.other))) c.run_command.ensures.taken
 
 pub returns-in-Err-BadWords-clause-input : goal.returns-in-Err-BadWords-clause-input
 returns-in-Err-BadWords-clause-input g c = λ five. absurd (elim c.refuse_words.ensures.status [
@@ -58,29 +88,21 @@ returns-in-Err-BadWords-clause-input g c = λ five. absurd (elim c.refuse_words.
 pub returns-in-Err-NoMemory-clause-taken : goal.returns-in-Err-NoMemory-clause-taken
 returns-in-Err-NoMemory-clause-taken g c = took_nothing (command_of (map string_bytes c.args.words.now)) (g.I.Source.left c.args.input.now)
 
-pub returns-in-Ok-clause-fault_has_cause : goal.returns-in-Ok-clause-fault_has_cause
-returns-in-Ok-clause-fault_has_cause g c =
-    subst (λ (o : Option Command). IsCaused (AreToldFor (OpsFor o (g.I.Source.left c.args.input.now)) (g.R.Remotes.holds c.args.remotes.now) × (c.run_command.result ≡ 3)) (g.H.Host.moments c.args.host.now) (HasCauses o) (g.H.Host.faults c.args.host.now) (g.H.Host.faults c.run_command.new.host)) (sym c.in-Ok.ensures.ok) c.run_command.ensures.fault_has_cause
-
-pub returns-in-Ok-clause-remotes : goal.returns-in-Ok-clause-remotes
-returns-in-Ok-clause-remotes g c =
-    subst (λ (o : Option Command). AsksRemotes (OpsFor o (g.I.Source.left c.args.input.now)) (c.run_command.result ≡ 4) (g.R.Remotes.holds c.args.remotes.now) (g.R.Remotes.holds c.run_command.new.remotes) (g.R.Remotes.faults c.args.remotes.now) (g.R.Remotes.faults c.run_command.new.remotes)) (sym c.in-Ok.ensures.ok) c.run_command.ensures.remotes
-
 pub returns-in-Err-BadWords-clause-remotes : goal.returns-in-Err-BadWords-clause-remotes
-returns-in-Err-BadWords-clause-remotes g c = not_asked (OpsFor (command_of (map string_bytes c.args.words.now)) (g.I.Source.left c.args.input.now)) (c.refuse_words.result ≡ 4) (g.R.Remotes.holds c.args.remotes.now) (g.R.Remotes.faults c.args.remotes.now) (λ four. elim c.refuse_words.ensures.status [
+returns-in-Err-BadWords-clause-remotes g c = not_asked (AsksFor (command_of (map string_bytes c.args.words.now)) (g.I.Source.left c.args.input.now)) (c.refuse_words.result ≡ 4) (g.R.Remotes.holds c.args.remotes.now) (g.R.Remotes.faults c.args.remotes.now) (λ four. elim c.refuse_words.ensures.status [
   | inl is ↦ omega (arith, four, is)
   | inr more ↦ elim more [ inl is ↦ omega (arith, four, is) | inr is ↦ omega (arith, four, is) ]
 ])
 
 pub returns-in-Err-NoMemory-clause-remotes : goal.returns-in-Err-NoMemory-clause-remotes
-returns-in-Err-NoMemory-clause-remotes g c = not_asked (OpsFor (command_of (map string_bytes c.args.words.now)) (g.I.Source.left c.args.input.now)) (6 ≡ 4) (g.R.Remotes.holds c.args.remotes.now) (g.R.Remotes.faults c.args.remotes.now) (λ four. omega (arith, four))
+returns-in-Err-NoMemory-clause-remotes g c = not_asked (AsksFor (command_of (map string_bytes c.args.words.now)) (g.I.Source.left c.args.input.now)) (6 ≡ 4) (g.R.Remotes.holds c.args.remotes.now) (g.R.Remotes.faults c.args.remotes.now) (λ four. omega (arith, four))
 
 pub returns-in-Err-NoMemory-clause-words : goal.returns-in-Err-NoMemory-clause-words
 returns-in-Err-NoMemory-clause-words g c = starves (command_of (map string_bytes c.args.words.now))
 
-pub returns-in-Ok-clause-found : goal.returns-in-Ok-clause-found
-returns-in-Ok-clause-found g c =
-    subst (λ (o : Option Command). Checks o → IsAnswered c.run_command.result → AtEnd (λ u w. HasReport (shows u)) (g.H.Host.moments c.args.host.now) (g.H.Host.moments c.run_command.new.host)) (sym c.in-Ok.ensures.ok) c.run_command.ensures.found
+pub returns-in-Err-clause-found : goal.returns-in-Err-clause-found
+returns-in-Err-clause-found g c =
+    subst (λ (o : Option Command). Checks o → IsAnswered c.run_command.result → AtEnd (λ u w. HasReport (shows u)) (g.H.Host.moments c.args.host.now) (g.H.Host.moments c.run_command.new.host)) (sym (c.in-Ok.ensures.ok ∙ ap (λ (k : Command). Some k) (sym c.in-Err.ensures.other))) c.run_command.ensures.found
 
 pub returns-in-Err-BadWords-clause-found : goal.returns-in-Err-BadWords-clause-found
 returns-in-Err-BadWords-clause-found g c checks answered =
@@ -91,12 +113,6 @@ returns-in-Err-BadWords-clause-found g c checks answered =
 
 pub returns-in-Err-NoMemory-clause-found : goal.returns-in-Err-NoMemory-clause-found
 returns-in-Err-NoMemory-clause-found g c checks answered = absurd (not_answered 6 (omega arith) answered)
-
-pub returns-in-Ok-clause-exports : goal.returns-in-Ok-clause-exports
-returns-in-Ok-clause-exports g c =
-    let left = g.I.Source.left c.args.input.now in
-    let holds = g.R.Remotes.holds c.args.remotes.now in
-    subst (λ (o : Option Command). IsChange o → c.run_command.result ≡ 0 → AreToldFor (OpsFor o left) holds → AtEnd (λ u w. IsSound u → LeavesExports w) (g.H.Host.moments c.args.host.now) (g.H.Host.moments c.run_command.new.host)) (sym c.in-Ok.ensures.ok) c.run_command.ensures.exports
 
 pub returns-in-Err-BadWords-clause-exports : goal.returns-in-Err-BadWords-clause-exports
 returns-in-Err-BadWords-clause-exports g c change done = absurd (elim c.refuse_words.ensures.status [

@@ -1,0 +1,31 @@
+-- What an exercise answers.
+use Rattle.std.specs.Prelude.{ℕ, List, Bool, count_by}
+use Rattle.fp_host.specs.Remote.{Holdings}
+use Rattle.fp_name.specs.Pins.{same_kind}
+use Rattle.fp_name.specs.declared.kind.RefKind.{RefKind}
+use Rattle.fp_name.specs.declared.kind.RefKind.TheVariants.{App, Runtime}
+use Rattle.fp_small.specs.declared.state.RefRow.{RefRow}
+use Rattle.fp_small.specs.declared.state.State.{State}
+use Rattle.fl_lines.specs.Lines.{exercise_text}
+use Rattle.fl_gen.specs.Exercise.{exercise_changes}
+use Rattle.fl_change.specs.Answer.{Answer, text_answer, then_over}
+use Rattle.fl_change.specs.Turns.{changing}
+use Rattle.fl_change.specs.World.{World}
+
+abbrev pub is_of : RefKind → RefRow → Bool
+is_of kind row = same_kind kind row.name.kind
+
+-- how many refs of this kind are deployed
+abbrev pub deployed : RefKind → State → ℕ
+deployed kind s = count_by (is_of kind) s.refs
+
+-- its last line
+abbrev pub end_text : ℕ → State → List ℕ
+end_text apps s = exercise_text apps (deployed App s) (deployed Runtime s)
+
+abbrev pub end_answer : ℕ → Holdings → World → Answer
+end_answer apps held x = text_answer (end_text apps x.state)
+
+-- its changes one after another, up to the first refusal, and its last line where none is refused
+abbrev pub exercising : ℕ → Holdings → World → Answer
+exercising apps held x = then_over held x (changing (exercise_changes apps) held x) (end_answer apps held)

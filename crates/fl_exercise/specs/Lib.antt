@@ -1,0 +1,2 @@
+pub mod Exercising
+pub mod Sample

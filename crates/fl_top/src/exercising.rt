@@ -1,0 +1,98 @@
+//! An exercise: the changes of made remotes.
+ghost use Rattle.std.specs.Prelude.{◌≡◌, ◌≤◌, false, Some, IfOk, IfErr, OnOk, IsErrOf};
+ghost use Rattle.fp_host.specs.Causes.{IsCaused};
+ghost use Rattle.fp_host.specs.Frame.{AtEnd};
+ghost use Rattle.fp_host.specs.Moments.{Goes};
+ghost use Rattle.dep_states.specs.Sound.{IsSound};
+ghost use Rattle.fl_words.specs.declared.command.Command.TheVariants.{Exercise as Exercising};
+ghost use Rattle.fl_gen.specs.Exercise.{exercise_changes};
+ghost use Rattle.fl_change.specs.Turns.{MayDo};
+ghost use Rattle.fl_exercise.specs.Exercising.{exercising};
+ghost use Rattle.fl_top.specs.Asked.{AreToldFor, AsksRemotes};
+ghost use Rattle.fl_top.specs.Exercises.{is_exercise, IsExercised};
+ghost use Rattle.fl_top.specs.Exports.{LeavesExports};
+ghost use Rattle.fl_top.specs.Runs.{IsReady, HasCauses};
+ghost use Rattle.fl_top.specs.RunsOver.{RunsOver, EndedOver};
+ghost use Rattle.fl_top.specs.Status.{IsOfCommand};
+
+use crate::running::run_command;
+use dep_open::open;
+use fl_change::RunEnd;
+use fl_exercise::make_exercise;
+use fl_export::refresh;
+use fl_gen::GenRemotes;
+use fl_words::{AppCount, Command};
+use fp_host::{Host, Remotes, Source};
+use par_digest::Gate;
+use std::alloc::Global;
+use std::thread::Threads;
+
+/// How many applications an exercise has, or the command where it is none.
+pub(crate) fn exercise_in(command: Command) -> Result<AppCount, Command>
+    ensures exercise { IfOk result (λ apps. command ≡ Exercising apps) }
+    ensures other { IfErr result (λ other. other ≡ command) }
+    ensures none { IfErr result (λ other. is_exercise other ≡ false) }
+{
+    match command {
+        Command::Exercise(apps) => Ok(apps),
+        Command::Change(change) => Err(Command::Change(change)),
+        Command::List(listing) => Err(Command::List(listing)),
+        Command::Show(thing) => Err(Command::Show(thing)),
+        Command::Filter(source) => Err(Command::Filter(source)),
+        Command::Batch => Err(Command::Batch),
+        Command::Fsck => Err(Command::Fsck),
+        Command::Export { remote, name } => Err(Command::Export { remote, name }),
+    }
+}
+
+/// Runs an exercise over remotes that are made for it.
+pub(crate) fn run_exercise<T: Threads + Sync, H: Host, I: Source, G: Gate + Sync>(
+    rt: &T,
+    alloc: Global,
+    input: &mut I,
+    host: &mut H,
+    apps: AppCount,
+    gate: &G,
+) -> u8
+    ensures status { IsOfCommand (Exercising apps) result }
+    ensures runs { IsExercised apps (I.left input.old) result (H.moments host.old) (H.moments host.new) }
+    ensures fault_has_cause { IsCaused (result ≡ 3) (H.moments host.old)
+        (HasCauses (Some (Exercising apps))) (H.faults host.old) (H.faults host.new) }
+    ensures exports { result ≡ 0 → AtEnd (λ u w. IsSound u → LeavesExports w)
+        (H.moments host.old) (H.moments host.new) }
+    ensures no_remote_fault { result ≡ 4 → ⊥ }
+    ensures left { I.left input.new ≡ I.left input.old }
+    ensures later { I.faults input.old ≤ I.faults input.new }
+{
+    match GenRemotes::new(rt, alloc, apps.number()) {
+        Ok(mut remotes) => {
+            let command = Command::Exercise(apps);
+            run_command(rt, alloc, input, host, &mut remotes, command, gate)
+        }
+        Err(_) => 6,
+    }
+}
+
+/// Opens the installation and makes the changes of an exercise, one after another up to the first refusal. Where none is refused,
+/// its last line is printed, and the exported files are brought in step with the state.
+pub(crate) fn exercise<H: Host, R: Remotes>(
+    alloc: Global,
+    host: &mut H,
+    remotes: &mut R,
+    apps: &AppCount,
+) -> Result<(), RunEnd>
+    ensures any_moment { Goes (H.moments host.old) (H.moments host.new)
+        (RunsOver (R.holds remotes.old) (MayDo (exercise_changes apps.now)) (exercising apps.now))
+        (EndedOver (R.holds remotes.old) (exercising apps.now) result) }
+    ensures exports { OnOk result (AreToldFor (MayDo (exercise_changes apps.now)) (R.holds remotes.old)
+        → AtEnd (λ u w. IsSound u → LeavesExports w) (H.moments host.old) (H.moments host.new)) }
+    ensures fault_has_cause { IsCaused (AreToldFor (MayDo (exercise_changes apps.now)) (R.holds remotes.old)
+        × IsErrOf result RunEnd.Fault) (H.moments host.old) IsReady
+        (H.faults host.old) (H.faults host.new) }
+    ensures remotes { AsksRemotes (MayDo (exercise_changes apps.now)) (IsErrOf result RunEnd.RemoteFault)
+        (R.holds remotes.old) (R.holds remotes.new) (R.faults remotes.old) (R.faults remotes.new) }
+{
+    let opened = open(alloc, host)?;
+    let changed = make_exercise(alloc, host, remotes, opened, apps)?;
+    Ok(refresh(alloc, host, changed.state())?)
+}
