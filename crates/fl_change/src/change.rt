@@ -26,10 +26,12 @@ use fl_words::Change;
 use fp_host::{Host, Remotes};
 use fp_small::{Layout, Op};
 use std::alloc::Global;
+use std::thread::Threads;
 
 /// Makes the changes on an opened installation, one after another up to the first refusal. It is tidied and migrated before.
 /// Whatever the end but Ok, the installation is opened again before anything else is done with it.
 pub fn change_all<H: Host, R: Remotes>(
+    rt: &(impl Threads + Sync),
     alloc: Global,
     host: &mut H,
     remotes: &mut R,
@@ -44,12 +46,13 @@ pub fn change_all<H: Host, R: Remotes>(
         (outside (H.moments host.new) (H.faults host.new) (R.holds remotes.new) (R.faults remotes.new)) }
 {
     let tidied = tidy(alloc, host, opened)?;
-    let current = migrate(alloc, host, remotes, tidied)?;
-    do_each(alloc, host, remotes, current, changes)
+    let current = migrate(rt, alloc, host, remotes, tidied)?;
+    do_each(rt, alloc, host, remotes, current, changes)
 }
 
 /// Migrates an installation of layout 1.
 fn migrate<H: Host, R: Remotes>(
+    rt: &(impl Threads + Sync),
     alloc: Global,
     host: &mut H,
     remotes: &mut R,
@@ -63,13 +66,14 @@ fn migrate<H: Host, R: Remotes>(
         (outside (H.moments host.new) (H.faults host.new) (R.holds remotes.new) (R.faults remotes.new)) }
 {
     match opened.state().layout {
-        Layout::One => do_op(alloc, host, remotes, opened, &Op::Migrate),
+        Layout::One => do_op(rt, alloc, host, remotes, opened, &Op::Migrate),
         Layout::Two => Ok(opened),
     }
 }
 
 /// Makes the changes one after another, up to the first refusal.
 fn do_each<H: Host, R: Remotes>(
+    rt: &(impl Threads + Sync),
     alloc: Global,
     host: &mut H,
     remotes: &mut R,
@@ -84,13 +88,14 @@ fn do_each<H: Host, R: Remotes>(
 {
     let mut current = opened;
     for change in changes {
-        current = do_change(alloc, host, remotes, current, change)?;
+        current = do_change(rt, alloc, host, remotes, current, change)?;
     }
     Ok(current)
 }
 
 /// Makes one change, where nothing speaks against it.
 fn do_change<H: Host, R: Remotes>(
+    rt: &(impl Threads + Sync),
     alloc: Global,
     host: &mut H,
     remotes: &mut R,
@@ -106,42 +111,43 @@ fn do_change<H: Host, R: Remotes>(
         (outside (H.moments host.new) (H.faults host.new) (R.holds remotes.new) (R.faults remotes.new)) }
 {
     match change {
-        Change::Install { remote, name } => install(alloc, host, remotes, opened, remote, name),
-        Change::UpdateAll => update_all(alloc, host, remotes, opened),
-        Change::UpdateOne(name) => update_one(alloc, host, remotes, opened, name),
-        Change::Uninstall(name) => uninstall(alloc, host, remotes, opened, name),
-        Change::UninstallUnused => uninstall_unused(alloc, host, remotes, opened),
-        Change::Rollback(name) => roll_back(alloc, host, remotes, opened, name),
-        Change::OverrideReset { name } => reset(alloc, host, remotes, opened, name.as_text()),
+        Change::Install { remote, name } => install(rt, alloc, host, remotes, opened, remote, name),
+        Change::UpdateAll => update_all(rt, alloc, host, remotes, opened),
+        Change::UpdateOne(name) => update_one(rt, alloc, host, remotes, opened, name),
+        Change::Uninstall(name) => uninstall(rt, alloc, host, remotes, opened, name),
+        Change::UninstallUnused => uninstall_unused(rt, alloc, host, remotes, opened),
+        Change::Rollback(name) => roll_back(rt, alloc, host, remotes, opened, name),
+        Change::OverrideReset { name } => reset(rt, alloc, host, remotes, opened, name.as_text()),
         Change::Pin(pin) => {
             let asked = add_pin(opened.state(), pin);
-            do_asked(alloc, host, remotes, opened, asked)
+            do_asked(rt, alloc, host, remotes, opened, asked)
         }
         Change::Unpin(pin) => {
             let asked = drop_pin(opened.state(), pin);
-            do_asked(alloc, host, remotes, opened, asked)
+            do_asked(rt, alloc, host, remotes, opened, asked)
         }
         Change::RemoteAdd(row) => {
             let asked = add_remote(opened.state(), row);
-            do_asked(alloc, host, remotes, opened, asked)
+            do_asked(rt, alloc, host, remotes, opened, asked)
         }
         Change::RemoteModify(row) => {
             let asked = modify_remote(opened.state(), row);
-            do_asked(alloc, host, remotes, opened, asked)
+            do_asked(rt, alloc, host, remotes, opened, asked)
         }
         Change::OverrideChange { name, options } => {
             let asked = change_override(alloc, opened.state(), name, options);
-            do_asked(alloc, host, remotes, opened, asked)
+            do_asked(rt, alloc, host, remotes, opened, asked)
         }
         Change::RemoteDelete(name) => {
             let asked = drop_remote(opened.state(), name);
-            do_asked(alloc, host, remotes, opened, asked)
+            do_asked(rt, alloc, host, remotes, opened, asked)
         }
     }
 }
 
 /// Does the operation that is asked for, where nothing speaks against it.
 fn do_asked<H: Host, R: Remotes>(
+    rt: &(impl Threads + Sync),
     alloc: Global,
     host: &mut H,
     remotes: &mut R,
@@ -159,5 +165,5 @@ fn do_asked<H: Host, R: Remotes>(
         (outside (H.moments host.new) (H.faults host.new) (R.holds remotes.new) (R.faults remotes.new)) }
 {
     let op = asked?;
-    do_op(alloc, host, remotes, opened, &op)
+    do_op(rt, alloc, host, remotes, opened, &op)
 }

@@ -16,9 +16,11 @@ use fp_host::{Host, Remotes};
 use fp_name::RefName;
 use fp_small::Op;
 use std::alloc::Global;
+use std::thread::Threads;
 
 /// Puts a ref back to the commit that it was at before, whose runtime has to be there.
 pub(crate) fn roll_back<H: Host, R: Remotes>(
+    rt: &(impl Threads + Sync),
     alloc: Global,
     host: &mut H,
     remotes: &mut R,
@@ -41,7 +43,7 @@ pub(crate) fn roll_back<H: Host, R: Remotes>(
                 name: name.copy()?,
                 commit,
             };
-            do_op(alloc, host, remotes, opened, &op)
+            do_op(rt, alloc, host, remotes, opened, &op)
         }
         Err(refusal) => Err(RunEnd::Refused(refusal)),
     }

@@ -20,9 +20,11 @@ use fp_host::{Host, Remotes};
 use fp_name::{RefName, RemoteName};
 use fp_small::{Op, RemoteRow};
 use std::alloc::Global;
+use std::thread::Threads;
 
 /// Does operations that bring commits, one after another up to the first that is refused.
 pub(crate) fn do_ops<H: Host, R: Remotes>(
+    rt: &(impl Threads + Sync),
     alloc: Global,
     host: &mut H,
     remotes: &mut R,
@@ -41,13 +43,14 @@ pub(crate) fn do_ops<H: Host, R: Remotes>(
 {
     let mut current = opened;
     for op in ops {
-        current = do_op(alloc, host, remotes, current, op)?;
+        current = do_op(rt, alloc, host, remotes, current, op)?;
     }
     Ok(current)
 }
 
 /// Brings a ref from a remote, with all that comes along.
 pub(crate) fn bring_target<H: Host, R: Remotes>(
+    rt: &(impl Threads + Sync),
     alloc: Global,
     host: &mut H,
     remotes: &mut R,
@@ -65,11 +68,12 @@ pub(crate) fn bring_target<H: Host, R: Remotes>(
         (outside (H.moments host.new) (H.faults host.new) (R.holds remotes.new) (R.faults remotes.new)) }
 {
     let plan = ops(alloc, host, remotes, opened.state(), remote, name)?;
-    do_ops(alloc, host, remotes, opened, plan.as_slice())
+    do_ops(rt, alloc, host, remotes, opened, plan.as_slice())
 }
 
 /// Installs a ref from the remote of this name.
 pub(crate) fn install<H: Host, R: Remotes>(
+    rt: &(impl Threads + Sync),
     alloc: Global,
     host: &mut H,
     remotes: &mut R,
@@ -87,5 +91,5 @@ pub(crate) fn install<H: Host, R: Remotes>(
 {
     let row = known_remote(opened.state(), remote)?;
     try_new(opened.state(), name)?;
-    bring_target(alloc, host, remotes, opened, &row, name)
+    bring_target(rt, alloc, host, remotes, opened, &row, name)
 }

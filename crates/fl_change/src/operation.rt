@@ -22,9 +22,11 @@ use fp_host::{Host, HostEnd, Remotes};
 use fp_small::Op;
 use op_change::apply;
 use std::alloc::Global;
+use std::thread::Threads;
 
 /// Does one operation, says its line once it is done, and tidies after it. The line is made before.
 pub(crate) fn do_op<H: Host, R: Remotes>(
+    rt: &(impl Threads + Sync),
     alloc: Global,
     host: &mut H,
     remotes: &mut R,
@@ -42,12 +44,21 @@ pub(crate) fn do_op<H: Host, R: Remotes>(
         (outside (H.moments host.new) (H.faults host.new) (R.holds remotes.new) (R.faults remotes.new)) }
 {
     let line = op_line(alloc, op)?;
-    let done = do_and_say(alloc, host, remotes, opened, op, line.as_str().as_bytes())?;
+    let done = do_and_say(
+        rt,
+        alloc,
+        host,
+        remotes,
+        opened,
+        op,
+        line.as_str().as_bytes(),
+    )?;
     Ok(tidy_after(alloc, host, done, op)?)
 }
 
 /// Does one operation, and says its line once it is done.
 fn do_and_say<H: Host, R: Remotes>(
+    rt: &(impl Threads + Sync),
     alloc: Global,
     host: &mut H,
     remotes: &mut R,
@@ -66,7 +77,7 @@ fn do_and_say<H: Host, R: Remotes>(
         (outside (H.moments host.old) (H.faults host.old) (R.holds remotes.old) (R.faults remotes.old))
         (outside (H.moments host.new) (H.faults host.new) (R.holds remotes.new) (R.faults remotes.new)) }
 {
-    let done = apply(alloc, host, remotes, opened, op)?;
+    let done = apply(rt, alloc, host, remotes, opened, op)?;
     host.say(line)?;
     Ok(done)
 }

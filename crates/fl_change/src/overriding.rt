@@ -29,6 +29,7 @@ use fp_host::{Host, Remotes};
 use fp_keyfile::KeyFile;
 use fp_small::{Op, OverrideRow, Refusal, State};
 use std::alloc::{AllocError, Global};
+use std::thread::Threads;
 
 /// The most bytes of the text of an override.
 const OVERRIDE_MOST: usize = 1024 * 1024;
@@ -125,6 +126,7 @@ pub(crate) fn change_override(
 
 /// Takes an override away, where there is one.
 pub(crate) fn reset<H: Host, R: Remotes>(
+    rt: &(impl Threads + Sync),
     alloc: Global,
     host: &mut H,
     remotes: &mut R,
@@ -142,7 +144,7 @@ pub(crate) fn reset<H: Host, R: Remotes>(
     match find_override(opened.state().overrides.as_slice(), name) {
         Some(_) => {
             let op = Op::DropOverride(name.copy()?);
-            do_op(alloc, host, remotes, opened, &op)
+            do_op(rt, alloc, host, remotes, opened, &op)
         }
         None => Ok(opened),
     }

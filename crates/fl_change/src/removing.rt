@@ -20,9 +20,11 @@ use fp_host::{Host, Remotes};
 use fp_name::RefName;
 use fp_small::{Op, Refusal};
 use std::alloc::Global;
+use std::thread::Threads;
 
 /// Takes a ref away, unless a deployed application names it as its runtime.
 pub(crate) fn uninstall<H: Host, R: Remotes>(
+    rt: &(impl Threads + Sync),
     alloc: Global,
     host: &mut H,
     remotes: &mut R,
@@ -43,12 +45,13 @@ pub(crate) fn uninstall<H: Host, R: Remotes>(
             runtime: name.copy()?,
             app,
         })),
-        None => take_away(alloc, host, remotes, opened, name),
+        None => take_away(rt, alloc, host, remotes, opened, name),
     }
 }
 
 /// Takes a deployed ref away.
 fn take_away<H: Host, R: Remotes>(
+    rt: &(impl Threads + Sync),
     alloc: Global,
     host: &mut H,
     remotes: &mut R,
@@ -65,11 +68,12 @@ fn take_away<H: Host, R: Remotes>(
         (outside (H.moments host.new) (H.faults host.new) (R.holds remotes.new) (R.faults remotes.new)) }
 {
     let op = Op::Uninstall { name: name.copy()? };
-    do_op(alloc, host, remotes, opened, &op)
+    do_op(rt, alloc, host, remotes, opened, &op)
 }
 
 /// Takes the runtimes away that nothing keeps.
 pub(crate) fn uninstall_unused<H: Host, R: Remotes>(
+    rt: &(impl Threads + Sync),
     alloc: Global,
     host: &mut H,
     remotes: &mut R,
@@ -86,11 +90,12 @@ pub(crate) fn uninstall_unused<H: Host, R: Remotes>(
     let metas = metas(alloc, host, opened.state())?;
     let points = points(alloc, host, opened.state())?;
     let names = unused_extended(alloc, opened.state(), metas.as_slice(), points.as_slice())?;
-    drop_each(alloc, host, remotes, opened, names.as_slice())
+    drop_each(rt, alloc, host, remotes, opened, names.as_slice())
 }
 
 /// Takes these refs away, one after another.
 fn drop_each<H: Host, R: Remotes>(
+    rt: &(impl Threads + Sync),
     alloc: Global,
     host: &mut H,
     remotes: &mut R,
@@ -107,13 +112,14 @@ fn drop_each<H: Host, R: Remotes>(
 {
     let mut current = opened;
     for name in names {
-        current = drop_one(alloc, host, remotes, current, name)?;
+        current = drop_one(rt, alloc, host, remotes, current, name)?;
     }
     Ok(current)
 }
 
 /// Takes a ref away, where it is deployed.
 fn drop_one<H: Host, R: Remotes>(
+    rt: &(impl Threads + Sync),
     alloc: Global,
     host: &mut H,
     remotes: &mut R,
@@ -129,7 +135,7 @@ fn drop_one<H: Host, R: Remotes>(
         (outside (H.moments host.new) (H.faults host.new) (R.holds remotes.new) (R.faults remotes.new)) }
 {
     match find_ref(opened.state().refs.as_slice(), name) {
-        Some(_) => take_away(alloc, host, remotes, opened, name),
+        Some(_) => take_away(rt, alloc, host, remotes, opened, name),
         None => Ok(opened),
     }
 }

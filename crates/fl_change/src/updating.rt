@@ -22,9 +22,11 @@ use fp_name::RefName;
 use fp_small::{Refusal, RemoteRow};
 use ost_head::PullEnd;
 use std::alloc::Global;
+use std::thread::Threads;
 
 /// Updates one ref, from the remote that it comes from.
 pub(crate) fn update_one<H: Host, R: Remotes>(
+    rt: &(impl Threads + Sync),
     alloc: Global,
     host: &mut H,
     remotes: &mut R,
@@ -41,11 +43,12 @@ pub(crate) fn update_one<H: Host, R: Remotes>(
 {
     let origin = origin_of(opened.state(), name)?;
     let remote = known_remote(opened.state(), &origin)?;
-    bring_target(alloc, host, remotes, opened, &remote, name)
+    bring_target(rt, alloc, host, remotes, opened, &remote, name)
 }
 
 /// Updates all that is installed: the runtimes, and then the applications.
 pub(crate) fn update_all<H: Host, R: Remotes>(
+    rt: &(impl Threads + Sync),
     alloc: Global,
     host: &mut H,
     remotes: &mut R,
@@ -60,11 +63,12 @@ pub(crate) fn update_all<H: Host, R: Remotes>(
         (outside (H.moments host.new) (H.faults host.new) (R.holds remotes.new) (R.faults remotes.new)) }
 {
     let names = targets(alloc, opened.state(), None)?;
-    update_each(alloc, host, remotes, opened, names.as_slice())
+    update_each(rt, alloc, host, remotes, opened, names.as_slice())
 }
 
 /// Updates these refs, one after another up to the first that is refused.
 fn update_each<H: Host, R: Remotes>(
+    rt: &(impl Threads + Sync),
     alloc: Global,
     host: &mut H,
     remotes: &mut R,
@@ -81,13 +85,14 @@ fn update_each<H: Host, R: Remotes>(
 {
     let mut current = opened;
     for name in names {
-        current = update_target(alloc, host, remotes, current, name)?;
+        current = update_target(rt, alloc, host, remotes, current, name)?;
     }
     Ok(current)
 }
 
 /// Updates one of all. It is passed over where the remote that it comes from isn't there any more.
 fn update_target<H: Host, R: Remotes>(
+    rt: &(impl Threads + Sync),
     alloc: Global,
     host: &mut H,
     remotes: &mut R,
@@ -107,7 +112,7 @@ fn update_target<H: Host, R: Remotes>(
         None => return Ok(opened),
     };
     match find_remote(opened.state(), &origin)? {
-        Some(remote) => update_from(alloc, host, remotes, opened, &remote, name),
+        Some(remote) => update_from(rt, alloc, host, remotes, opened, &remote, name),
         None => skip(alloc, host, remotes, opened, name),
     }
 }
@@ -121,6 +126,7 @@ fn is_no_offer(refusal: &Refusal) -> bool
 
 /// Updates one of all from this remote. It is passed over where the remote doesn't offer it.
 fn update_from<H: Host, R: Remotes>(
+    rt: &(impl Threads + Sync),
     alloc: Global,
     host: &mut H,
     remotes: &mut R,
@@ -138,7 +144,7 @@ fn update_from<H: Host, R: Remotes>(
         (outside (H.moments host.new) (H.faults host.new) (R.holds remotes.new) (R.faults remotes.new)) }
 {
     match ops(alloc, host, remotes, opened.state(), remote, name) {
-        Ok(plan) => do_ops(alloc, host, remotes, opened, plan.as_slice()),
+        Ok(plan) => do_ops(rt, alloc, host, remotes, opened, plan.as_slice()),
         Err(PullEnd::Refused(refusal)) => {
             if is_no_offer(&refusal) {
                 skip(alloc, host, remotes, opened, name)

@@ -199,11 +199,11 @@ fn perform<T: Threads + Sync, H: Host, R: Remotes, I: Source, G: Gate + Sync>(
     ensures later { I.faults input.old ≤ I.faults input.new }
 {
     match command {
-        Command::Change(change) => Ok(make_changes(alloc, host, remotes, &[change])?),
+        Command::Change(change) => Ok(make_changes(rt, alloc, host, remotes, &[change])?),
         Command::List(listing) => Ok(list(alloc, host, listing)?),
         Command::Show(thing) => show(alloc, input, host, &thing),
         Command::Filter(source) => filter(alloc, input, host, &source),
-        Command::Batch => batch(alloc, input, host, remotes),
+        Command::Batch => batch(rt, alloc, input, host, remotes),
         Command::Fsck => Ok(check(rt, alloc, host, gate)?),
         Command::Export { remote, name } => export(rt, alloc, input, host, &remote, &name),
         Command::Exercise(apps) => Ok(exercise(alloc, host, remotes, &apps)?),
@@ -258,7 +258,8 @@ fn filter<H: Host, I: Source>(
 }
 
 /// Reads the changes that the input asks for, and makes them one after another.
-fn batch<H: Host, R: Remotes, I: Source>(
+fn batch<T: Threads + Sync, H: Host, R: Remotes, I: Source>(
+    rt: &T,
     alloc: Global,
     input: &mut I,
     host: &mut H,
@@ -284,12 +285,13 @@ fn batch<H: Host, R: Remotes, I: Source>(
 {
     let bytes = read_input(alloc, input)?;
     let changes = read_batch(alloc, bytes.as_slice())?;
-    Ok(make_changes(alloc, host, remotes, changes.as_slice())?)
+    Ok(make_changes(rt, alloc, host, remotes, changes.as_slice())?)
 }
 
 /// Opens the installation and makes the changes, one after another up to the first refusal. Where none is refused, the exported
 /// files are brought in step with the state after them.
-fn make_changes<H: Host, R: Remotes>(
+fn make_changes<T: Threads + Sync, H: Host, R: Remotes>(
+    rt: &T,
     alloc: Global,
     host: &mut H,
     remotes: &mut R,
@@ -307,7 +309,7 @@ fn make_changes<H: Host, R: Remotes>(
         (R.holds remotes.old) (R.holds remotes.new) (R.faults remotes.old) (R.faults remotes.new) }
 {
     let opened = open(alloc, host)?;
-    let changed = change_all(alloc, host, remotes, opened, changes)?;
+    let changed = change_all(rt, alloc, host, remotes, opened, changes)?;
     Ok(refresh(alloc, host, changed.state())?)
 }
 

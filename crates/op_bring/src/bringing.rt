@@ -25,12 +25,14 @@ use fp_small::RemoteRow;
 use op_deploy::deploy_row;
 use ost_head::{PullEnd, read_head};
 use std::alloc::Global;
+use std::thread::Threads;
 
 /// Brings a commit from the remote and deploys it. Its head is read first, and its time plays no part. What stands in `repo/tmp`,
 /// and in the folder of the commit where the ref doesn't keep it, goes then. Once all objects of the commit are stored, the store
 /// is made ready, and the commit is laid out, recorded and linked, synced, and switched to. It is for a commit at which the ref
 /// isn't.
 pub fn bring<H: Host, R: Remotes>(
+    rt: &(impl Threads + Sync),
     alloc: Global,
     host: &mut H,
     remotes: &mut R,
@@ -75,7 +77,7 @@ pub fn bring<H: Host, R: Remotes>(
     let kept = is_kept(opened.state(), name, commit);
     let url = remote.url.as_str();
     fetch(
-        alloc, host, remotes, &opened, &places, url, name, commit, kept,
+        rt, alloc, host, remotes, &opened, &places, url, name, commit, kept,
     )?;
     Ok(deploy_row(alloc, host, opened, row)?)
 }

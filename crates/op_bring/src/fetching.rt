@@ -24,10 +24,12 @@ use fp_name::{Digest, RefName};
 use ost_head::PullEnd;
 use ost_pull::pull;
 use std::alloc::Global;
+use std::thread::Threads;
 
 /// Pulls the commit into the store, and lays it out in its folder where the state doesn't keep it. What stands in `repo/tmp` and in
 /// that folder goes before. The state isn't changed.
 pub(crate) fn fetch<H: Host, R: Remotes>(
+    rt: &(impl Threads + Sync),
     alloc: Global,
     host: &mut H,
     remotes: &mut R,
@@ -62,6 +64,7 @@ pub(crate) fn fetch<H: Host, R: Remotes>(
 {
     make_room(alloc, host, &places.tmp, &places.folder, kept)?;
     pull(
+        rt,
         alloc,
         host,
         remotes,

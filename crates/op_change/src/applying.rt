@@ -20,6 +20,7 @@ use dep_states::Opened;
 use fp_host::{Host, Remotes};
 use fp_small::Op;
 use std::alloc::Global;
+use std::thread::Threads;
 
 /// Does one operation on an opened installation: every stop leaves the state of before or the one after, and once it is done, the
 /// one after. A migration writes `config`, and leaves the files of layout 1 where they are. An install or an update pulls what
@@ -27,6 +28,7 @@ use std::alloc::Global;
 /// has a fault, and where its head isn't one of the ref. What isn't deployed any more is left for a tidying. Whatever the end but
 /// Ok, the installation is opened again before anything else is done with it.
 pub fn apply<H: Host, R: Remotes>(
+    rt: &(impl Threads + Sync),
     alloc: Global,
     host: &mut H,
     remotes: &mut R,
@@ -66,12 +68,12 @@ pub fn apply<H: Host, R: Remotes>(
             name,
             remote,
             commit,
-        } => bring_from(alloc, host, remotes, opened, remote, name, commit),
+        } => bring_from(rt, alloc, host, remotes, opened, remote, name, commit),
         Op::Update {
             name,
             remote,
             commit,
-        } => bring_from(alloc, host, remotes, opened, remote, name, commit),
+        } => bring_from(rt, alloc, host, remotes, opened, remote, name, commit),
         Op::Uninstall { .. }
         | Op::AddPin(_)
         | Op::DropPin(_)

@@ -29,6 +29,7 @@ use fp_name::{Digest, RefName, RemoteName};
 use fp_small::RemoteRow;
 use op_bring::bring;
 use std::alloc::{AllocError, Global};
+use std::thread::Threads;
 
 /// The first remote whose name is this text.
 fn find_text<'a>(remotes: &'a [RemoteRow], text: &str) -> Option<&'a RemoteRow>
@@ -57,6 +58,7 @@ fn copy_remote(remotes: &[RemoteRow], name: &RemoteName) -> Result<RemoteRow, Al
 
 /// Brings a commit of the ref from the remote of this name, which the state has, and deploys it.
 pub(crate) fn bring_from<H: Host, R: Remotes>(
+    rt: &(impl Threads + Sync),
     alloc: Global,
     host: &mut H,
     remotes: &mut R,
@@ -95,7 +97,7 @@ pub(crate) fn bring_from<H: Host, R: Remotes>(
         (R.faults remotes.old) (R.faults remotes.new) }
 {
     let remote = copy_remote(opened.state().remotes.as_slice(), origin)?;
-    match bring(alloc, host, remotes, opened, &remote, name, commit) {
+    match bring(rt, alloc, host, remotes, opened, &remote, name, commit) {
         Ok(done) => Ok(done),
         Err(end) => Err(ApplyEnd::from(end)),
     }

@@ -9,3 +9,6 @@ mod Placed
 mod Stored
 mod Whole
 mod Samples
+mod Read
+mod Batched
+mod Joined

@@ -154,7 +154,7 @@ in_added : (o : Named) (before after : List Named) → Adds o before after → (
 in_added o before after (inl same) p has = inl (subst (λ (l : List Named). In l p) same has)
 in_added o before after (inr more) p has = in_cases before o p (subst (λ (l : List Named). In l p) more has)
 
-in_before : (o : Named) (before after : List Named) → Adds o before after → (p : Named) → In before p → In after p
+pub in_before : (o : Named) (before after : List Named) → Adds o before after → (p : Named) → In before p → In after p
 in_before o before after (inl same) p has = subst (λ (l : List Named). In l p) (sym same) has
 in_before o before after (inr more) p has = subst (λ (l : List Named). In l p) (sym more) (in_push before o p has)
 
@@ -195,7 +195,7 @@ or_assoc : {A : Type 0} (a b c : Option A) → or_else (or_else a b) c ≡ or_el
 or_assoc None b c = refl
 or_assoc (Some x) b c = refl
 
-bad_append : (have : Have) (xs ys : List Named) → first_bad have (xs ++ ys) ≡ or_else (first_bad have xs) (first_bad have ys)
+pub bad_append : (have : Have) (xs ys : List Named) → first_bad have (xs ++ ys) ≡ or_else (first_bad have xs) (first_bad have ys)
 bad_append have [] ys = refl
 bad_append have (o ∷ xs) ys =
     let f = found_in o (object_fault o.0 o.1 (have o.0 o.1)) in
@@ -272,6 +272,13 @@ never_refused P (ends.Refused w) none = absurd none
 never_refused P ends.HostFault none = tt
 never_refused P ends.RemoteFault none = tt
 never_refused P ends.NoMemory none = tt
+
+-- nor by one that is no refusal
+pub never_named : {A : Type 0} (P : WalkFault → Type 0) (end : WalkEnd) → ((w : WalkFault) → IsErrOf {T = A} (Err end) (ends.Refused w) → ⊥) → RefusesBy P end
+never_named P (ends.Refused w) none = absurd (none w refl)
+never_named P ends.HostFault none = tt
+never_named P ends.RemoteFault none = tt
+never_named P ends.NoMemory none = tt
 
 -- the objects that are given stay the same where nothing changes
 pub still_supplied : {a b : Option Moments} {holds holds' : Option Holdings} {root : Elements} {url : Option (List ℕ)} {have : Have} → Unchanged a b → holds' ≡ holds → Supplies root url a holds have → Supplies root url b holds' have

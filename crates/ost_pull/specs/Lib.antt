@@ -2,3 +2,4 @@ pub mod Work
 pub mod Takes
 pub mod Pulls
 pub mod Placing
+pub mod Batches

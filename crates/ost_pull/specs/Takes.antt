@@ -39,6 +39,10 @@ pub record TakesAll (root t : Elements) (url : List ℕ) (holds : Option Holding
 abbrev pub AddsAmong : List (List ℕ × ObjKind) → List (List ℕ × ObjKind) → List (List ℕ × ObjKind) → Type 0
 AddsAmong objects before after = (o : List ℕ × ObjKind) → In after o → In before o ⊎ In objects o
 
+-- what was noted stays so
+abbrev pub StaysNoted : List (List ℕ × ObjKind) → List (List ℕ × ObjKind) → Type 0
+StaysNoted before after = (o : List ℕ × ObjKind) → In before o → In after o
+
 -- what is kept is what the store lacks of the order
 pub record CoversOrder (root : Elements) (have : Have) (commit : List ℕ) (kept : List (List ℕ × ObjKind)) (v : View) : Type 0 where
   pub covered : (o : List ℕ × ObjKind) → In (map place_name (order have commit)) o → IsCovered root kept v o

@@ -12,13 +12,16 @@ ghost use Rattle.ost_pull.specs.Pulls.{IsApart, CanPull};
 ghost use Rattle.ost_pull.specs.Takes.{AddsAmong, AreTaken, AreTakenNow, CoversOrder, StaysTaken, TakesAll};
 ghost use Rattle.ost_pull.specs.Work.{Works, AreOpen};
 
-use crate::taking::{take_all, walk_end};
+use crate::taking::walk_end;
+use crate::turns::take_all;
 use fp_base::{ObjKind, Text};
 use fp_host::{Host, HostEnd, Path, Remotes};
 use fp_name::Digest;
 use fp_small::clear;
 use ost_walk::{ObjectFault, Places, Survey, WalkEnd, WalkFault, survey};
+use par_digest::Gate;
 use std::alloc::{AllocError, Global};
+use std::thread::Threads;
 
 /// The store in this folder, and the remote at the url.
 pub(crate) fn places_of(alloc: Global, root: &Path, url: &str) -> Result<Places, AllocError>
@@ -32,7 +35,8 @@ pub(crate) fn places_of(alloc: Global, root: &Path, url: &str) -> Result<Places,
 
 /// Takes the objects that a survey of the commit told. It is refused with the first that has a fault, or else with the fault that
 /// the survey told.
-fn take_surveyed<H: Host, R: Remotes>(
+fn take_surveyed<H: Host, R: Remotes, G: Gate + Sync>(
+    rt: &(impl Threads + Sync),
     alloc: Global,
     host: &mut H,
     remotes: &mut R,
@@ -41,6 +45,7 @@ fn take_surveyed<H: Host, R: Remotes>(
     work: &Path,
     survey: &Survey,
     kept: &mut Vec<(Digest, ObjKind)>,
+    gate: &G,
 ) -> Result<(), WalkEnd>
     requires { IsApart root.now work.now }
     ensures any_moment { Always (Works work.now) (H.moments host.old) (H.moments host.new) }
@@ -60,6 +65,7 @@ fn take_surveyed<H: Host, R: Remotes>(
         (R.faults remotes.old) (R.faults remotes.new) }
 {
     match take_all(
+        rt,
         alloc,
         host,
         remotes,
@@ -68,6 +74,7 @@ fn take_surveyed<H: Host, R: Remotes>(
         work,
         survey.objects.as_slice(),
         kept,
+        gate,
     ) {
         Ok(()) => match &survey.fault {
             None => Ok(()),
@@ -78,7 +85,8 @@ fn take_surveyed<H: Host, R: Remotes>(
 }
 
 /// Takes the objects of the commit's order. It is refused with the first that has a fault.
-fn take_order<H: Host, R: Remotes>(
+fn take_order<H: Host, R: Remotes, G: Gate + Sync>(
+    rt: &(impl Threads + Sync),
     alloc: Global,
     host: &mut H,
     remotes: &mut R,
@@ -87,6 +95,7 @@ fn take_order<H: Host, R: Remotes>(
     work: &Path,
     commit: &Digest,
     kept: &mut Vec<(Digest, ObjKind)>,
+    gate: &G,
 ) -> Result<(), WalkEnd>
     requires { IsApart root.now work.now }
     ensures any_moment { Always (Works work.now) (H.moments host.old) (H.moments host.new) }
@@ -109,14 +118,17 @@ fn take_order<H: Host, R: Remotes>(
 {
     let places = places_of(alloc, root, url)?;
     match survey(alloc, host, remotes, &places, commit) {
-        Ok(survey) => take_surveyed(alloc, host, remotes, root, url, work, &survey, kept),
+        Ok(survey) => take_surveyed(
+            rt, alloc, host, remotes, root, url, work, &survey, kept, gate,
+        ),
         Err(end) => Err(end),
     }
 }
 
 /// Takes the objects of the commit's order into the work folder, in which nothing is left of what stood there before, and into
 /// the list, which is empty.
-pub(crate) fn gather<H: Host, R: Remotes>(
+pub(crate) fn gather<H: Host, R: Remotes, G: Gate + Sync>(
+    rt: &(impl Threads + Sync),
     alloc: Global,
     host: &mut H,
     remotes: &mut R,
@@ -125,6 +137,7 @@ pub(crate) fn gather<H: Host, R: Remotes>(
     work: &Path,
     commit: &Digest,
     kept: &mut Vec<(Digest, ObjKind)>,
+    gate: &G,
 ) -> Result<(), WalkEnd>
     requires apart { IsApart root.now work.now }
     requires empty { kept.old.items ≡ [] }
@@ -146,7 +159,9 @@ pub(crate) fn gather<H: Host, R: Remotes>(
         (R.faults remotes.old) (R.faults remotes.new) }
 {
     match clear(alloc, host, work) {
-        Ok(()) => take_order(alloc, host, remotes, root, url, work, commit, kept),
+        Ok(()) => take_order(
+            rt, alloc, host, remotes, root, url, work, commit, kept, gate,
+        ),
         Err(end) => Err(walk_end(end)),
     }
 }

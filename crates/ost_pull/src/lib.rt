@@ -1,11 +1,15 @@
 //! Pulls a commit: takes the objects that a store lacks from a remote.
 #![tactic(auto)]
 
+mod batches;
+mod forms;
 mod gathering;
 mod keeping;
 pub mod laws;
 mod placing;
 mod pulling;
+mod small;
 mod taking;
+mod turns;
 
-pub use pulling::pull;
+pub use pulling::{pull, pull_gated};

@@ -1,5 +1,5 @@
 //! Objects of an order that are found, checked, and kept where they are new.
-ghost use Rattle.std.specs.Prelude.{◌≡◌, None, Some, OnOk, IsErrOf};
+ghost use Rattle.std.specs.Prelude.{◌≡◌, Some, OnOk, IsErrOf};
 ghost use Rattle.fp_base.specs.declared.object.ObjKind.TheVariants as kinds;
 ghost use Rattle.fp_host.specs.Causes.{IsCaused};
 ghost use Rattle.fp_host.specs.Frame.{AtEnd};
@@ -8,9 +8,8 @@ ghost use Rattle.ost_model.specs.Objects.{Have};
 ghost use Rattle.ost_model.specs.Remotes.{Supplies};
 ghost use Rattle.ost_walk.specs.Ends.{EndsBy, IsFaultOf, IsRemotes, of_host};
 ghost use Rattle.ost_walk.specs.Steps.{IsGood, own_fault};
-ghost use Rattle.ost_walk.specs.Surveys.{first_bad, told_fault};
 ghost use Rattle.ost_pull.specs.Pulls.{IsApart};
-ghost use Rattle.ost_pull.specs.Takes.{AreTakenNow, TakesOne, TakesAll, AddsAmong};
+ghost use Rattle.ost_pull.specs.Takes.{AreTakenNow, TakesOne};
 ghost use Rattle.ost_pull.specs.Work.{Works, Adds, AreOpen};
 
 use crate::keeping::{keep, keep_content};
@@ -110,7 +109,7 @@ fn take_content<H: Host, R: Remotes>(
 
 /// Takes one object: the store's where it has one, else the remote's, which is kept in the work folder and noted. It is refused
 /// for its fault, where what was noted before is kept. It is for a work folder that has nothing to do with the objects of the store.
-fn take<H: Host, R: Remotes>(
+pub(crate) fn take<H: Host, R: Remotes>(
     alloc: Global,
     host: &mut H,
     remotes: &mut R,
@@ -143,43 +142,4 @@ fn take<H: Host, R: Remotes>(
             alloc, host, remotes, root, url, work, digest, kind, kept,
         ),
     }
-}
-
-/// Takes these objects one after another. It is refused with the first that has a fault, where what was noted before
-/// is kept.
-pub(crate) fn take_all<H: Host, R: Remotes>(
-    alloc: Global,
-    host: &mut H,
-    remotes: &mut R,
-    root: &Path,
-    url: &str,
-    work: &Path,
-    objects: &[(Digest, ObjKind)],
-    kept: &mut Vec<(Digest, ObjKind)>,
-) -> Result<(), WalkEnd>
-    requires { IsApart root.now work.now }
-    ensures any_moment { Always (Works work.now) (H.moments host.old) (H.moments host.new) }
-    ensures same { R.holds remotes.new ≡ R.holds remotes.old }
-    ensures only { OnOk result (AddsAmong objects.now kept.old.items kept.new.items) }
-    ensures on_success { OnOk result (AtEnd
-        (TakesAll root.now work.now url.now (R.holds remotes.old) objects.now kept.old.items kept.new.items)
-        (H.moments host.old) (H.moments host.new)) }
-    ensures tells { (have : Have) → Supplies root.now (Some url.now) (H.moments host.old)
-        (R.holds remotes.old) have
-        → AreTakenNow root.now work.now url.now (R.holds remotes.old) kept.old.items (H.moments host.old)
-        → EndsBy (λ _. first_bad have objects.now ≡ None) (λ w. first_bad have objects.now ≡ Some (told_fault w)) result }
-    ensures fault_has_cause { IsCaused (IsErrOf result WalkEnd.HostFault) (H.moments host.old)
-        (AreOpen work.now) (H.faults host.old) (H.faults host.new) }
-    ensures remote_fault_has_cause { IsRemotes (IsErrOf result WalkEnd.RemoteFault)
-        (R.faults remotes.old) (R.faults remotes.new) }
-{
-    for object in objects {
-        match take(
-            alloc, host, remotes, root, url, work, &object.0, object.1, kept,
-        ) {
-            Ok(()) => {}
-            Err(end) => return Err(end),
-        }
-    }
-    Ok(())
 }

@@ -10,7 +10,7 @@ use Rattle.ost_pull.specs.Pulls.{CanPull, first_refusal}
 use Rattle.ost_pull.proofs.Kept.{works_clear, works_within}
 use Rattle.ost_pull.proofs.Taken.{passed, no_fault}
 use Rattle.ost_pull.proofs.Whole.{soundly_works, soundly_stores, pulled_at, can_store, can_clear, refused_at, walk_refused, host_is_fault}
-use Rattle.ost_pull.proofs.pulling.pull.Goals as goal
+use Rattle.ost_pull.proofs.pulling.pull_gated.Goals as goal
 
 pub returns-in-Ok-store_kept-clause-any_moment : goal.returns-in-Ok-store_kept-clause-any_moment
 returns-in-Ok-store_kept-clause-any_moment g c =

@@ -1,0 +1,181 @@
+//! Batches of objects: what is read of them before any is judged.
+ghost use Rattle.std.specs.Prelude.{◌≡◌, length, None, IfOk, IfSome, IsTrue, OnOk, IsErrOf};
+ghost use Rattle.fp_host.specs.Causes.{IsCounted};
+ghost use Rattle.fp_host.specs.Frame.{Unchanged};
+ghost use Rattle.ost_walk.specs.Ends.{IsRemotes};
+ghost use Rattle.ost_walk.specs.declared.ends.WalkFault.{WalkFault};
+ghost use Rattle.ost_head.specs.Found.{HostHas, IsNew};
+ghost use Rattle.ost_head.specs.Objects.{IsFit};
+ghost use Rattle.ost_pull.specs.Batches.{AddsTurn, AreReady};
+
+use crate::forms::{Form, parted};
+use crate::small::small_object;
+use fp_base::ObjKind;
+use fp_host::{Host, HostEnd, Path, Remotes, Stat};
+use fp_name::Digest;
+use ost_model::Object;
+use ost_store::{has, path_of};
+use ost_walk::WalkEnd;
+use par_digest::Item;
+use std::alloc::Global;
+
+/// How an object of a batch is taken when its turn comes.
+#[derive(Drop)]
+pub(crate) enum Turn {
+    /// By itself: it is the store's or kept already, it comes twice, it is large, or it is none that a store may keep.
+    Alone,
+    /// It is of this form, and its item is the one at this place.
+    Batched(Form, usize),
+}
+
+/// What was read of the objects of a batch.
+#[derive(Drop)]
+pub(crate) struct Batch {
+    /// One for each object, in order.
+    pub(crate) turns: Vec<Turn>,
+    /// The items of those that were read, in order.
+    pub(crate) items: Vec<Item>,
+}
+
+/// Whether the object is to be read with the others: the store has none, it isn't kept in the work folder, and it isn't among
+/// those before it.
+#[tactic(auto, using(crate::proofs::Batched::lacks_found, crate::proofs::Batched::lacks_same))]
+fn is_wanted<H: Host>(
+    alloc: Global,
+    host: &mut H,
+    root: &Path,
+    work: &Path,
+    digest: &Digest,
+    kind: ObjKind,
+    before: &[(Digest, ObjKind)],
+) -> Result<bool, HostEnd>
+    ensures unchanged { Unchanged (H.moments host.old) (H.moments host.new) }
+    ensures lacks { IfOk result (λ wanted. IsTrue wanted → HostHas root.now (H.moments host.new) digest.now kind None) }
+    ensures fault_has_cause { IsCounted (IsErrOf result HostEnd.Fault) (H.moments host.old)
+        (H.faults host.old) (H.faults host.new) }
+{
+    if before.contains(&(*digest, kind)) || has(alloc, host, root, digest, kind)? {
+        return Ok(false);
+    }
+    let path = path_of(alloc, work, digest, kind)?;
+    match host.stat(&path)? {
+        Stat::Absent => Ok(true),
+        _ => Ok(false),
+    }
+}
+
+/// The remote's object, where it is to be read with the others and is small.
+#[tactic(auto, using(crate::proofs::Batched::new_found))]
+fn read_wanted<H: Host, R: Remotes>(
+    alloc: Global,
+    host: &mut H,
+    remotes: &mut R,
+    root: &Path,
+    url: &str,
+    work: &Path,
+    digest: &Digest,
+    kind: ObjKind,
+    before: &[(Digest, ObjKind)],
+) -> Result<Option<Object>, WalkEnd>
+    ensures unchanged { Unchanged (H.moments host.old) (H.moments host.new) }
+    ensures same { R.holds remotes.new ≡ R.holds remotes.old }
+    ensures fit { IfOk result (λ found. IfSome found (IsFit kind)) }
+    ensures new { IfOk result (λ found. IfSome found (IsNew root.now url.now (H.moments host.new)
+        (R.holds remotes.old) digest.now kind)) }
+    ensures refuses { (w : WalkFault) → IsErrOf result (WalkEnd.Refused w) → ⊥ }
+    ensures fault_has_cause { IsCounted (IsErrOf result WalkEnd.HostFault) (H.moments host.old)
+        (H.faults host.old) (H.faults host.new) }
+    ensures remote_fault_has_cause { IsRemotes (IsErrOf result WalkEnd.RemoteFault)
+        (R.faults remotes.old) (R.faults remotes.new) }
+{
+    if is_wanted(alloc, host, root, work, digest, kind, before)? {
+        small_object(alloc, remotes, url, digest, kind)
+    } else {
+        Ok(None)
+    }
+}
+
+/// Adds what is read of one object.
+#[tactic(auto, using(crate::proofs::Batched::batched_ready, crate::proofs::Batched::alone_ready))]
+fn add<H: Host, R: Remotes>(
+    alloc: Global,
+    host: &mut H,
+    remotes: &mut R,
+    root: &Path,
+    url: &str,
+    work: &Path,
+    digest: &Digest,
+    kind: ObjKind,
+    before: &[(Digest, ObjKind)],
+    batch: &mut Batch,
+) -> Result<(), WalkEnd>
+    ensures unchanged { Unchanged (H.moments host.old) (H.moments host.new) }
+    ensures same { R.holds remotes.new ≡ R.holds remotes.old }
+    ensures adds { OnOk result (AddsTurn root.now url.now (H.moments host.new) (R.holds remotes.old)
+        (digest.now, kind) batch.old.turns.items batch.new.turns.items batch.old.items.items batch.new.items.items) }
+    ensures refuses { (w : WalkFault) → IsErrOf result (WalkEnd.Refused w) → ⊥ }
+    ensures fault_has_cause { IsCounted (IsErrOf result WalkEnd.HostFault) (H.moments host.old)
+        (H.faults host.old) (H.faults host.new) }
+    ensures remote_fault_has_cause { IsRemotes (IsErrOf result WalkEnd.RemoteFault)
+        (R.faults remotes.old) (R.faults remotes.new) }
+{
+    match read_wanted(alloc, host, remotes, root, url, work, digest, kind, before) {
+        Ok(Some(object)) => {
+            let (form, item) = parted(alloc, object)?;
+            let place = batch.items.len();
+            batch.items.push(item)?;
+            batch.turns.push(Turn::Batched(form, place))?;
+            Ok(())
+        }
+        Ok(None) => {
+            batch.turns.push(Turn::Alone)?;
+            Ok(())
+        }
+        Err(end) => Err(end),
+    }
+}
+
+/// What is read of these objects before any is judged: of each that the store lacks and that isn't kept in the work folder, the
+/// remote's where it is small.
+pub(crate) fn read_batch<H: Host, R: Remotes>(
+    alloc: Global,
+    host: &mut H,
+    remotes: &mut R,
+    root: &Path,
+    url: &str,
+    work: &Path,
+    objects: &[(Digest, ObjKind)],
+) -> Result<Batch, WalkEnd>
+    ensures unchanged { Unchanged (H.moments host.old) (H.moments host.new) }
+    ensures same { R.holds remotes.new ≡ R.holds remotes.old }
+    ensures ready { IfOk result (λ batch. AreReady root.now url.now (H.moments host.new)
+        (R.holds remotes.old) (length objects.now) objects.now batch.turns.items batch.items.items) }
+    ensures refuses { (w : WalkFault) → IsErrOf result (WalkEnd.Refused w) → ⊥ }
+    ensures fault_has_cause { IsCounted (IsErrOf result WalkEnd.HostFault) (H.moments host.old)
+        (H.faults host.old) (H.faults host.new) }
+    ensures remote_fault_has_cause { IsRemotes (IsErrOf result WalkEnd.RemoteFault)
+        (R.faults remotes.old) (R.faults remotes.new) }
+{
+    let mut batch = Batch {
+        turns: Vec::new(alloc),
+        items: Vec::new(alloc),
+    };
+    for (at, object) in objects.iter().enumerate() {
+        match add(
+            alloc,
+            host,
+            remotes,
+            root,
+            url,
+            work,
+            &object.0,
+            object.1,
+            &objects[..at],
+            &mut batch,
+        ) {
+            Ok(()) => {}
+            Err(end) => return Err(end),
+        }
+    }
+    Ok(batch)
+}

@@ -1,0 +1,131 @@
+//! Objects as the items that their digests are taken of.
+ghost use Rattle.std.specs.Prelude.{◌≡◌, None, Some, IfOk, IsTrue};
+ghost use Rattle.fp_base.specs.declared.object.ObjKind.TheVariants as kinds;
+ghost use Rattle.ost_model.specs.declared.object.Object.TheVariants as objects;
+ghost use Rattle.ost_model.specs.Objects.{digest_of, object_fault};
+ghost use Rattle.ost_store.specs.Stage.{IsKeepable};
+ghost use Rattle.ost_head.specs.Objects.{IsFit, rules_fault};
+ghost use Rattle.ost_pull.specs.Batches.{IsParted, object_in};
+
+use fp_base::{Blob, ObjKind, Text};
+use fp_name::Digest;
+use ost_content::{header, is_permission, link_header};
+use ost_model::Object;
+use ost_object::{commit_root, read_dirmeta, read_dirtree};
+use par_digest::Item;
+use std::alloc::{AllocError, Global};
+
+/// What an object is, but for the bytes that are its item's body.
+#[derive(Drop)]
+pub(crate) enum Form {
+    /// A metadata object.
+    Meta,
+    /// A file with these permission bits.
+    File(u32),
+    /// A link with this text. Its item's body is empty.
+    Link(Text),
+}
+
+/// The object's form, and the item that its digest is taken of. No bytes of a file or of a metadata object are copied.
+#[tactic(auto, using(crate::proofs::Read::file_item, crate::proofs::Read::meta_item, crate::proofs::Read::link_item))]
+pub(crate) fn parted(alloc: Global, object: Object) -> Result<(Form, Item), AllocError>
+    requires { IsKeepable object }
+    ensures { IfOk result (λ parts. IsParted object parts.0 parts.1) }
+{
+    match object {
+        Object::Meta(bytes) => {
+            let head = Blob::from_slice(alloc, &[])?;
+            Ok((Form::Meta, Item { head, body: bytes }))
+        }
+        Object::File { mode, bytes } => {
+            let head = Blob::from_slice(alloc, &header(mode))?;
+            Ok((Form::File(mode), Item { head, body: bytes }))
+        }
+        Object::Link(text) => {
+            let head = link_header(alloc, text.as_str())?;
+            let body = Blob::from_slice(alloc, &[])?;
+            Ok((Form::Link(text), Item { head, body }))
+        }
+    }
+}
+
+/// The object of this form and this item.
+pub(crate) fn whole(alloc: Global, form: &Form, item: &Item) -> Result<Object, AllocError>
+    ensures { IfOk result (λ object. object ≡ object_in form.now item.now) }
+{
+    match form {
+        Form::Meta => Ok(Object::Meta(item.body.copy()?)),
+        Form::File(mode) => Ok(Object::File {
+            mode: *mode,
+            bytes: item.body.copy()?,
+        }),
+        Form::Link(text) => Ok(Object::Link(text.copy()?)),
+    }
+}
+
+/// Whether these bytes are a dirmeta whose permission bits are within 0775.
+fn is_dirmeta(alloc: Global, bytes: &[u8]) -> bool
+    ensures { IsTrue result → rules_fault kinds.DirMeta (objects.Meta bytes.now) ≡ None }
+{
+    match read_dirmeta(alloc, bytes) {
+        Ok(meta) => is_permission(meta.mode % 4096),
+        Err(_) => false,
+    }
+}
+
+/// Whether these bytes are a dirtree.
+fn is_dirtree(alloc: Global, bytes: &[u8]) -> bool
+    ensures { IsTrue result → rules_fault kinds.DirTree (objects.Meta bytes.now) ≡ None }
+{
+    match read_dirtree(alloc, bytes) {
+        Ok(_) => true,
+        Err(_) => false,
+    }
+}
+
+/// Whether these bytes are a commit.
+#[tactic(auto, using(crate::proofs::Read::commit_keeps))]
+fn is_commit(alloc: Global, bytes: &[u8]) -> bool
+    ensures { IsTrue result → rules_fault kinds.Commit (objects.Meta bytes.now) ≡ None }
+{
+    match commit_root(alloc, bytes) {
+        Ok(_) => true,
+        Err(_) => false,
+    }
+}
+
+/// Whether the object was found to keep the rules of its kind. It is false too where memory ran out.
+fn keeps_rules(alloc: Global, kind: ObjKind, object: &Object) -> bool
+    ensures { IsTrue result → rules_fault kind object.now ≡ None }
+{
+    match object {
+        Object::Meta(bytes) => match kind {
+            ObjKind::Commit => is_commit(alloc, bytes.as_slice()),
+            ObjKind::DirTree => is_dirtree(alloc, bytes.as_slice()),
+            ObjKind::DirMeta => is_dirmeta(alloc, bytes.as_slice()),
+            ObjKind::File => false,
+        },
+        Object::File { .. } | Object::Link(_) => true,
+    }
+}
+
+/// Whether the object, whose digest was found to be this, is seen to be the one that its name says. It is false too where memory
+/// ran out.
+#[tactic(auto, using(crate::proofs::Read::good_by_rules))]
+pub(crate) fn is_good(
+    alloc: Global,
+    digest: &Digest,
+    kind: ObjKind,
+    object: &Object,
+    got: &Digest,
+) -> bool
+    requires fit { IsFit kind object.now }
+    requires got { got.now ≡ digest_of object.now }
+    ensures { IsTrue result → object_fault digest.now kind (Some object.now) ≡ None }
+{
+    if *got == *digest {
+        keeps_rules(alloc, kind, object)
+    } else {
+        false
+    }
+}

@@ -1,0 +1,191 @@
+//! Small objects of a remote, which are read whole. Their digests aren't taken here.
+ghost use Rattle.std.specs.Prelude.{◌≡◌, ◌≤◌, ℕ, length, false, IfOk, IfSome, IsErrOf, Some};
+ghost use Rattle.fp_base.specs.declared.object.ObjKind.TheVariants as kinds;
+ghost use Rattle.fp_host.specs.Outcome.{points};
+ghost use Rattle.fp_host.specs.Remote.{Holdings, IsNode, bytes_of};
+ghost use Rattle.fp_host.specs.declared.remotes.Node.TheVariants as nodes;
+ghost use Rattle.ost_model.specs.Objects.{may_be_link, object_at};
+ghost use Rattle.ost_model.specs.Remotes.{as_spot, remote_at};
+ghost use Rattle.ost_walk.specs.Ends.{IsRemotes};
+ghost use Rattle.ost_walk.specs.declared.ends.WalkFault.{WalkFault};
+ghost use Rattle.ost_head.specs.Objects.{IsFit};
+
+use fp_base::{Blob, ObjKind, Text};
+use fp_host::{Node, Path, Remotes, is_link_text};
+use fp_name::Digest;
+use ost_content::is_permission;
+use ost_model::Object;
+use ost_store::path_of;
+use ost_walk::WalkEnd;
+use std::alloc::Global;
+
+/// The most bytes of an object of a batch.
+const MOST_SMALL: u64 = 256 * 1024;
+
+/// The bytes of a file of this size.
+fn read_bytes<R: Remotes>(
+    alloc: Global,
+    remotes: &mut R,
+    url: &str,
+    path: &Path,
+    size: u64,
+) -> Result<Blob, WalkEnd>
+    requires { size ≤ 262144 }
+    ensures same { R.holds remotes.new ≡ R.holds remotes.old }
+    ensures short { IfOk result (λ bytes. length bytes ≤ size) }
+    ensures tells { (held : Holdings) → R.holds remotes.old ≡ Some held
+        → length (bytes_of (held url.now path.now)) ≡ size
+        → IfOk result (λ bytes. bytes ≡ bytes_of (held url.now path.now)) }
+    ensures refuses { (w : WalkFault) → IsErrOf result (WalkEnd.Refused w) → ⊥ }
+    ensures host { IsErrOf result WalkEnd.HostFault → ⊥ }
+    ensures fault_has_cause { IsRemotes (IsErrOf result WalkEnd.RemoteFault)
+        (R.faults remotes.old) (R.faults remotes.new) }
+{
+    let mut bytes = vec![in alloc; 0u8; size as usize]?;
+    let count = remotes.read_at(url, path, 0, &mut bytes)?;
+    bytes.truncate(count);
+    Ok(Blob::from_vec(bytes))
+}
+
+/// The file with these permission bits and of this size, where it is small and its bits are taken.
+#[tactic(auto, using(crate::proofs::Read::fit_file, crate::proofs::Read::file_there))]
+fn small_file<R: Remotes>(
+    alloc: Global,
+    remotes: &mut R,
+    url: &str,
+    path: &Path,
+    mode: u32,
+    size: u64,
+) -> Result<Option<Object>, WalkEnd>
+    ensures same { R.holds remotes.new ≡ R.holds remotes.old }
+    ensures fit { IfOk result (λ found. IfSome found (IsFit kinds.File)) }
+    ensures there { (held : Holdings) → R.holds remotes.old ≡ Some held
+        → IsNode (held url.now path.now) (nodes.File mode size)
+        → IfOk result (λ found. IfSome found (λ object. object_at kinds.File (as_spot (held url.now path.now)) ≡ Some object)) }
+    ensures refuses { (w : WalkFault) → IsErrOf result (WalkEnd.Refused w) → ⊥ }
+    ensures host { IsErrOf result WalkEnd.HostFault → ⊥ }
+    ensures fault_has_cause { IsRemotes (IsErrOf result WalkEnd.RemoteFault)
+        (R.faults remotes.old) (R.faults remotes.new) }
+{
+    if size > MOST_SMALL || !is_permission(mode) {
+        return Ok(None);
+    }
+    let bytes = read_bytes(alloc, remotes, url, path, size)?;
+    Ok(Some(Object::File { mode, bytes }))
+}
+
+/// The link with this text, where the text may be a link's.
+#[tactic(auto, using(crate::proofs::Read::fit_link, crate::proofs::Read::text_there))]
+fn small_link(text: Text) -> Option<Object>
+    ensures fit { IfSome result (IsFit kinds.File) }
+    ensures there { IfSome result (λ object. object_at kinds.File (points text) ≡ Some object) }
+{
+    if is_link_text(text.as_str()) {
+        Some(Object::Link(text))
+    } else {
+        None
+    }
+}
+
+/// The file or link of the remote at the path, where it is small and may be a store's.
+#[tactic(auto, using(crate::proofs::Read::link_there))]
+fn small_content<R: Remotes>(
+    alloc: Global,
+    remotes: &mut R,
+    url: &str,
+    path: &Path,
+) -> Result<Option<Object>, WalkEnd>
+    ensures same { R.holds remotes.new ≡ R.holds remotes.old }
+    ensures fit { IfOk result (λ found. IfSome found (IsFit kinds.File)) }
+    ensures there { (held : Holdings) → R.holds remotes.old ≡ Some held
+        → IfOk result (λ found. IfSome found (λ object. object_at kinds.File (as_spot (held url.now path.now)) ≡ Some object)) }
+    ensures refuses { (w : WalkFault) → IsErrOf result (WalkEnd.Refused w) → ⊥ }
+    ensures host { IsErrOf result WalkEnd.HostFault → ⊥ }
+    ensures fault_has_cause { IsRemotes (IsErrOf result WalkEnd.RemoteFault)
+        (R.faults remotes.old) (R.faults remotes.new) }
+{
+    match remotes.node(alloc, url, path)? {
+        Node::File { mode, size } => small_file(alloc, remotes, url, path, mode, size),
+        Node::Link(text) => Ok(small_link(text)),
+        Node::Absent => Ok(None),
+        Node::Dir => Ok(None),
+    }
+}
+
+/// The metadata object that is a file of this size, where it is small.
+#[tactic(auto, using(crate::proofs::Read::fit_meta, crate::proofs::Read::meta_there))]
+fn small_bytes<R: Remotes>(
+    alloc: Global,
+    remotes: &mut R,
+    url: &str,
+    path: &Path,
+    kind: ObjKind,
+    size: u64,
+) -> Result<Option<Object>, WalkEnd>
+    requires { may_be_link kind ≡ false }
+    ensures same { R.holds remotes.new ≡ R.holds remotes.old }
+    ensures fit { IfOk result (λ found. IfSome found (IsFit kind)) }
+    ensures there { (held : Holdings) → R.holds remotes.old ≡ Some held → (mode : ℕ)
+        → IsNode (held url.now path.now) (nodes.File mode size)
+        → IfOk result (λ found. IfSome found (λ object. object_at kind (as_spot (held url.now path.now)) ≡ Some object)) }
+    ensures refuses { (w : WalkFault) → IsErrOf result (WalkEnd.Refused w) → ⊥ }
+    ensures host { IsErrOf result WalkEnd.HostFault → ⊥ }
+    ensures fault_has_cause { IsRemotes (IsErrOf result WalkEnd.RemoteFault)
+        (R.faults remotes.old) (R.faults remotes.new) }
+{
+    if size > MOST_SMALL {
+        return Ok(None);
+    }
+    let bytes = read_bytes(alloc, remotes, url, path, size)?;
+    Ok(Some(Object::Meta(bytes)))
+}
+
+/// The metadata object of the remote at the path, where it is small.
+fn small_meta<R: Remotes>(
+    alloc: Global,
+    remotes: &mut R,
+    url: &str,
+    path: &Path,
+    kind: ObjKind,
+) -> Result<Option<Object>, WalkEnd>
+    requires { may_be_link kind ≡ false }
+    ensures same { R.holds remotes.new ≡ R.holds remotes.old }
+    ensures fit { IfOk result (λ found. IfSome found (IsFit kind)) }
+    ensures there { (held : Holdings) → R.holds remotes.old ≡ Some held
+        → IfOk result (λ found. IfSome found (λ object. object_at kind (as_spot (held url.now path.now)) ≡ Some object)) }
+    ensures refuses { (w : WalkFault) → IsErrOf result (WalkEnd.Refused w) → ⊥ }
+    ensures host { IsErrOf result WalkEnd.HostFault → ⊥ }
+    ensures fault_has_cause { IsRemotes (IsErrOf result WalkEnd.RemoteFault)
+        (R.faults remotes.old) (R.faults remotes.new) }
+{
+    match remotes.node(alloc, url, path)? {
+        Node::File { size, .. } => small_bytes(alloc, remotes, url, path, kind, size),
+        Node::Absent | Node::Dir | Node::Link(_) => Ok(None),
+    }
+}
+
+/// The object of the remote at the url, where it has at most 256 KiB and is one that a store may keep. Nothing is refused here.
+pub(crate) fn small_object<R: Remotes>(
+    alloc: Global,
+    remotes: &mut R,
+    url: &str,
+    digest: &Digest,
+    kind: ObjKind,
+) -> Result<Option<Object>, WalkEnd>
+    ensures same { R.holds remotes.new ≡ R.holds remotes.old }
+    ensures fit { IfOk result (λ found. IfSome found (IsFit kind)) }
+    ensures there { (held : Holdings) → R.holds remotes.old ≡ Some held
+        → IfOk result (λ found. IfSome found (λ object. remote_at held url.now digest.now kind ≡ Some object)) }
+    ensures refuses { (w : WalkFault) → IsErrOf result (WalkEnd.Refused w) → ⊥ }
+    ensures host { IsErrOf result WalkEnd.HostFault → ⊥ }
+    ensures fault_has_cause { IsRemotes (IsErrOf result WalkEnd.RemoteFault)
+        (R.faults remotes.old) (R.faults remotes.new) }
+{
+    let path = path_of(alloc, &Path::root(alloc), digest, kind)?;
+    match kind {
+        ObjKind::File => small_content(alloc, remotes, url, &path),
+        ObjKind::Commit | ObjKind::DirTree | ObjKind::DirMeta => {
+            small_meta(alloc, remotes, url, &path, kind)
+        }
+    }
+}

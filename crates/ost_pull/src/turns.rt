@@ -1,0 +1,291 @@
+//! Objects of an order that are taken a batch at a time: read whole where they are small, hashed together, then judged in order.
+ghost use Rattle.std.specs.Prelude.{◌≡◌, ◌+◌, ◌<◌, ◌≤◌, length, None, Some, OnOk, IsErrOf};
+ghost use Rattle.fp_host.specs.Causes.{IsCaused};
+ghost use Rattle.fp_host.specs.Frame.{AtEnd};
+ghost use Rattle.fp_host.specs.Moments.{Always};
+ghost use Rattle.par_digest.specs.Digests.{item_digest, item_digests};
+ghost use Rattle.ost_model.specs.Objects.{Have};
+ghost use Rattle.ost_model.specs.Remotes.{Supplies};
+ghost use Rattle.ost_walk.specs.Ends.{EndsBy, IsFaultOf, IsRemotes};
+ghost use Rattle.ost_walk.specs.Steps.{IsGood, own_fault};
+ghost use Rattle.ost_walk.specs.Surveys.{first_bad, told_fault};
+ghost use Rattle.ost_pull.specs.Batches.{AreReady, IsBatched, IsReady};
+ghost use Rattle.ost_pull.specs.Pulls.{IsApart};
+ghost use Rattle.ost_pull.specs.Takes.{AddsAmong, AreTakenNow, StaysNoted, TakesAll, TakesOne};
+ghost use Rattle.ost_pull.specs.Work.{Adds, AreOpen, Works};
+
+use crate::batches::{Turn, read_batch};
+use crate::forms::{Form, is_good, whole};
+use crate::keeping::keep;
+use crate::taking::{take, walk_end};
+use fp_base::ObjKind;
+use fp_host::{Host, Path, Remotes};
+use fp_name::Digest;
+use ost_walk::WalkEnd;
+use par_digest::{Gate, Item, digests_gated};
+use std::alloc::Global;
+use std::thread::Threads;
+
+/// How many objects are in a batch.
+const BATCH: usize = 64;
+
+/// Takes an object of the remote that was read whole and whose digest was taken. One that isn't seen to be good is taken by
+/// itself, which refuses it for its fault.
+fn take_read<H: Host, R: Remotes>(
+    alloc: Global,
+    host: &mut H,
+    remotes: &mut R,
+    root: &Path,
+    url: &str,
+    work: &Path,
+    digest: &Digest,
+    kind: ObjKind,
+    form: &Form,
+    item: &Item,
+    got: &Digest,
+    kept: &mut Vec<(Digest, ObjKind)>,
+) -> Result<(), WalkEnd>
+    requires apart { IsApart root.now work.now }
+    requires read { IsBatched root.now url.now (H.moments host.old) (R.holds remotes.old)
+        (digest.now, kind) form.now item.now }
+    requires got { got.now ≡ item_digest item.now }
+    ensures any_moment { Always (Works work.now) (H.moments host.old) (H.moments host.new) }
+    ensures same { R.holds remotes.new ≡ R.holds remotes.old }
+    ensures adds { OnOk result (Adds (digest.now, kind) kept.old.items kept.new.items) }
+    ensures on_success { OnOk result (AtEnd
+        (TakesOne root.now work.now url.now (R.holds remotes.old) (digest.now, kind) kept.old.items kept.new.items)
+        (H.moments host.old) (H.moments host.new)) }
+    ensures tells { (have : Have) → Supplies root.now (Some url.now) (H.moments host.old)
+        (R.holds remotes.old) have
+        → AreTakenNow root.now work.now url.now (R.holds remotes.old) kept.old.items (H.moments host.old)
+        → EndsBy (λ _. IsGood have digest.now kind) (IsFaultOf digest.now kind (own_fault have digest.now kind)) result }
+    ensures fault_has_cause { IsCaused (IsErrOf result WalkEnd.HostFault) (H.moments host.old)
+        (AreOpen work.now) (H.faults host.old) (H.faults host.new) }
+    ensures remote_fault_has_cause { IsRemotes (IsErrOf result WalkEnd.RemoteFault)
+        (R.faults remotes.old) (R.faults remotes.new) }
+{
+    let _bytes = digest.as_bytes();
+    let object = whole(alloc, form, item)?;
+    if is_good(alloc, digest, kind, &object, got) {
+        match keep(alloc, host, work, digest, kind, &object, kept) {
+            Ok(()) => Ok(()),
+            Err(end) => Err(walk_end(end)),
+        }
+    } else {
+        take(alloc, host, remotes, root, url, work, digest, kind, kept)
+    }
+}
+
+/// Takes an object whose turn has come.
+fn take_turn<H: Host, R: Remotes>(
+    alloc: Global,
+    host: &mut H,
+    remotes: &mut R,
+    root: &Path,
+    url: &str,
+    work: &Path,
+    digest: &Digest,
+    kind: ObjKind,
+    turn: &Turn,
+    items: &[Item],
+    digests: &[Digest],
+    kept: &mut Vec<(Digest, ObjKind)>,
+) -> Result<(), WalkEnd>
+    requires apart { IsApart root.now work.now }
+    requires ready { IsReady root.now url.now (H.moments host.old) (R.holds remotes.old)
+        (digest.now, kind) items.now turn.now }
+    requires digests { digests.now ≡ item_digests items.now }
+    ensures any_moment { Always (Works work.now) (H.moments host.old) (H.moments host.new) }
+    ensures same { R.holds remotes.new ≡ R.holds remotes.old }
+    ensures adds { OnOk result (Adds (digest.now, kind) kept.old.items kept.new.items) }
+    ensures on_success { OnOk result (AtEnd
+        (TakesOne root.now work.now url.now (R.holds remotes.old) (digest.now, kind) kept.old.items kept.new.items)
+        (H.moments host.old) (H.moments host.new)) }
+    ensures tells { (have : Have) → Supplies root.now (Some url.now) (H.moments host.old)
+        (R.holds remotes.old) have
+        → AreTakenNow root.now work.now url.now (R.holds remotes.old) kept.old.items (H.moments host.old)
+        → EndsBy (λ _. IsGood have digest.now kind) (IsFaultOf digest.now kind (own_fault have digest.now kind)) result }
+    ensures fault_has_cause { IsCaused (IsErrOf result WalkEnd.HostFault) (H.moments host.old)
+        (AreOpen work.now) (H.faults host.old) (H.faults host.new) }
+    ensures remote_fault_has_cause { IsRemotes (IsErrOf result WalkEnd.RemoteFault)
+        (R.faults remotes.old) (R.faults remotes.new) }
+{
+    match turn {
+        Turn::Alone => take(alloc, host, remotes, root, url, work, digest, kind, kept),
+        Turn::Batched(form, place) => take_read(
+            alloc,
+            host,
+            remotes,
+            root,
+            url,
+            work,
+            digest,
+            kind,
+            form,
+            &items[*place],
+            &digests[*place],
+            kept,
+        ),
+    }
+}
+
+/// Takes these objects one after another, each in its turn. It is refused with the first that has a fault, where what was noted
+/// before is kept.
+fn take_turns<H: Host, R: Remotes>(
+    alloc: Global,
+    host: &mut H,
+    remotes: &mut R,
+    root: &Path,
+    url: &str,
+    work: &Path,
+    objects: &[(Digest, ObjKind)],
+    turns: &[Turn],
+    items: &[Item],
+    digests: &[Digest],
+    kept: &mut Vec<(Digest, ObjKind)>,
+) -> Result<(), WalkEnd>
+    requires apart { IsApart root.now work.now }
+    requires ready { AreReady root.now url.now (H.moments host.old) (R.holds remotes.old)
+        (length objects.now) objects.now turns.now items.now }
+    requires digests { digests.now ≡ item_digests items.now }
+    ensures any_moment { Always (Works work.now) (H.moments host.old) (H.moments host.new) }
+    ensures same { R.holds remotes.new ≡ R.holds remotes.old }
+    ensures only { OnOk result (AddsAmong objects.now kept.old.items kept.new.items) }
+    ensures noted { OnOk result (StaysNoted kept.old.items kept.new.items) }
+    ensures on_success { OnOk result (AtEnd
+        (TakesAll root.now work.now url.now (R.holds remotes.old) objects.now kept.old.items kept.new.items)
+        (H.moments host.old) (H.moments host.new)) }
+    ensures tells { (have : Have) → Supplies root.now (Some url.now) (H.moments host.old)
+        (R.holds remotes.old) have
+        → AreTakenNow root.now work.now url.now (R.holds remotes.old) kept.old.items (H.moments host.old)
+        → EndsBy (λ _. first_bad have objects.now ≡ None) (λ w. first_bad have objects.now ≡ Some (told_fault w)) result }
+    ensures fault_has_cause { IsCaused (IsErrOf result WalkEnd.HostFault) (H.moments host.old)
+        (AreOpen work.now) (H.faults host.old) (H.faults host.new) }
+    ensures remote_fault_has_cause { IsRemotes (IsErrOf result WalkEnd.RemoteFault)
+        (R.faults remotes.old) (R.faults remotes.new) }
+{
+    for (at, object) in objects.iter().enumerate() {
+        match take_turn(
+            alloc, host, remotes, root, url, work, &object.0, object.1, &turns[at], items, digests,
+            kept,
+        ) {
+            Ok(()) => {}
+            Err(end) => return Err(end),
+        }
+    }
+    Ok(())
+}
+
+/// Takes the objects of a batch: reads those of the remote that are small, takes the digests of these, then takes each object in
+/// order. It is refused with the first that has a fault, where what was noted before is kept.
+fn take_batch<H: Host, R: Remotes, G: Gate + Sync>(
+    rt: &(impl Threads + Sync),
+    alloc: Global,
+    host: &mut H,
+    remotes: &mut R,
+    root: &Path,
+    url: &str,
+    work: &Path,
+    objects: &[(Digest, ObjKind)],
+    kept: &mut Vec<(Digest, ObjKind)>,
+    gate: &G,
+) -> Result<(), WalkEnd>
+    requires { IsApart root.now work.now }
+    ensures any_moment { Always (Works work.now) (H.moments host.old) (H.moments host.new) }
+    ensures same { R.holds remotes.new ≡ R.holds remotes.old }
+    ensures only { OnOk result (AddsAmong objects.now kept.old.items kept.new.items) }
+    ensures noted { OnOk result (StaysNoted kept.old.items kept.new.items) }
+    ensures on_success { OnOk result (AtEnd
+        (TakesAll root.now work.now url.now (R.holds remotes.old) objects.now kept.old.items kept.new.items)
+        (H.moments host.old) (H.moments host.new)) }
+    ensures tells { (have : Have) → Supplies root.now (Some url.now) (H.moments host.old)
+        (R.holds remotes.old) have
+        → AreTakenNow root.now work.now url.now (R.holds remotes.old) kept.old.items (H.moments host.old)
+        → EndsBy (λ _. first_bad have objects.now ≡ None) (λ w. first_bad have objects.now ≡ Some (told_fault w)) result }
+    ensures fault_has_cause { IsCaused (IsErrOf result WalkEnd.HostFault) (H.moments host.old)
+        (AreOpen work.now) (H.faults host.old) (H.faults host.new) }
+    ensures remote_fault_has_cause { IsRemotes (IsErrOf result WalkEnd.RemoteFault)
+        (R.faults remotes.old) (R.faults remotes.new) }
+{
+    match read_batch(alloc, host, remotes, root, url, work, objects) {
+        Ok(batch) => {
+            let digests = digests_gated(rt, alloc, &batch.items, gate)?;
+            take_turns(
+                alloc,
+                host,
+                remotes,
+                root,
+                url,
+                work,
+                objects,
+                &batch.turns,
+                &batch.items,
+                digests.as_slice(),
+                kept,
+            )
+        }
+        Err(end) => Err(end),
+    }
+}
+
+/// Where the batch ends that begins at this object of so many.
+fn batch_end(at: usize, count: usize) -> usize
+    requires { at < count }
+    ensures later { at < result }
+    ensures within { result ≤ count }
+    ensures most { result ≤ at + 64 }
+{
+    at + (count - at).min(BATCH)
+}
+
+/// Takes these objects in order, a batch at a time. It is refused with the first that has a fault, where what was noted before
+/// is kept.
+pub(crate) fn take_all<H: Host, R: Remotes, G: Gate + Sync>(
+    rt: &(impl Threads + Sync),
+    alloc: Global,
+    host: &mut H,
+    remotes: &mut R,
+    root: &Path,
+    url: &str,
+    work: &Path,
+    objects: &[(Digest, ObjKind)],
+    kept: &mut Vec<(Digest, ObjKind)>,
+    gate: &G,
+) -> Result<(), WalkEnd>
+    requires { IsApart root.now work.now }
+    ensures any_moment { Always (Works work.now) (H.moments host.old) (H.moments host.new) }
+    ensures same { R.holds remotes.new ≡ R.holds remotes.old }
+    ensures only { OnOk result (AddsAmong objects.now kept.old.items kept.new.items) }
+    ensures on_success { OnOk result (AtEnd
+        (TakesAll root.now work.now url.now (R.holds remotes.old) objects.now kept.old.items kept.new.items)
+        (H.moments host.old) (H.moments host.new)) }
+    ensures tells { (have : Have) → Supplies root.now (Some url.now) (H.moments host.old)
+        (R.holds remotes.old) have
+        → AreTakenNow root.now work.now url.now (R.holds remotes.old) kept.old.items (H.moments host.old)
+        → EndsBy (λ _. first_bad have objects.now ≡ None) (λ w. first_bad have objects.now ≡ Some (told_fault w)) result }
+    ensures fault_has_cause { IsCaused (IsErrOf result WalkEnd.HostFault) (H.moments host.old)
+        (AreOpen work.now) (H.faults host.old) (H.faults host.new) }
+    ensures remote_fault_has_cause { IsRemotes (IsErrOf result WalkEnd.RemoteFault)
+        (R.faults remotes.old) (R.faults remotes.new) }
+{
+    let mut at = 0;
+    while at < objects.len() {
+        let end = batch_end(at, objects.len());
+        match take_batch(
+            rt,
+            alloc,
+            host,
+            remotes,
+            root,
+            url,
+            work,
+            &objects[at..end],
+            kept,
+            gate,
+        ) {
+            Ok(()) => at = end,
+            Err(end) => return Err(end),
+        }
+    }
+    Ok(())
+}

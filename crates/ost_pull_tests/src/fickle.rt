@@ -1,0 +1,41 @@
+//! A remote that changes its answers.
+ghost use Rattle.std.specs.Prelude.{None};
+
+use fp_host::{Node, Path, RemoteError, Remotes};
+use fp_memhost::MemRemotes;
+use std::alloc::Global;
+
+/// A remote that holds what another one does. The bits of a number say of the reads in turn, and from the 65th on again from the
+/// first, which of them give another first byte.
+#[derive(Drop)]
+pub struct Fickle {
+    pub held: MemRemotes,
+    pub changed: u64,
+}
+
+impl Remotes for Fickle {
+    ghost holds = { λ r. None };
+
+    ghost faults = { λ r. ⟦<MemRemotes as Remotes>⟧.faults r.held };
+
+    fn node(&mut self, alloc: Global, url: &str, path: &Path) -> Result<Node, RemoteError> {
+        self.held.node(alloc, url, path)
+    }
+
+    fn read_at(
+        &mut self,
+        url: &str,
+        path: &Path,
+        at: u64,
+        into: &mut [u8],
+    ) -> Result<usize, RemoteError> {
+        let count = self.held.read_at(url, path, at, into)?;
+        if self.changed % 2 == 1
+            && let Some(first) = into.first_mut()
+        {
+            *first ^= 1;
+        }
+        self.changed = self.changed.rotate_right(1);
+        Ok(count)
+    }
+}
