@@ -107,7 +107,7 @@ fn batches(rt: HostRuntime) {
 /// Whether the bytes have this bad line.
 fn has_bad_line(alloc: Global, bytes: &[u8], line: u64) -> bool {
     match read_batch(alloc, bytes) {
-        Err(BatchError::BadRecord(bad)) => bad == line,
+        Err(BatchError::BadRecord { line: bad }) => bad == line,
         _ => false,
     }
 }
@@ -140,6 +140,6 @@ fn long_line(rt: HostRuntime) {
 
 #[test]
 fn errors_are_told(rt: HostRuntime) {
-    let text = format!(in rt.alloc(); "{}, {}", BatchError::BadRecord(29), BatchError::NoMemory);
+    let text = format!(in rt.alloc(); "{}, {}", BatchError::BadRecord { line: 29 }, BatchError::NoMemory);
     assert!(rt; text.expect(&rt, "memory").as_str() == "bad record at 29, out of memory");
 }
