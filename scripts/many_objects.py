@@ -1,21 +1,21 @@
 #!/usr/bin/python3
-"""Prints the cases of `crates/fpk_cases/data/fsck-many.case`: a store of 200 objects, good, and with one byte of one changed.
+"""Prints `crates/fpk_cases/data/fsck-many.case`: stores of many objects, which are good, and then one with another byte.
 
 The objects are files and links that `ostree commit` stored. It needs Debian's package ostree."""
 import os, subprocess, tempfile
 
-COUNT = 200
+COUNTS = 200, 5000
 
 
 def ostree(*words):
     subprocess.run(["ostree", *words], check=True, stdout=subprocess.DEVNULL)
 
 
-def stored(folder):
-    """The path below `repo` of each file and link, ascending, with its text or its bytes."""
+def stored(folder, count):
+    """A repository with this number of files and links, and the path of each object of them below it, ascending."""
     tree, repo = folder + "/tree", folder + "/repo"
     os.mkdir(tree)
-    for number in range(COUNT):
+    for number in range(count):
         if number % 2:
             os.symlink(str(number), f"{tree}/{number}")
         else:
@@ -30,29 +30,32 @@ def stored(folder):
     return repo, sorted(found)
 
 
-def lines(repo, path, turned):
-    """The lines of a case that give the object."""
+def lines(repo, path, turn):
+    """The lines of a case that give the object, with the lowest bit of its first byte turned where that is asked for."""
     whole = f"{repo}/{path}"
     if os.path.islink(whole):
-        return [f"@ repo/{path} {os.readlink(whole)}"]
+        return f"@ repo/{path} {os.readlink(whole)}"
     content = open(whole).read()
-    if turned:
-        content = chr(ord(content[0]) ^ 1) + content[1:]
-    return [f"+- repo/{path}", "  " + content]
+    first = chr(ord(content[0]) ^ turn)
+    return f"+- repo/{path}\n  {first}{content[1:]}"
 
 
-with tempfile.TemporaryDirectory() as folder:
-    repo, paths = stored(folder)
-    assert len(paths) == COUNT
+def print_case(repo, paths):
+    count = len(paths)
     files = [path for path in paths if not os.path.islink(f"{repo}/{path}")]
     bad = files[len(files) // 2]
-    print("# A store of many objects, as scripts/many_objects.py makes it of what `ostree` stored.")
-    for name, turned in (("200 objects are good", None), ("one of 200 objects with another byte is bad", bad)):
-        print(f"\ncase {name}")
-        for path in paths:
-            print("\n".join(lines(repo, path, path == turned)))
-        print("$ fsck")
-        if turned:
-            digits = turned[len("objects/"):].replace("/", "")
-            print(f"  bad {digits}")
-        print(f"  fsck {COUNT} objects, {1 if turned else 0} bad")
+    print(f"\ncase {count} objects are good, and one with another byte is bad")
+    for path in paths:
+        print(lines(repo, path, 0))
+    print(f"$ fsck\n  fsck {count} objects, 0 bad")
+    print(lines(repo, bad, 1))
+    digits = bad[len("objects/"):].replace("/", "")
+    print(f"$ fsck\n  bad {digits}\n  fsck {count} objects, 1 bad")
+
+
+print("# Stores of many objects, as `scripts/many_objects.py` makes them of what `ostree` stored.")
+for count in COUNTS:
+    with tempfile.TemporaryDirectory() as folder:
+        repo, paths = stored(folder, count)
+        assert len(paths) == count
+        print_case(repo, paths)

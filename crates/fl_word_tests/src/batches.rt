@@ -3,7 +3,8 @@
 use crate::words::told_change;
 use fl_words::{BatchError, Change, read_batch};
 use std::alloc::{AllocError, Global};
-use std::test::Fail;
+use std::panic::Expect;
+use std::process::Abort;
 
 /// The changes in one text, each with a newline.
 fn told_changes(alloc: Global, changes: &[Change]) -> Result<String, AllocError> {
@@ -17,17 +18,12 @@ fn told_changes(alloc: Global, changes: &[Change]) -> Result<String, AllocError>
 }
 
 /// What the bytes read as, in one text.
-fn told(alloc: Global, bytes: &[u8]) -> Result<String, AllocError> {
-    match read_batch(alloc, bytes) {
+fn told(rt: &impl Abort, alloc: Global, bytes: &[u8]) -> String {
+    let text = match read_batch(alloc, bytes) {
         Ok(changes) => told_changes(alloc, changes.as_slice()),
         Err(error) => format!(in alloc; "{error}"),
-    }
-}
-
-/// Whether the bytes read as this text.
-fn reads_as(alloc: Global, bytes: &[u8], want: &str) -> Result<bool, AllocError> {
-    let told = told(alloc, bytes)?;
-    Ok(told.as_str() == want)
+    };
+    text.expect(rt, "memory")
 }
 
 /// Batches, and what they read as.
@@ -101,58 +97,49 @@ const BAD_LINES: [(&[u8], u64); 29] = [
     (b"remote-add lab file:///lab x\n", 1),
 ];
 
-/// The place of the first batch that reads as something else.
-fn first_other_batch(alloc: Global, rows: &[(&[u8], &str)]) -> Result<Option<usize>, AllocError> {
-    for (at, (bytes, want)) in rows.iter().enumerate() {
-        if !reads_as(alloc, bytes, want)? {
-            return Ok(Some(at));
-        }
+#[test]
+fn batches(rt: HostRuntime) {
+    for (bytes, want) in &BATCHES {
+        assert!(rt; told(&rt, rt.alloc(), bytes).as_str() == *want, "{want}");
     }
-    Ok(None)
 }
 
-/// The place of the first batch with another bad line.
-fn first_other_line(alloc: Global, rows: &[(&[u8], u64)]) -> Result<Option<usize>, AllocError> {
-    for (at, (bytes, line)) in rows.iter().enumerate() {
-        let want = format!(in alloc; "bad record at {line}")?;
-        if !reads_as(alloc, bytes, &want)? {
-            return Ok(Some(at));
-        }
+/// Whether the bytes have this bad line.
+fn has_bad_line(alloc: Global, bytes: &[u8], line: u64) -> bool {
+    match read_batch(alloc, bytes) {
+        Err(BatchError::BadRecord { line: bad }) => bad == line,
+        _ => false,
     }
-    Ok(None)
-}
-
-/// Whether a batch of so many lines reads as as many commands, and one bad line after them is found.
-fn reads_many(alloc: Global, count: usize) -> Result<bool, AllocError> {
-    let mut bytes = b"pin app/*/*/*\n".repeat(alloc, count)?;
-    let commands = match read_batch(alloc, &bytes) {
-        Ok(commands) => commands.as_slice().len(),
-        Err(_) => 0,
-    };
-    bytes.push(b'x')?;
-    let want = format!(in alloc; "bad record at {}", count.saturating_add(1))?;
-    Ok(commands == count && reads_as(alloc, &bytes, &want)?)
-}
-
-/// Whether a line of a mebibyte is bad.
-fn long_line_is_bad(alloc: Global) -> Result<bool, AllocError> {
-    let bytes = b"pin ".repeat(alloc, 1 << 18)?;
-    reads_as(alloc, &bytes, "bad record at 1")
-}
-
-/// Whether want of memory is told so.
-fn says_no_memory(alloc: Global) -> Result<bool, AllocError> {
-    Ok(format!(in alloc; "{}", BatchError::NoMemory)?.as_str() == "out of memory")
 }
 
 #[test]
-fn batches(rt: HostRuntime) -> Result<(), Fail> {
-    assert_eq!(rt; first_other_batch(rt.alloc(), &BATCHES)?, None);
-    assert_eq!(rt; first_other_line(rt.alloc(), &BAD_LINES)?, None);
-    assert!(rt;
-        reads_many(rt.alloc(), 1_100)?
-            && long_line_is_bad(rt.alloc())?
-            && says_no_memory(rt.alloc())?
-    );
-    Ok(())
+fn bad_lines(rt: HostRuntime) {
+    for (bytes, line) in &BAD_LINES {
+        assert!(rt; has_bad_line(rt.alloc(), bytes, *line), "{bytes:?}");
+    }
+}
+
+/// A batch of 1,100 lines reads as as many commands, and one bad line after them is found.
+#[test]
+fn many_lines(rt: HostRuntime) {
+    let mut bytes = b"pin app/*/*/*\n"
+        .repeat(rt.alloc(), 1_100)
+        .expect(&rt, "memory");
+    let changes = read_batch(rt.alloc(), &bytes).expect(&rt, "a batch");
+    assert!(rt; changes.as_slice().len() == 1_100);
+    bytes.push(b'x').expect(&rt, "memory");
+    assert!(rt; has_bad_line(rt.alloc(), &bytes, 1_101));
+}
+
+/// A line of a mebibyte is bad.
+#[test]
+fn long_line(rt: HostRuntime) {
+    let bytes = b"pin ".repeat(rt.alloc(), 1 << 18).expect(&rt, "memory");
+    assert!(rt; has_bad_line(rt.alloc(), &bytes, 1));
+}
+
+#[test]
+fn errors_are_told(rt: HostRuntime) {
+    let text = format!(in rt.alloc(); "{}, {}", BatchError::BadRecord { line: 29 }, BatchError::NoMemory);
+    assert!(rt; text.expect(&rt, "memory").as_str() == "bad record at 29, out of memory");
 }

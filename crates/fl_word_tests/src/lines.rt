@@ -3,59 +3,91 @@
 use fl_lines::{
     escape, info_text, op_line, pins_text, refs_text, refusal_line, remotes_text, skipped_line,
 };
-use fp_base::{ObjKind, Rule, Text, What};
+use fp_base::{Items, ObjKind, Rule, Text, What};
 use fp_host::Path;
 use fp_name::{Digest, PinPattern, RefName, RemoteName, RemoteUrl};
 use fp_small::{Op, Previous, RefRow, Refusal, RemoteRow};
-use std::alloc::{AllocError, Global};
-use std::test::Fail;
+use std::alloc::Global;
+use std::panic::Expect;
+use std::process::Abort;
 
 /// The digest of no bytes.
 const EMPTY: &str = "e3b0c44298fc1c149afbf4c8996fb92427ae41e4649b934ca495991b7852b855";
 
-fn pattern(alloc: Global, text: &str) -> Result<PinPattern, Fail> {
-    Ok(PinPattern::parse(alloc, text.as_bytes())?)
+fn pattern(rt: &impl Abort, alloc: Global, text: &str) -> PinPattern {
+    PinPattern::parse(alloc, text.as_bytes()).expect(rt, "a pattern")
 }
 
-/// Whether the refusal is printed as this line.
-fn is_line(alloc: Global, refusal: &Refusal, want: &str) -> Result<bool, AllocError> {
-    Ok(refusal_line(alloc, refusal)?.as_str() == want)
+fn digest(rt: &impl Abort, text: &str) -> Digest {
+    Digest::parse(text.as_bytes()).expect(rt, "a digest")
 }
 
-/// Whether what one form of refusal with a number tells is this.
-fn is_limit(alloc: Global, what: What, number: u64, want: &str) -> Result<bool, AllocError> {
-    is_line(alloc, &Refusal::Limit { what, number }, want)
+/// Ends the test where the refusal isn't printed as this line.
+fn agree(rt: &impl Abort, alloc: Global, refusal: &Refusal, want: &str) {
+    let line = refusal_line(alloc, refusal).expect(rt, "memory");
+    assert!(rt; line.as_str() == want, "{want}");
 }
 
-/// The same for words.
-fn is_bad_word(alloc: Global, index: u64, want: &str) -> Result<bool, AllocError> {
-    is_line(alloc, &Refusal::BadWords { index }, want)
+#[test]
+fn refusals_with_numbers(rt: HostRuntime) {
+    let rows = [
+        (Refusal::BadWords { index: 0 }, "error: words 0\n"),
+        (
+            Refusal::BadWords { index: u64::MAX },
+            "error: words 18446744073709551615\n",
+        ),
+        (Refusal::BadRecord { line: 2 }, "error: record 2\n"),
+    ];
+    for (refusal, want) in &rows {
+        agree(&rt, rt.alloc(), refusal, want);
+    }
 }
 
-/// Whether a malformed object is told so.
-fn is_malformed(alloc: Global) -> Result<bool, Fail> {
-    let digest = Digest::parse(EMPTY.as_bytes())?;
+#[test]
+fn refusals_of_limits(rt: HostRuntime) {
+    let pins = Refusal::Limit {
+        what: What::Pins,
+        number: 1025,
+    };
+    agree(&rt, rt.alloc(), &pins, "error: limit pins 1025\n");
+    let input = Refusal::Limit {
+        what: What::Input,
+        number: 67_108_865,
+    };
+    agree(&rt, rt.alloc(), &input, "error: limit input 67108865\n");
+}
+
+#[test]
+fn refusals_of_objects(rt: HostRuntime) {
+    let digest = digest(&rt, EMPTY);
     let kind = ObjKind::DirTree;
     let rule = Rule::Value;
     let want =
         "error: malformed object e3b0c44298fc1c149afbf4c8996fb92427ae41e4649b934ca495991b7852b855.dirtree value\n";
-    Ok(is_line(
-        alloc,
+    agree(
+        &rt,
+        rt.alloc(),
         &Refusal::MalformedObject { digest, kind, rule },
         want,
-    )?)
+    );
 }
 
-/// Whether a pin that is there is told so.
-fn is_pin_there(alloc: Global, text: &str, want: &str) -> Result<bool, Fail> {
-    let pin = pattern(alloc, text)?;
-    Ok(is_line(alloc, &Refusal::PinExists { pin }, want)?)
-}
-
-/// Whether a pin that isn't there is told so.
-fn is_pin_missing(alloc: Global, text: &str, want: &str) -> Result<bool, Fail> {
-    let pin = pattern(alloc, text)?;
-    Ok(is_line(alloc, &Refusal::NoSuchPin { pin }, want)?)
+#[test]
+fn refusals_of_pins(rt: HostRuntime) {
+    let pin = pattern(&rt, rt.alloc(), "app/*/*/*");
+    agree(
+        &rt,
+        rt.alloc(),
+        &Refusal::PinExists { pin },
+        "error: pin exists app/*/*/*\n",
+    );
+    let pin = pattern(&rt, rt.alloc(), "runtime/org.x.Y/*/1.0");
+    agree(
+        &rt,
+        rt.alloc(),
+        &Refusal::NoSuchPin { pin },
+        "error: no pin runtime/org.x.Y/*/1.0\n",
+    );
 }
 
 /// Paths, and the lines that say that they are damaged.
@@ -71,190 +103,149 @@ const DAMAGED: [(&str, &str); 6] = [
     ),
 ];
 
-/// Whether this line says that the path is damaged.
-fn is_damaged(alloc: Global, text: &str, want: &str) -> Result<bool, Fail> {
-    let path = Path::parse(alloc, text)?;
-    Ok(is_line(alloc, &Refusal::Damaged { path }, want)?)
+/// Ends the test where this line doesn't say that the path is damaged.
+fn agree_on_path(rt: &impl Abort, alloc: Global, text: &str, want: &str) {
+    let path = Path::parse(alloc, text).expect(rt, "a path");
+    agree(rt, alloc, &Refusal::Damaged { path }, want);
 }
 
-/// The first of the paths of which another line is printed.
-fn first_other_path<'a>(
-    alloc: Global,
-    rows: &'a [(&'a str, &'a str)],
-) -> Result<Option<&'a str>, Fail> {
-    for (text, want) in rows {
-        if !is_damaged(alloc, text, want)? {
-            return Ok(Some(*text));
-        }
+#[test]
+fn damaged_paths(rt: HostRuntime) {
+    for (text, want) in &DAMAGED {
+        agree_on_path(&rt, rt.alloc(), text, want);
     }
-    Ok(None)
+}
+
+/// A text as often as this.
+fn repeated(rt: &impl Abort, alloc: Global, text: &str, count: usize) -> String {
+    text.repeat(alloc, count).expect(rt, "memory")
 }
 
 /// A path of 1,100 elements that are each one character to be escaped.
-fn long_is_damaged(alloc: Global) -> Result<bool, Fail> {
-    let mut path = "\n/".repeat(alloc, 1_099)?;
-    path.push('\n')?;
-    let mut want = String::from_str(alloc, "error: damaged ")?;
-    want.push_str(&"\\0a/".repeat(alloc, 1_099)?)?;
-    want.push_str("\\0a\n")?;
-    is_damaged(alloc, &path, &want)
+#[test]
+fn long_path(rt: HostRuntime) {
+    let alloc = rt.alloc();
+    let above = repeated(&rt, alloc, "\n/", 1_099);
+    let path = format!(in alloc; "{above}\n").expect(&rt, "memory");
+    let above = repeated(&rt, alloc, "\\0a/", 1_099);
+    let want = format!(in alloc; "error: damaged {above}\\0a\n").expect(&rt, "memory");
+    agree_on_path(&rt, alloc, &path, &want);
 }
 
-/// Whether a text of 100 KiB is escaped.
-fn long_is_escaped(alloc: Global) -> Result<bool, AllocError> {
-    let text = "\\".repeat(alloc, 100 << 10)?;
-    Ok(escape(alloc, &text)?.as_str() == "\\5c".repeat(alloc, 100 << 10)?.as_str())
+/// A text of 100 KiB is escaped.
+#[test]
+fn long_text(rt: HostRuntime) {
+    let text = repeated(&rt, rt.alloc(), "\\", 100 << 10);
+    let want = repeated(&rt, rt.alloc(), "\\5c", 100 << 10);
+    let escaped = escape(rt.alloc(), &text).expect(&rt, "memory");
+    assert!(rt; escaped.as_str() == want.as_str());
+}
+
+/// Ends the test where an operation isn't printed as this line.
+fn agree_on_op(rt: &impl Abort, alloc: Global, op: &Op, want: &str) {
+    let line = op_line(alloc, op).expect(rt, "memory");
+    assert!(rt; line.as_str() == want, "{want}");
 }
 
 #[test]
-fn refusals(rt: HostRuntime) -> Result<(), Fail> {
+fn operations(rt: HostRuntime) {
     let alloc = rt.alloc();
-    assert!(rt;
-        is_bad_word(alloc, 0, "error: words 0\n")?
-            && is_bad_word(alloc, u64::MAX, "error: words 18446744073709551615\n")?
-            && is_limit(alloc, What::Pins, 1025, "error: limit pins 1025\n")?
-            && is_limit(
-                alloc,
-                What::Input,
-                67_108_865,
-                "error: limit input 67108865\n"
-            )?
-            && is_line(alloc, &Refusal::BadRecord { line: 2 }, "error: record 2\n")?
-    );
-    assert!(rt; is_malformed(alloc)?);
-    assert!(rt; is_pin_there(alloc, "app/*/*/*", "error: pin exists app/*/*/*\n")?);
-    assert!(rt;
-        is_pin_missing(
-            alloc,
-            "runtime/org.x.Y/*/1.0",
-            "error: no pin runtime/org.x.Y/*/1.0\n"
-        )?
-    );
-    assert_eq!(rt; first_other_path(alloc, &DAMAGED)?, None);
-    assert!(rt; long_is_damaged(alloc)? && long_is_escaped(alloc)?);
-    Ok(())
+    let pinned = Op::AddPin(pattern(&rt, alloc, "app/*/*/*"));
+    agree_on_op(&rt, alloc, &pinned, "pinned app/*/*/*\n");
+    let unpinned = Op::DropPin(pattern(&rt, alloc, "app/org.x.Y/*/*"));
+    agree_on_op(&rt, alloc, &unpinned, "unpinned app/org.x.Y/*/*\n");
+    agree_on_op(&rt, alloc, &Op::Migrate, "migrated layout 2\n");
 }
 
-fn says(alloc: Global, op: &Op, want: &str) -> Result<bool, AllocError> {
-    Ok(op_line(alloc, op)?.as_str() == want)
+/// Adds a remote.
+fn push_remote(rt: &impl Abort, alloc: Global, rows: &mut Items<RemoteRow>, name: &str, url: &str) {
+    let name = RemoteName::parse(alloc, name.as_bytes()).expect(rt, "a name");
+    let url = RemoteUrl::parse(alloc, url.as_bytes()).expect(rt, "a url");
+    rows.push(RemoteRow { name, url }).expect(rt, "memory");
 }
 
-fn says_pinned(alloc: Global) -> Result<bool, Fail> {
-    let op = Op::AddPin(pattern(alloc, "app/*/*/*")?);
-    Ok(says(alloc, &op, "pinned app/*/*/*\n")?)
-}
-
-fn says_unpinned(alloc: Global) -> Result<bool, Fail> {
-    let op = Op::DropPin(pattern(alloc, "app/org.x.Y/*/*")?);
-    Ok(says(alloc, &op, "unpinned app/org.x.Y/*/*\n")?)
+/// What is printed of remotes.
+fn printed_remotes(rt: &impl Abort, alloc: Global, rows: &Items<RemoteRow>) -> Text {
+    remotes_text(alloc, rows.as_slice()).expect(rt, "memory")
 }
 
 #[test]
-fn operations(rt: HostRuntime) -> Result<(), Fail> {
-    let alloc = rt.alloc();
-    assert!(rt; says_pinned(alloc)? && says_unpinned(alloc)?);
-    assert!(rt; says(alloc, &Op::Migrate, "migrated layout 2\n")?);
-    Ok(())
+fn remotes(rt: HostRuntime) {
+    let mut rows = Items::new(rt.alloc());
+    push_remote(&rt, rt.alloc(), &mut rows, "art", "file:///art");
+    push_remote(&rt, rt.alloc(), &mut rows, "lab", "file:///lab");
+    let text = printed_remotes(&rt, rt.alloc(), &rows);
+    assert!(rt; text.as_str() == "art file:///art\nlab file:///lab\n");
 }
 
-fn remote(alloc: Global, name: &str, url: &str) -> Result<RemoteRow, Fail> {
-    Ok(RemoteRow {
-        name: RemoteName::parse(alloc, name.as_bytes())?,
-        url: RemoteUrl::parse(alloc, url.as_bytes())?,
-    })
-}
-
-/// What is printed of two remotes.
-fn printed_remotes(alloc: Global) -> Result<Text, Fail> {
-    let mut remotes = Vec::new(alloc);
-    remotes.push(remote(alloc, "art", "file:///art")?)?;
-    remotes.push(remote(alloc, "lab", "file:///lab")?)?;
-    Ok(remotes_text(alloc, &remotes)?)
-}
-
-/// What is printed of two pins.
-fn printed_pins(alloc: Global) -> Result<Text, Fail> {
-    let mut pins = Vec::new(alloc);
-    pins.push(pattern(alloc, "runtime/*/*/*")?)?;
-    pins.push(pattern(alloc, "app/*/*/*")?)?;
-    Ok(pins_text(alloc, &pins)?)
-}
-
-/// How many bytes are printed of 256 remotes, of 17 bytes each.
-fn printed_of_remotes(alloc: Global) -> Result<usize, Fail> {
-    let mut remotes = Vec::new(alloc);
+/// 256 remotes are printed, of 17 bytes each.
+#[test]
+fn many_remotes(rt: HostRuntime) {
+    let mut rows = Items::new(rt.alloc());
     for _ in 0..256 {
-        remotes.push(remote(alloc, "remote", "file:///r")?)?;
+        push_remote(&rt, rt.alloc(), &mut rows, "remote", "file:///r");
     }
-    Ok(remotes_text(alloc, &remotes)?.as_str().len())
+    assert!(rt; printed_remotes(&rt, rt.alloc(), &rows).as_str().len() == 256 * 17);
 }
 
-/// How many bytes are printed of 1,024 pins, of 10 bytes each.
-fn printed_of_pins(alloc: Global) -> Result<usize, Fail> {
-    let mut pins = Vec::new(alloc);
-    for _ in 0..1_024 {
-        pins.push(pattern(alloc, "app/*/*/*")?)?;
+/// Pins of these texts, as often as this.
+fn pins_of(rt: &impl Abort, alloc: Global, texts: &[&str], count: usize) -> Text {
+    let mut pins = Items::new(alloc);
+    for text in texts.iter().cycle().take(count) {
+        pins.push(pattern(rt, alloc, text)).expect(rt, "memory");
     }
-    Ok(pins_text(alloc, &pins)?.as_str().len())
+    pins_text(alloc, pins.as_slice()).expect(rt, "memory")
 }
 
+/// Two pins are printed, and 1,024 of 10 bytes each.
 #[test]
-fn lists(rt: HostRuntime) -> Result<(), Fail> {
-    let alloc = rt.alloc();
-    assert_eq!(rt;
-        printed_remotes(alloc)?.as_str(),
-        "art file:///art\nlab file:///lab\n"
-    );
-    assert_eq!(rt; printed_pins(alloc)?.as_str(), "runtime/*/*/*\napp/*/*/*\n");
-    assert!(rt; printed_of_remotes(alloc)? == 256 * 17 && printed_of_pins(alloc)? == 1_024 * 10);
-    Ok(())
+fn pins(rt: HostRuntime) {
+    let two = pins_of(&rt, rt.alloc(), &["runtime/*/*/*", "app/*/*/*"], 2);
+    assert!(rt; two.as_str() == "runtime/*/*/*\napp/*/*/*\n");
+    let many = pins_of(&rt, rt.alloc(), &["app/*/*/*"], 1_024);
+    assert!(rt; many.as_str().len() == 1_024 * 10);
 }
 
 const APP: &str = "app/org.x.App/x86_64/stable";
 
-fn digest(text: &str) -> Result<Digest, Fail> {
-    Ok(Digest::parse(text.as_bytes())?)
-}
-
-fn ref_name(alloc: Global, text: &str) -> Result<RefName, Fail> {
-    Ok(RefName::parse(alloc, text.as_bytes())?)
+fn ref_name(rt: &impl Abort, alloc: Global, text: &str) -> RefName {
+    RefName::parse(alloc, text.as_bytes()).expect(rt, "a ref")
 }
 
 /// A deployed application.
-fn deployed(alloc: Global, previous: Option<Previous>) -> Result<RefRow, Fail> {
-    Ok(RefRow {
-        name: ref_name(alloc, APP)?,
-        origin: RemoteName::parse(alloc, b"hub")?,
-        commit: digest(EMPTY)?,
+fn deployed(rt: &impl Abort, alloc: Global, previous: Option<Previous>) -> RefRow {
+    RefRow {
+        name: ref_name(rt, alloc, APP),
+        origin: RemoteName::parse(alloc, b"hub").expect(rt, "a remote"),
+        commit: digest(rt, EMPTY),
         timestamp: u64::MAX,
         previous,
-    })
+    }
 }
 
-/// What is printed of so many rows, all the same.
-fn printed_refs(alloc: Global, count: usize) -> Result<Text, Fail> {
-    let mut rows = Vec::new(alloc);
+/// What is printed of this many rows, all the same.
+fn printed_refs(rt: &impl Abort, alloc: Global, count: usize) -> Text {
+    let mut rows = Items::new(alloc);
     for _ in 0..count {
-        rows.push(deployed(alloc, None)?)?;
+        rows.push(deployed(rt, alloc, None)).expect(rt, "memory");
     }
-    Ok(refs_text(alloc, &rows)?)
+    refs_text(alloc, rows.as_slice()).expect(rt, "memory")
 }
 
 /// What is told of an application with a previous commit, a runtime and two extensions.
-fn told_of_app(alloc: Global) -> Result<Text, Fail> {
-    let commit = digest(EMPTY)?;
-    let row = deployed(
-        alloc,
-        Some(Previous {
-            commit,
-            timestamp: 0,
-        }),
-    )?;
-    let runtime = ref_name(alloc, "runtime/org.x.Platform/x86_64/1")?;
-    let mut names = Vec::new(alloc);
-    names.push(Text::from_str(alloc, "a\\b")?)?;
-    names.push(Text::from_str(alloc, "org.x.App.Locale")?)?;
-    Ok(info_text(alloc, &row, Some(&runtime), &names)?)
+fn told_of_app(rt: &impl Abort, alloc: Global) -> Text {
+    let previous = Previous {
+        commit: digest(rt, EMPTY),
+        timestamp: 0,
+    };
+    let row = deployed(rt, alloc, Some(previous));
+    let runtime = ref_name(rt, alloc, "runtime/org.x.Platform/x86_64/1");
+    let names = [text(rt, alloc, "a\\b"), text(rt, alloc, "org.x.App.Locale")];
+    info_text(alloc, &row, Some(&runtime), &names).expect(rt, "memory")
+}
+
+fn text(rt: &impl Abort, alloc: Global, text: &str) -> Text {
+    Text::from_str(alloc, text).expect(rt, "memory")
 }
 
 const TOLD_OF_APP: &str = "\
@@ -268,12 +259,6 @@ extension a\\5cb
 extension org.x.App.Locale
 ";
 
-/// What is told of an application alone.
-fn told_of_row(alloc: Global) -> Result<Text, Fail> {
-    let row = deployed(alloc, None)?;
-    Ok(info_text(alloc, &row, None, &[])?)
-}
-
 const TOLD_OF_ROW: &str = "\
 ref app/org.x.App/x86_64/stable
 commit e3b0c44298fc1c149afbf4c8996fb92427ae41e4649b934ca495991b7852b855
@@ -282,18 +267,25 @@ timestamp 18446744073709551615
 ";
 
 #[test]
-fn refs(rt: HostRuntime) -> Result<(), Fail> {
-    let alloc = rt.alloc();
-    assert_eq!(rt;
-        printed_refs(alloc, 1)?.as_str(),
-        "app/org.x.App/x86_64/stable e3b0c44298fc1c149afbf4c8996fb92427ae41e4649b934ca495991b7852b855 hub\n"
-    );
-    assert!(rt; printed_refs(alloc, 4_096)?.as_str().len() == 4_096 * 97);
-    assert_eq!(rt; told_of_app(alloc)?.as_str(), TOLD_OF_APP);
-    assert_eq!(rt; told_of_row(alloc)?.as_str(), TOLD_OF_ROW);
-    assert_eq!(rt;
-        skipped_line(alloc, &ref_name(alloc, APP)?)?.as_str(),
-        "skipped app/org.x.App/x86_64/stable\n"
-    );
-    Ok(())
+fn refs(rt: HostRuntime) {
+    let one = printed_refs(&rt, rt.alloc(), 1);
+    let want =
+        "app/org.x.App/x86_64/stable e3b0c44298fc1c149afbf4c8996fb92427ae41e4649b934ca495991b7852b855 hub\n";
+    assert!(rt; one.as_str() == want);
+    assert!(rt; printed_refs(&rt, rt.alloc(), 4_096).as_str().len() == 4_096 * 97);
+}
+
+#[test]
+fn info(rt: HostRuntime) {
+    assert!(rt; told_of_app(&rt, rt.alloc()).as_str() == TOLD_OF_APP);
+    let row = deployed(&rt, rt.alloc(), None);
+    let told = info_text(rt.alloc(), &row, None, &[]).expect(&rt, "memory");
+    assert!(rt; told.as_str() == TOLD_OF_ROW);
+}
+
+#[test]
+fn skipped(rt: HostRuntime) {
+    let name = ref_name(&rt, rt.alloc(), APP);
+    let line = skipped_line(rt.alloc(), &name).expect(&rt, "memory");
+    assert!(rt; line.as_str() == "skipped app/org.x.App/x86_64/stable\n");
 }

@@ -1,17 +1,15 @@
 //! Why words are no command, and why a line of a batch asks for no change.
 
+use crate::words::owned;
 use fl_words::{batch_reason, reason};
-use fp_base::Text;
-use std::alloc::{AllocError, Global};
-use std::test::Fail;
+use std::alloc::Global;
+use std::panic::Expect;
+use std::process::Abort;
 
-/// What is said of words.
-fn explained(alloc: Global, words: &[&str]) -> Result<Text, AllocError> {
-    let mut owned = Vec::new(alloc);
-    for word in words {
-        owned.push(String::from_str(alloc, word)?)?;
-    }
-    reason(alloc, &owned)
+/// Whether this is said of words.
+fn is_said(rt: &impl Abort, alloc: Global, words: &[&str], want: &str) -> bool {
+    let said = reason(alloc, &owned(rt, alloc, words)).expect(rt, "memory");
+    said.as_str() == want
 }
 
 /// The usage of all commands.
@@ -162,48 +160,41 @@ const REASONS: [(&[&str], &str); 24] = [
     ),
 ];
 
-/// The first of the words of which something else is said.
-fn first_other_words<'a>(
-    alloc: Global,
-    rows: &'a [(&'a [&'a str], &'a str)],
-) -> Result<Option<&'a [&'a str]>, AllocError> {
-    for (words, want) in rows {
-        if explained(alloc, words)?.as_str() != *want {
-            return Ok(Some(*words));
-        }
-    }
-    Ok(None)
-}
-
-/// Whether the usage of all commands is told where the first word is none, or is missing.
-fn all_usage_is_told(alloc: Global) -> Result<bool, AllocError> {
-    let unknown = format!(in alloc; "fpk: 'pins' isn't known here\n{USAGE}")?;
-    let missing = format!(in alloc; "fpk: a word is missing\n{USAGE}")?;
-    Ok(
-        explained(alloc, &["pins", "app/*/*/*"])?.as_str() == unknown.as_str()
-            && explained(alloc, &[])?.as_str() == missing.as_str(),
-    )
-}
-
-/// Whether a word of 1 MiB is told whole, and of 1,100 words the first that is wrong.
-fn long_words_are_told(alloc: Global) -> Result<bool, AllocError> {
-    let long = "a".repeat(alloc, 1 << 20)?;
-    let want = format!(in alloc; "fpk: '{long}' is one word too many\nusage: fpk show commit\n")?;
-    let mut words = Vec::new(alloc);
-    words.push("show")?;
-    words.push("commit")?;
-    words.push(long.as_str())?;
-    for _ in 0..1_100 {
-        words.push("x")?;
-    }
-    Ok(explained(alloc, &words)?.as_str() == want.as_str())
-}
-
 #[test]
-fn reasons(rt: HostRuntime) -> Result<(), Fail> {
-    assert_eq!(rt; first_other_words(rt.alloc(), &REASONS)?, None);
-    assert!(rt; all_usage_is_told(rt.alloc())? && long_words_are_told(rt.alloc())?);
-    Ok(())
+fn reasons(rt: HostRuntime) {
+    for (words, want) in &REASONS {
+        assert!(rt; is_said(&rt, rt.alloc(), words, want), "{words:?}");
+    }
+}
+
+/// The usage of all commands is told where the first word is none.
+#[test]
+fn unknown_command(rt: HostRuntime) {
+    let want = format!(in rt.alloc(); "fpk: 'pins' isn't known here\n{USAGE}");
+    let want = want.expect(&rt, "memory");
+    assert!(rt; is_said(&rt, rt.alloc(), &["pins", "app/*/*/*"], &want));
+}
+
+/// And where it is missing.
+#[test]
+fn no_command(rt: HostRuntime) {
+    let want = format!(in rt.alloc(); "fpk: a word is missing\n{USAGE}").expect(&rt, "memory");
+    assert!(rt; is_said(&rt, rt.alloc(), &[], &want));
+}
+
+/// A word of a mebibyte is told whole, and of 1,100 words the first that is wrong.
+#[test]
+fn long_words(rt: HostRuntime) {
+    let long = "a".repeat(rt.alloc(), 1 << 20).expect(&rt, "memory");
+    let want = format!(in rt.alloc();
+        "fpk: '{long}' is one word too many\nusage: fpk show commit\n"
+    );
+    let want = want.expect(&rt, "memory");
+    let mut words = ["x"; 1_103];
+    words[0] = "show";
+    words[1] = "commit";
+    words[2] = long.as_str();
+    assert!(rt; is_said(&rt, rt.alloc(), &words, &want));
 }
 
 /// Batches, and what is said of the first line that asks for no change.
@@ -257,44 +248,37 @@ const LINES: [(&[u8], Option<&str>); 8] = [
 ];
 
 /// Whether this is said of a batch.
-fn is_said(alloc: Global, bytes: &[u8], want: Option<&str>) -> Result<bool, AllocError> {
-    match (batch_reason(alloc, bytes)?, want) {
-        (None, None) => Ok(true),
-        (Some(text), Some(want)) => Ok(text.as_str() == want),
-        _ => Ok(false),
+fn is_said_of(rt: &impl Abort, alloc: Global, bytes: &[u8], want: Option<&str>) -> bool {
+    match (batch_reason(alloc, bytes).expect(rt, "memory"), want) {
+        (None, None) => true,
+        (Some(text), Some(want)) => text.as_str() == want,
+        _ => false,
     }
-}
-
-/// The first of the batches of which something else is said.
-fn first_other_line<'a>(
-    alloc: Global,
-    rows: &'a [(&'a [u8], Option<&'a str>)],
-) -> Result<Option<&'a [u8]>, AllocError> {
-    for (bytes, want) in rows {
-        if !is_said(alloc, bytes, *want)? {
-            return Ok(Some(*bytes));
-        }
-    }
-    Ok(None)
-}
-
-/// Whether a line of 100,000 spaces is told by its first word, and line 1,101 by its number.
-fn long_batches_are_told(alloc: Global) -> Result<bool, AllocError> {
-    let spaces = " ".repeat(alloc, 100_000)?;
-    let line = format!(in alloc; "remote-delete lab{spaces}")?;
-    let want = "fpk: line 1: '' is one word too many\nusage: remote-delete NAME\n";
-    let many = "remote-delete lab\n".repeat(alloc, 1_100)?;
-    let lines = format!(in alloc; "{many}remote-delete a/b")?;
-    let wanted = "fpk: line 1101: 'a/b' is no name of a remote\nusage: remote-delete NAME\n";
-    Ok(
-        is_said(alloc, line.as_bytes(), Some(want))?
-            && is_said(alloc, lines.as_bytes(), Some(wanted))?,
-    )
 }
 
 #[test]
-fn lines(rt: HostRuntime) -> Result<(), Fail> {
-    assert_eq!(rt; first_other_line(rt.alloc(), &LINES)?, None);
-    assert!(rt; long_batches_are_told(rt.alloc())?);
-    Ok(())
+fn lines(rt: HostRuntime) {
+    for (bytes, want) in &LINES {
+        assert!(rt; is_said_of(&rt, rt.alloc(), bytes, *want), "{bytes:?}");
+    }
+}
+
+/// A line of 100,000 spaces is told by its first word.
+#[test]
+fn long_line(rt: HostRuntime) {
+    let spaces = " ".repeat(rt.alloc(), 100_000).expect(&rt, "memory");
+    let line = format!(in rt.alloc(); "remote-delete lab{spaces}").expect(&rt, "memory");
+    let want = "fpk: line 1: '' is one word too many\nusage: remote-delete NAME\n";
+    assert!(rt; is_said_of(&rt, rt.alloc(), line.as_bytes(), Some(want)));
+}
+
+/// Line 1,101 is told by its number.
+#[test]
+fn late_line(rt: HostRuntime) {
+    let many = "remote-delete lab\n"
+        .repeat(rt.alloc(), 1_100)
+        .expect(&rt, "memory");
+    let lines = format!(in rt.alloc(); "{many}remote-delete a/b").expect(&rt, "memory");
+    let want = "fpk: line 1101: 'a/b' is no name of a remote\nusage: remote-delete NAME\n";
+    assert!(rt; is_said_of(&rt, rt.alloc(), lines.as_bytes(), Some(want)));
 }

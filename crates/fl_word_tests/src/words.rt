@@ -4,23 +4,36 @@ use fl_words::{Change, Command, Listing, PolicySource, Shown, WordsError, read_w
 use fp_base::{Items, Text};
 use fp_small::RemoteRow;
 use std::alloc::{AllocError, Global};
-use std::test::Fail;
+use std::panic::Expect;
+use std::process::Abort;
 
 /// The words with spaces between them.
 fn spaced(alloc: Global, words: &[&str]) -> Result<String, AllocError> {
     words.join(alloc, " ")
 }
 
-/// What the words read as, in one text.
-fn told(alloc: Global, words: &[&str]) -> Result<String, AllocError> {
+/// The words, each with room of its own.
+pub fn owned(rt: &impl Abort, alloc: Global, words: &[&str]) -> Vec<String> {
     let mut owned = Vec::new(alloc);
     for word in words {
-        owned.push(String::from_str(alloc, word)?)?;
+        let word = String::from_str(alloc, word).expect(rt, "memory");
+        owned.push(word).expect(rt, "memory");
     }
-    match read_words(alloc, &owned) {
+    owned
+}
+
+/// What the words read as, in one text.
+fn told(rt: &impl Abort, alloc: Global, words: &[&str]) -> String {
+    let text = match read_words(alloc, &owned(rt, alloc, words)) {
         Ok(command) => told_command(alloc, &command),
         Err(error) => format!(in alloc; "{error}"),
-    }
+    };
+    text.expect(rt, "memory")
+}
+
+/// Whether the words read as this text.
+fn reads_as(rt: &impl Abort, alloc: Global, words: &[&str], want: &str) -> bool {
+    told(rt, alloc, words).as_str() == want
 }
 
 /// A command in one text.
@@ -417,83 +430,71 @@ const OPTION_WORDS: [(&[&str], &str); 32] = [
     ),
 ];
 
-/// The first of the words that are something else.
-fn first_other_words<'a>(
-    alloc: Global,
-    rows: &'a [(&'a [&'a str], &'a str)],
-) -> Result<Option<&'a [&'a str]>, AllocError> {
-    for (words, want) in rows {
-        if told(alloc, words)?.as_str() != *want {
-            return Ok(Some(*words));
-        }
+#[test]
+fn words(rt: HostRuntime) {
+    for (words, want) in &WORDS {
+        assert!(rt; reads_as(&rt, rt.alloc(), words, want), "{words:?}");
     }
-    Ok(None)
-}
-
-/// The longest words: a pin of three parts of 255 bytes, and a remote's name of 64 bytes with a url of 1,024.
-fn longest_are_read(alloc: Global) -> Result<bool, AllocError> {
-    let part = "a".repeat(alloc, 255)?;
-    let id = "org.x.".to_string(alloc)?;
-    let rest = "a".repeat(alloc, 249)?;
-    let pin = format!(in alloc; "app/{id}{rest}/{part}/{part}")?;
-    let want = format!(in alloc; "Pin {pin}")?;
-    let name = "r".repeat(alloc, 64)?;
-    let tail = "u".repeat(alloc, 1_016)?;
-    let url = format!(in alloc; "file:///{tail}")?;
-    let wanted = format!(in alloc; "RemoteAdd {name} {url}")?;
-    Ok(
-        told(alloc, &["pin", &pin])?.as_str() == want.as_str()
-            && told(alloc, &["remote-add", &name, &url])?.as_str() == wanted.as_str(),
-    )
-}
-
-/// Whether a word that is too long is bad, and 1,100 words are too many.
-fn many_are_bad(alloc: Global) -> Result<bool, AllocError> {
-    let long = "a".repeat(alloc, 1 << 20)?;
-    let mut words = Vec::new(alloc);
-    for _ in 0..1_100 {
-        words.push("list")?;
-    }
-    Ok(
-        told(alloc, &["pin", &long])?.as_str() == "bad words at 1"
-            && told(alloc, &words)?.as_str() == "bad words at 1",
-    )
-}
-
-/// Whether want of memory is told so.
-fn says_no_memory(alloc: Global) -> Result<bool, AllocError> {
-    Ok(format!(in alloc; "{}", WordsError::NoMemory)?.as_str() == "out of memory")
 }
 
 #[test]
-fn words_on_refs(rt: HostRuntime) -> Result<(), Fail> {
-    assert_eq!(rt; first_other_words(rt.alloc(), &REF_WORDS)?, None);
-    Ok(())
-}
-
-/// Whether a change of an override by 3,000 options is read.
-fn many_options_are_read(alloc: Global) -> Result<bool, AllocError> {
-    let mut words = Vec::new(alloc);
-    words.push("override")?;
-    for _ in 0..3_000 {
-        words.push("--share=ipc")?;
+fn words_on_refs(rt: HostRuntime) {
+    for (words, want) in &REF_WORDS {
+        assert!(rt; reads_as(&rt, rt.alloc(), words, want), "{words:?}");
     }
-    words.push("org.x.App")?;
-    Ok(told(alloc, &words)?.len() == 24 + 3_000 * 12)
 }
 
 #[test]
-fn words_with_options(rt: HostRuntime) -> Result<(), Fail> {
-    assert_eq!(rt; first_other_words(rt.alloc(), &OPTION_WORDS)?, None);
-    assert!(rt; many_options_are_read(rt.alloc())?);
-    Ok(())
+fn words_with_options(rt: HostRuntime) {
+    for (words, want) in &OPTION_WORDS {
+        assert!(rt; reads_as(&rt, rt.alloc(), words, want), "{words:?}");
+    }
+}
+
+/// This many of a letter.
+fn many(rt: &impl Abort, alloc: Global, letter: &str, count: usize) -> String {
+    letter.repeat(alloc, count).expect(rt, "memory")
+}
+
+/// A pin of three parts of 255 bytes is read.
+#[test]
+fn longest_pin(rt: HostRuntime) {
+    let alloc = rt.alloc();
+    let (rest, part) = (many(&rt, alloc, "a", 249), many(&rt, alloc, "a", 255));
+    let pin = format!(in alloc; "app/org.x.{rest}/{part}/{part}").expect(&rt, "memory");
+    let want = format!(in alloc; "Pin {pin}").expect(&rt, "memory");
+    assert!(rt; reads_as(&rt, alloc, &["pin", &pin], &want));
+}
+
+/// A remote's name of 64 bytes with a url of 1,024 is read.
+#[test]
+fn longest_remote(rt: HostRuntime) {
+    let alloc = rt.alloc();
+    let (name, rest) = (many(&rt, alloc, "r", 64), many(&rt, alloc, "u", 1_016));
+    let url = format!(in alloc; "file:///{rest}").expect(&rt, "memory");
+    let want = format!(in alloc; "RemoteAdd {name} {url}").expect(&rt, "memory");
+    assert!(rt; reads_as(&rt, alloc, &["remote-add", &name, &url], &want));
+}
+
+/// A word of a mebibyte is bad, and so is the second of 1,100.
+#[test]
+fn long_words(rt: HostRuntime) {
+    let long = many(&rt, rt.alloc(), "a", 1 << 20);
+    assert!(rt; reads_as(&rt, rt.alloc(), &["pin", &long], "bad words at 1"));
+    assert!(rt; reads_as(&rt, rt.alloc(), &["list"; 1_100], "bad words at 1"));
+}
+
+/// A change of an override by 3,000 options is read.
+#[test]
+fn many_options(rt: HostRuntime) {
+    let mut words = ["--share=ipc"; 3_002];
+    words[0] = "override";
+    words[3_001] = "org.x.App";
+    assert!(rt; told(&rt, rt.alloc(), &words).len() == 24 + 3_000 * 12);
 }
 
 #[test]
-fn words(rt: HostRuntime) -> Result<(), Fail> {
-    assert_eq!(rt; first_other_words(rt.alloc(), &WORDS)?, None);
-    assert!(rt;
-        longest_are_read(rt.alloc())? && many_are_bad(rt.alloc())? && says_no_memory(rt.alloc())?
-    );
-    Ok(())
+fn no_memory_is_told(rt: HostRuntime) {
+    let text = format!(in rt.alloc(); "{}", WordsError::NoMemory).expect(&rt, "memory");
+    assert!(rt; text.as_str() == "out of memory");
 }

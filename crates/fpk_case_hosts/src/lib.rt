@@ -7,6 +7,6 @@ mod program;
 mod stage;
 
 pub use folder::{FolderStage, clear_folder, is_for_folder};
-pub use memory::{MemStage, run_in_memory};
+pub use memory::{MemStage, is_for_memory, run_in_memory};
 pub use program::Program;
 pub use stage::{Ending, PathState, Stage, find, give, unless_fault};

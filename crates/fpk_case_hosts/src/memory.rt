@@ -1,13 +1,22 @@
 //! A case over the host in memory.
+use crate::folder::is_for_folder;
 use crate::program::Program;
 use crate::stage::{Ending, PathState, find, give, unless_fault};
 use fp_base::{Blob, Text};
 use fp_host::Path;
 use fp_memhost::{MemHost, MemNode, MemRemotes, MemSource};
 use fpk_case_remotes::{Ware, Wares};
-use fpk_case_text::{Command, Failing, Failure, Fixture};
+use fpk_case_text::{Case, Command, Failing, Failure, Fixture};
 use std::alloc::{AllocError, Global};
 use std::thread::Threads;
+
+/// The most steps of a case that is played in memory too. There each call looks through all earlier ones.
+const MOST_STEPS: usize = 1000;
+
+/// Whether a case is played in memory: it hasn't too many steps, or can't be played over a folder.
+pub fn is_for_memory(case: &Case) -> bool {
+    case.steps.len() <= MOST_STEPS || !is_for_folder(case)
+}
 
 /// The input of a command. What is short comes in small pieces, so that something is cut.
 pub fn input_of(

@@ -88,7 +88,7 @@ pub fn unless_fault<T>(answer: Result<T, HostEnd>) -> Result<Option<T>, AllocErr
     }
 }
 
-/// Puts something into a host, synced, with the folders above it.
+/// Puts something into a host, synced, with the folders above it, in the place of a file or a link that is there.
 pub fn give<H: Host>(
     alloc: Global,
     host: &mut H,
@@ -97,7 +97,17 @@ pub fn give<H: Host>(
 ) -> Result<(), HostEnd> {
     make_folders(alloc, host, &given.path)?;
     let path = Path::parse(alloc, &given.path)?;
+    take_away(host, &path)?;
     give_at(alloc, host, &path, &given.kind, bytes)
+}
+
+/// Takes a file or a link away where one is there.
+fn take_away<H: Host>(host: &mut H, path: &Path) -> Result<(), HostEnd> {
+    match host.stat(path)? {
+        Stat::File { .. } | Stat::Link => host.unlink(path)?,
+        _ => {}
+    }
+    Ok(())
 }
 
 fn give_at<H: Host>(

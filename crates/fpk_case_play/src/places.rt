@@ -1,18 +1,21 @@
 //! A case in memory, and on a real folder.
 use crate::playing::play;
-use fpk_case_hosts::{FolderStage, MemStage, Program, Stage, clear_folder};
+use fpk_case_hosts::{FolderStage, MemStage, Program, Stage, clear_folder, is_for_memory};
 use fpk_case_system::{Capture, System};
 use fpk_case_text::{Case, Wrong};
 use std::alloc::{AllocError, Global};
 use std::io;
 
-/// Plays a case in memory.
+/// Plays a case in memory, where it is for that.
 pub fn play_in_memory<P: Program, R: System>(
     program: &P,
     rt: &R,
     alloc: Global,
     case: &Case,
 ) -> Result<Option<Wrong>, AllocError> {
+    if !is_for_memory(case) {
+        return Ok(None);
+    }
     let mut stage: Stage<'_, '_, R> = Stage::Memory(MemStage::new(alloc)?);
     play(program, rt, alloc, &mut stage, case)
 }

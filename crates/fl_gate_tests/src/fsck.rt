@@ -1,0 +1,122 @@
+//! `fsck` over a store that a pull filled: two threads hash the objects of a batch.
+
+use crate::meeting::MeetingGate;
+use fl_top::run_gated;
+use fp_base::Blob;
+use fp_host::{Host, Path, Remotes};
+use fp_memhost::{MemHost, MemNode, MemRemotes, MemSource};
+use fp_name::{Digest, RefName};
+use ost_commit::{Built, BuiltObject, TreeRow, commit_tree};
+use ost_model::Object;
+use ost_pull::pull;
+use ost_store::path_of;
+use par_digest::Gate;
+use std::alloc::{AllocError, Global};
+use std::panic::Expect;
+use std::process::Abort;
+use std::thread::Threads;
+
+/// Where the remote is.
+const URL: &str = "file:///srv/lab";
+
+/// A file of the root, with its number as its name and its content.
+fn file(rt: &impl Abort, alloc: Global, number: u32) -> TreeRow {
+    let digits = format!(in alloc; "{number}").expect(rt, "memory");
+    TreeRow::File {
+        path: Path::parse(alloc, &digits).expect(rt, "a path"),
+        mode: 0o644,
+        bytes: Blob::from_slice(alloc, digits.as_bytes()).expect(rt, "memory"),
+    }
+}
+
+/// Forty such files: one byte or two.
+fn files(rt: &impl Abort, alloc: Global) -> Vec<TreeRow> {
+    let mut rows = Vec::new(alloc);
+    for number in 0..40 {
+        rows.push(file(rt, alloc, number)).expect(rt, "memory");
+    }
+    rows
+}
+
+/// Their commit.
+fn built<T: Threads + Sync + Abort>(rt: &T, alloc: Global) -> Built {
+    let name = RefName::parse(alloc, b"app/org.example.App/x86_64/stable").expect(rt, "a ref");
+    commit_tree(rt, alloc, &files(rt, alloc), &name, "subject", 7).expect(rt, "a commit")
+}
+
+/// What a remote holds of an object.
+fn node_of(object: &Object) -> Result<MemNode, AllocError> {
+    match object {
+        Object::Meta(bytes) => Ok(MemNode::File {
+            mode: 0o644,
+            bytes: bytes.copy()?,
+        }),
+        Object::File { mode, bytes } => Ok(MemNode::File {
+            mode: *mode,
+            bytes: bytes.copy()?,
+        }),
+        Object::Link(text) => Ok(MemNode::Link(text.copy()?)),
+    }
+}
+
+/// Puts an object into the remote.
+fn put(rt: &impl Abort, alloc: Global, remotes: &mut MemRemotes, made: &BuiltObject) {
+    let root = Path::root(alloc);
+    let path = path_of(alloc, &root, &made.digest, made.kind).expect(rt, "memory");
+    let node = node_of(&made.object).expect(rt, "memory");
+    if remotes.can_put(URL, &path, &node) {
+        remotes.put(URL, &path, node).expect(rt, "memory");
+    }
+}
+
+/// A remote that has the objects.
+fn remote_of(rt: &impl Abort, alloc: Global, built: &Built) -> MemRemotes {
+    let mut remotes = MemRemotes::new(alloc).expect(rt, "memory");
+    for made in built.objects.as_slice() {
+        put(rt, alloc, &mut remotes, made);
+    }
+    remotes
+}
+
+/// Pulls the commit into the store at `repo`, and answers whether that was done.
+fn is_pulled<H: Host, R: Remotes>(
+    rt: &impl Abort,
+    alloc: Global,
+    host: &mut H,
+    remotes: &mut R,
+    commit: &Digest,
+) -> bool {
+    let root = Path::parse(alloc, "repo").expect(rt, "a path");
+    let work = Path::parse(alloc, "repo/tmp/pull").expect(rt, "a path");
+    pull(alloc, host, remotes, &root, URL, commit, &work).is_ok()
+}
+
+/// Runs `fsck` with a gate, and answers its status.
+fn fsck_status<T: Threads + Sync + Abort, H: Host, R: Remotes, G: Gate + Sync>(
+    rt: &T,
+    alloc: Global,
+    host: &mut H,
+    remotes: &mut R,
+    gate: &G,
+) -> u8 {
+    let word = String::from_str(alloc, "fsck").expect(rt, "memory");
+    let words = vec![in alloc; word].expect(rt, "memory");
+    let input = Blob::from_slice(alloc, b"").expect(rt, "memory");
+    let mut input = MemSource::new(input, 1, None);
+    run_gated(rt, alloc, &words, &mut input, host, remotes, gate)
+}
+
+/// The commit, its dirtree, its dirmeta and 40 files are 43 objects. They are one batch, and each half of it sees the other at
+/// work.
+#[test]
+fn both_halves_are_at_work(rt: HostRuntime) {
+    let alloc = rt.alloc();
+    let built = built(&rt, alloc);
+    let mut remotes = remote_of(&rt, alloc, &built);
+    let mut host = MemHost::new(alloc).expect(&rt, "memory");
+    assert!(rt; is_pulled(&rt, alloc, &mut host, &mut remotes, &built.commit));
+    let gate = MeetingGate::new();
+    let status = fsck_status(&rt, alloc, &mut host, &mut remotes, &gate);
+    assert!(rt; status == 0 && gate.have_met());
+    assert!(rt; host.printed() == b"fsck 43 objects, 0 bad\n".as_slice());
+}

@@ -1,0 +1,66 @@
+//! A gate whose halves look for each other.
+
+use par_digest::Gate;
+use std::sync::atomic::{AtomicBool, Ordering};
+
+/// How often a half looks for the other one.
+const TURNS: u64 = 1_000_000_000;
+
+/// What one half told.
+#[derive(Drop)]
+struct Side {
+    has_come: AtomicBool,
+    saw_other: AtomicBool,
+}
+
+impl Side {
+    fn new() -> Self {
+        Side {
+            has_come: AtomicBool::new(false),
+            saw_other: AtomicBool::new(false),
+        }
+    }
+
+    /// Comes, and looks for the other half.
+    fn meet(&self, other: &Side) {
+        self.has_come.store(true, Ordering::SeqCst);
+        for _ in 0..TURNS {
+            if other.has_come.load(Ordering::SeqCst) {
+                self.saw_other.store(true, Ordering::SeqCst);
+                return;
+            }
+        }
+    }
+}
+
+/// A gate whose two halves each look, as they begin, whether the other one has begun: a thousand million looks at most. So one
+/// thread that hashes both can't see both.
+#[derive(Drop)]
+pub struct MeetingGate {
+    first: Side,
+    second: Side,
+}
+
+impl MeetingGate {
+    /// A gate to which no half has come.
+    pub fn new() -> Self {
+        MeetingGate {
+            first: Side::new(),
+            second: Side::new(),
+        }
+    }
+
+    /// Whether each half saw the other one.
+    pub fn have_met(&self) -> bool {
+        self.first.saw_other.load(Ordering::SeqCst) && self.second.saw_other.load(Ordering::SeqCst)
+    }
+}
+
+impl Gate for MeetingGate {
+    fn reach(&self, half: u32) {
+        match half {
+            0 => self.first.meet(&self.second),
+            _ => self.second.meet(&self.first),
+        }
+    }
+}
