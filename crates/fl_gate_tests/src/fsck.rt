@@ -1,4 +1,4 @@
-//! `fsck` over a store that a pull filled: two threads hash the objects of a batch.
+//! A pull, and `fsck` over the store that it filled: two threads hash the objects of a batch.
 
 use crate::meeting::MeetingGate;
 use fl_top::run_gated;
@@ -8,7 +8,7 @@ use fp_memhost::{MemHost, MemNode, MemRemotes, MemSource};
 use fp_name::{Digest, RefName};
 use ost_commit::{Built, BuiltObject, TreeRow, commit_tree};
 use ost_model::Object;
-use ost_pull::pull;
+use ost_pull::pull_gated;
 use ost_store::path_of;
 use par_digest::Gate;
 use std::alloc::{AllocError, Global};
@@ -78,17 +78,18 @@ fn remote_of(rt: &impl Abort, alloc: Global, built: &Built) -> MemRemotes {
     remotes
 }
 
-/// Pulls the commit into the store at `repo`, and answers whether that was done.
-fn is_pulled<H: Host, R: Remotes>(
-    rt: &impl Abort,
+/// Pulls the commit into the store at `repo` with a gate, and answers whether that was done.
+fn is_pulled<T: Threads + Sync + Abort, H: Host, R: Remotes, G: Gate + Sync>(
+    rt: &T,
     alloc: Global,
     host: &mut H,
     remotes: &mut R,
     commit: &Digest,
+    gate: &G,
 ) -> bool {
     let root = Path::parse(alloc, "repo").expect(rt, "a path");
     let work = Path::parse(alloc, "repo/tmp/pull").expect(rt, "a path");
-    pull(alloc, host, remotes, &root, URL, commit, &work).is_ok()
+    pull_gated(rt, alloc, host, remotes, &root, URL, commit, &work, gate).is_ok()
 }
 
 /// Runs `fsck` with a gate, and answers its status.
@@ -106,15 +107,17 @@ fn fsck_status<T: Threads + Sync + Abort, H: Host, R: Remotes, G: Gate + Sync>(
     run_gated(rt, alloc, &words, &mut input, host, remotes, gate)
 }
 
-/// The commit, its dirtree, its dirmeta and 40 files are 43 objects. They are one batch, and each half of it sees the other at
-/// work.
+/// The commit, its dirtree, its dirmeta and 40 files are 43 objects. They are one batch, of the pull and of `fsck`, and each half
+/// of it sees the other at work.
 #[test]
 fn both_halves_are_at_work(rt: HostRuntime) {
     let alloc = rt.alloc();
     let built = built(&rt, alloc);
     let mut remotes = remote_of(&rt, alloc, &built);
     let mut host = MemHost::new(alloc).expect(&rt, "memory");
-    assert!(rt; is_pulled(&rt, alloc, &mut host, &mut remotes, &built.commit));
+    let gate = MeetingGate::new();
+    assert!(rt; is_pulled(&rt, alloc, &mut host, &mut remotes, &built.commit, &gate));
+    assert!(rt; gate.have_met());
     let gate = MeetingGate::new();
     let status = fsck_status(&rt, alloc, &mut host, &mut remotes, &gate);
     assert!(rt; status == 0 && gate.have_met());
