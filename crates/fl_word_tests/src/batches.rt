@@ -140,6 +140,10 @@ fn long_line(rt: HostRuntime) {
 
 #[test]
 fn errors_are_told(rt: HostRuntime) {
-    let text = format!(in rt.alloc(); "{}, {}", BatchError::BadRecord { line: 29 }, BatchError::NoMemory);
+    let text = format!(in rt.alloc();
+        "{}, {}",
+        BatchError::BadRecord { line: 29 },
+        BatchError::NoMemory
+    );
     assert!(rt; text.expect(&rt, "memory").as_str() == "bad record at 29, out of memory");
 }
