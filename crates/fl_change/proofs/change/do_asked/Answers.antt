@@ -14,7 +14,7 @@ pub returns-clause-acts : goal.returns-clause-acts
 returns-clause-acts g c refusal op is = acts_asked refusal op c.in_ok-op.op c.do_op.result (subst (λ (r : Result Op RunEnd). IfOk r (IsPlain c.args.opened)) c.in_ok-op.was c.requires.plain).brings_none (subst (IsAsked refusal op) c.in_ok-op.was is) c.do_op.ensures.acts
 
 pub do_op-requires-clause-may : goal.do_op-requires-clause-may
-do_op-requires-clause-may g c = record { layout = c.requires.layout ∙ sym (subst (λ (r : Result Op RunEnd). IfOk r (IsPlain c.args.opened)) c.in_ok-op.was c.requires.plain).layout; allows = (subst (λ (r : Result Op RunEnd). IfOk r (IsPlain c.args.opened)) c.in_ok-op.was c.requires.plain).allows }
+do_op-requires-clause-may g c _ _ = record { layout = c.requires.layout ∙ sym (subst (λ (r : Result Op RunEnd). IfOk r (IsPlain c.args.opened)) c.in_ok-op.was c.requires.plain).layout; allows = (subst (λ (r : Result Op RunEnd). IfOk r (IsPlain c.args.opened)) c.in_ok-op.was c.requires.plain).allows }
 
 pub do_op-requires-clause-short : goal.do_op-requires-clause-short
-do_op-requires-clause-short g c = (subst (λ (r : Result Op RunEnd). IfOk r (IsPlain c.args.opened)) c.in_ok-op.was c.requires.plain).short
+do_op-requires-clause-short g c _ _ = (subst (λ (r : Result Op RunEnd). IfOk r (IsPlain c.args.opened)) c.in_ok-op.was c.requires.plain).short

@@ -48,7 +48,7 @@ returns-in_err-copy-in-Ok-clause-acts g c =
     acts_err c.from_residual-in_err-copy-in-Ok.result NoMemory c.from_residual-in_err-copy-in-Ok.ensures.1 (acts_looked (rollback_over n) t looked (acts_halted (rollback_over n) t))
 
 pub do_op-requires-clause-may : goal.do_op-requires-clause-may
-do_op-requires-clause-may g c =
+do_op-requires-clause-may g c _ _ =
     let n = c.args.name.now in
     let was = subst (λ (s : State). previous_in n (row_at s n) ≡ Ok c.in_ok-commit.commit) c.state.ensures c.in_ok-commit.ensures in
     subst (λ (x : Ref). May c.args.opened (Rollback x c.in_ok-commit.commit)) (sym c.in_ok-copy-in-Ok.ensures) (record { layout = c.requires.layout; allows = has_previous n (row_at c.args.opened n) c.in_ok-commit.commit was })

@@ -13,14 +13,14 @@ use Rattle.fl_change.proofs.Commands.{comes, comes_short, may_come}
 use Rattle.fl_change.proofs.installing.do_ops.Goals as goal
 
 pub do_op-requires-clause-may : goal.do_op-requires-clause-may
-do_op-requires-clause-may g c =
+do_op-requires-clause-may g c _ _ =
     let all = c.args.ops.now in
     let i = c.loop-op.op-index in
     let next : drop i all ≡ c.op-item.result ∷ drop (i + 1) all = drop_more all i c.op-item.result c.loop-op-test.true ∙ ap (λ (x : Op). x ∷ drop (i + 1) all) (sym c.op-item.is) in
     may_come c.loop-op.current c.op-item.result c.loop-op.invariant.layout (subst (AllByRecursion IsComing) next c.loop-op.invariant.coming).0 (subst (AreAllowed c.loop-op.current) next c.loop-op.invariant.allowed).0
 
 pub do_op-requires-clause-short : goal.do_op-requires-clause-short
-do_op-requires-clause-short g c =
+do_op-requires-clause-short g c _ _ =
     let all = c.args.ops.now in
     let i = c.loop-op.op-index in
     let next : drop i all ≡ c.op-item.result ∷ drop (i + 1) all = drop_more all i c.op-item.result c.loop-op-test.true ∙ ap (λ (x : Op). x ∷ drop (i + 1) all) (sym c.op-item.is) in

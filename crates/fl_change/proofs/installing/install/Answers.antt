@@ -27,7 +27,7 @@ returns-in_err-try_new-clause-acts g c =
     (acts_tried (install_over r n) (g.met.H.Host.is_tree c.args.host.now) (installed_refusal n (row_at c.args.opened n)) c.in_err-try_new.field-0.0 (subst (λ (s : State). IsTried (installed_refusal n (row_at s n)) (Err c.in_err-try_new.field-0.0)) c.state-2.ensures c.in_err-try_new.ensures) (λ q is x first held known rests. install_again held (world_at c.args.opened x) r n c.in_ok-row.row q row is))
 
 pub bring_target-requires-clause-remote : goal.bring_target-requires-clause-remote
-bring_target-requires-clause-remote g c =
+bring_target-requires-clause-remote g c _ _ =
     let r = c.args.remote.now in
     has_said c.args.opened.remotes r c.in_ok-row.row (subst (λ (s : State). or_refuse (NoSuchRemote r) (at_name name_of s.remotes r) ≡ Ok c.in_ok-row.row) c.state.ensures c.in_ok-row.ensures)
 

@@ -15,7 +15,7 @@ pub returns-in_err-copy-in-Some-clause-acts : goal.returns-in_err-copy-in-Some-c
 returns-in_err-copy-in-Some-clause-acts g c = acts_err c.from_residual.result NoMemory c.from_residual.ensures.1 (acts_halted (reset_over c.args.name.now) (g.met.H.Host.is_tree c.args.host.now))
 
 pub do_op-requires-clause-may : goal.do_op-requires-clause-may
-do_op-requires-clause-may g c =
+do_op-requires-clause-may g c _ _ =
     let row = override_found c.state.result.now c.args.opened c.args.name.now _ _ _ c.state.ensures c.as_slice.ensures c.find_override.ensures (ap option_copied c.in-Some.is) in
     subst (λ (x : List ℕ). May c.args.opened (DropOverride x)) (sym c.in_ok-copy-in-Some.ensures) (record { layout = c.requires.layout; allows = is_layer c.args.opened.overrides c.args.name.now _ c.requires.good.layers row })
 

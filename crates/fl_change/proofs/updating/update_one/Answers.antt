@@ -26,7 +26,7 @@ returns-in_err-remote-clause-acts g c =
     (acts_said (update_over n) (g.met.H.Host.is_tree c.args.host.now) (or_refuse (NoSuchRemote c.in_ok-origin.origin) (at_name name_of c.args.opened.remotes c.in_ok-origin.origin)) c.in_err-remote.field-0.0 (subst (λ (s : State). IsSaid (or_refuse (NoSuchRemote c.in_ok-origin.origin) (at_name name_of s.remotes c.in_ok-origin.origin)) (Err c.in_err-remote.field-0.0)) c.state-2.ensures c.in_err-remote.ensures) (λ q is x first held known rests. update_no_remote held (world_at c.args.opened x) n c.in_ok-origin.origin q origin is))
 
 pub bring_target-requires-clause-remote : goal.bring_target-requires-clause-remote
-bring_target-requires-clause-remote g c = has_said c.args.opened.remotes c.in_ok-origin.origin c.in_ok-remote.remote (subst (λ (s : State). (or_refuse (NoSuchRemote c.in_ok-origin.origin) (at_name name_of s.remotes c.in_ok-origin.origin)) ≡ Ok c.in_ok-remote.remote) c.state-2.ensures c.in_ok-remote.ensures)
+bring_target-requires-clause-remote g c _ _ = has_said c.args.opened.remotes c.in_ok-origin.origin c.in_ok-remote.remote (subst (λ (s : State). (or_refuse (NoSuchRemote c.in_ok-origin.origin) (at_name name_of s.remotes c.in_ok-origin.origin)) ≡ Ok c.in_ok-remote.remote) c.state-2.ensures c.in_ok-remote.ensures)
 
 pub returns-clause-acts : goal.returns-clause-acts
 returns-clause-acts g c =

@@ -20,7 +20,7 @@ pub returns-in_err-remote-clause-acts : goal.returns-in_err-remote-clause-acts
 returns-in_err-remote-clause-acts g c = acts_err c.from_residual-in_err-remote.result NoMemory c.from_residual-in_err-remote.ensures.1 (acts_halted (target_over c.args.name.now) (g.met.H.Host.is_tree c.args.host.now))
 
 pub update_from-requires-clause-remote : goal.update_from-requires-clause-remote
-update_from-requires-clause-remote g c = has_found c.args.opened.remotes _ c.in-Some-2.remote (remote_at c.state-2.result.now c.args.opened _ _ _ c.state-2.ensures c.in_ok-remote.ensures c.in-Some-2.is)
+update_from-requires-clause-remote g c _ _ = has_found c.args.opened.remotes _ c.in-Some-2.remote (remote_at c.state-2.result.now c.args.opened _ _ _ c.state-2.ensures c.in_ok-remote.ensures c.in-Some-2.is)
 
 pub returns-in-Some-2-clause-acts : goal.returns-in-Some-2-clause-acts
 returns-in-Some-2-clause-acts g c =
