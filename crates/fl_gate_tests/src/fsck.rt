@@ -8,6 +8,7 @@ use fp_memhost::{MemHost, MemNode, MemRemotes, MemSource};
 use fp_name::{Digest, RefName};
 use ost_commit::{Built, BuiltObject, TreeRow, commit_tree};
 use ost_model::Object;
+use ost_pull::laws::pulls_can_be_done;
 use ost_pull::pull_gated;
 use ost_store::path_of;
 use par_digest::Gate;
@@ -79,16 +80,18 @@ fn remote_of(rt: &impl Abort, alloc: Global, built: &Built) -> MemRemotes {
 }
 
 /// Pulls the commit into the store at `repo` with a gate, and answers whether that was done.
-fn is_pulled<T: Threads + Sync + Abort, H: Host, R: Remotes, G: Gate + Sync>(
-    rt: &T,
+fn is_pulled<G: Gate + Sync>(
+    rt: &(impl Threads + Sync + Abort),
     alloc: Global,
-    host: &mut H,
-    remotes: &mut R,
+    host: &mut MemHost,
+    remotes: &mut MemRemotes,
     commit: &Digest,
     gate: &G,
 ) -> bool {
-    let root = Path::parse(alloc, "repo").expect(rt, "a path");
-    let work = Path::parse(alloc, "repo/tmp/pull").expect(rt, "a path");
+    pulls_can_be_done();
+    let root = Path::root(alloc).child("repo").expect(rt, "a path");
+    let tmp = root.child("tmp").expect(rt, "a path");
+    let work = tmp.child("pull").expect(rt, "a path");
     pull_gated(rt, alloc, host, remotes, &root, URL, commit, &work, gate).is_ok()
 }
 
