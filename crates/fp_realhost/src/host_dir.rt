@@ -37,10 +37,10 @@ use std::thread::Threads;
 /// size of a file, it answers itself. What another program puts in its place later is followed, or not seen.
 ///
 /// A `sync` makes last each file and then each folder that was changed since the last one, many of them by several threads.
-/// At most 256 new files are open at one time: where more are made, those are synced before. While changes wait for it, the lock
-/// file holds the text that Linux gives this start of the machine. Where an earlier run of the same start left that, or the root
-/// was there without a lock file, the first `sync` makes last every file and folder that may be opened. After a sync of a file or folder that failed no later one succeeds, nor after a change that there was no
-/// memory to note.
+/// At most 192 files that wait for it stay open: where more are made, those are synced before. While changes wait for it, the
+/// lock file holds the text that Linux gives this start of the machine. Where an earlier run of the same start left that, or the
+/// root was there without a lock file, the first `sync` makes last every file and folder that may be opened. After a sync of a
+/// file or folder that failed no later one succeeds, nor after a change that there was no memory to note.
 ///
 /// Contracts see how often it failed, whether nothing waits for a sync, and how many bytes were printed.
 pub struct HostDir<'a, R: Files, T, O> {

@@ -381,8 +381,8 @@ fn synced<R: Runtime>(log: &Log<'_, R>, count: u32) -> (usize, usize, bool) {
 const MANY: [(u32, &str, (usize, usize, bool)); 4] = [
     (60, "", (0, 60, true)),
     (60, "sync many/root/f47", (0, 48, false)),
-    (300, "", (256, 44, true)),
-    (300, "sync many/root/f200", (122, 44, false)),
+    (300, "", (192, 108, true)),
+    (300, "sync many/root/f150", (67, 108, false)),
 ];
 
 #[test]
