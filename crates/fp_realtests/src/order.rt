@@ -376,8 +376,9 @@ fn synced<R: Runtime>(log: &Log<'_, R>, count: u32) -> (usize, usize, bool) {
     (early, late, done && host.sync().is_ok())
 }
 
-// How many files are made, and the sync that fails. Where more files are open than may be, they are synced before the next one is
-// created.
+// How many files are made, and the sync that fails. Where 192 files are open beside the one that is written, they are synced before
+// the next one is created, and the sync makes the others last. They are synced by their names, up to the first that fails: before
+// f150 are f00 to f09, six of two figures from f10 on, and the fifty of f100 to f149.
 const MANY: [(u32, &str, (usize, usize, bool)); 4] = [
     (60, "", (0, 60, true)),
     (60, "sync many/root/f47", (0, 48, false)),
