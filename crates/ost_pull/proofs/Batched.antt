@@ -1,9 +1,9 @@
 -- Batches of objects.
-use Rattle.std.proofs.Common.{◌≡◌, ◌⊎◌, ◌<◌, ◌≤◌, ◌+◌, inl, inr, ℕ, suc, List, [], ◌∷◌, ◌++◌, map, get_or, take, drop, length, true, false, Bool, zero, Option, Some, None, refl, sym, ◌∙◌, ap, subst, arith}
+use Rattle.std.proofs.Common.{◌≡◌, ◌⊎◌, ◌<◌, ◌+◌, inl, inr, ℕ, suc, List, [], ◌∷◌, ◌++◌, get_or, length, true, false, Bool, zero, Option, Some, None, refl, sym, ◌∙◌, ap, subst, arith}
 use Rattle.std.specs.Prelude.{is_some, IfOk, IfSome, Result, Ok, Err}
 use Rattle.std.proofs.lemmas.List.{length-append, append-nil, get_or_append_left, get_or_push, get_or_read, get_or_default, get_or-map}
 use Rattle.fp_host.specs.Paths.{Elements}
-use Rattle.fp_host.specs.View.{View, IsTree}
+use Rattle.fp_host.specs.View.{View}
 use Rattle.fp_host.specs.Moments.{Moments, Always}
 use Rattle.fp_host.specs.Outcome.{shows}
 use Rattle.fp_host.specs.Remote.{Holdings}
@@ -26,7 +26,7 @@ use Rattle.ost_head.specs.Objects.{IsFit}
 use Rattle.ost_pull.specs.declared.forms.Form.{Form}
 use Rattle.ost_pull.specs.declared.batches.Turn.{Turn}
 use Rattle.ost_pull.specs.declared.batches.Turn.TheVariants as turns
-use Rattle.ost_pull.specs.Batches.{object_in, IsParted, IsBatched, IsBatchedAt, IsReady, AreReady, AddsTurn}
+use Rattle.ost_pull.specs.Batches.{IsParted, IsBatched, IsBatchedAt, IsReady, AreReady, AddsTurn}
 use Rattle.ost_pull.specs.Pulls.{IsApart}
 use Rattle.ost_pull.specs.Takes.{TakesOne}
 use Rattle.ost_pull.specs.Work.{Works, Adds, KeepsOne}
@@ -68,35 +68,35 @@ none_there : (o : Option Object) → false ≡ is_some o → o ≡ None
 none_there None is = refl
 none_there (Some object) is = absurd (cc is)
 
-pub lacks_found : {root : Elements} {a b : Option Moments} (d : List ℕ) (kind : ObjKind) (there : Bool) → there ≡ false → AtEnd (λ u w. IsThere root d kind w there) a b → HostHas root b d kind None
-lacks_found {root = root} d kind there off ends = record { is = λ m at. none_there (store root (shows m.now) d kind) (sym off ∙ (ended ends m at).2.is) }
+pub lacks_found : {root : Elements} {a b : Option Moments} (d : List ℕ) (kind : ObjKind) (there : Bool) → there ≡ false → AtEnd (λ u w. IsThere root d kind u there) a b → HostHas root a d kind None
+lacks_found {root = root} d kind there off ends = record { is = λ m at. none_there (store root (shows m.now) d kind) (sym off ∙ (ends.goes.told m at).3.is) }
 
 -- and the remote's object is new
-pub new_found : {root : Elements} {url : List ℕ} {told : Option Moments} {holds : Option Holdings} (d : List ℕ) (kind : ObjKind) (r : Result (Option Object) WalkEnd) → HostHas root told d kind None
+pub new_found : {root : Elements} {told : Option Moments} (url : List ℕ) (holds : Option Holdings) (d : List ℕ) (kind : ObjKind) (r : Result (Option Object) WalkEnd) → HostHas root told d kind None
     → ((held : Holdings) → holds ≡ Some held → IfOk r (λ found. IfSome found (λ object. remote_at held url d kind ≡ Some object))) → IfOk r (λ found. IfSome found (IsNew root url told holds d kind))
-new_found d kind (Ok (Some object)) none there = record { none = none; there = record { is = there } }
-new_found d kind (Ok None) none there = tt
-new_found d kind (Err end) none there = tt
+new_found url holds d kind (Ok (Some object)) none there = record { none = none; there = record { is = there } }
+new_found url holds d kind (Ok None) none there = tt
+new_found url holds d kind (Err end) none there = tt
 
 -- ---- a turn
 
-ready_by : {root : Elements} {url : List ℕ} {a b : Option Moments} {holds : Option Holdings} (o : Named) (items more : List Item) (turn : Turn) → (HostHas root a o.0 o.1 None → HostHas root b o.0 o.1 None) → IsReady root url a holds o items turn
+ready_by : {root : Elements} (url : List ℕ) {a b : Option Moments} (holds : Option Holdings) (o : Named) (items more : List Item) (turn : Turn) → (HostHas root a o.0 o.1 None → HostHas root b o.0 o.1 None) → IsReady root url a holds o items turn
     → IsReady root url b holds o (items ++ more) turn
-ready_by o items more turns.Alone on r = tt
-ready_by o items more (turns.Batched form place) on r = record {
+ready_by url holds o items more turns.Alone on r = tt
+ready_by url holds o items more (turns.Batched form place) on r = record {
   item = r.item;
   low = omega (arith, r.low, length-append items more);
   at = r.at ∙ sym (get_or_append_left items more r.item place r.low);
   batched = record { fit = r.batched.fit; new = record { none = on r.batched.new.none; there = r.batched.new.there }; digest = r.batched.digest };
 }
 
-pub ready_later : {root t : Elements} → IsApart root t → {url : List ℕ} {a b : Option Moments} {holds : Option Holdings} (o : Named) (items : List Item) (turn : Turn) → IsTold a → IsTold b → Always (Works t) a b → IsReady root url a holds o items turn → IsReady root url b holds o items turn
-ready_later {root = root} apart {url = url} {b = b} {holds = holds} o items turn told told' works r =
-    subst (λ (l : List Item). IsReady root url b holds o l turn) (append-nil items) (ready_by o items [] turn (λ has. lacks_later apart o.0 o.1 told told' works has) r)
+pub ready_later : {root t : Elements} → IsApart root t → (url : List ℕ) {a b : Option Moments} (holds : Option Holdings) (o : Named) (items : List Item) (turn : Turn) → IsTold a → IsTold b → Always (Works t) a b → IsReady root url a holds o items turn → IsReady root url b holds o items turn
+ready_later {root = root} apart url {b = b} holds o items turn told told' works r =
+    subst (λ (l : List Item). IsReady root url b holds o l turn) (append-nil items) (ready_by url holds o items [] turn (λ has. lacks_later apart o.0 o.1 told told' works has) r)
 
 -- one that was read whole
-pub batched_ready : {root : Elements} {url : List ℕ} {told : Option Moments} {holds : Option Holdings} (o : Named) (object : Object) (form : Form) (item : Item) (turns turns' : List Turn) (items items' : List Item) (place : ℕ) → IsFit o.1 object → IsNew root url told holds o.0 o.1 object
-    → IsParted object form item → place ≡ length items → items' ≡ items ++ item ∷ [] → turns' ≡ turns ++ turns.Batched form place ∷ [] → AddsTurn root url told holds o turns turns' items items'
+pub batched_ready : {root : Elements} {url : List ℕ} {told : Option Moments} {holds : Option Holdings} (o : Named) (object : Object) (form : Form) (item : Item) (ts ts' : List Turn) (items items' : List Item) (place : ℕ) → IsFit o.1 object → IsNew root url told holds o.0 o.1 object
+    → IsParted object form item → place ≡ length items → items' ≡ items ++ item ∷ [] → ts' ≡ ts ++ turns.Batched form place ∷ [] → AddsTurn root url told holds o ts ts' items items'
 batched_ready {root = root} {url = url} {told = told} {holds = holds} o object form item ts ts' items items' place fit new parts is items_are turns_are = record {
   turn = turns.Batched form place;
   more = item ∷ [];
@@ -124,6 +124,10 @@ below_or_at j zero low = inr (omega (arith, low))
 below_or_at zero (suc i) low = inl (omega arith)
 below_or_at (suc j) (suc i) low = elim (below_or_at j i (omega (arith, low))) [ inl less ↦ inl (omega (arith, less)) | inr same ↦ inr (ap suc same) ]
 
+-- one turn for each object
+pub next_long : {root : Elements} {url : List ℕ} {b : Option Moments} {holds : Option Holdings} (i : ℕ) (o : Named) (ts ts' : List Turn) (items items' : List Item) → length ts ≡ i → AddsTurn root url b holds o ts ts' items items' → length ts' ≡ i + 1
+next_long i o ts ts' items items' long adds = omega (arith, long, ap length adds.turns_are, length-append ts (adds.turn ∷ []))
+
 pub next_ready : {root : Elements} {url : List ℕ} {a b : Option Moments} {holds : Option Holdings} (objects : List Named) (i : ℕ) (o : Named) (ts ts' : List Turn) (items items' : List Item) → i < length objects → o ≡ get_or objects i o → length ts ≡ i → IsTold a → Unchanged a b
     → AreReady root url a holds i objects ts items → AddsTurn root url b holds o ts ts' items items' → AreReady root url b holds (i + 1) objects ts' items'
 next_ready {root = root} {url = url} {a = a} {b = b} {holds = holds} objects i o ts ts' items items' low is long told still ready adds = record {
@@ -133,7 +137,7 @@ next_ready {root = root} {url = url} {a = a} {b = b} {holds = holds} objects i o
       elim (below_or_at j i below) [
         | inl less ↦
             subst (λ (l : List Item). IsReady root url b holds p l turn) (sym adds.items_are)
-            (ready_by p items adds.more turn (λ has. lacks_same p.0 p.1 told still has)
+            (ready_by url holds p items adds.more turn (λ has. lacks_same p.0 p.1 told still has)
             (ready.each j p turn less p_is (turn_is' ∙ get_or_append_left ts (adds.turn ∷ []) turn j (omega (arith, less, long)))))
         | inr same ↦
             let own : turn ≡ adds.turn = turn_is' ∙ get_or_push ts adds.turn turn j (long ∙ sym same) in
@@ -142,10 +146,20 @@ next_ready {root = root} {url = url} {a = a} {b = b} {holds = holds} objects i o
       ];
 }
 
+-- the same lists
+pub ready_same : {root : Elements} {url : List ℕ} {told : Option Moments} {holds holds' : Option Holdings} (n : ℕ) (objects : List Named) (ts ts' : List Turn) (items items' : List Item) → holds' ≡ holds → ts' ≡ ts → items' ≡ items → AreReady root url told holds n objects ts items → AreReady root url told holds' n objects ts' items'
+ready_same {root = root} {url = url} {told = told} {holds = holds} n objects ts ts' items items' same turns_are items_are ready =
+    subst (λ (h : Option Holdings). AreReady root url told h n objects ts' items') (sym same)
+    (subst (λ (l : List Turn). AreReady root url told holds n objects l items') (sym turns_are) (subst (λ (l : List Item). AreReady root url told holds n objects ts l) (sym items_are) ready))
+
 pub none_ready : {root : Elements} {url : List ℕ} {a : Option Moments} {holds : Option Holdings} (objects : List Named) (ts : List Turn) (items : List Item) → AreReady root url a holds 0 objects ts items
 none_ready objects ts items = record { many = omega arith; each = λ j p turn below p_is turn_is. absurd (omega (arith, below)) }
 
 -- ---- an object whose turn has come
+
+-- it was read whole
+pub read_whole : (root : Elements) (url : List ℕ) (told : Option Moments) (holds : Option Holdings) (o : Named) (items : List Item) (turn : Turn) (form : Form) (place : ℕ) → turn ≡ turns.Batched form place → IsReady root url told holds o items turn → IsBatchedAt root url told holds o form items place
+read_whole root url told holds o items turn form place is ready = subst (λ (t : Turn). IsReady root url told holds o items t) is ready
 
 -- the item that was read at its place
 pub batched_at : {root : Elements} {url : List ℕ} {told : Option Moments} {holds : Option Holdings} (o : Named) (form : Form) (items : List Item) (place : ℕ) (item : Item) → IsBatchedAt root url told holds o form items place → item ≡ get_or items place item → IsBatched root url told holds o form item

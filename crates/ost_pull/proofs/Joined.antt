@@ -1,5 +1,5 @@
 -- Batches that are taken one after another.
-use Rattle.std.proofs.Common.{◌≡◌, ◌⊎◌, ◌<◌, ◌≤◌, ◌+◌, inl, inr, ℕ, List, [], ◌∷◌, ◌++◌, take, drop, length, Option, Some, None, Result, Ok, Err, refl, sym, ◌∙◌, ap, subst, arith}
+use Rattle.std.proofs.Common.{◌≡◌, ◌⊎◌, ◌≤◌, inl, inr, ℕ, List, [], ◌∷◌, ◌++◌, take, drop, Option, Some, None, sym, ◌∙◌, ap, subst}
 use Rattle.std.specs.List.{between}
 use Rattle.std.proofs.lemmas.List.{take-append-drop, take-take}
 use Rattle.std.proofs.lemmas.List.Edits.{split_between}
@@ -7,15 +7,14 @@ use Rattle.std.proofs.lemmas.Slice.{between_is}
 use Rattle.fp_host.specs.Paths.{Elements}
 use Rattle.fp_host.specs.View.{View, IsTree}
 use Rattle.fp_host.specs.Remote.{Holdings}
-use Rattle.ost_model.specs.Objects.{Have, Fault, or_else}
+use Rattle.ost_model.specs.Objects.{Have, or_else}
 use Rattle.ost_model.specs.Order.{In}
-use Rattle.ost_walk.specs.declared.ends.WalkFault.{WalkFault}
 use Rattle.ost_walk.specs.declared.ends.WalkEnd.{WalkEnd}
 use Rattle.ost_walk.specs.declared.ends.WalkEnd.TheVariants as ends
 use Rattle.ost_walk.specs.Ends.{RefusesBy}
 use Rattle.ost_walk.specs.Surveys.{first_bad, told_fault}
 use Rattle.ost_pull.specs.Pulls.{IsApart}
-use Rattle.ost_pull.specs.Takes.{AddsAmong, AreTaken, IsCovered, StaysNoted, TakesAll}
+use Rattle.ost_pull.specs.Takes.{AddsAmong, StaysNoted, TakesAll}
 use Rattle.ost_pull.specs.Work.{Adds, Works}
 use Rattle.ost_pull.proofs.Apart.{works_object}
 use Rattle.ost_pull.proofs.Kept.{Named}

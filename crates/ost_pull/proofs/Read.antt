@@ -1,28 +1,29 @@
 -- Small objects of a remote that are read whole.
-use Rattle.std.proofs.Common.{◌≡◌, ◌≤◌, ◌*◌, ◌++◌, ℕ, List, [], length, Bool, true, false, Option, Some, None, refl, sym, ◌∙◌, ap, subst, arith}
-use Rattle.std.specs.Prelude.{not, if◌then◌else◌, IfSome, Result, Ok, Err}
+use Rattle.std.proofs.Common.{◌≡◌, ◌≤◌, ◌*◌, ◌++◌, ℕ, List, [], length, true, false, Option, Some, None, refl, sym, ◌∙◌, ap, subst, arith}
+use Rattle.std.specs.Prelude.{not, if◌then◌else◌, IfOk, IfSome, Result, Ok, Err}
 use Rattle.std.specs.Str.{bytes_eq}
 use Rattle.std.proofs.lemmas.Bool.{le-leb}
 use Rattle.std.proofs.lemmas.List.{append-nil}
 use Rattle.std.proofs.lemmas.Slice.Eq.{bytes_eq-Decides}
 use Rattle.sha2.specs.Sha256.{sha256}
-use Rattle.fp_host.specs.Paths.{is_link_text}
+use Rattle.fp_host.specs.Paths.{Elements, is_link_text}
 use Rattle.fp_host.specs.Outcome.{holds, points}
-use Rattle.fp_host.specs.Remote.{Held, nothing, directory, contents, target, IsNode, bytes_of}
+use Rattle.fp_host.specs.Remote.{Held, Holdings, nothing, directory, contents, target, IsNode, bytes_of}
 use Rattle.fp_host.specs.declared.remotes.Node.TheVariants as nodes
 use Rattle.fp_base.specs.declared.object.ObjKind.{ObjKind}
 use Rattle.fp_base.specs.declared.object.ObjKind.TheVariants as kinds
 use Rattle.ost_model.specs.declared.object.Object.{Object}
 use Rattle.ost_model.specs.declared.object.Object.TheVariants as objects
 use Rattle.ost_model.specs.Contents.{is_permission, header, link_header, file_digest, link_digest, meta_digest}
-use Rattle.ost_model.specs.Objects.{Fault, missing, too_long, refused_mode, corrupt, or_else, unless, as_malformed, may_be_link, digest_of, digest_fault, mode_fault, rule_fault, content_fault, dir_mode_fault, object_at, object_fault}
+use Rattle.ost_model.specs.Objects.{Fault, missing, too_long, refused_mode, corrupt, or_else, unless, as_malformed, may_be_link, digest_of, digest_fault, mode_fault, rule_fault, content_fault, dir_mode_fault, object_at, object_path, object_fault}
 use Rattle.fp_base.specs.declared.rule.Rule.{Rule}
 use Rattle.ost_model.specs.Fields.{CommitView}
 use Rattle.ost_model.specs.Readers.{commit_read, if_broken}
-use Rattle.ost_model.specs.Remotes.{as_spot}
+use Rattle.ost_model.specs.Remotes.{as_spot, remote_at}
 use Rattle.ost_object.specs.Answers.{mapped}
 use Rattle.ost_object.specs.Views.{root_in}
 use Rattle.ost_store.specs.Stage.{IsKeepable}
+use Rattle.ost_walk.specs.declared.ends.WalkEnd.{WalkEnd}
 use Rattle.ost_head.specs.Objects.{IsFit, rules_fault}
 
 -- ---- what a node of a remote tells
@@ -62,6 +63,15 @@ text_there text good = ap (λ b. if b then Some (objects.Link text) else None) g
 
 pub link_there : (h : Held) (text : List ℕ) (found : Option Object) → IsNode h (nodes.Link text) → IfSome found (λ object. object_at kinds.File (points text) ≡ Some object) → IfSome found (λ object. object_at kinds.File (as_spot h) ≡ Some object)
 link_there h text found node there = subst (λ (x : Held). IfSome found (λ object. object_at kinds.File (as_spot x) ≡ Some object)) (sym (node_link h text node)) there
+
+-- what was read at its path is the remote's object
+pub object_there : (held : Holdings) (url d : List ℕ) (kind k : ObjKind) (p root : Elements) (r : Result (Option Object) WalkEnd) → p ≡ object_path root d kind → root ≡ [] → kind ≡ k
+    → IfOk r (λ found. IfSome found (λ object. object_at k (as_spot (held url p)) ≡ Some object)) → IfOk r (λ found. IfSome found (λ object. remote_at held url d kind ≡ Some object))
+object_there held url d kind k p root r is top kind_is there =
+    let at : object_at k (as_spot (held url p)) ≡ remote_at held url d kind =
+    ap (λ (q : Elements). object_at k (as_spot (held url q))) (is ∙ ap (λ (x : Elements). object_path x d kind) top)
+    ∙ ap (λ (x : ObjKind). object_at x (as_spot (held url (object_path [] d kind)))) (sym kind_is) in
+    subst (λ (o : Option Object). IfOk r (λ found. IfSome found (λ object. o ≡ Some object))) at there
 
 -- ---- it is fit
 

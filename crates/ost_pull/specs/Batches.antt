@@ -1,5 +1,5 @@
 -- Small objects of a remote that are read whole, a batch at a time, before their digests are taken.
-use Rattle.std.specs.Prelude.{◌≡◌, ◌≤◌, ◌<◌, ℕ, List, ◌∷◌, ◌++◌, [], length, get_or, Option, Some, None}
+use Rattle.std.specs.Prelude.{◌≡◌, ◌≤◌, ◌<◌, ℕ, List, ◌∷◌, ◌++◌, [], length, get_or, Option}
 use Rattle.fp_host.specs.Paths.{Elements}
 use Rattle.fp_host.specs.Moments.{Moments}
 use Rattle.fp_host.specs.Remote.{Holdings}

@@ -39,7 +39,6 @@ pub(crate) struct Batch {
 
 /// Whether the object is to be read with the others: the store has none, it isn't kept in the work folder, and it isn't among
 /// those before it.
-#[tactic(auto, using(crate::proofs::Batched::lacks_found, crate::proofs::Batched::lacks_same))]
 fn is_wanted<H: Host>(
     alloc: Global,
     host: &mut H,
@@ -54,7 +53,10 @@ fn is_wanted<H: Host>(
     ensures fault_has_cause { IsCounted (IsErrOf result HostEnd.Fault) (H.moments host.old)
         (H.faults host.old) (H.faults host.new) }
 {
-    if before.contains(&(*digest, kind)) || has(alloc, host, root, digest, kind)? {
+    if before.contains(&(*digest, kind)) {
+        return Ok(false);
+    }
+    if has(alloc, host, root, digest, kind)? {
         return Ok(false);
     }
     let path = path_of(alloc, work, digest, kind)?;

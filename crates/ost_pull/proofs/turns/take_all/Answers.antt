@@ -34,10 +34,10 @@ loop-at-preserved g c =
     let before = c.loop-at.invariant in
     let objects = c.args.objects.now in
     let i = c.loop-at.at in
-    let j = c.batch_end.result in
-    let le = c.batch_end.ensures.later in
+    let j = c.batch_end-end.result in
+    let le = c.batch_end-end.ensures.later in
     record {
-      low = c.batch_end.ensures.within;
+      low = c.batch_end-end.ensures.within;
       works = works_within (t c.loop-at.host) c.take_batch.ensures.any_moment before.works;
       same = c.take_batch.ensures.same ∙ before.same;
       only = added_more objects i j (omega (arith, le)) c.args.kept.now.items c.loop-at.kept.items c.take_batch.new.kept.items before.only c.in-Ok.ensures.only;
@@ -63,7 +63,7 @@ pub returns-in-Err-clause-tells : goal.returns-in-Err-clause-tells
 returns-in-Err-clause-tells g c have s now =
     let t = g.met.H.Host.is_tree in
     let before = c.loop-at.invariant in
-    bad_more have c.args.objects.now c.loop-at.at c.batch_end.result (omega (arith, c.batch_end.ensures.later)) (before.good have s now) c.in-Err.end
+    bad_more have c.args.objects.now c.loop-at.at c.batch_end-end.result (omega (arith, c.batch_end-end.ensures.later)) (before.good have s now) c.in-Err.end
     (c.in-Err.ensures.tells have (works_supplies c.args.root.now c.args.work.now c.requires (t c.args.host.now) (t c.loop-at.host) before.works before.same s)
     (subst (λ (holds : Option Holdings). AreTakenNow c.args.root.now c.args.work.now c.args.url.now holds c.loop-at.kept.items (g.H.Host.moments c.loop-at.host)) (sym before.same)
     (taken_from before.taken s.moments s.told_is (λ w q. q.taken (now.are s.moments s.told_is)))))

@@ -1,4 +1,4 @@
-use Rattle.std.proofs.Common.{◌-◌, ◌≡◌, ◌≤◌, ℕ, length, take, None, Some}
+use Rattle.std.proofs.Common.{◌-◌, ◌≡◌, ◌≤◌, length, take, None, Some}
 use Rattle.fp_host.specs.Frame.{AtEnd}
 use Rattle.fp_host.specs.Moments.{Always}
 use Rattle.ost_model.specs.Objects.{Have}

@@ -6,9 +6,9 @@ use Rattle.fp_host.specs.Remote.{Holdings}
 use Rattle.fp_host.proofs.Cause.{Rose-later}
 use Rattle.fp_host.proofs.Ending.{ends_on, ends_looks}
 use Rattle.ost_walk.specs.Surveys.{first_bad, told_fault}
-use Rattle.ost_pull.specs.Batches.{AreReady}
 use Rattle.ost_pull.specs.Takes.{AreTaken, AreTakenNow, TakesAll}
 use Rattle.ost_pull.specs.Work.{AreOpen}
+use Rattle.ost_pull.proofs.Batched.{ready_same}
 use Rattle.ost_pull.proofs.Kept.{works_looks, works_within}
 use Rattle.ost_pull.proofs.Taken.{passed, counted, remotes_pass, still_supplied, taken_from, never_named}
 use Rattle.ost_pull.proofs.turns.take_batch.Goals as goal
@@ -18,18 +18,18 @@ returns-in_err-digests-in-Ok-clause-any_moment g c = works_looks (g.met.H.Host.i
 
 pub take_turns-requires-clause-ready : goal.take_turns-requires-clause-ready
 take_turns-requires-clause-ready g c =
-    subst (λ (h : Option Holdings). AreReady c.args.root.now c.args.url.now (g.H.Host.moments c.read_batch.new.host) h (length c.args.objects.now) c.args.objects.now c.in-Ok.batch.turns.items c.in-Ok.batch.items.items) (sym c.read_batch.ensures.same) c.in-Ok.ensures.ready
+    ready_same (length c.args.objects.now) c.args.objects.now c.in-Ok.batch.turns.items c.deref-in-Ok.result.now c.in-Ok.batch.items.items c.deref-in-Ok-2.result.now c.read_batch.ensures.same c.deref-in-Ok.ensures.value c.deref-in-Ok-2.ensures.value c.in-Ok.ensures.ready
 
-pub returns-in-Ok-clause-any_moment : goal.returns-in-Ok-clause-any_moment
-returns-in-Ok-clause-any_moment g c =
+pub returns-in_ok-digests-in-Ok-clause-any_moment : goal.returns-in_ok-digests-in-Ok-clause-any_moment
+returns-in_ok-digests-in-Ok-clause-any_moment g c =
     let t = g.met.H.Host.is_tree in
     works_within (t c.read_batch.new.host) c.take_turns.ensures.any_moment (works_looks (t c.args.host.now) c.read_batch.ensures.unchanged)
 
-pub returns-in-Ok-clause-same : goal.returns-in-Ok-clause-same
-returns-in-Ok-clause-same g c = c.take_turns.ensures.same ∙ c.read_batch.ensures.same
+pub returns-in_ok-digests-in-Ok-clause-same : goal.returns-in_ok-digests-in-Ok-clause-same
+returns-in_ok-digests-in-Ok-clause-same g c = c.take_turns.ensures.same ∙ c.read_batch.ensures.same
 
-pub returns-in-Ok-clause-on_success : goal.returns-in-Ok-clause-on_success
-returns-in-Ok-clause-on_success g c =
+pub returns-in_ok-digests-in-Ok-clause-on_success : goal.returns-in_ok-digests-in-Ok-clause-on_success
+returns-in_ok-digests-in-Ok-clause-on_success g c =
     let t = g.met.H.Host.is_tree in
     let root = c.args.root.now in
     let work = c.args.work.now in
@@ -45,8 +45,8 @@ returns-in-Ok-clause-on_success g c =
     (λ u v w tree q s. subst (λ (x : View). TakesAll root work url holds objects before after x w) q.0 s))
     c.take_turns.ensures.on_success
 
-pub returns-in-Ok-clause-tells : goal.returns-in-Ok-clause-tells
-returns-in-Ok-clause-tells g c have s now =
+pub returns-in_ok-digests-in-Ok-clause-tells : goal.returns-in_ok-digests-in-Ok-clause-tells
+returns-in_ok-digests-in-Ok-clause-tells g c have s now =
     let root = c.args.root.now in
     let work = c.args.work.now in
     let url = c.args.url.now in
@@ -56,26 +56,26 @@ returns-in-Ok-clause-tells g c have s now =
     c.take_turns.ensures.tells have (still_supplied c.read_batch.ensures.unchanged c.read_batch.ensures.same s)
     (subst (λ (h : Option Holdings). AreTakenNow root work url h before (g.H.Host.moments c.read_batch.new.host)) (sym c.read_batch.ensures.same) there)
 
-pub returns-in-Ok-clause-fault_has_cause : goal.returns-in-Ok-clause-fault_has_cause
-returns-in-Ok-clause-fault_has_cause g c =
+pub returns-in_ok-digests-in-Ok-clause-fault_has_cause : goal.returns-in_ok-digests-in-Ok-clause-fault_has_cause
+returns-in_ok-digests-in-Ok-clause-fault_has_cause g c =
     let t = g.met.H.Host.is_tree in
     passed (AreOpen c.args.work.now) (AreOpen c.args.work.now) (t c.args.host.now) c.read_batch.ensures.fault_has_cause.later (ends_looks (t c.args.host.now) c.read_batch.ensures.unchanged) c.take_turns.ensures.fault_has_cause (λ is. is)
     (λ u v tree q can. subst (AreOpen c.args.work.now) (sym q.0) can)
 
-pub returns-in-Ok-clause-remote_fault_has_cause : goal.returns-in-Ok-clause-remote_fault_has_cause
-returns-in-Ok-clause-remote_fault_has_cause g c =
+pub returns-in_ok-digests-in-Ok-clause-remote_fault_has_cause : goal.returns-in_ok-digests-in-Ok-clause-remote_fault_has_cause
+returns-in_ok-digests-in-Ok-clause-remote_fault_has_cause g c =
     let cause = c.take_turns.ensures.remote_fault_has_cause in
     let before = c.read_batch.ensures.remote_fault_has_cause.later in
     record { later = omega (arith, before, cause.later); rose = λ is. Rose-later _ _ _ before (cause.rose is) }
 
-pub returns-clause-any_moment : goal.returns-clause-any_moment
-returns-clause-any_moment g c = works_looks (g.met.H.Host.is_tree c.args.host.now) c.read_batch.ensures.unchanged
+pub returns-in-Err-clause-any_moment : goal.returns-in-Err-clause-any_moment
+returns-in-Err-clause-any_moment g c = works_looks (g.met.H.Host.is_tree c.args.host.now) c.read_batch.ensures.unchanged
 
-pub returns-clause-tells : goal.returns-clause-tells
-returns-clause-tells g c have s now = never_named (λ w. first_bad have c.args.objects.now ≡ Some (told_fault w)) c.in-Err.end c.in-Err.ensures.refuses
+pub returns-in-Err-clause-tells : goal.returns-in-Err-clause-tells
+returns-in-Err-clause-tells g c have s now = never_named (λ w. first_bad have c.args.objects.now ≡ Some (told_fault w)) c.in-Err.end c.in-Err.ensures.refuses
 
-pub returns-clause-fault_has_cause : goal.returns-clause-fault_has_cause
-returns-clause-fault_has_cause g c = counted (λ is. cc is) c.in-Err.ensures.fault_has_cause
+pub returns-in-Err-clause-fault_has_cause : goal.returns-in-Err-clause-fault_has_cause
+returns-in-Err-clause-fault_has_cause g c = counted (λ is. cc is) c.in-Err.ensures.fault_has_cause
 
-pub returns-clause-remote_fault_has_cause : goal.returns-clause-remote_fault_has_cause
-returns-clause-remote_fault_has_cause g c = remotes_pass (λ is. cc is) c.in-Err.ensures.remote_fault_has_cause
+pub returns-in-Err-clause-remote_fault_has_cause : goal.returns-in-Err-clause-remote_fault_has_cause
+returns-in-Err-clause-remote_fault_has_cause g c = remotes_pass (λ is. cc is) c.in-Err.ensures.remote_fault_has_cause

@@ -65,7 +65,7 @@ take_turn-requires-clause-ready g c =
     let o = c.index-objects-at.result in
     let turn = c.index-turns-at.result in
     subst (λ (holds : Option Holdings). IsReady c.args.root.now c.args.url.now (g.H.Host.moments c.loop-at.host) holds (o.0, o.1) c.args.items.now turn) (sym before.same)
-    (ready_later c.requires.apart (o.0, o.1) c.args.items.now turn (t c.args.host.now) (t c.loop-at.host) before.works
+    (ready_later c.requires.apart c.args.url.now (g.R.Remotes.holds c.args.remotes.now) (o.0, o.1) c.args.items.now turn (t c.args.host.now) (t c.loop-at.host) before.works
     (c.requires.ready.each c.loop-at.at (o.0, o.1) turn c.loop-at-test.true c.index-objects-at.is c.index-turns-at.is))
 
 pub returns-in-Err-clause-any_moment : goal.returns-in-Err-clause-any_moment
