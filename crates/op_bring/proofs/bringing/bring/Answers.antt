@@ -77,11 +77,13 @@ returns-in_err-places-clause-starved_opens g c is =
     given_still c.args.opened (g.R.Remotes.holds c.args.remotes.now) (t c.args.host.now) still
 
 pub fetch-requires : goal.fetch-requires
-fetch-requires g c =
-    record {
-      places = c.in_ok-places.ensures;
-      unkept = λ is. unkept_by c.requires.moves (λ has. c.is_kept-kept.ensures.unkept is (subst (λ (s : State). HasRow s c.args.name.now (HasPrevious c.args.commit.now)) (sym c.state-2.ensures) has));
-    }
+fetch-requires g c = (
+  c.type_bounds.sync-typeof-rt,
+  (
+    c.in_ok-places.ensures,
+    λ is. unkept_by c.requires.moves (λ has. c.is_kept-kept.ensures.unkept is (subst (λ (s : State). HasRow s c.args.name.now (HasPrevious c.args.commit.now)) (sym c.state-2.ensures) has)),
+  ),
+)
 
 pub returns-in_err-fetch-clause-answers : goal.returns-in_err-fetch-clause-answers
 returns-in_err-fetch-clause-answers g c have x =

@@ -49,7 +49,7 @@ returns-in_err-make_room-clause-remote_fault_has_cause g c =
 
 pub pull-requires : goal.pull-requires
 pull-requires g c =
-    let p = c.requires.places in pull_apart (sym p.repo_is) (sym p.work_is)
+    let p = c.requires.places in (c.type_bounds.sync-typeof-rt, pull_apart (sym p.repo_is) (sym p.work_is))
 
 pub returns-in_err-pull-clause-any_moment : goal.returns-in_err-pull-clause-any_moment
 returns-in_err-pull-clause-any_moment g c =

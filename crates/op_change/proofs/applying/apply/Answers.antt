@@ -12,7 +12,7 @@ use Rattle.op_change.proofs.applying.apply.Goals as goal
 pub bring_from-requires : goal.bring_from-requires
 bring_from-requires g c =
     let may = allowed c.args.opened c.args.op.now (Install c.in-Install.name c.in-Install.remote c.in-Install.commit) c.in-Install.is c.requires.may in
-    record { there = may.2; moves = install_moves c.args.opened c.in-Install.name may.1; good = c.requires.good }
+    (c.type_bounds.sync-typeof-rt, (may.2, (install_moves c.args.opened c.in-Install.name may.1, c.requires.good)))
 
 pub returns-in-Install-clause-answers : goal.returns-in-Install-clause-answers
 returns-in-Install-clause-answers g c have x =
@@ -60,7 +60,7 @@ returns-in-Install-clause-fault_has_cause g c =
 pub bring_from-requires-in-Update : goal.bring_from-requires-in-Update
 bring_from-requires-in-Update g c =
     let may = allowed c.args.opened c.args.op.now (Update c.in-Update.name c.in-Update.remote c.in-Update.commit) c.in-Update.is c.requires.may in
-    record { there = may.1; moves = update_moves c.args.opened c.in-Update.name may.0; good = c.requires.good }
+    (c.type_bounds.sync-typeof-rt, (may.1, (update_moves c.args.opened c.in-Update.name may.0, c.requires.good)))
 
 pub returns-in-Update-clause-answers : goal.returns-in-Update-clause-answers
 returns-in-Update-clause-answers g c have x =
