@@ -19,10 +19,12 @@ use fp_host::{Host, Remotes};
 use fp_name::RefKind;
 use fp_small::{RefRow, State};
 use std::alloc::{AllocError, Global};
+use std::thread::Threads;
 
 /// Makes the changes of an exercise on an opened installation, one after another up to the first refusal, over these remotes.
 /// Where none is refused, it prints how many applications and runtimes are deployed then.
 pub fn make_exercise<H: Host, R: Remotes>(
+    rt: &(impl Threads + Sync),
     alloc: Global,
     host: &mut H,
     remotes: &mut R,
@@ -35,7 +37,7 @@ pub fn make_exercise<H: Host, R: Remotes>(
         (outside (H.moments host.new) (H.faults host.new) (R.holds remotes.new) (R.faults remotes.new)) }
 {
     let changes = exercise_commands(alloc, apps.number())?;
-    let changed = change_all(alloc, host, remotes, opened, changes.as_slice())?;
+    let changed = change_all(rt, alloc, host, remotes, opened, changes.as_slice())?;
     say_end(alloc, host, remotes, changed, apps)
 }
 

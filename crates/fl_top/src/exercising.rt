@@ -75,7 +75,8 @@ pub(crate) fn run_exercise<T: Threads + Sync, H: Host, I: Source, G: Gate + Sync
 
 /// Opens the installation and makes the changes of an exercise, one after another up to the first refusal. Where none is refused,
 /// its last line is printed, and the exported files are brought in step with the state.
-pub(crate) fn exercise<H: Host, R: Remotes>(
+pub(crate) fn exercise<T: Threads + Sync, H: Host, R: Remotes>(
+    rt: &T,
     alloc: Global,
     host: &mut H,
     remotes: &mut R,
@@ -93,6 +94,6 @@ pub(crate) fn exercise<H: Host, R: Remotes>(
         (R.holds remotes.old) (R.holds remotes.new) (R.faults remotes.old) (R.faults remotes.new) }
 {
     let opened = open(alloc, host)?;
-    let changed = make_exercise(alloc, host, remotes, opened, apps)?;
+    let changed = make_exercise(rt, alloc, host, remotes, opened, apps)?;
     Ok(refresh(alloc, host, changed.state())?)
 }

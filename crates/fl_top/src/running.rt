@@ -206,7 +206,7 @@ fn perform<T: Threads + Sync, H: Host, R: Remotes, I: Source, G: Gate + Sync>(
         Command::Batch => batch(rt, alloc, input, host, remotes),
         Command::Fsck => Ok(check(rt, alloc, host, gate)?),
         Command::Export { remote, name } => export(rt, alloc, input, host, &remote, &name),
-        Command::Exercise(apps) => Ok(exercise(alloc, host, remotes, &apps)?),
+        Command::Exercise(apps) => Ok(exercise(rt, alloc, host, remotes, &apps)?),
     }
 }
 
