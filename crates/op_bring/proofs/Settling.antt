@@ -1,25 +1,21 @@
 -- What a refused commit leaves is settled where all was.
-use Rattle.std.proofs.Common.{◌≡◌, ◌≢◌, ◌⊎◌, inl, inr, true, false, Bool, ℕ, List, [], ◌∷◌, ◌++◌, refl, sym, ◌∙◌, ap, subst, codes}
-use Rattle.std.specs.Prelude.{if◌then◌else◌}
+use Rattle.std.proofs.Common.{◌≡◌, ◌≢◌, ◌⊎◌, inl, inr, ℕ, List, [], ◌∷◌, ◌++◌, refl, sym, ◌∙◌, ap, subst, codes}
 use Rattle.std.proofs.lemmas.Bool.{cases_Bool, cond-false}
 use Rattle.fp_base.specs.declared.object.ObjKind.{ObjKind}
-use Rattle.fp_host.specs.Paths.{Elements, Slot, absent, dir, IsAbove}
+use Rattle.fp_host.specs.Paths.{Elements, absent}
 use Rattle.fp_host.specs.View.{View, IsTree}
 use Rattle.fp_host.specs.Outcome.{Disk, gone, spot_of, shows}
-use Rattle.fp_name.specs.Hex.{hex, is_digest}
+use Rattle.fp_name.specs.Hex.{hex}
 use Rattle.fp_name.specs.Refs.{Ref, is_ref, ref_text}
 use Rattle.fp_name.proofs.Refs.{ref_of-ref_text}
-use Rattle.fp_small.specs.Clear.{IsWithin}
 use Rattle.fp_small.specs.Files.{KeepsFiles}
 use Rattle.fp_small.specs.Places.{repo, tmp}
 use Rattle.fp_small.specs.declared.state.State.{State}
-use Rattle.fp_small.specs.declared.state.RefRow.{RefRow}
 use Rattle.ost_model.specs.Objects.{object_path, store}
 use Rattle.ost_model.specs.Order.{In, order}
-use Rattle.dep_states.specs.Frames.{KeptIn}
 use Rattle.dep_states.specs.Names.{config, remotes_conf, pins_file, active, commit_dir, ref_file}
-use Rattle.dep_states.specs.Settled.{Settled, Used, HasBytes, HasOrigin}
-use Rattle.dep_states.specs.Shown.{Shows, ref_seen, row_seen, there, away, by_active}
+use Rattle.dep_states.specs.Settled.{Settled, Used, HasBytes}
+use Rattle.dep_states.specs.Shown.{Shows, ref_seen, row_seen, away, by_active}
 use Rattle.dep_states.specs.Sound.{Keeps, Opens}
 use Rattle.dep_states.specs.Zones.{outward}
 use Rattle.dep_states.proofs.Deployed.{outward_append, top}
