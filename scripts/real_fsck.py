@@ -1,14 +1,14 @@
 #!/usr/bin/python3
 """Compares what `fpk fsck` finds in a store with what the real `ostree fsck` does.
 
-usage: real_fsck.py PROGRAM..        as: real_fsck.py crates/fpk/out/fpk
+usage: real_fsck.py [FILES] PROGRAM..        as: real_fsck.py 10000 crates/fpk/out/fpk
 
-A store of some 2,000 objects is made by `ostree commit`. It is checked by both as it is, and once with each kind of damage: both have to
-call the same store good, and fpk has to name just the object that was damaged. What is known to differ, and why, stands in KNOWN. It needs
-Debian's package ostree. The last line is `all the same` or the number of differences that aren't known."""
+A store of FILES files, each in a directory of its own, is made by `ostree commit`: some 2,000 objects where FILES isn't said. It is
+checked by both as it is, and once with each kind of damage: both have to call the same store good, and fpk has to name just the object
+that was damaged. What is known to differ, and why, stands in KNOWN. It needs Debian's package ostree. The last line is `all the same` or the number of differences that aren't known."""
 import os, re, shutil, subprocess, sys, tempfile, time
 
-FILES, REF = 1000, "app/org.x.App/x86_64/stable"
+REF = "app/org.x.App/x86_64/stable"
 NAME = re.compile("objects/[0-9a-f]{2}/[0-9a-f]{62}[.](commit|dirtree|dirmeta|file)")
 # The damage that the two judge differently: what fpk finds, and why.
 KNOWN = {
@@ -24,11 +24,11 @@ def ostree(*words):
     return subprocess.run(["ostree", *words], capture_output=True, text=True)
 
 
-def make(folder):
-    """An installation whose store has some 2,000 objects."""
+def make(folder, files):
+    """An installation whose store has this many files, and somewhat more than as many other objects."""
     tree, repo = folder + "/tree", folder + "/installation/repo"
     os.makedirs(folder + "/installation")
-    for number in range(FILES):
+    for number in range(files):
         directory = f"{tree}/files/{number % 50}/{number}"
         os.makedirs(directory)
         with open(directory + "/data", "wb") as file:
@@ -142,13 +142,15 @@ def expected(repo, damaged, stray):
 
 
 def main():
-    program, unknown = sys.argv[1:], 0
+    program, unknown, files = sys.argv[1:], 0, 1000
+    if program and program[0].isdigit():
+        files = int(program.pop(0))
     if not program:
         raise SystemExit(__doc__)
     program[0] = os.path.abspath(program[0]) if os.path.exists(program[0]) else program[0]
     os.umask(0o022)
     with tempfile.TemporaryDirectory() as folder:
-        repo = make(folder)
+        repo = make(folder, files)
         whole = repo + ".whole"
         shutil.copytree(repo, whole, symlinks=True)
         count, spent = len(damages(repo)), {"fpk": 0.0, "ostree": 0.0}

@@ -1,16 +1,18 @@
 #!/usr/bin/env python3
 """Measures installs and updates beside the real ostree.
 
-usage: speed.py FPK [FILES] [DIRECTORIES]
+usage: speed.py FPK [FILES] [DIRECTORIES] [REMOTES]
 
 FPK is the program that was built; Debian's packages ostree and strace are needed. `ostree commit` makes a runtime of FILES files of
 4 KiB in DIRECTORIES directories (20000 in 200 where nothing is said). Both programs bring it from that folder into a new store and lay
 it out with hard links, both looking at each digest: `fpk install`, and `ostree pull-local --untrusted` with `ostree checkout -H -U`.
 Then one file of each directory is changed, and both bring that; then nothing is changed. It prints for each step the time by the
 clock, that of the processor, the peak of memory, and the first divided by that of ostree; and which calls of the system fpk makes,
-counted by `strace -c` over a second installation. All in one folder below TMPDIR.
+counted by `strace -c` over a second installation. All in one folder below TMPDIR, but for the repository, which is made in a folder
+below REMOTES where that is said: one of another file system, say, from which nothing can be linked.
 """
 
+import contextlib
 import os
 import subprocess
 import sys
@@ -49,10 +51,11 @@ class Cost:
 class Bench:
     """A repository, an installation of fpk, and a store of ostree with what is laid out of it."""
 
-    def __init__(self, fpk, folder, files, directories):
+    def __init__(self, fpk, folder, remotes, files, directories):
         self.fpk, self.folder = os.path.abspath(fpk), folder
         self.files, self.directories = files, directories
-        self.tree, self.repo, self.store = (os.path.join(folder, name) for name in ("tree", "repo", "store"))
+        self.tree, self.repo = (os.path.join(remotes, name) for name in ("tree", "repo"))
+        self.store = os.path.join(folder, "store")
         for repo in (self.repo, self.store):
             Cost().run(["ostree", "init", "--mode=bare-user-only", "--repo", repo])
         self.offered = None
@@ -145,12 +148,16 @@ def play(bench):
 
 
 def main():
-    if not 2 <= len(sys.argv) <= 4:
+    if not 2 <= len(sys.argv) <= 5:
         sys.exit(__doc__)
     os.umask(0o022)
-    files, directories = [int(word) for word in sys.argv[2:]] + [20000, 200][len(sys.argv) - 2 :]
-    with tempfile.TemporaryDirectory(prefix="speed") as folder:
-        play(Bench(sys.argv[1], folder, files, directories))
+    files, directories = [int(word) for word in sys.argv[2:4]] + [20000, 200][len(sys.argv[2:4]) :]
+    with contextlib.ExitStack() as folders:
+        folder = folders.enter_context(tempfile.TemporaryDirectory(prefix="speed"))
+        remotes = folder
+        if len(sys.argv) == 5:
+            remotes = folders.enter_context(tempfile.TemporaryDirectory(prefix="speed", dir=sys.argv[4]))
+        play(Bench(sys.argv[1], folder, remotes, files, directories))
 
 
 if __name__ == "__main__":
