@@ -46,6 +46,7 @@ fpk list --remotes           prints the remotes
 fpk list --exports           prints the exported files, each with the application that it is of
 fpk fsck                     looks at each object of the store, and prints what is wrong there
 fpk export NAME REF          makes a remote of the tree that standard input describes
+fpk exercise COUNT           installs, updates and takes away COUNT made applications, from 1 to 64
 fpk filter RULE..            prints what the bus filter forwards of a recording
 fpk filter --from=APP        the same by what an application's launch grants on the session bus
 fpk filter --system --from=APP  the same on the system bus
