@@ -3,8 +3,8 @@ ghost use Rattle.std.specs.Thread.{IsSync};
 
 use crate::file::WatchedFile;
 use crate::line::Progress;
-use fp_realroot::{Access, Failure, System};
-use std::alloc::{Alloc, Allocator, Global};
+use fp_realroot::{Access, Failure, System, sync_open_in_turn};
+use std::alloc::{Alloc, AllocError, Allocator, Global};
 use std::fmt::Display;
 use std::fs::{Metadata, OpenOptions, Permissions};
 use std::io::{self, Eprint, Print};
@@ -183,9 +183,34 @@ impl<R: System + Clock> System for Watched<'_, R> {
         None
     }
 
+    fn sync_files<T: Threads + Sync>(&self, threads: &T, files: &[&Self::File]) -> Option<Failure>
+        requires sync { IsSync T.row }
+    {
+        let met = match inner_of(self.rt.alloc(), files) {
+            Ok(inner) => self.rt.sync_files(threads, &inner),
+            Err(_) => sync_open_in_turn(files),
+        };
+        if met.is_none() {
+            self.progress.add_synced(files.len());
+        }
+        met
+    }
+
     fn prints_to_terminal(&self) -> bool {
         self.rt.prints_to_terminal()
     }
+}
+
+// The files of the system below.
+fn inner_of<'f, F, R>(
+    alloc: Global,
+    files: &[&'f WatchedFile<'_, F, R>],
+) -> Result<Vec<&'f F>, AllocError> {
+    let mut inner = Vec::new(alloc);
+    for file in files {
+        inner.push(file.inner())?;
+    }
+    Ok(inner)
 }
 
 // The place of a failure in the part of this number, as one of the whole list.
