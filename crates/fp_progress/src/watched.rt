@@ -3,8 +3,8 @@ ghost use Rattle.std.specs.Thread.{IsSync};
 
 use crate::file::WatchedFile;
 use crate::line::Progress;
-use fp_realroot::{Access, Failure, System, sync_open_in_turn};
-use std::alloc::{Alloc, AllocError, Allocator, Global};
+use fp_realroot::{Access, Failure, System};
+use std::alloc::{Alloc, Allocator, Global};
 use std::fmt::Display;
 use std::fs::{Metadata, OpenOptions, Permissions};
 use std::io::{self, Eprint, Print};
@@ -176,7 +176,7 @@ impl<R: System + Clock> System for Watched<'_, R> {
     {
         for (i, part) in paths.chunks(PART).enumerate() {
             if let Some(failure) = self.rt.sync_paths(threads, part) {
-                return Some(failure_at(i, failure));
+                return Some(failure_after(i.saturating_mul(PART), failure));
             }
             self.progress.add_synced(part.len());
         }
@@ -186,14 +186,27 @@ impl<R: System + Clock> System for Watched<'_, R> {
     fn sync_files<T: Threads + Sync>(&self, threads: &T, files: &[&Self::File]) -> Option<Failure>
         requires sync { IsSync T.row }
     {
-        let met = match inner_of(self.rt.alloc(), files) {
-            Ok(inner) => self.rt.sync_files(threads, &inner),
-            Err(_) => sync_open_in_turn(files),
-        };
-        if met.is_none() {
-            self.progress.add_synced(files.len());
+        let mut inner = Vec::new(self.rt.alloc());
+        for file in files {
+            if inner.push(file.inner()).is_err() {
+                break;
+            }
         }
-        met
+        let met = self.rt.sync_files(threads, &inner);
+        if met.is_some() {
+            return met;
+        }
+        // Where there was no memory for a list of all of them, the others are synced one after another.
+        let listed = inner.len();
+        for (i, file) in files.iter().enumerate() {
+            if i >= listed
+                && let Some(failure) = self.rt.sync_files(threads, &[file.inner()])
+            {
+                return Some(failure_after(i, failure));
+            }
+        }
+        self.progress.add_synced(files.len());
+        None
     }
 
     fn prints_to_terminal(&self) -> bool {
@@ -201,22 +214,10 @@ impl<R: System + Clock> System for Watched<'_, R> {
     }
 }
 
-// The files of the system below.
-fn inner_of<'f, F, R>(
-    alloc: Global,
-    files: &[&'f WatchedFile<'_, F, R>],
-) -> Result<Vec<&'f F>, AllocError> {
-    let mut inner = Vec::new(alloc);
-    for file in files {
-        inner.push(file.inner())?;
-    }
-    Ok(inner)
-}
-
-// The place of a failure in the part of this number, as one of the whole list.
-fn failure_at(part: usize, failure: Failure) -> Failure {
+// The same failure, where the list before the one that it was met in has this length.
+fn failure_after(before: usize, failure: Failure) -> Failure {
     Failure {
-        place: part.saturating_mul(PART).saturating_add(failure.place),
+        place: before.saturating_add(failure.place),
         unsynced: failure.unsynced,
     }
 }
