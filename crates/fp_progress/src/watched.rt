@@ -176,10 +176,36 @@ impl<R: System + Clock> System for Watched<'_, R> {
     {
         for (i, part) in paths.chunks(PART).enumerate() {
             if let Some(failure) = self.rt.sync_paths(threads, part) {
-                return Some(failure_at(i, failure));
+                return Some(failure_after(i.saturating_mul(PART), failure));
             }
             self.progress.add_synced(part.len());
         }
+        None
+    }
+
+    fn sync_files<T: Threads + Sync>(&self, threads: &T, files: &[&Self::File]) -> Option<Failure>
+        requires sync { IsSync T.row }
+    {
+        let mut inner = Vec::new(self.rt.alloc());
+        for file in files {
+            if inner.push(file.inner()).is_err() {
+                break;
+            }
+        }
+        let met = self.rt.sync_files(threads, &inner);
+        if met.is_some() {
+            return met;
+        }
+        // Where there was no memory for a list of all of them, the others are synced one after another.
+        let listed = inner.len();
+        for (i, file) in files.iter().enumerate() {
+            if i >= listed
+                && let Some(failure) = self.rt.sync_files(threads, &[file.inner()])
+            {
+                return Some(failure_after(i, failure));
+            }
+        }
+        self.progress.add_synced(files.len());
         None
     }
 
@@ -188,10 +214,10 @@ impl<R: System + Clock> System for Watched<'_, R> {
     }
 }
 
-// The place of a failure in the part of this number, as one of the whole list.
-fn failure_at(part: usize, failure: Failure) -> Failure {
+// The same failure, where the list before the one that it was met in has this length.
+fn failure_after(before: usize, failure: Failure) -> Failure {
     Failure {
-        place: part.saturating_mul(PART).saturating_add(failure.place),
+        place: before.saturating_add(failure.place),
         unsynced: failure.unsynced,
     }
 }

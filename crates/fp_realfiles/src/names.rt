@@ -24,12 +24,13 @@ pub fn list_names<R: Files + AllocGlobal>(
     ensures { IfOk result AreNames }
 {
     match read_names(rt, alloc, at) {
-        Ok(names) => sorted(names, hidden),
+        Ok(names) => sorted_names(names, hidden),
         Err(e) => Err(e),
     }
 }
 
-fn sorted(mut names: Vec<Text>, hidden: &str) -> Result<Items<Text>, Cause>
+/// The names but the hidden one, ascending by their bytes. A name that no path may have is an error.
+pub fn sorted_names(mut names: Vec<Text>, hidden: &str) -> Result<Items<Text>, Cause>
     ensures { IfOk result AreNames }
 {
     names.retain(|name| name.as_str() != hidden);

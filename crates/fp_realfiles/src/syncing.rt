@@ -5,7 +5,7 @@ ghost use Rattle.std.specs.Thread.{IsSync};
 use crate::files::open_to_read;
 use fp_system::{Call, Cause, known};
 use std::fs;
-use std::fs::OpenFile;
+use std::fs::{File, OpenFile};
 use std::io::ErrorKind;
 use std::rt::Files;
 use std::thread::{Threads, join};
@@ -27,52 +27,58 @@ pub struct Failure {
 // How many threads sync at one time. A disk takes many syncs together in about the time of one.
 const THREADS: usize = 8;
 
-// As many paths at least are cut in halves.
+// As many at least are cut in halves.
 const LEAST: usize = 32;
 
-/// What makes the file or folder at a path last, and answers why it could not. What is gone is left out.
-pub trait Syncer {
-    fn sync_path(&self, at: &str) -> Option<Unsynced>;
+/// What makes something last, and answers why it could not. What is gone is left out.
+pub trait Syncer<I> {
+    fn sync_one(&self, item: &I) -> Option<Unsynced>;
 }
 
-impl Syncer for HostRuntime {
-    fn sync_path(&self, at: &str) -> Option<Unsynced> {
+impl<'a> Syncer<&'a str> for HostRuntime {
+    fn sync_one(&self, at: &&'a str) -> Option<Unsynced> {
         sync_plain(self, at)
     }
 }
 
-/// Syncs by several threads where there are many paths. It answers the first failure; but a sync that failed comes before what
-/// could not be opened.
-pub fn sync_by_threads<T: Threads + Sync, S: Syncer + Sync>(
-    threads: &T,
-    syncer: &S,
-    paths: &[&str],
-) -> Option<Failure> {
-    sync_parts(threads, syncer, 0, paths, paths.len().div_ceil(THREADS))
+impl<'a> Syncer<&'a File> for HostRuntime {
+    fn sync_one(&self, file: &&'a File) -> Option<Unsynced> {
+        sync_opened(*file)
+    }
 }
 
-// Cuts the paths in halves, down to this length, and each half is synced by a thread of its own. The first path has this place
-// in the list.
-fn sync_parts<T: Threads + Sync, S: Syncer + Sync>(
+/// Syncs by several threads where there are many paths or files. It answers the first failure; but a sync that failed comes
+/// before what could not be opened.
+pub fn sync_by_threads<T: Threads + Sync, I: Sync, S: Syncer<I> + Sync>(
+    threads: &T,
+    syncer: &S,
+    items: &[I],
+) -> Option<Failure> {
+    sync_parts(threads, syncer, 0, items, items.len().div_ceil(THREADS))
+}
+
+// Cuts them in halves, down to this length, and each half is synced by a thread of its own. The first one has this place in the
+// list.
+fn sync_parts<T: Threads + Sync, I: Sync, S: Syncer<I> + Sync>(
     threads: &T,
     syncer: &S,
     start: usize,
-    paths: &[&str],
+    items: &[I],
     most: usize,
 ) -> Option<Failure> {
-    if paths.len() < LEAST || paths.len() <= most {
-        return sync_part(syncer, start, paths);
+    if items.len() < LEAST || items.len() <= most {
+        return sync_part(syncer, start, items);
     }
-    let half = paths.len() / 2;
-    let (front, back) = paths.split_at(half);
+    let half = items.len() / 2;
+    let (front, back) = items.split_at(half);
     let next = start.saturating_add(half);
     let (first, second) = join(
         threads,
         || -> Option<Failure>
-            requires { IsSync T.row × IsSync S.row }
+            requires { IsSync T.row × IsSync S.row × IsSync I.row }
         { sync_parts(threads, syncer, start, front, most) },
         || -> Option<Failure>
-            requires { IsSync T.row × IsSync S.row }
+            requires { IsSync T.row × IsSync S.row × IsSync I.row }
         { sync_parts(threads, syncer, next, back, most) },
     );
     gravest(first, second)
@@ -112,11 +118,21 @@ fn is_told_once(failure: Failure) -> bool
     failure.unsynced.call == Call::Sync
 }
 
-// Syncs one after another. The first path has this place in the list.
-fn sync_part<S: Syncer>(syncer: &S, start: usize, paths: &[&str]) -> Option<Failure> {
-    for (i, at) in paths.iter().enumerate() {
-        if let Some(unsynced) = syncer.sync_path(at) {
+// Syncs one after another. The first one has this place in the list.
+fn sync_part<I, S: Syncer<I>>(syncer: &S, start: usize, items: &[I]) -> Option<Failure> {
+    for (i, item) in items.iter().enumerate() {
+        if let Some(unsynced) = syncer.sync_one(item) {
             return Some(failure_at(start, i, unsynced));
+        }
+    }
+    None
+}
+
+/// Syncs open files one after another, and answers the first that failed.
+pub fn sync_open_in_turn<F: OpenFile>(files: &[&F]) -> Option<Failure> {
+    for (i, file) in files.iter().enumerate() {
+        if let Some(unsynced) = sync_opened(*file) {
+            return Some(failure_at(0, i, unsynced));
         }
     }
     None

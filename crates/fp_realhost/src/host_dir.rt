@@ -29,18 +29,18 @@ use std::thread::Threads;
 ///
 /// A folder gets the permission bits 0755 and a file exactly those that were asked for, whatever the umask. What is moved
 /// into `repo/objects`, or written in `repo/tmp/pull/objects` to be moved there, gets the modification time 0, as OSTree's
-/// objects have. Ids are the numbers of inodes.
+/// objects have. Ids are the numbers of inodes, and of a file that the host made itself a number of its own.
 ///
 /// The root may be a symlink or stand below one. Below the root no symlink is followed: a call fails where one stands in the
 /// place of a folder above its path. What was found is remembered until the host changes it, and so is what the host made itself:
-/// each folder and file is looked at once, and a folder that is absent too. What another program puts in its place later is
-/// followed, or not seen.
+/// each folder and file is looked at once, and a folder that is absent too. The names in a folder that it made, and the bits and
+/// size of a file, it answers itself. What another program puts in its place later is followed, or not seen.
 ///
 /// A `sync` makes last each file and then each folder that was changed since the last one, many of them by several threads.
-/// While changes wait for it, the lock file holds the text that Linux gives this start of the machine. Where an earlier run of
-/// the same start left that, or the root was there without a lock file, the first `sync` makes last every file and folder that
-/// may be opened. After a sync of a file or folder that failed no later one succeeds, nor after a change that there was no
-/// memory to note.
+/// At most 192 files that wait for it stay open: where more are made, those are synced before. While changes wait for it, the
+/// lock file holds the text that Linux gives this start of the machine. Where an earlier run of the same start left that, or the
+/// root was there without a lock file, the first `sync` makes last every file and folder that may be opened. After a sync of a
+/// file or folder that failed no later one succeeds, nor after a change that there was no memory to note.
 ///
 /// Contracts see how often it failed, whether nothing waits for a sync, and how many bytes were printed.
 pub struct HostDir<'a, R: Files, T, O> {
@@ -214,7 +214,7 @@ impl<R: System, T: Threads, O: Print> Host for HostDir<'_, R, T, O> {
         ensures bits { OnOk result (mode ≤ 4095) }
         ensures needs_no_memory { NeedsNoMemory result }
     {
-        let done = self.tree.create(path, mode);
+        let done = self.tree.create(&self.team, path, mode);
         self.answer(Call::Create, path, done)
     }
 

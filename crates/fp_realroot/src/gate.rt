@@ -1,9 +1,8 @@
 // The root folder, and the lock.
 use crate::hold::Hold;
 use crate::roots::make_root;
-use crate::system::{Access, System};
-use crate::touched::Touched;
 use fp_host::Path;
+use fp_realsync::{Access, System, Touched};
 use fp_system::{Cause, Kind, has_folder, join, kind_at, known};
 use std::alloc::{AllocError, Global};
 use std::fs;

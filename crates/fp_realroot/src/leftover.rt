@@ -1,8 +1,8 @@
 // What an earlier run may have left that was stopped before its own sync.
 use crate::roots::{above_root, folder_at};
-use crate::touched::Touched;
 use fp_base::Text;
 use fp_realfiles::read_names;
+use fp_realsync::Touched;
 use fp_system::{Cause, Kind, kind_at};
 use std::alloc::{AllocError, Global};
 use std::rt::Files;

@@ -1,6 +1,6 @@
 // The root folder of a host and those above it.
-use crate::touched::Touched;
 use fp_realfiles::set_bits;
+use fp_realsync::Touched;
 use fp_system::{Cause, has_folder, known};
 use std::fs::DirBuilder;
 use std::os::unix::fs::DirBuilderExt;

@@ -1,10 +1,11 @@
 // What each call does to a real folder.
-use crate::fixture::{Runtime, Step, clear, first_done, first_other, is_message, make_file, path};
-use fp_host::{Host, HostEnd, HostError, Path, Stat};
+use crate::fixture::{Runtime, Step, all_fail, all_show, clear, is_message, make_file, path};
+use fp_host::{Host, HostError, Path, Stat};
 use fp_realhost::HostDir;
 use fp_realroot::Access;
 use std::alloc::Global;
-use std::test::Fail;
+use std::panic::Expect;
+use std::process::Abort;
 
 // Calls, a path, and what it shows after each.
 const ASKED: [(Step<'static>, &str, &str); 22] = [
@@ -32,19 +33,19 @@ const ASKED: [(Step<'static>, &str, &str); 22] = [
     (Step::Sync, "none/below", "absent"),
 ];
 
-// Whether each row shows what it says, and nothing failed.
-fn asked<R: Runtime>(rt: &R) -> Result<bool, Fail> {
-    let mut host = HostDir::new(rt, rt, rt, rt.alloc(), "asked/root", Access::Change)?;
-    let other = first_other(&mut host, rt.alloc(), &ASKED)?;
-    Ok(other.is_none() && host.faults() == 0)
+// Each row shows what it says. Answers how often a call failed.
+fn asked<R: Runtime>(rt: &R) -> u64 {
+    let host = HostDir::new(rt, rt, rt, rt.alloc(), "asked/root", Access::Change);
+    let mut host = host.expect(rt, "memory");
+    all_show(rt, &mut host, rt.alloc(), &ASKED);
+    host.faults()
 }
 
 #[test]
-fn a_folder_does_what_it_is_asked(rt: HostRuntime) -> Result<(), Fail> {
+fn a_folder_does_what_it_is_asked(rt: HostRuntime) {
     clear(&rt, "asked");
-    assert!(rt; asked(&rt)?);
+    assert!(rt; asked(&rt) == 0);
     clear(&rt, "asked");
-    Ok(())
 }
 
 const MADE: [(Step<'static>, &str, &str); 8] = [
@@ -95,38 +96,37 @@ const REFUSED: [Step<'static>; 29] = [
     Step::ReadLink("old"),
 ];
 
-// Whether each row shows what it says, and each call is a fault.
-fn refuse<R: Runtime>(rt: &R) -> Result<bool, Fail> {
-    let mut host = HostDir::new(rt, rt, rt, rt.alloc(), "refused", Access::Change)?;
-    let other = first_other(&mut host, rt.alloc(), &MADE)?;
-    let done = first_done(&mut host, rt.alloc(), &REFUSED);
+// Each row shows what it says, and each call is a fault. Answers whether all are counted, and the last is told.
+fn refuse<R: Runtime>(rt: &R) -> bool {
+    let host = HostDir::new(rt, rt, rt, rt.alloc(), "refused", Access::Change);
+    let mut host = host.expect(rt, "memory");
+    all_show(rt, &mut host, rt.alloc(), &MADE);
+    all_fail(rt, &mut host, rt.alloc(), &REFUSED);
     let last = "cannot read the link refused/old: Invalid argument (os error 22)";
-    let said = is_message(rt.alloc(), host.last_error(), last)?;
-    Ok(said && other.is_none() && done.is_none() && host.faults() == 29)
+    host.faults() == 29 && is_message(rt, rt.alloc(), host.last_error(), last)
 }
 
 #[test]
-fn what_breaks_a_condition_is_a_fault(rt: HostRuntime) -> Result<(), Fail> {
+fn what_breaks_a_condition_is_a_fault(rt: HostRuntime) {
     clear(&rt, "refused");
-    assert!(rt; refuse(&rt)?);
+    assert!(rt; refuse(&rt));
     clear(&rt, "refused");
-    Ok(())
 }
 
-fn is_in_the_way<R: Runtime>(rt: &R) -> Result<bool, Fail> {
-    let mut host = HostDir::new(rt, rt, rt, rt.alloc(), "above/file/root", Access::Look)?;
+fn is_in_the_way<R: Runtime>(rt: &R) -> bool {
+    let host = HostDir::new(rt, rt, rt, rt.alloc(), "above/file/root", Access::Look);
+    let mut host = host.expect(rt, "memory");
     let failed = host.stat(&Path::root(rt.alloc())) == Err(HostError::Failed);
     let last = "cannot use the folder above/file/root: Not a directory (os error 20)";
-    Ok(failed && is_message(rt.alloc(), host.last_error(), last)?)
+    failed && is_message(rt, rt.alloc(), host.last_error(), last)
 }
 
 #[test]
-fn a_file_in_the_place_of_the_root_is_a_fault(rt: HostRuntime) -> Result<(), Fail> {
+fn a_file_in_the_place_of_the_root_is_a_fault(rt: HostRuntime) {
     clear(&rt, "above");
-    make_file(&rt, "above", "above/file", "")?;
-    assert!(rt; is_in_the_way(&rt)?);
+    make_file(&rt, "above", "above/file", "");
+    assert!(rt; is_in_the_way(&rt));
     clear(&rt, "above");
-    Ok(())
 }
 
 const IDS: [(Step<'static>, &str, &str); 3] = [
@@ -135,30 +135,31 @@ const IDS: [(Step<'static>, &str, &str); 3] = [
     (Step::Link("a", "c"), "c", "644 0 "),
 ];
 
-fn stat_at<H: Host>(host: &mut H, alloc: Global, at: &str) -> Result<Stat, HostEnd> {
-    Ok(host.stat(&path(alloc, at)?)?)
+fn stat_at<H: Host>(rt: &impl Abort, host: &mut H, alloc: Global, at: &str) -> Stat {
+    host.stat(&path(rt, alloc, at)).expect(rt, at)
 }
 
-fn are_same<H: Host>(host: &mut H, alloc: Global, a: &str, b: &str) -> Result<bool, HostEnd> {
-    let there = stat_at(host, alloc, a)?;
-    Ok(there == stat_at(host, alloc, b)?)
+// Whether two names are of one file.
+fn are_one<H: Host>(rt: &impl Abort, host: &mut H, alloc: Global, a: &str, b: &str) -> bool {
+    let there = stat_at(rt, host, alloc, a);
+    there == stat_at(rt, host, alloc, b)
 }
 
-// Whether each row shows what it says, and the linked names are one file, and the others not.
-fn linked<R: Runtime>(rt: &R) -> Result<bool, Fail> {
+// Each row shows what it says. Answers whether the linked names are one file, and whether the others are.
+fn linked<R: Runtime>(rt: &R) -> (bool, bool) {
     let alloc = rt.alloc();
-    let mut host = HostDir::new(rt, rt, rt, alloc, "ids", Access::Change)?;
-    let other = first_other(&mut host, alloc, &IDS)?;
-    let linked = are_same(&mut host, alloc, "a", "c")?;
-    Ok(other.is_none() && linked && !are_same(&mut host, alloc, "a", "b")?)
+    let host = HostDir::new(rt, rt, rt, alloc, "ids", Access::Change);
+    let mut host = host.expect(rt, "memory");
+    all_show(rt, &mut host, alloc, &IDS);
+    let linked = are_one(rt, &mut host, alloc, "a", "c");
+    (linked, are_one(rt, &mut host, alloc, "a", "b"))
 }
 
 #[test]
-fn hard_links_have_one_id(rt: HostRuntime) -> Result<(), Fail> {
+fn hard_links_have_one_id(rt: HostRuntime) {
     clear(&rt, "ids");
-    assert!(rt; linked(&rt)?);
+    assert!(rt; linked(&rt) == (true, false));
     clear(&rt, "ids");
-    Ok(())
 }
 
 // A place in `hello world`, how many bytes come from there, and the buffer after.
@@ -170,29 +171,26 @@ const PIECES: [(u64, usize, [u8; 4]); 5] = [
     (u64::MAX, 0, *b"...."),
 ];
 
-// The first place from which something else is read.
-fn first_other_piece<H: Host>(host: &mut H, file: &Path) -> Result<Option<u64>, HostError> {
-    for row in &PIECES {
-        let (at, n, want) = row;
-        let mut into = *b"....";
-        if host.read_at(file, *at, &mut into)? != *n || into != *want {
-            return Ok(Some(*at));
-        }
-    }
-    Ok(None)
+// Whether the file gives this from a place on.
+fn gives<H: Host>(rt: &impl Abort, host: &mut H, file: &Path, row: &(u64, usize, [u8; 4])) -> bool {
+    let (at, n, want) = row;
+    let mut into = *b"....";
+    host.read_at(file, *at, &mut into).expect(rt, "bytes") == *n && into == *want
 }
 
-fn pieces<R: Runtime>(rt: &R) -> Result<Option<u64>, Fail> {
-    let mut host = HostDir::new(rt, rt, rt, rt.alloc(), "pieces", Access::Look)?;
-    let file = path(rt.alloc(), "file")?;
-    Ok(first_other_piece(&mut host, &file)?)
+fn read_pieces<R: Runtime>(rt: &R) {
+    let host = HostDir::new(rt, rt, rt, rt.alloc(), "pieces", Access::Look);
+    let mut host = host.expect(rt, "memory");
+    let file = path(rt, rt.alloc(), "file");
+    for row in &PIECES {
+        assert!(rt; gives(rt, &mut host, &file, row));
+    }
 }
 
 #[test]
-fn bytes_are_read_in_pieces(rt: HostRuntime) -> Result<(), Fail> {
+fn bytes_are_read_in_pieces(rt: HostRuntime) {
     clear(&rt, "pieces");
-    make_file(&rt, "pieces", "pieces/file", "hello world")?;
-    assert!(rt; pieces(&rt)?.is_none());
+    make_file(&rt, "pieces", "pieces/file", "hello world");
+    read_pieces(&rt);
     clear(&rt, "pieces");
-    Ok(())
 }

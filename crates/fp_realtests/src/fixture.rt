@@ -1,17 +1,18 @@
 // Calls of a host as data, and what a folder shows.
-use fp_host::{Host, HostEnd, HostError, Path, Stat};
+use fp_host::{Host, HostError, Path, Stat};
 use fp_realroot::System;
 use fp_system::SystemError;
 use std::alloc::Global;
+use std::fs;
+use std::panic::Expect;
+use std::process::Abort;
 use std::rt::Files;
-use std::test::Fail;
 use std::thread::Threads;
-use std::{fs, io};
 
-// What a host over a folder needs of a system.
-pub trait Runtime: System + Print + Threads + Sync {}
+// What a host over a folder needs of a system, and a test of its runtime.
+pub trait Runtime: System + Print + Threads + Sync + Abort {}
 
-impl<R: System + Print + Threads + Sync> Runtime for R {}
+impl<R: System + Print + Threads + Sync + Abort> Runtime for R {}
 
 // A call, on paths of one element or two.
 #[derive(Clone, Copy)]
@@ -32,11 +33,11 @@ pub enum Step<'a> {
     List(&'a str),
 }
 
-pub fn path(alloc: Global, text: &str) -> Result<Path, HostEnd> {
+pub fn path(rt: &impl Abort, alloc: Global, text: &str) -> Path {
     if text.is_empty() {
-        return Ok(Path::root(alloc));
+        return Path::root(alloc);
     }
-    Ok(Path::parse(alloc, text)?)
+    Path::parse(alloc, text).expect(rt, "a path")
 }
 
 impl<'a> Step<'a> {
@@ -52,18 +53,18 @@ impl<'a> Step<'a> {
     }
 }
 
-pub fn change<H: Host>(host: &mut H, alloc: Global, step: Step<'_>) -> Result<(), HostEnd> {
-    let at = path(alloc, step.place())?;
-    let done = match step {
-        Step::Link(from, _) => link(host, &path(alloc, from)?, &at),
-        Step::Rename(from, _) => host.rename(&path(alloc, from)?, &at),
+pub fn change<H: Host>(
+    rt: &impl Abort,
+    host: &mut H,
+    alloc: Global,
+    step: Step<'_>,
+) -> Result<(), HostError> {
+    let at = path(rt, alloc, step.place());
+    match step {
+        Step::Link(from, _) => host.link(&path(rt, alloc, from), &at),
+        Step::Rename(from, _) => host.rename(&path(rt, alloc, from), &at),
         _ => change_one(host, alloc, step, &at),
-    };
-    Ok(done?)
-}
-
-fn link<H: Host>(host: &mut H, from: &Path, to: &Path) -> Result<(), HostError> {
-    host.link(from, to)
+    }
 }
 
 fn change_one<H: Host>(
@@ -94,29 +95,45 @@ fn read<H: Host>(host: &mut H, alloc: Global, step: Step<'_>, at: &Path) -> Resu
     }
 }
 
-// What stands at the path: a folder's names, a file's permission bits and first bytes, a symlink's text.
-pub fn shown<H: Host>(host: &mut H, alloc: Global, at: &str) -> Result<String, Fail> {
-    let at = path(alloc, at)?;
-    match host.stat(&at)? {
-        Stat::Absent => Ok("absent".to_string(alloc)?),
-        Stat::Dir => names(host, alloc, &at),
+// Whether the path shows this: a folder's names, a file's permission bits, size and first bytes, a symlink's text.
+pub fn shows<H: Host>(rt: &impl Abort, host: &mut H, alloc: Global, at: &str, want: &str) -> bool {
+    let at = path(rt, alloc, at);
+    match host.stat(&at).expect(rt, "a look") {
+        Stat::Absent => want == "absent",
+        Stat::Dir => names(rt, host, alloc, &at).as_str() == want,
         Stat::File { id: _, mode, size } => {
-            let mut into = [0u8; 16];
-            let n = host.read_at(&at, 0, &mut into)?;
-            let text = std::str::from_utf8(&into[..n]).ok().unwrap_or("?");
-            Ok(format!(in alloc; "{mode:o} {size} {text}")?)
+            file_text(rt, host, alloc, &at, mode, size).as_str() == want
         }
-        Stat::Link => Ok(host.read_link(alloc, &at)?.into_string()),
+        Stat::Link => host.read_link(alloc, &at).expect(rt, "a text").as_str() == want,
     }
 }
 
-pub fn names<H: Host>(host: &mut H, alloc: Global, at: &Path) -> Result<String, Fail> {
-    let mut text = String::from_str(alloc, "dir")?;
-    for name in host.list(alloc, at)?.as_slice() {
-        text.push(' ')?;
-        text.push_str(name.as_str())?;
+fn file_text<H: Host>(
+    rt: &impl Abort,
+    host: &mut H,
+    alloc: Global,
+    at: &Path,
+    mode: u32,
+    size: u64,
+) -> String {
+    let mut into = [0u8; 16];
+    let n = host.read_at(at, 0, &mut into).expect(rt, "bytes");
+    let text = std::str::from_utf8(&into[..n]).ok().unwrap_or("?");
+    format!(in alloc; "{mode:o} {size} {text}").expect(rt, "memory")
+}
+
+fn names<H: Host>(rt: &impl Abort, host: &mut H, alloc: Global, at: &Path) -> String {
+    let mut text = String::from_str(alloc, "dir").expect(rt, "memory");
+    let names = host.list(alloc, at).expect(rt, "names");
+    for name in names.as_slice() {
+        add_name(rt, &mut text, name.as_str());
     }
-    Ok(text)
+    text
+}
+
+fn add_name(rt: &impl Abort, text: &mut String, name: &str) {
+    text.push(' ').expect(rt, "memory");
+    text.push_str(name).expect(rt, "memory");
 }
 
 // Takes away what an earlier run left.
@@ -124,44 +141,42 @@ pub fn clear<R: Files + AllocGlobal>(rt: &R, folder: &str) {
     let _ = fs::remove_dir_all(rt, folder);
 }
 
-pub fn shows<H: Host>(host: &mut H, alloc: Global, at: &str, want: &str) -> Result<bool, Fail> {
-    Ok(shown(host, alloc, at)?.as_str() == want)
-}
-
-// Makes the calls, up to the first after which its path shows something else, and answers its row.
-pub fn first_other<H: Host>(
+// Makes the calls, and ends the test at the first after which its path shows something else.
+pub fn all_show<H: Host>(
+    rt: &impl Abort,
     host: &mut H,
     alloc: Global,
     rows: &[(Step<'_>, &str, &str)],
-) -> Result<Option<usize>, Fail> {
-    for (i, (step, at, want)) in rows.iter().enumerate() {
-        change(host, alloc, *step)?;
-        if !shows(host, alloc, at, want)? {
-            return Ok(Some(i));
-        }
+) {
+    for (step, at, want) in rows {
+        change(rt, host, alloc, *step).expect(rt, at);
+        assert!(rt; shows(rt, host, alloc, at, want), "{want}");
     }
-    Ok(None)
 }
 
-// The first call that isn't answered as a fault.
-pub fn first_done<H: Host>(host: &mut H, alloc: Global, steps: &[Step<'_>]) -> Option<usize> {
+// Ends the test at the first call that isn't answered as a fault.
+pub fn all_fail<H: Host>(rt: &impl Abort, host: &mut H, alloc: Global, steps: &[Step<'_>]) {
     for (i, step) in steps.iter().enumerate() {
-        if change(host, alloc, *step) != Err(HostEnd::Fault) {
-            return Some(i);
-        }
+        let failed = change(rt, host, alloc, *step) == Err(HostError::Failed);
+        assert!(rt; failed, "row {i}");
     }
-    None
 }
 
-pub fn is_message(alloc: Global, error: Option<&SystemError>, want: &str) -> Result<bool, Fail> {
+pub fn change_all<H: Host>(rt: &impl Abort, host: &mut H, alloc: Global, steps: &[Step<'_>]) {
+    for step in steps {
+        change(rt, host, alloc, *step).expect(rt, "a change");
+    }
+}
+
+pub fn is_message(rt: &impl Abort, alloc: Global, error: Option<&SystemError>, want: &str) -> bool {
     match error {
-        Some(error) => Ok(format!(in alloc; "{error}")?.as_str() == want),
-        None => Ok(false),
+        Some(error) => format!(in alloc; "{error}").expect(rt, "memory").as_str() == want,
+        None => false,
     }
 }
 
 // A folder with one file in it.
-pub fn make_file<R: Files>(rt: &R, folder: &str, file: &str, text: &str) -> io::Result<()> {
-    fs::create_dir(rt, folder)?;
-    fs::write(rt, file, text)
+pub fn make_file<R: Files + Abort>(rt: &R, folder: &str, file: &str, text: &str) {
+    fs::create_dir(rt, folder).expect(rt, folder);
+    fs::write(rt, file, text).expect(rt, file);
 }

@@ -1,24 +1,27 @@
 // Symlinks above a path, which no call follows.
-use crate::fixture::{Runtime, Step, change, clear, first_done, is_message, make_file, path};
-use fp_host::{Host, HostEnd, Node, RemoteError, Remotes};
+use crate::fixture::{
+    Runtime, Step, all_fail, change, change_all, clear, is_message, make_file, path,
+};
+use fp_host::{HostError, Node, Path, RemoteError, Remotes};
 use fp_realhost::HostDir;
 use fp_realinput::DirRemotes;
 use fp_realroot::Access;
 use std::alloc::Global;
 use std::env::Env;
+use std::fs;
 use std::os::unix::fs::symlink;
+use std::panic::Expect;
+use std::process::Abort;
 use std::rt::Files;
-use std::test::Fail;
-use std::{fs, io};
 
 // A folder `links` with a root whose `repo` leads to the folder `outside` beside it, and that is itself reached by the
 // symlink `way`.
-fn make_links<R: Files>(rt: &R) -> io::Result<()> {
-    fs::create_dir_all(rt, "links/root/d")?;
-    fs::create_dir_all(rt, "links/outside/tmp")?;
-    fs::write(rt, "links/outside/tmp/file", "kept")?;
-    symlink(rt, "../outside", "links/root/repo")?;
-    symlink(rt, "root", "links/way")
+fn make_links<R: Files + Abort>(rt: &R) {
+    fs::create_dir_all(rt, "links/root/d").expect(rt, "a root");
+    fs::create_dir_all(rt, "links/outside/tmp").expect(rt, "a folder");
+    fs::write(rt, "links/outside/tmp/file", "kept").expect(rt, "a file");
+    symlink(rt, "../outside", "links/root/repo").expect(rt, "a symlink");
+    symlink(rt, "root", "links/way").expect(rt, "a symlink");
 }
 
 const BELOW: [Step<'static>; 14] = [
@@ -48,62 +51,76 @@ const SWAPPED: [Step<'static>; 6] = [
     Step::ReadLink("d"),
 ];
 
-// Whether no call follows the symlink, and each is a fault.
-fn followed<R: Runtime>(rt: &R) -> Result<bool, Fail> {
-    let mut host = HostDir::new(rt, rt, rt, rt.alloc(), "links/way", Access::Change)?;
-    let done = first_done(&mut host, rt.alloc(), &BELOW);
-    let faults = host.faults();
+// No call follows the symlink, and each is a fault. Answers whether all are counted, and the last is told.
+fn followed<R: Runtime>(rt: &R) -> bool {
+    let host = HostDir::new(rt, rt, rt, rt.alloc(), "links/way", Access::Change);
+    let mut host = host.expect(rt, "memory");
+    all_fail(rt, &mut host, rt.alloc(), &BELOW);
     let last = "cannot remove the folder links/way/repo/tmp: a symlink is in the place of a folder";
-    let said = is_message(rt.alloc(), host.last_error(), last)?;
-    change_all(&mut host, rt.alloc(), &SWAPPED)?;
-    let swapped = change(&mut host, rt.alloc(), Step::Unlink("d/tmp/file"));
-    Ok(said && done.is_none() && faults == 14 && swapped == Err(HostEnd::Fault))
+    host.faults() == 14 && is_message(rt, rt.alloc(), host.last_error(), last)
 }
 
-fn change_all<H: Host>(host: &mut H, alloc: Global, steps: &[Step<'_>]) -> Result<(), HostEnd> {
-    for step in steps {
-        change(host, alloc, *step)?;
-    }
-    Ok(())
+// Whether a symlink isn't followed that the host put in the place of a folder.
+fn swapped<R: Runtime>(rt: &R) -> bool {
+    let host = HostDir::new(rt, rt, rt, rt.alloc(), "links/way", Access::Change);
+    let mut host = host.expect(rt, "memory");
+    change_all(rt, &mut host, rt.alloc(), &SWAPPED);
+    change(rt, &mut host, rt.alloc(), Step::Unlink("d/tmp/file")) == Err(HostError::Failed)
+}
+
+fn is_kept<R: Files + AllocGlobal + Abort>(rt: &R, at: &str) -> bool {
+    fs::read_to_string(rt, at).expect(rt, at).as_str() == "kept"
 }
 
 #[test]
-fn no_symlink_is_followed(rt: HostRuntime) -> Result<(), Fail> {
+fn no_symlink_is_followed(rt: HostRuntime) {
     clear(&rt, "links");
-    make_links(&rt)?;
-    assert!(rt; followed(&rt)?);
-    assert!(rt; fs::read_to_string(&rt, "links/outside/tmp/file")?.as_str() == "kept");
+    make_links(&rt);
+    assert!(rt; followed(&rt) && swapped(&rt));
+    assert!(rt; is_kept(&rt, "links/outside/tmp/file"));
     clear(&rt, "links");
-    Ok(())
+}
+
+// Whether both calls of a remote fail at this path.
+fn fails<M: Remotes>(remotes: &mut M, alloc: Global, url: &str, at: &Path) -> bool {
+    let node = remotes.node(alloc, url, at);
+    let read = remotes.read_at(url, at, 0, &mut [0u8; 4]);
+    matches!(node, Err(RemoteError::Failed)) && read == Err(RemoteError::Failed)
 }
 
 // Whether both calls of a remote fail below a symlink, and the symlink itself is shown.
-fn is_refused<R: Files + AllocGlobal>(rt: &R, url: &str) -> Result<bool, Fail> {
-    let mut remotes = DirRemotes::new(rt, rt.alloc());
-    let below = path(rt.alloc(), "repo/tmp/file")?;
-    let node = remotes.node(rt.alloc(), url, &below);
-    let read = remotes.read_at(url, &below, 0, &mut [0u8; 4]);
-    let shown = remotes.node(rt.alloc(), url, &path(rt.alloc(), "repo")?)?;
-    let refused = matches!(node, Err(RemoteError::Failed)) && read == Err(RemoteError::Failed);
-    Ok(refused && matches!(shown, Node::Link(_)))
+fn is_refused<R: Files + AllocGlobal + Abort>(rt: &R, url: &str) -> bool {
+    let alloc = rt.alloc();
+    let mut remotes = DirRemotes::new(rt, alloc);
+    let refused = fails(&mut remotes, alloc, url, &path(rt, alloc, "repo/tmp/file"));
+    let shown = remotes.node(alloc, url, &path(rt, alloc, "repo"));
+    refused && matches!(shown, Ok(Node::Link(_)))
 }
 
-#[test]
-fn no_symlink_of_a_remote_is_followed(rt: HostRuntime) -> Result<(), Fail> {
-    clear(&rt, "links_there");
-    fs::create_dir_all(&rt, "links_there/outside/tmp")?;
+fn make_linked_remote<R: Files + Abort>(rt: &R) {
+    fs::create_dir_all(rt, "links_there/outside/tmp").expect(rt, "a folder");
     make_file(
-        &rt,
+        rt,
         "links_there/root",
         "links_there/outside/tmp/file",
         "kept",
-    )?;
-    symlink(&rt, "../outside", "links_there/root/repo")?;
-    let here = std::env::current_dir(&rt)?.into_string();
-    let url = format!(in rt.alloc(); "file://{here}/links_there/root")?;
-    assert!(rt; is_refused(&rt, &url)?);
+    );
+    symlink(rt, "../outside", "links_there/root/repo").expect(rt, "a symlink");
+}
+
+fn linked_url<R: Env + AllocGlobal + Abort>(rt: &R) -> String {
+    let here = std::env::current_dir(rt)
+        .expect(rt, "a folder")
+        .into_string();
+    format!(in rt.alloc(); "file://{here}/links_there/root").expect(rt, "memory")
+}
+
+#[test]
+fn no_symlink_of_a_remote_is_followed(rt: HostRuntime) {
     clear(&rt, "links_there");
-    Ok(())
+    make_linked_remote(&rt);
+    assert!(rt; is_refused(&rt, &linked_url(&rt)));
+    clear(&rt, "links_there");
 }
 
 // A look at a folder that is not there makes nothing.
@@ -114,10 +131,14 @@ const READS: [Step<'static>; 4] = [
     Step::Sync,
 ];
 
+fn look<R: Runtime>(rt: &R) {
+    let host = HostDir::new(rt, rt, rt, rt.alloc(), "unmade/root", Access::Look);
+    let mut host = host.expect(rt, "memory");
+    change_all(rt, &mut host, rt.alloc(), &READS);
+}
+
 #[test]
-fn reading_makes_nothing(rt: HostRuntime) -> Result<(), Fail> {
-    let mut host = HostDir::new(&rt, &rt, &rt, rt.alloc(), "unmade/root", Access::Look)?;
-    change_all(&mut host, rt.alloc(), &READS)?;
-    assert!(rt; !fs::exists(&rt, "unmade")?);
-    Ok(())
+fn reading_makes_nothing(rt: HostRuntime) {
+    look(&rt);
+    assert!(rt; !fs::exists(&rt, "unmade").expect(&rt, "a look"));
 }

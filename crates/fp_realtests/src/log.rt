@@ -94,6 +94,14 @@ impl<'a, R: Files + AllocGlobal> Log<'a, R> {
         file.write_all(line.as_bytes())
     }
 
+    // Whether just this was noted since the last look.
+    pub fn is_noted(&self, want: &str) -> bool {
+        match self.lines() {
+            Ok(lines) => lines.as_str() == want,
+            Err(_) => false,
+        }
+    }
+
     // The lines since the last time.
     pub fn lines(&self) -> io::Result<String> {
         if !fs::exists(self.rt, self.file)? {
@@ -151,6 +159,7 @@ impl<'a, R: Files + AllocGlobal> Files for Logged<'a, R> {
     }
 
     fn open_dir(&self, path: &str) -> io::Result<R::Dir> {
+        self.log.note_look(path)?;
         self.log.rt.open_dir(path)
     }
 

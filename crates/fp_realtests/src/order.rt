@@ -1,13 +1,14 @@
 // What the system is asked, in order, and what a failure of it does.
 use crate::fixture::{Runtime, Step, change, clear};
 use crate::log::{Log, Logged};
-use fp_host::{Host, HostEnd};
+use fp_host::{Host, HostError};
 use fp_realhost::HostDir;
 use fp_realroot::Access;
 use std::alloc::Global;
 use std::fs;
+use std::panic::Expect;
+use std::process::Abort;
 use std::rt::Files;
-use std::test::Fail;
 
 // Calls, and what the system is asked for each.
 const ASKED: [(Step<'static>, &str); 24] = [
@@ -24,8 +25,8 @@ const ASKED: [(Step<'static>, &str); 24] = [
     (Step::Append("d/f", "some"), "write order/root/d/f\n"),
     (
         Step::Sync,
-        "sync .\nsync order\nsync order/root\n\
-         sync order/root/d/f\nsync .\nsync order\nsync order/root\nsync order/root/d\n\
+        "sync order/root/d/f\nsync .\nsync order\nsync order/root\n\
+         sync .\nsync order\nsync order/root\nsync order/root/d\n\
          cut order/root/.lock\n",
     ),
     (Step::Sync, ""),
@@ -133,56 +134,39 @@ const WAITING: [(Step<'static>, &str); 14] = [
     ),
 ];
 
-// Whether just this was noted since the last look.
-fn is_noted<R: Files + AllocGlobal>(log: &Log<'_, R>, want: &str) -> bool {
-    match log.lines() {
-        Ok(lines) => lines.as_str() == want,
-        Err(_) => false,
-    }
-}
-
-// The first of the calls that fails, or for which the system is asked something else.
-fn first_call_asked_otherwise<H: Host, R: Files + AllocGlobal>(
+// Makes the calls, and ends the test at the first that fails, or for which the system is asked something else.
+fn all_ask<H: Host, R: Files + AllocGlobal + Abort>(
     log: &Log<'_, R>,
     host: &mut H,
     rows: &[(Step<'_>, &str)],
-) -> Option<usize> {
-    for (i, (step, want)) in rows.iter().enumerate() {
-        if change(host, log.rt.alloc(), *step).is_err() || !is_noted(log, want) {
-            return Some(i);
-        }
+) {
+    for (step, want) in rows {
+        change(log.rt, host, log.rt.alloc(), *step).expect(log.rt, want);
+        assert!(log.rt; log.is_noted(want), "{want}");
     }
-    None
 }
 
 // The same over a folder whose system notes what it is asked.
-fn first_other<R: Runtime>(
-    log: &Log<'_, R>,
-    root: &str,
-    access: Access,
-    rows: &[(Step<'_>, &str)],
-) -> Result<Option<usize>, Fail> {
+fn run<R: Runtime>(log: &Log<'_, R>, root: &str, rows: &[(Step<'_>, &str)]) {
+    let alloc = log.rt.alloc();
     let system = Logged { log };
-    let mut host = HostDir::new(&system, log.rt, &system, log.rt.alloc(), root, access)?;
-    Ok(first_call_asked_otherwise(log, &mut host, rows))
+    let host = HostDir::new(&system, log.rt, &system, alloc, root, Access::Change);
+    let mut host = host.expect(log.rt, "memory");
+    all_ask(log, &mut host, rows);
 }
 
 #[test]
-fn the_system_is_asked_in_order(rt: HostRuntime) -> Result<(), Fail> {
+fn the_system_is_asked_in_order(rt: HostRuntime) {
     clear(&rt, "order");
-    let log = Log::new(&rt, "order.log", "");
-    assert!(rt; first_other(&log, "order/root", Access::Change, &ASKED)?.is_none());
+    run(&Log::new(&rt, "order.log", ""), "order/root", &ASKED);
     clear(&rt, "order");
-    Ok(())
 }
 
 #[test]
-fn what_waits_for_the_store_is_dated_once(rt: HostRuntime) -> Result<(), Fail> {
+fn what_waits_for_the_store_is_dated_once(rt: HostRuntime) {
     clear(&rt, "date");
-    let log = Log::new(&rt, "date.log", "");
-    assert!(rt; first_other(&log, "date/root", Access::Change, &WAITING)?.is_none());
+    run(&Log::new(&rt, "date.log", ""), "date/root", &WAITING);
     clear(&rt, "date");
-    Ok(())
 }
 
 const CHANGES: [Step<'static>; 5] = [
@@ -209,47 +193,40 @@ const FAILURES: [(&str, usize, bool); 11] = [
 ];
 
 // The first of the calls that fails.
-fn first_failure<H: Host, R: AllocGlobal>(rt: &R, host: &mut H) -> Option<usize> {
+fn first_failure<H: Host>(rt: &impl Abort, host: &mut H, alloc: Global) -> Option<usize> {
     for (i, step) in (&CHANGES).iter().enumerate() {
-        if change(host, rt.alloc(), *step) == Err(HostEnd::Fault) {
+        if change(rt, host, alloc, *step) == Err(HostError::Failed) {
             return Some(i);
         }
     }
     None
 }
 
-fn is_met<R: Runtime>(rt: &R, row: &(&'static str, usize, bool)) -> Result<bool, Fail> {
-    let (fails, at, syncs) = *row;
-    clear(rt, "fails");
-    let log = Log::new(rt, "fails.log", fails);
-    let system = Logged { log: &log };
-    let mut host = HostDir::new(
+// The first call that fails, and whether a sync succeeds afterwards.
+fn failure<R: Runtime>(log: &Log<'_, R>) -> (Option<usize>, bool) {
+    let alloc = log.rt.alloc();
+    let system = Logged { log };
+    let host = HostDir::new(
         &system,
-        rt,
+        log.rt,
         &system,
-        rt.alloc(),
+        alloc,
         "fails/root",
         Access::Change,
-    )?;
-    let failure = first_failure(rt, &mut host);
-    let synced = host.sync().is_ok();
-    clear(rt, "fails");
-    Ok(failure == Some(at) && synced == syncs)
-}
-
-fn first_not_met<R: Runtime>(rt: &R) -> Result<Option<usize>, Fail> {
-    for (i, row) in (&FAILURES).iter().enumerate() {
-        if !is_met(rt, row)? {
-            return Ok(Some(i));
-        }
-    }
-    Ok(None)
+    );
+    let mut host = host.expect(log.rt, "memory");
+    let first = first_failure(log.rt, &mut host, alloc);
+    (first, host.sync().is_ok())
 }
 
 #[test]
-fn what_the_system_fails_at_is_not_done(rt: HostRuntime) -> Result<(), Fail> {
-    assert!(rt; first_not_met(&rt)?.is_none());
-    Ok(())
+fn what_the_system_fails_at_is_not_done(rt: HostRuntime) {
+    for (fails, at, syncs) in &FAILURES {
+        clear(&rt, "fails");
+        let log = Log::new(&rt, "fails.log", fails);
+        assert!(rt; failure(&log) == (Some(*at), *syncs), "{fails}");
+    }
+    clear(&rt, "fails");
 }
 
 // What a run does that is stopped.
@@ -279,28 +256,26 @@ const IDLE: [(Step<'static>, &str); 2] = [
     (Step::Sync, ""),
 ];
 
-// The first of these runs in which the system is asked something else, and the call.
-fn first_other_run<R: Runtime>(log: &Log<'_, R>) -> Result<Option<(usize, usize)>, Fail> {
-    let runs: [&[(Step, &str)]; 4] = [&UNSYNCED, &CAUGHT_UP, &IDLE, &IDLE];
-    for (i, rows) in runs.iter().enumerate() {
-        if i == 3 {
-            // The mark of an earlier start of the machine.
-            fs::write(log.rt, "left/root/.lock", "0-0\n")?;
-        }
-        if let Some(call) = first_other(log, "left/root", Access::Change, rows)? {
-            return Ok(Some((i, call)));
-        }
-    }
-    Ok(None)
-}
-
 #[test]
-fn what_a_run_left_is_made_to_last(rt: HostRuntime) -> Result<(), Fail> {
+fn what_a_run_left_is_made_to_last(rt: HostRuntime) {
     clear(&rt, "left");
     let log = Log::new(&rt, "left.log", "");
-    assert!(rt; first_other_run(&log)?.is_none());
+    let runs: [&[(Step, &str)]; 3] = [&UNSYNCED, &CAUGHT_UP, &IDLE];
+    for rows in &runs {
+        run(&log, "left/root", rows);
+    }
     clear(&rt, "left");
-    Ok(())
+}
+
+// The mark of an earlier start of the machine means nothing.
+#[test]
+fn what_an_earlier_start_left_is_there(rt: HostRuntime) {
+    clear(&rt, "left");
+    let log = Log::new(&rt, "left.log", "");
+    run(&log, "left/root", &UNSYNCED);
+    fs::write(&rt, "left/root/.lock", "0-0\n").expect(&rt, "a mark");
+    run(&log, "left/root", &IDLE);
+    clear(&rt, "left");
 }
 
 // A folder that was there without a lock file may hold what was left.
@@ -317,18 +292,17 @@ const UNKNOWN: [(Step<'static>, &str); 2] = [
 ];
 
 #[test]
-fn a_folder_without_a_lock_is_synced_once(rt: HostRuntime) -> Result<(), Fail> {
+fn a_folder_without_a_lock_is_synced_once(rt: HostRuntime) {
     clear(&rt, "old");
-    fs::create_dir_all(&rt, "old/root")?;
-    fs::write(&rt, "old/root/f", "")?;
-    let log = Log::new(&rt, "old.log", "");
-    assert!(rt; first_other(&log, "old/root", Access::Change, &UNKNOWN)?.is_none());
+    fs::create_dir_all(&rt, "old/root").expect(&rt, "a root");
+    fs::write(&rt, "old/root/f", "").expect(&rt, "a file");
+    run(&Log::new(&rt, "old.log", ""), "old/root", &UNKNOWN);
     clear(&rt, "old");
-    Ok(())
 }
 
-// What is looked at: the root, and what isn't known to be there or absent.
-const LOOKS: [(Step<'static>, &str); 20] = [
+// What is looked at: the root, and what isn't known to be there or absent. A file that was written while it had two names is looked
+// at again.
+const LOOKS: [(Step<'static>, &str); 27] = [
     (
         Step::Stat("none"),
         "look looks/root\nmake looks\nmake looks/root\nlock looks/root/.lock\n\
@@ -343,12 +317,19 @@ const LOOKS: [(Step<'static>, &str); 20] = [
     (Step::Stat("d"), ""),
     (Step::Stat("d/x"), ""),
     (Step::Create("d/x", 0o644), "create looks/root/d/x\n"),
-    (Step::Stat("d/x"), "look looks/root/d/x\n"),
     (Step::Stat("d/x"), ""),
     (Step::Append("d/x", "more"), "write looks/root/d/x\n"),
-    (Step::Stat("d/x"), "look looks/root/d/x\n"),
+    (Step::Stat("d/x"), ""),
     (Step::Read("d/x"), ""),
+    (Step::List("d"), ""),
+    (Step::List("e"), ""),
+    (Step::List(""), "look looks/root/\n"),
     (Step::Link("d/x", "d/y"), "link looks/root/d/y\n"),
+    (Step::Stat("d/y"), ""),
+    (Step::Append("d/y", "more"), "write looks/root/d/y\n"),
+    (Step::Stat("d/x"), "look looks/root/d/x\n"),
+    (Step::Stat("d/x"), ""),
+    (Step::Stat("d/y"), "look looks/root/d/y\n"),
     (Step::Rename("d/x", "d/z"), "rename to looks/root/d/z\n"),
     (Step::Stat("d/e/f"), ""),
     (Step::Unlink("d/y"), "remove looks/root/d/y\n"),
@@ -359,50 +340,58 @@ const LOOKS: [(Step<'static>, &str); 20] = [
 ];
 
 #[test]
-fn nothing_is_looked_at_twice(rt: HostRuntime) -> Result<(), Fail> {
+fn nothing_is_looked_at_twice(rt: HostRuntime) {
     clear(&rt, "looks");
-    let log = Log::telling_looks(&rt, "looks.log");
-    assert!(rt; first_other(&log, "looks/root", Access::Change, &LOOKS)?.is_none());
+    run(&Log::telling_looks(&rt, "looks.log"), "looks/root", &LOOKS);
     clear(&rt, "looks");
-    Ok(())
 }
 
 // Makes files of this number.
-fn make_many<H: Host>(host: &mut H, alloc: Global, count: u32) -> Result<(), Fail> {
+fn make_many<H: Host>(rt: &impl Abort, host: &mut H, alloc: Global, count: u32) {
     for i in 0..count {
-        let name = format!(in alloc; "f{i:02}")?;
-        change(host, alloc, Step::Create(name.as_str(), 0o644))?;
+        let name = format!(in alloc; "f{i:02}").expect(rt, "memory");
+        change(rt, host, alloc, Step::Create(name.as_str(), 0o644)).expect(rt, "a file");
     }
-    Ok(())
 }
 
-// How many of this number of files a sync makes last, and whether it succeeds.
-fn synced<R: Runtime>(log: &Log<'_, R>, root: &str, count: u32) -> Result<(usize, bool), Fail> {
-    let system = Logged { log };
-    let mut host = HostDir::new(
-        &system,
-        log.rt,
-        &system,
-        log.rt.alloc(),
-        root,
-        Access::Change,
-    )?;
-    make_many(&mut host, log.rt.alloc(), count)?;
-    log.lines()?;
-    let done = host.sync().is_ok();
-    let lines = log.lines()?;
-    let files = lines.lines().filter(|line| line.contains("root/f")).count();
-    Ok((files, done && host.sync().is_ok()))
+// How many files the system was asked to sync since the last look.
+fn count_synced<R: Files + AllocGlobal + Abort>(log: &Log<'_, R>) -> usize {
+    let lines = log.lines().expect(log.rt, "lines");
+    lines
+        .lines()
+        .filter(|line| line.contains("sync many/root/f"))
+        .count()
 }
+
+// How many of this number of files are synced before a sync, and by it, and whether it succeeds, twice.
+fn synced<R: Runtime>(log: &Log<'_, R>, count: u32) -> (usize, usize, bool) {
+    let alloc = log.rt.alloc();
+    let system = Logged { log };
+    let host = HostDir::new(&system, log.rt, &system, alloc, "many/root", Access::Change);
+    let mut host = host.expect(log.rt, "memory");
+    make_many(log.rt, &mut host, alloc, count);
+    let early = count_synced(log);
+    let done = host.sync().is_ok();
+    let late = count_synced(log);
+    (early, late, done && host.sync().is_ok())
+}
+
+// How many files are made, and the sync that fails. Where 192 files are open beside the one that is written, they are synced before
+// the next one is created, and the sync makes the others last. They are synced by their names, up to the first that fails: before
+// f150 are f00 to f09, six of two figures from f10 on, and the fifty of f100 to f149.
+const MANY: [(u32, &str, (usize, usize, bool)); 4] = [
+    (60, "", (0, 60, true)),
+    (60, "sync many/root/f47", (0, 48, false)),
+    (300, "", (192, 108, true)),
+    (300, "sync many/root/f150", (67, 108, false)),
+];
 
 #[test]
-fn many_files_are_synced(rt: HostRuntime) -> Result<(), Fail> {
+fn many_files_are_synced(rt: HostRuntime) {
+    for (count, fails, want) in &MANY {
+        clear(&rt, "many");
+        let log = Log::new(&rt, "many.log", fails);
+        assert!(rt; synced(&log, *count) == *want, "{fails}");
+    }
     clear(&rt, "many");
-    let log = Log::new(&rt, "many.log", "");
-    assert!(rt; synced(&log, "many/root", 60)? == (60, true));
-    clear(&rt, "many");
-    let log = Log::new(&rt, "many.log", "sync many/root/f47");
-    assert!(rt; !synced(&log, "many/root", 60)?.1);
-    clear(&rt, "many");
-    Ok(())
 }

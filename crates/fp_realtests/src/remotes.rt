@@ -9,16 +9,23 @@ use std::env::Env;
 use std::fs::Permissions;
 use std::io::{BufRead, ErrorKind, Input, Lines, Read};
 use std::os::unix::fs::{PermissionsExt, symlink};
+use std::panic::Expect;
+use std::process::Abort;
 use std::rt::Files;
-use std::test::Fail;
 use std::{fs, io};
 
-fn node_text(alloc: Global, node: &Node) -> Result<String, Fail> {
+// Whether a node is shown so.
+fn is_shown(rt: &impl Abort, alloc: Global, node: &Node, want: &str) -> bool {
     match node {
-        Node::Absent => Ok("absent".to_string(alloc)?),
-        Node::Dir => Ok("dir".to_string(alloc)?),
-        Node::File { mode, size } => Ok(format!(in alloc; "{mode:o} {size}")?),
-        Node::Link(text) => Ok(text.as_str().to_string(alloc)?),
+        Node::Absent => want == "absent",
+        Node::Dir => want == "dir",
+        Node::File { mode, size } => {
+            format!(in alloc; "{mode:o} {size}")
+                .expect(rt, "memory")
+                .as_str()
+                == want
+        }
+        Node::Link(text) => text.as_str() == want,
     }
 }
 
@@ -31,78 +38,55 @@ const HELD: [(&str, &str, usize); 5] = [
     ("none", "absent", 0),
 ];
 
-fn make_remote<R: Files>(rt: &R) -> io::Result<()> {
-    make_file(rt, "remote", "remote/file", "hello world")?;
-    fs::set_permissions(rt, "remote/file", Permissions::from_mode(0o640))?;
-    symlink(rt, "file", "remote/link")
+fn make_remote<R: Files + Abort>(rt: &R) {
+    make_file(rt, "remote", "remote/file", "hello world");
+    let bits = Permissions::from_mode(0o640);
+    fs::set_permissions(rt, "remote/file", bits).expect(rt, "bits");
+    symlink(rt, "file", "remote/link").expect(rt, "a symlink");
 }
 
-fn remote_url<R: Env + AllocGlobal>(rt: &R) -> Result<String, Fail> {
-    let here = std::env::current_dir(rt)?.into_string();
-    Ok(format!(in rt.alloc(); "file://{here}/remote")?)
+fn remote_url<R: Env + AllocGlobal + Abort>(rt: &R) -> String {
+    let here = std::env::current_dir(rt)
+        .expect(rt, "a folder")
+        .into_string();
+    format!(in rt.alloc(); "file://{here}/remote").expect(rt, "memory")
 }
 
-// Whether this stands at the path of the remote.
-fn stands<M: Remotes>(
-    remotes: &mut M,
-    alloc: Global,
-    url: &str,
-    at: &Path,
-    want: &str,
-) -> Result<bool, Fail> {
-    let node = remotes.node(alloc, url, at)?;
-    Ok(node_text(alloc, &node)?.as_str() == want)
-}
-
-fn has_bytes<M: Remotes>(
-    remotes: &mut M,
-    url: &str,
-    at: &Path,
-    n: usize,
-) -> Result<bool, RemoteError> {
-    Ok(remotes.read_at(url, at, 6, &mut [0u8; 8])? == n)
+// How many bytes the remote's file has from the seventh on.
+fn count_bytes<M: Remotes>(rt: &impl Abort, remotes: &mut M, url: &str, at: &Path) -> usize {
+    remotes
+        .read_at(url, at, 6, &mut [0u8; 8])
+        .expect(rt, "bytes")
 }
 
 fn is_held<M: Remotes>(
+    rt: &impl Abort,
     remotes: &mut M,
     alloc: Global,
     url: &str,
-    row: (&str, &str, usize),
-) -> Result<bool, Fail> {
-    let (at, want, n) = row;
-    let at = path(alloc, at)?;
-    Ok(stands(remotes, alloc, url, &at, want)? && has_bytes(remotes, url, &at, n)?)
+    row: &(&'static str, &'static str, usize),
+) -> bool {
+    let (at, want, n) = *row;
+    let at = path(rt, alloc, at);
+    let node = remotes.node(alloc, url, &at).expect(rt, want);
+    is_shown(rt, alloc, &node, want) && count_bytes(rt, remotes, url, &at) == n
 }
 
-// The first row that isn't so.
-fn first_not_held<M: Remotes>(
-    remotes: &mut M,
-    alloc: Global,
-    url: &str,
-) -> Result<Option<usize>, Fail> {
-    for (i, row) in HELD.iter().enumerate() {
-        if !is_held(remotes, alloc, url, *row)? {
-            return Ok(Some(i));
-        }
-    }
-    Ok(None)
-}
-
-// Whether each row is so, and nothing failed.
-fn held<R: Files + AllocGlobal>(rt: &R, url: &str) -> Result<bool, Fail> {
+// Each row is so. Answers how often a call failed.
+fn held<R: Files + AllocGlobal + Abort>(rt: &R, url: &str) -> u64 {
     let mut remotes = DirRemotes::new(rt, rt.alloc());
-    let other = first_not_held(&mut remotes, rt.alloc(), url)?;
-    Ok(other.is_none() && remotes.faults() == 0)
+    for row in &HELD {
+        assert!(rt; is_held(rt, &mut remotes, rt.alloc(), url, row));
+    }
+    remotes.faults()
 }
 
 #[test]
-fn folders_are_remotes(rt: HostRuntime) -> Result<(), Fail> {
+fn folders_are_remotes(rt: HostRuntime) {
     clear(&rt, "remote");
-    make_remote(&rt)?;
-    let url = remote_url(&rt)?;
-    assert!(rt; held(&rt, &url)?);
+    make_remote(&rt);
+    assert!(rt; held(&rt, &remote_url(&rt)) == 0);
     clear(&rt, "remote");
-    Ok(())
 }
 
 const OTHER_URLS: [&str; 7] = [
@@ -122,58 +106,56 @@ fn fails<M: Remotes>(remotes: &mut M, alloc: Global, url: &str, root: &Path) -> 
     matches!(node, Err(RemoteError::Failed)) && piece == Err(RemoteError::Failed)
 }
 
-// The number of the first url at which a call doesn't fail.
-fn first_found<M: Remotes>(remotes: &mut M, alloc: Global) -> Option<usize> {
-    let root = Path::root(alloc);
-    for (i, url) in OTHER_URLS.iter().enumerate() {
-        if !fails(remotes, alloc, url, &root) {
-            return Some(i);
-        }
+// Both calls fail at each url. Answers whether all are counted, and the last is told.
+fn are_refused<R: Files + AllocGlobal + Abort>(rt: &R) -> bool {
+    let alloc = rt.alloc();
+    let mut remotes = DirRemotes::new(rt, alloc);
+    for url in &OTHER_URLS {
+        assert!(rt;
+            fails(&mut remotes, alloc, url, &Path::root(alloc)),
+            "{url}"
+        );
     }
-    None
-}
-
-fn are_refused<R: Files + AllocGlobal>(rt: &R) -> Result<bool, Fail> {
-    let mut remotes = DirRemotes::new(rt, rt.alloc());
-    let found = first_found(&mut remotes, rt.alloc());
     let last = "cannot find the remote https:///: a url is file:// and an absolute path";
-    let said = is_message(rt.alloc(), remotes.last_error(), last)?;
-    Ok(said && found.is_none() && remotes.faults() == 14)
+    remotes.faults() == 14 && is_message(rt, alloc, remotes.last_error(), last)
 }
 
 #[test]
-fn other_urls_are_faults(rt: HostRuntime) -> Result<(), Fail> {
-    assert!(rt; are_refused(&rt)?);
-    Ok(())
+fn other_urls_are_faults(rt: HostRuntime) {
+    assert!(rt; are_refused(&rt));
 }
 
-// Whether just this was looked at since the last time.
-fn is_noted<R: Files + AllocGlobal>(log: &Log<'_, R>, want: &str) -> Result<bool, Fail> {
-    Ok(log.lines()?.as_str() == want)
+// Whether a path is looked at once when its node is asked for.
+fn is_found<M: Remotes, R: Files + AllocGlobal + Abort>(
+    log: &Log<'_, R>,
+    remotes: &mut M,
+    url: &str,
+    at: &Path,
+) -> bool {
+    let alloc = log.rt.alloc();
+    let folder = url.strip_prefix("file://").unwrap_or("");
+    let want = format!(in alloc; "look {folder}/file\n").expect(log.rt, "memory");
+    remotes.node(alloc, url, at).is_ok() && log.is_noted(&want)
 }
 
 // Whether a file that was found is not looked at again when it is read.
-fn reads_found<R: Files + AllocGlobal>(log: &Log<'_, R>, url: &str) -> Result<bool, Fail> {
+fn reads_found<R: Files + AllocGlobal + Abort>(log: &Log<'_, R>, url: &str) -> bool {
     let alloc = log.rt.alloc();
     let system = Logged { log };
     let mut remotes = DirRemotes::new(&system, alloc);
-    let at = path(alloc, "file")?;
-    remotes.node(alloc, url, &at)?;
-    let folder = url.strip_prefix("file://").unwrap_or("");
-    let looked = is_noted(log, format!(in alloc; "look {folder}/file\n")?.as_str())?;
-    let read = has_bytes(&mut remotes, url, &at, 5)?;
-    Ok(looked && read && is_noted(log, "")?)
+    let at = path(log.rt, alloc, "file");
+    let found = is_found(log, &mut remotes, url, &at);
+    let read = count_bytes(log.rt, &mut remotes, url, &at) == 5;
+    found && read && log.is_noted("")
 }
 
 #[test]
-fn a_found_file_is_looked_at_once(rt: HostRuntime) -> Result<(), Fail> {
+fn a_found_file_is_looked_at_once(rt: HostRuntime) {
     clear(&rt, "remote");
-    make_remote(&rt)?;
-    let url = remote_url(&rt)?;
+    make_remote(&rt);
     let log = Log::telling_looks(&rt, "remote.log");
-    assert!(rt; reads_found(&log, &url)?);
+    assert!(rt; reads_found(&log, &remote_url(&rt)));
     clear(&rt, "remote");
-    Ok(())
 }
 
 // An input whose reads are interrupted, give two bytes, fail, and are at the end, in turn.
@@ -236,13 +218,12 @@ fn takes<S: Source>(source: &mut S) -> [Taken; 4] {
 }
 
 #[test]
-fn an_input_is_a_source(rt: HostRuntime) -> Result<(), Fail> {
+fn an_input_is_a_source(rt: HostRuntime) {
     let turn = Cell::new(0);
     let turns = Turns { turn: &turn };
     let mut source = StdinSource::new(&turns);
     let taken = [Taken::Took(2), Taken::Failed, Taken::End, Taken::Took(0)];
     assert!(rt; takes(&mut source) == taken && source.faults() == 1);
     let last = "cannot read the standard input: Input/output error (os error 5)";
-    assert!(rt; is_message(rt.alloc(), source.last_error(), last)?);
-    Ok(())
+    assert!(rt; is_message(&rt, rt.alloc(), source.last_error(), last));
 }

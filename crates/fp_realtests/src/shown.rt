@@ -2,7 +2,7 @@
 use crate::fixture::Runtime;
 use crate::log::{Log, Logged};
 use fp_realhost::Screen;
-use std::test::Fail;
+use std::panic::Expect;
 
 // What drives a terminal, and what is shown in its place.
 const SHOWN: [(&str, &str); 5] = [
@@ -19,34 +19,33 @@ const SHOWN: [(&str, &str); 5] = [
     ("", ""),
 ];
 
-// The first that is shown otherwise. Elsewhere the text itself is printed.
-fn first_other<R: Runtime>(log: &Log<'_, R>, is_terminal: bool) -> Result<Option<usize>, Fail> {
+// Whether these bytes are printed as this.
+fn are_shown<R: Runtime>(log: &Log<'_, R>, is_terminal: bool, bytes: &[u8], want: &str) -> bool {
     let system = Logged { log };
     let screen = Screen::new(&system, log.rt.alloc(), is_terminal);
-    for (i, (text, want)) in (&SHOWN).iter().enumerate() {
-        screen.write_all(text.as_bytes())?;
-        let want = if is_terminal { *want } else { *text };
-        let line = format!(in log.rt.alloc(); "print {want}\n")?;
-        if log.lines()?.as_str() != line.as_str() {
-            return Ok(Some(i));
-        }
-    }
-    Ok(None)
+    screen.write_all(bytes).expect(log.rt, "a write");
+    log.is_noted(want)
 }
 
-// Whether bytes that are no UTF-8 are shown so.
-fn are_shown<R: Runtime>(log: &Log<'_, R>, bytes: &[u8], want: &str) -> Result<bool, Fail> {
-    let system = Logged { log };
-    Screen::new(&system, log.rt.alloc(), true).write_all(bytes)?;
-    Ok(log.lines()?.as_str() == want)
+// Whether the text is shown so on a terminal, and elsewhere as it is.
+fn is_shown<R: Runtime>(log: &Log<'_, R>, text: &str, want: &str) -> bool {
+    let terminal = format!(in log.rt.alloc(); "print {want}\n").expect(log.rt, "memory");
+    let pipe = format!(in log.rt.alloc(); "print {text}\n").expect(log.rt, "memory");
+    are_shown(log, true, text.as_bytes(), &terminal)
+        && are_shown(log, false, text.as_bytes(), &pipe)
 }
 
 #[test]
-fn nothing_drives_a_terminal(rt: HostRuntime) -> Result<(), Fail> {
+fn nothing_drives_a_terminal(rt: HostRuntime) {
     let log = Log::new(&rt, "shown.log", "");
-    assert!(rt; first_other(&log, true)?.is_none());
-    assert!(rt; first_other(&log, false)?.is_none());
+    for (text, want) in &SHOWN {
+        assert!(rt; is_shown(&log, text, want));
+    }
+}
+
+#[test]
+fn bytes_that_are_no_text_are_shown_so(rt: HostRuntime) {
+    let log = Log::new(&rt, "bytes.log", "");
     let want = "print a\\x9b\\xff\\u{1b}\n\n";
-    assert!(rt; are_shown(&log, b"a\x9b\xff\x1b\n", want)?);
-    Ok(())
+    assert!(rt; are_shown(&log, true, b"a\x9b\xff\x1b\n", want));
 }

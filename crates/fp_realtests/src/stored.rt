@@ -1,10 +1,9 @@
 // Times and bits of stored files.
-use crate::fixture::{Runtime, Step, change, clear};
-use fp_host::HostEnd;
+use crate::fixture::{Runtime, Step, change_all, clear};
 use fp_realhost::HostDir;
 use fp_realroot::Access;
 use std::fs;
-use std::test::Fail;
+use std::panic::Expect;
 use std::time::{SystemTime, UNIX_EPOCH};
 
 const STORED: [Step<'static>; 8] = [
@@ -18,24 +17,22 @@ const STORED: [Step<'static>; 8] = [
     Step::Rename("new", "kept"),
 ];
 
-fn store<R: Runtime>(rt: &R) -> Result<(), HostEnd> {
-    let mut host = HostDir::new(rt, rt, rt, rt.alloc(), "stored", Access::Change)?;
-    for step in &STORED {
-        change(&mut host, rt.alloc(), *step)?;
-    }
-    Ok(())
+fn store<R: Runtime>(rt: &R) {
+    let host = HostDir::new(rt, rt, rt, rt.alloc(), "stored", Access::Change);
+    let mut host = host.expect(rt, "memory");
+    change_all(rt, &mut host, rt.alloc(), &STORED);
 }
 
-fn modified<R: Runtime>(rt: &R, at: &str) -> Result<SystemTime, Fail> {
-    Ok(fs::metadata(rt, at)?.modified()?)
+fn modified<R: Runtime>(rt: &R, at: &str) -> SystemTime {
+    let found = fs::metadata(rt, at).expect(rt, at);
+    found.modified().expect(rt, at)
 }
 
 #[test]
-fn stored_files_are_dated_1970(rt: HostRuntime) -> Result<(), Fail> {
+fn stored_files_are_dated_1970(rt: HostRuntime) {
     clear(&rt, "stored");
-    store(&rt)?;
-    assert!(rt; modified(&rt, "stored/repo/objects/old")? == UNIX_EPOCH);
-    assert!(rt; modified(&rt, "stored/kept")? > UNIX_EPOCH);
+    store(&rt);
+    assert!(rt; modified(&rt, "stored/repo/objects/old") == UNIX_EPOCH);
+    assert!(rt; modified(&rt, "stored/kept") > UNIX_EPOCH);
     clear(&rt, "stored");
-    Ok(())
 }

@@ -1,17 +1,18 @@
 // The calls of a host over a folder of the system that change it.
 ghost use Rattle.std.specs.Prelude.{◌≢◌, ◌≤◌, [], OnOk};
 
-use crate::notes::Notes;
 use crate::tree::Tree;
 use crate::writer::Writer;
 use crate::{folders, links, moves};
 use fp_host::Path;
-use fp_realroot::System;
+use fp_realnotes::Notes;
+use fp_realroot::{OpenFiles, System, sync_open};
 use fp_system::{Cause, Reader, known};
 use std::fs::{OpenFile, OpenOptions};
 use std::io::Write;
 use std::os::unix::fs::OpenOptionsExt;
 use std::rt::Files;
+use std::thread::Threads;
 
 // Where the objects of the store are.
 const STORED: &str = "repo/objects/";
@@ -39,17 +40,27 @@ impl<R: System> Tree<'_, R> {
                 &mut self.notes,
                 &mut self.reader,
                 &mut self.writer,
+                &mut self.open,
             ),
             Err(e) => Err(e),
         }
     }
 
-    /// Creates an empty file with exactly these permission bits.
-    pub fn create(&mut self, path: &Path, mode: u32) -> Result<(), Cause>
+    /// Creates an empty file with exactly these permission bits. Where many files are open that wait for a sync, they are synced
+    /// before.
+    pub fn create<T: Threads + Sync>(
+        &mut self,
+        threads: &T,
+        path: &Path,
+        mode: u32,
+    ) -> Result<(), Cause>
         ensures { OnOk result (mode ≤ 4095) }
     {
         if mode > 0o7777 {
             return Err(Cause::BadBits);
+        }
+        if self.open.are_full() {
+            sync_open(self.rt, threads, &mut self.open, &mut self.notes.touched);
         }
         self.change(path, Change::Create(mode))
     }
@@ -84,6 +95,7 @@ impl<R: System> Tree<'_, R> {
                 &mut self.notes,
                 &mut self.reader,
                 &mut self.writer,
+                &mut self.open,
             ),
             Err(e) => Err(e),
         }
@@ -97,13 +109,14 @@ fn change_at<R: System>(
     notes: &mut Notes,
     reader: &mut Reader<R::File>,
     writer: &mut Writer<R::File>,
+    open: &mut OpenFiles<R::File>,
 ) -> Result<(), Cause> {
     match change {
         Change::MakeDir => folders::make_dir(rt, at, notes),
-        Change::Create(mode) => create(rt, at, mode, notes, writer),
-        Change::Append(bytes) => append(rt, at, bytes, notes, writer),
+        Change::Create(mode) => create(rt, at, mode, notes, writer, open),
+        Change::Append(bytes) => append(rt, at, bytes, notes, writer, open),
         Change::Symlink(text) => links::symlink(rt, text, at, notes),
-        Change::Unlink => unlink(rt, at, notes, reader, writer),
+        Change::Unlink => unlink(rt, at, notes, reader, writer, open),
         Change::RemoveDir => links::remove_folder(rt, at, notes),
     }
 }
@@ -114,11 +127,17 @@ fn create<R: Files>(
     mode: u32,
     notes: &mut Notes,
     writer: &mut Writer<R::File>,
+    open: &mut OpenFiles<R::File>,
 ) -> Result<(), Cause> {
     match create_new(rt, at, mode) {
         Ok(file) => {
-            notes.add_created(at);
-            writer.keep_new(at, file, mode, notes.grants.has(at, mode))
+            notes.add_created(at, mode);
+            writer.finish(open);
+            let kept = writer.keep_new(at, file, mode, notes.grants.has(at, mode));
+            if kept.is_err() {
+                notes.made.doubt_file(at);
+            }
+            kept
         }
         Err(e) => Err(e),
     }
@@ -140,12 +159,18 @@ fn append<R: Files>(
     bytes: &[u8],
     notes: &mut Notes,
     writer: &mut Writer<R::File>,
+    open: &mut OpenFiles<R::File>,
 ) -> Result<(), Cause> {
     if !notes.touched.has_file(at) {
         return Err(Cause::NotNew);
     }
     notes.add_written(at);
-    writer.append(rt, at, bytes)
+    let written = writer.append(rt, at, bytes, open);
+    match written {
+        Ok(()) => notes.made.add_bytes(at, bytes.len()),
+        Err(_) => notes.made.doubt_file(at),
+    }
+    written
 }
 
 fn unlink<R: Files>(
@@ -154,10 +179,11 @@ fn unlink<R: Files>(
     notes: &mut Notes,
     reader: &mut Reader<R::File>,
     writer: &mut Writer<R::File>,
+    open: &mut OpenFiles<R::File>,
 ) -> Result<(), Cause> {
     let done = links::unlink(rt, at, notes);
     if done.is_ok() {
-        forget(at, reader, writer);
+        forget(at, reader, writer, open);
     }
     done
 }
@@ -170,17 +196,24 @@ fn rename_at<R: Files>(
     notes: &mut Notes,
     reader: &mut Reader<R::File>,
     writer: &mut Writer<R::File>,
+    open: &mut OpenFiles<R::File>,
 ) -> Result<(), Cause> {
     let done = moves::rename(rt, from, to, is_stored, notes, writer);
     if done.is_ok() {
-        forget(from, reader, writer);
-        forget(to, reader, writer);
+        forget(from, reader, writer, open);
+        forget(to, reader, writer, open);
     }
     done
 }
 
 // A name was taken away, or holds something else now.
-fn forget<F: OpenFile + Write + Drop>(at: &str, reader: &mut Reader<F>, writer: &mut Writer<F>) {
+fn forget<F: OpenFile + Write + Drop>(
+    at: &str,
+    reader: &mut Reader<F>,
+    writer: &mut Writer<F>,
+    open: &mut OpenFiles<F>,
+) {
     reader.close_at(at);
     writer.close_at(at);
+    open.close_at(at);
 }

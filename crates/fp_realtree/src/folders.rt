@@ -1,6 +1,5 @@
 // Folders that are made.
-use crate::grants::Grants;
-use crate::notes::Notes;
+use fp_realnotes::{Grants, Notes};
 use fp_system::{Cause, known, look};
 use std::fs;
 use std::fs::{DirBuilder, Permissions};

@@ -3,12 +3,8 @@
 
 mod changes;
 mod folders;
-mod found_files;
-mod grants;
 mod links;
-mod made;
 mod moves;
-mod notes;
 mod reading;
 mod tree;
 mod writer;

@@ -1,6 +1,5 @@
 // Names that come into a folder or go, but for moves.
-use crate::made::Made;
-use crate::notes::Notes;
+use fp_realnotes::{Made, Notes};
 use fp_realroot::find_file;
 use fp_system::{Cause, Found, Kind, known, look};
 use std::fs;

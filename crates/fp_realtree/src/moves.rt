@@ -1,8 +1,7 @@
 // Files and symlinks that get another name.
 use crate::links::{find_leaf, leaf_kind};
-use crate::made::Made;
-use crate::notes::Notes;
 use crate::writer::Writer;
+use fp_realnotes::{Made, Notes};
 use fp_system::{Cause, Found, Kind, known, look};
 use std::fs;
 use std::fs::OpenFile;

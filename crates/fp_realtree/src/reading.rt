@@ -3,11 +3,11 @@
 ghost use Rattle.std.specs.Prelude.{◌≤◌, length, IfOk};
 ghost use Rattle.fp_host.specs.Reads.{AreNames, HasBits};
 
-use crate::notes::Notes;
 use crate::tree::Tree;
 use fp_base::{Items, Text};
 use fp_host::{Path, Stat};
-use fp_realroot::{LOCK_NAME, System, find_file, list_names};
+use fp_realnotes::Notes;
+use fp_realroot::{LOCK_NAME, System, find_file, list_names, sorted_names};
 use fp_system::{Cause, Folders, Reader, look};
 use std::alloc::Global;
 use std::io::ErrorKind;
@@ -33,7 +33,7 @@ impl<R: System> Tree<'_, R> {
             Ok(()) if path.is_root() => {
                 list_root(self.rt, alloc, &self.at, self.gate.is_there())
             }
-            Ok(()) => list_folder(self.rt, alloc, &self.at, &mut self.notes.folders),
+            Ok(()) => list_folder(self.rt, alloc, &self.at, &mut self.notes),
             Err(e) => Err(e),
         }
     }
@@ -44,7 +44,7 @@ impl<R: System> Tree<'_, R> {
     {
         match self.reach(path) {
             Ok(()) => {
-                let is_found = self.notes.files.has(&self.at);
+                let is_found = is_file(&self.at, &self.notes);
                 read_piece(self.rt, &self.at, is_found, &mut self.reader, from, into)
             }
             Err(e) => Err(e),
@@ -60,6 +60,11 @@ impl<R: System> Tree<'_, R> {
     }
 }
 
+// Whether a file was found or made there.
+fn is_file(at: &str, notes: &Notes) -> bool {
+    notes.files.has(at) || notes.made.is_file(at)
+}
+
 // What stands at the path. What is remembered isn't looked at again.
 fn stat_at<R: Files>(rt: &R, at: &str, below: usize, notes: &mut Notes) -> Result<Stat, Cause>
     ensures { IfOk result HasBits }
@@ -69,6 +74,9 @@ fn stat_at<R: Files>(rt: &R, at: &str, below: usize, notes: &mut Notes) -> Resul
     }
     if notes.made.is_absent(at) {
         return Ok(Stat::Absent);
+    }
+    if let Some(made) = notes.made.stat(at) {
+        return Ok(made);
     }
     if let Some(found) = notes.files.get(at) {
         return found.stat();
@@ -110,6 +118,22 @@ fn list_root<R: System>(
 }
 
 fn list_folder<R: System>(
+    rt: &R,
+    alloc: Global,
+    at: &str,
+    notes: &mut Notes,
+) -> Result<Items<Text>, Cause>
+    ensures { IfOk result AreNames }
+{
+    match notes.made.names(alloc, at) {
+        Some(Ok(names)) => sorted_names(names, ""),
+        Some(Err(_)) => Err(Cause::NoMemory),
+        None => list_found(rt, alloc, at, &mut notes.folders),
+    }
+}
+
+// The same of a folder that the host didn't make.
+fn list_found<R: System>(
     rt: &R,
     alloc: Global,
     at: &str,

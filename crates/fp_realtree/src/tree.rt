@@ -1,10 +1,12 @@
 // A folder of the system, with what was changed in it since the last sync.
 ghost use Rattle.std.specs.Prelude.{◌≡◌, true, OnOk};
 
-use crate::notes::Notes;
 use crate::writer::Writer;
 use fp_host::Path;
-use fp_realroot::{Access, Gate, System, Touched, Unsynced, add_above, add_below};
+use fp_realnotes::Notes;
+use fp_realroot::{
+    Access, Gate, OpenFiles, System, Touched, Unsynced, add_above, add_below, sync_open,
+};
 use fp_system::{Call, Cause, Folders, Reader, SystemError};
 use std::alloc::{AllocError, Global};
 use std::marker::Model;
@@ -25,6 +27,8 @@ pub struct Tree<'a, R: Files> {
     // The file that was read last and the one that was written last.
     pub(crate) reader: Reader<R::File>,
     pub(crate) writer: Writer<R::File>,
+    // The files that were written before, and wait for a sync.
+    pub(crate) open: OpenFiles<R::File>,
     // Whether what an earlier run left was made to last.
     is_caught_up: bool,
 }
@@ -48,6 +52,7 @@ impl<R: Files> Drop for Tree<'_, R> {
             notes: _,
             reader: _,
             writer: _,
+            open: _,
             is_caught_up: _,
         } = self;
     }
@@ -66,6 +71,7 @@ impl<'a, R: Files> Tree<'a, R> {
                 notes: Notes::nothing(alloc),
                 reader: Reader::nothing(alloc),
                 writer: Writer::nothing(alloc),
+                open: OpenFiles::nothing(alloc),
                 is_caught_up: false,
             }),
             Err(e) => Err(e),
@@ -174,7 +180,8 @@ impl<R: System> Tree<'_, R> {
     fn sync_touched<T: Threads + Sync>(&mut self, threads: &T) -> Result<(), Unsynced>
         ensures settled { OnOk result (self.new ≡ true) }
     {
-        self.writer.finish();
+        self.writer.finish(&mut self.open);
+        sync_open(self.rt, threads, &mut self.open, &mut self.notes.touched);
         match self.notes.touched.sync(self.rt, threads, &mut self.at) {
             Ok(()) => cleared(self.gate.clear()),
             Err(e) => Err(e),

@@ -1,5 +1,5 @@
 // The file that was written last.
-use fp_realroot::{open_own, open_to_read};
+use fp_realroot::{OpenFiles, open_own, open_to_read};
 use fp_system::{Cause, known, note};
 use std::alloc::Global;
 use std::collections::BTreeSet;
@@ -73,7 +73,6 @@ impl<F: Drop> Writer<F> {
 impl<F: Write + OpenFile + Drop> Writer<F> {
     // Keeps a file that was created, and gives it exactly these permission bits, unless it is known to have them.
     pub fn keep_new(&mut self, at: &str, file: F, mode: u32, is_given: bool) -> Result<(), Cause> {
-        self.finish();
         let given = give_bits(&file, mode, is_given);
         match self.keep(at, file) {
             Ok(()) => given,
@@ -81,12 +80,14 @@ impl<F: Write + OpenFile + Drop> Writer<F> {
         }
     }
 
-    // Dates the file that was written last, where it is an object that waits for the store. Where that fails, it is dated later.
-    pub fn finish(&mut self) {
-        if let Some(file) = &self.file {
-            if self.at.contains(WAITING) && date(file).is_ok() {
+    // Lets the file go that was written last, which stays open until it is synced. Where it is an object that waits for the store,
+    // it is dated; where that fails, it is dated later.
+    pub fn finish(&mut self, open: &mut OpenFiles<F>) {
+        if let Some(file) = self.file.take() {
+            if self.at.contains(WAITING) && date(&file).is_ok() {
                 let _noted = note(self.alloc, &mut self.dated, &self.at);
             }
+            open.keep(&self.at, file);
         }
     }
 
@@ -96,12 +97,13 @@ impl<F: Write + OpenFile + Drop> Writer<F> {
         rt: &R,
         at: &str,
         bytes: &[u8],
+        open: &mut OpenFiles<F>,
     ) -> Result<(), Cause> {
         self.dated.remove(at);
         if self.is_at(at) {
             return self.write(bytes);
         }
-        self.finish();
+        self.finish(open);
         match self.open(rt, at) {
             Ok(()) => self.write(bytes),
             Err(e) => Err(e),

@@ -8,4 +8,4 @@ abbrev pub decreases-join+arg3 : goal.decreases-join+arg3
 decreases-join+arg3 g l = length l.back.now
 
 abbrev pub decreases-sync_parts : goal.decreases-sync_parts
-decreases-sync_parts g l = length l.paths.now
+decreases-sync_parts g l = length l.items.now

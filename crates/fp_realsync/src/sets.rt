@@ -5,26 +5,33 @@ use std::alloc::{AllocError, Global};
 use std::collections::BTreeSet;
 use std::thread::Threads;
 
-// Makes all of a set last, by several threads where the system has them. The path of a failure is kept where there is memory.
-// What may not be opened is spared where others may own it.
+// Makes all of a set last but what is synced already, by several threads where the system has them. The path of a failure is kept
+// where there is memory. What may not be opened is spared where others may own it.
 pub fn sync_set<R: System, T: Threads + Sync>(
     rt: &R,
     threads: &T,
     alloc: Global,
     set: &BTreeSet<String>,
+    synced: &BTreeSet<String>,
     spares: bool,
     refused: &mut String,
 ) -> Result<(), Unsynced> {
-    match list_of(alloc, set) {
+    match list_of(alloc, set, synced) {
         Ok(paths) => answer(sync_list(rt, threads, &paths, spares), &paths, refused),
         Err(_) => sync_each(rt, set, spares, refused),
     }
 }
 
-fn list_of<'a>(alloc: Global, set: &'a BTreeSet<String>) -> Result<Vec<&'a str>, AllocError> {
+fn list_of<'a>(
+    alloc: Global,
+    set: &'a BTreeSet<String>,
+    synced: &BTreeSet<String>,
+) -> Result<Vec<&'a str>, AllocError> {
     let mut list = Vec::new(alloc);
     for at in set {
-        list.push(at.as_str())?;
+        if !synced.contains(at.as_str()) {
+            list.push(at.as_str())?;
+        }
     }
     Ok(list)
 }

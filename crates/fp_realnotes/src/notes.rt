@@ -2,13 +2,13 @@
 use crate::found_files::FoundFiles;
 use crate::grants::Grants;
 use crate::made::Made;
-use fp_realroot::Touched;
+use fp_realsync::Touched;
 use fp_system::{Folders, Found, Kind};
 use std::alloc::Global;
 use std::marker::Model;
 
-// The folders and files that were looked at, what was made, with which bits, and what waits for a sync. Contracts see whether
-// nothing waits.
+/// The folders and files that were looked at, what was made, with which bits, and what waits for a sync. Contracts see whether
+/// nothing waits.
 #[derive(Drop)]
 pub struct Notes {
     pub folders: Folders,
@@ -29,6 +29,7 @@ impl Model for Notes {
 }
 
 impl Notes {
+    /// Nothing was looked at or made.
     pub fn nothing(alloc: Global) -> Self {
         Notes {
             folders: Folders::none(alloc),
@@ -40,7 +41,7 @@ impl Notes {
         }
     }
 
-    // This was found at the path, above which no symlink stands.
+    /// This was found at the path, above which no symlink stands.
     pub fn add_found(&mut self, at: &str, found: Found) {
         match found.kind {
             Kind::Dir => self.folders.add(at),
@@ -49,7 +50,7 @@ impl Notes {
         }
     }
 
-    // A folder was made, above which no symlink stands.
+    /// A folder was made, above which no symlink stands.
     pub fn add_made(&mut self, at: &str) {
         self.folders.add(at);
         self.made.add_folder(at);
@@ -57,27 +58,31 @@ impl Notes {
         self.touched.add_made(at);
     }
 
-    // A folder may have been made, but not as it was asked for.
+    /// A folder may have been made, but not as it was asked for.
     pub fn add_half_made(&mut self, at: &str) {
         self.folders.forget(at);
-        self.made.add_other(at);
+        self.made.doubt_folder();
     }
 
-    pub fn add_created(&mut self, at: &str) {
+    /// A file was created with these permission bits.
+    pub fn add_created(&mut self, at: &str, mode: u32) {
         self.files.forget(at);
-        self.made.add_file(at);
+        self.made.add_file(at, mode);
         self.touched.add_created(at);
     }
 
-    // Bytes are written to the file, which may have other names.
+    /// Bytes are written to the file, which may have other names.
     pub fn add_written(&mut self, at: &str) {
+        self.touched.add_written(at);
         if self.is_linked {
             self.files.forget_all();
+            self.made.doubt_sizes();
         } else {
             self.files.forget(at);
         }
     }
 
+    /// A symlink was made.
     pub fn add_symlink(&mut self, at: &str) {
         self.folders.forget(at);
         self.files.forget(at);
@@ -85,7 +90,7 @@ impl Notes {
         self.touched.add_name(at);
     }
 
-    // The second path became another name of the first one's file.
+    /// The second path became another name of the first one's file.
     pub fn add_linked(&mut self, from: &str, to: &str) {
         self.is_linked |= self.touched.has_file(from);
         self.files.forget(to);
@@ -93,7 +98,7 @@ impl Notes {
         self.touched.add_linked(from, to);
     }
 
-    // The file or symlink went to the second path.
+    /// The file or symlink went to the second path.
     pub fn add_moved(&mut self, from: &str, to: &str) {
         self.folders.forget(to);
         self.files.forget(from);
@@ -102,12 +107,14 @@ impl Notes {
         self.touched.add_moved(from, to);
     }
 
+    /// The file or symlink was taken away.
     pub fn add_gone(&mut self, at: &str) {
         self.files.forget(at);
         self.made.add_gone(at);
         self.touched.add_gone(at);
     }
 
+    /// The folder was taken away.
     pub fn add_gone_folder(&mut self, at: &str) {
         self.folders.forget(at);
         self.grants.forget(at);

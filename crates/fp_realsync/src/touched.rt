@@ -10,19 +10,24 @@ use std::collections::BTreeSet;
 use std::marker::Model;
 use std::thread::Threads;
 
-// The files that were created or written and the folders whose names changed since the last sync, by their paths. A
-// file stands here under each of its names. Where there is no memory to note a change, no later sync succeeds. Contracts
-// see whether nothing waits for a sync.
+/// The files that were created or written and the folders whose names changed since the last sync, by their paths. A
+/// file stands here under each of its names. Where there is no memory to note a change, no later sync succeeds. Contracts
+/// see whether nothing waits for a sync.
 #[derive(Drop)]
 pub struct Touched {
     alloc: Global,
     // What an earlier run may have left.
     left: BTreeSet<String>,
     files: BTreeSet<String>,
+    // Those of the files that were synced, and not written since.
+    synced: BTreeSet<String>,
     folders: BTreeSet<String>,
     is_settled: bool,
     // A change could not be noted, or a sync of it failed, after which the system forgets it: no later sync succeeds.
     is_lost: bool,
+    // What the sync of an open file met, until it is answered, and the path.
+    met: Option<Unsynced>,
+    met_at: String,
 }
 
 impl Model for Touched {
@@ -34,25 +39,32 @@ impl Model for Touched {
 }
 
 impl Touched {
+    /// Nothing was changed.
     pub fn nothing(alloc: Global) -> Self {
         Touched {
             alloc,
             left: BTreeSet::new(alloc),
             files: BTreeSet::new(alloc),
+            synced: BTreeSet::new(alloc),
             folders: BTreeSet::new(alloc),
             is_settled: true,
             is_lost: false,
+            met: None,
+            met_at: String::new(alloc),
         }
     }
 
+    /// Whether nothing waits for a sync.
     pub fn is_settled(&self) -> bool {
         self.is_settled
     }
 
+    /// Whether the file was created since the last sync.
     pub fn has_file(&self, at: &str) -> bool {
         self.files.contains(at)
     }
 
+    /// An earlier run may have left this file or folder.
     pub fn add_left(&mut self, at: &str) {
         let noted = note(self.alloc, &mut self.left, at);
         self.keep(noted);
@@ -73,24 +85,44 @@ impl Touched {
         self.is_lost |= noted.is_err();
     }
 
-    // A name came into the folder, or went.
+    /// A name came into the folder, or went.
     pub fn add_name(&mut self, at: &str) {
         self.add_folder(folder_of(at));
     }
 
-    // A folder was made.
+    /// A folder was made.
     pub fn add_made(&mut self, at: &str) {
         self.add_folder(at);
         self.add_name(at);
     }
 
-    // A file was created.
+    /// A file was created.
     pub fn add_created(&mut self, at: &str) {
         self.add_file(at);
         self.add_name(at);
     }
 
-    // The second path became another name of the first one's file.
+    /// Bytes are written to a file that was created.
+    pub fn add_written(&mut self, at: &str) {
+        self.synced.remove(at);
+    }
+
+    /// The file is synced before the next sync of all. Where there is no memory to note it, it is synced again.
+    pub fn add_synced(&mut self, at: &str) {
+        let _noted = note(self.alloc, &mut self.synced, at);
+    }
+
+    /// A file could not be synced, which the next sync answers.
+    pub fn lose(&mut self, at: &str, met: Unsynced) {
+        if self.met.is_none() {
+            self.met = Some(met);
+            self.met_at.clear();
+            let _kept = self.met_at.push_str(at);
+        }
+        self.is_lost = true;
+    }
+
+    /// The second path became another name of the first one's file.
     pub fn add_linked(&mut self, from: &str, to: &str) {
         if self.has_file(from) {
             self.add_file(to);
@@ -98,8 +130,10 @@ impl Touched {
         self.add_name(to);
     }
 
-    // The file or symlink went to the second path.
+    /// The file or symlink went to the second path.
     pub fn add_moved(&mut self, from: &str, to: &str) {
+        self.synced.remove(from);
+        self.synced.remove(to);
         self.files.remove(to);
         if self.files.remove(from) {
             self.add_file(to);
@@ -108,13 +142,14 @@ impl Touched {
         self.add_name(to);
     }
 
-    // The file or symlink was taken away.
+    /// The file or symlink was taken away.
     pub fn add_gone(&mut self, at: &str) {
+        self.synced.remove(at);
         self.files.remove(at);
         self.add_name(at);
     }
 
-    // The folder was taken away.
+    /// The folder was taken away.
     pub fn add_gone_folder(&mut self, at: &str) {
         self.folders.remove(at);
         self.add_name(at);
@@ -139,6 +174,7 @@ impl Touched {
             }
             Err(e) => {
                 self.is_lost |= e.call == Call::Sync;
+                self.met = None;
                 Err(e)
             }
         }
@@ -149,6 +185,7 @@ impl Touched {
     {
         self.left.clear();
         self.files.clear();
+        self.synced.clear();
         self.folders.clear();
         self.is_settled = true;
     }
@@ -160,14 +197,26 @@ impl Touched {
         at: &mut String,
     ) -> Result<(), Unsynced> {
         if self.is_lost {
-            at.clear();
-            return Err(Unsynced {
-                call: Call::Sync,
-                cause: Cause::MayBeLost,
-            });
+            return Err(told(self.met, &self.met_at, at));
         }
-        sync_set(rt, threads, self.alloc, &self.left, true, at)?;
-        sync_set(rt, threads, self.alloc, &self.files, false, at)?;
-        sync_set(rt, threads, self.alloc, &self.folders, false, at)
+        let synced = &self.synced;
+        sync_set(rt, threads, self.alloc, &self.left, synced, true, at)?;
+        sync_set(rt, threads, self.alloc, &self.files, synced, false, at)?;
+        sync_set(rt, threads, self.alloc, &self.folders, synced, false, at)
+    }
+}
+
+// What the sync of an open file met, with its path in the buffer, or else that something may be lost.
+fn told(met: Option<Unsynced>, met_at: &str, at: &mut String) -> Unsynced {
+    at.clear();
+    match met {
+        Some(unsynced) => {
+            let _kept = at.push_str(met_at);
+            unsynced
+        }
+        None => Unsynced {
+            call: Call::Sync,
+            cause: Cause::MayBeLost,
+        },
     }
 }

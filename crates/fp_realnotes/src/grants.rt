@@ -3,8 +3,8 @@ use fp_system::{folder_of, note};
 use std::alloc::Global;
 use std::collections::BTreeSet;
 
-// The folders in which the umask, or what the folder says in its place, takes no bit of 0755. Where a folder is one, so is each that is
-// made in it.
+/// The folders in which the umask, or what the folder says in its place, takes no bit of 0755. Where a folder is one, so is each that is
+/// made in it.
 #[derive(Drop)]
 pub struct Grants {
     alloc: Global,
@@ -15,6 +15,7 @@ pub struct Grants {
 const GRANTED: u32 = 0o755;
 
 impl Grants {
+    /// None is known.
     pub fn nothing(alloc: Global) -> Self {
         Grants {
             alloc,
@@ -22,24 +23,24 @@ impl Grants {
         }
     }
 
-    // Whether what is made at the path is known to get all of these bits.
+    /// Whether what is made at the path is known to get all of these bits.
     pub fn has(&self, at: &str, bits: u32) -> bool {
         bits & !GRANTED == 0 && self.folders.contains(folder_of(at))
     }
 
-    // The folder that was made at the path got its bits as they were asked for.
+    /// The folder that was made at the path got its bits as they were asked for.
     pub fn add(&mut self, at: &str) {
         let _noted = note(self.alloc, &mut self.folders, folder_of(at));
     }
 
-    // A folder was made.
+    /// A folder was made.
     pub fn add_folder(&mut self, at: &str) {
         if self.folders.contains(folder_of(at)) {
             let _noted = note(self.alloc, &mut self.folders, at);
         }
     }
 
-    // The folder was taken away.
+    /// The folder was taken away.
     pub fn forget(&mut self, at: &str) {
         self.folders.remove(at);
     }

@@ -1,7 +1,7 @@
 // What the adapters need of a system beside what std names.
 ghost use Rattle.std.specs.Thread.{IsSync};
 
-use fp_realfiles::{Failure, sync_by_threads};
+use fp_realfiles::{Failure, sync_by_threads, sync_open_in_turn};
 use std::fs::{File, TryLockError};
 use std::io;
 use std::io::IsTerminal;
@@ -30,6 +30,13 @@ pub trait System: Files + Eprint + AllocGlobal {
     /// sync failed comes before one that could not be opened. What is gone is left out.
     fn sync_paths<T: Threads + Sync>(&self, threads: &T, paths: &[&str]) -> Option<Failure>
         requires sync { IsSync T.row };
+
+    /// Makes open files last, and answers the first that failed.
+    fn sync_files<T: Threads + Sync>(&self, _threads: &T, files: &[&Self::File]) -> Option<Failure>
+        requires sync { IsSync T.row }
+    {
+        sync_open_in_turn(files)
+    }
 
     /// Whether the standard output is a terminal.
     fn prints_to_terminal(&self) -> bool;
@@ -64,6 +71,12 @@ impl System for HostRuntime {
         requires sync { IsSync T.row }
     {
         sync_by_threads(threads, self, paths)
+    }
+
+    fn sync_files<T: Threads + Sync>(&self, threads: &T, files: &[&File]) -> Option<Failure>
+        requires sync { IsSync T.row }
+    {
+        sync_by_threads(threads, self, files)
     }
 
     fn prints_to_terminal(&self) -> bool {

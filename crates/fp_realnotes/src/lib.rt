@@ -1,0 +1,13 @@
+//! What is remembered of the folder of a host, which needn't be asked of the system.
+#![tactic(auto)]
+
+mod found_files;
+mod grants;
+mod listed;
+mod made;
+mod notes;
+
+pub use found_files::FoundFiles;
+pub use grants::Grants;
+pub use made::Made;
+pub use notes::Notes;
