@@ -117,6 +117,7 @@ impl<'a, 'b, R: System> FolderStage<'a, 'b, R> {
             status,
             printed: self.capture.take(),
             calls: None,
+            flaw: None,
         })
     }
 

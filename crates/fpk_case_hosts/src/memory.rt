@@ -3,8 +3,9 @@ use crate::folder::is_for_folder;
 use crate::program::Program;
 use crate::stage::{Ending, PathState, find, give, unless_fault};
 use fp_base::{Blob, Text};
-use fp_host::Path;
+use fp_host::{Host, Path};
 use fp_memhost::{MemHost, MemNode, MemRemotes, MemSource};
+use fpk_case_notes::NotedHost;
 use fpk_case_remotes::{Ware, Wares};
 use fpk_case_text::{Case, Command, Failing, Failure, Fixture};
 use std::alloc::{AllocError, Global};
@@ -92,12 +93,12 @@ fn put_node(
     remotes.put(url, &path, node)
 }
 
-/// Runs a command over a host in memory, and answers its status.
-pub fn run_in_memory<P: Program, T: Threads + Sync>(
+/// Runs a command over a host and remotes in memory, and answers its status.
+pub fn run_in_memory<P: Program, T: Threads + Sync, H: Host>(
     program: &P,
     rt: &T,
     alloc: Global,
-    host: &mut MemHost,
+    host: &mut H,
     command: &Command,
     failing: Failing,
     wares: &Wares,
@@ -114,7 +115,7 @@ pub fn run_in_memory<P: Program, T: Threads + Sync>(
 #[derive(Drop)]
 pub struct MemStage {
     alloc: Global,
-    host: MemHost,
+    host: NotedHost,
 }
 
 /// Lets a call fail, counted from the present one, or none.
@@ -131,7 +132,7 @@ fn let_fail(host: &mut MemHost, failure: Option<Failure>) -> Result<(), AllocErr
 impl MemStage {
     /// A new host.
     pub fn new(alloc: Global) -> Result<Self, AllocError> {
-        let host = MemHost::new(alloc)?;
+        let host = NotedHost::new(alloc, MemHost::new(alloc)?);
         Ok(MemStage { alloc, host })
     }
 
@@ -148,16 +149,17 @@ impl MemStage {
         input_fails_at: Option<u64>,
         wares: &Wares,
     ) -> Result<Ending, AllocError> {
-        let start = self.host.printed().len();
-        let calls = self.host.calls();
-        let_fail(&mut self.host, command.failure)?;
+        let start = self.host.host.printed().len();
+        let calls = self.host.host.calls();
+        let_fail(&mut self.host.host, command.failure)?;
+        self.host.begin(self.alloc);
         let host = &mut self.host;
         let failing = Failing {
             input: input_fails_at,
             remotes: None,
         };
         let status = run_in_memory(program, rt, self.alloc, host, command, failing, wares)?;
-        self.host.fail_calls(&[])?;
+        self.host.host.fail_calls(&[])?;
         ran_since(self.alloc, &self.host, status, start, calls)
     }
 
@@ -167,18 +169,25 @@ impl MemStage {
     }
 }
 
-/// How a command ended, by what was printed and how many calls were made since it began.
+/// How a command ended, by what was printed and how many calls were made since it began. The files that it made are judged
+/// where it did what it was to do.
 fn ran_since(
     alloc: Global,
-    host: &MemHost,
+    noted: &NotedHost,
     status: u8,
     start: usize,
     calls: u64,
 ) -> Result<Ending, AllocError> {
+    let flaw = match status {
+        0 => noted.flaw(alloc)?,
+        _ => None,
+    };
+    let host = &noted.host;
     let printed = host.printed().get(start..).unwrap_or(&[]);
     Ok(Ending {
         status,
         printed: printed.to_vec(alloc)?,
         calls: Some(host.calls().saturating_sub(calls)),
+        flaw,
     })
 }

@@ -17,6 +17,8 @@ pub struct Ending {
     pub printed: Vec<u8>,
     /// How many calls of the host it made, where they are counted.
     pub calls: Option<u64>,
+    /// What is wrong with the files that it made, where that is noted.
+    pub flaw: Option<String>,
 }
 
 /// What stands at a path.

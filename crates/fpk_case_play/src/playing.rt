@@ -109,6 +109,9 @@ fn judge(
     if want != came {
         return Ok(Some(format!(in alloc; "expected status {want}, but {came} came")?));
     }
+    if let Some(flaw) = &ran.flaw {
+        return message(alloc, flaw.as_str());
+    }
     judge_calls(alloc, command.calls, ran.calls)
 }
 

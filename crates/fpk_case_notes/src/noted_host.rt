@@ -1,0 +1,125 @@
+//! A host in memory whose calls are noted.
+ghost use Rattle.std.specs.Prelude.{◌≤◌, length, IfOk};
+ghost use Rattle.fp_host.specs.Calls.{Step, Creates, makes_dir, appends, links, makes_link, renames, unlinks, removes_dir, syncs, says};
+ghost use Rattle.fp_host.specs.Moments.{Makes, HasCause, NeedsNoMemory};
+ghost use Rattle.fp_host.specs.Reads.{StatOf, ListOf, ReadOf, LinkOf, AreNames, HasBits};
+
+use crate::notes::Notes;
+use fp_base::{Items, Text};
+use fp_host::{Host, HostError, Path, Stat};
+use fp_memhost::MemHost;
+use std::alloc::{AllocError, Global};
+
+/// A host in memory, and notes of the files that its calls make. Each call is that of the host.
+#[derive(Drop)]
+pub struct NotedHost {
+    pub host: MemHost,
+    notes: Notes,
+    /// Whether there was no memory for a note.
+    lacks_memory: bool,
+}
+
+impl NotedHost {
+    /// Nothing was made yet.
+    pub fn new(alloc: Global, host: MemHost) -> Self {
+        let notes = Notes::new(alloc);
+        NotedHost {
+            host,
+            notes,
+            lacks_memory: false,
+        }
+    }
+
+    /// Forgets what was made so far.
+    pub fn begin(&mut self, alloc: Global) {
+        self.notes = Notes::new(alloc);
+        self.lacks_memory = false;
+    }
+
+    /// What is wrong with the files that were made since the notes began, where a command did what it was to do.
+    pub fn flaw(&self, alloc: Global) -> Result<Option<String>, AllocError> {
+        match self.lacks_memory {
+            true => Err(AllocError),
+            false => self.notes.flaw(alloc),
+        }
+    }
+}
+
+impl Host for NotedHost {
+    ghost moments = { λ n. ⟦<MemHost as Host>⟧.moments n.host };
+
+    ghost faults = { λ n. ⟦<MemHost as Host>⟧.faults n.host };
+
+    ghost is_tree = { λ n m told. ⟦<MemHost as Host>⟧.is_tree n.host m told };
+
+    fn stat(&mut self, path: &Path) -> Result<Stat, HostError> {
+        self.host.stat(path)
+    }
+
+    fn list(&mut self, alloc: Global, path: &Path) -> Result<Items<Text>, HostError> {
+        self.host.list(alloc, path)
+    }
+
+    fn read_at(&mut self, path: &Path, at: u64, into: &mut [u8]) -> Result<usize, HostError> {
+        self.host.read_at(path, at, into)
+    }
+
+    fn read_link(&mut self, alloc: Global, path: &Path) -> Result<Text, HostError> {
+        self.host.read_link(alloc, path)
+    }
+
+    fn make_dir(&mut self, path: &Path) -> Result<(), HostError> {
+        self.host.make_dir(path)
+    }
+
+    fn create(&mut self, path: &Path, mode: u32) -> Result<(), HostError> {
+        self.host.create(path, mode)?;
+        let noted = self.notes.create(path);
+        self.lacks_memory = self.lacks_memory || noted.is_err();
+        Ok(())
+    }
+
+    fn append(&mut self, path: &Path, bytes: &[u8]) -> Result<(), HostError> {
+        self.host.append(path, bytes)?;
+        if !bytes.is_empty() {
+            self.notes.append(path);
+        }
+        Ok(())
+    }
+
+    fn link(&mut self, from: &Path, to: &Path) -> Result<(), HostError> {
+        self.host.link(from, to)?;
+        let noted = self.notes.link(from, to);
+        self.lacks_memory = self.lacks_memory || noted.is_err();
+        Ok(())
+    }
+
+    fn symlink(&mut self, text: &str, path: &Path) -> Result<(), HostError> {
+        self.host.symlink(text, path)
+    }
+
+    fn rename(&mut self, from: &Path, to: &Path) -> Result<(), HostError> {
+        self.host.rename(from, to)?;
+        let noted = self.notes.rename(from, to);
+        self.lacks_memory = self.lacks_memory || noted.is_err();
+        Ok(())
+    }
+
+    fn unlink(&mut self, path: &Path) -> Result<(), HostError> {
+        self.host.unlink(path)?;
+        self.notes.remove(path);
+        Ok(())
+    }
+
+    fn remove_dir(&mut self, path: &Path) -> Result<(), HostError> {
+        self.host.remove_dir(path)
+    }
+
+    fn sync(&mut self) -> Result<(), HostError> {
+        self.host.sync()
+    }
+
+    fn say(&mut self, piece: &[u8]) -> Result<(), HostError> {
+        self.host.say(piece)
+    }
+}

@@ -1,0 +1,130 @@
+//! What is noted of the files that a command makes.
+use crate::places::{is_deploy_file, is_deployed, is_in_store, is_lasting};
+use fp_base::Text;
+use fp_host::Path;
+use std::alloc::{AllocError, Global};
+
+/// A file that was made since the notes began.
+#[derive(Drop)]
+struct MadeFile {
+    /// Where it was made.
+    path: Text,
+    has_bytes: bool,
+    /// Whether it has stood at a lasting place.
+    has_lasted: bool,
+    /// Whether it has stood in the store.
+    was_stored: bool,
+}
+
+/// A name of a file that was made.
+#[derive(Drop)]
+struct Name {
+    path: Text,
+    /// The place of the file among those that were made.
+    file: usize,
+}
+
+/// The files that were made since the notes began, and their names.
+#[derive(Drop)]
+pub struct Notes {
+    files: Vec<MadeFile>,
+    names: Vec<Name>,
+    /// The first name in a commit directory of a file that hadn't stood in the store.
+    copied: Option<Text>,
+}
+
+impl Notes {
+    /// Nothing was made yet.
+    pub fn new(alloc: Global) -> Self {
+        Notes {
+            files: Vec::new(alloc),
+            names: Vec::new(alloc),
+            copied: None,
+        }
+    }
+
+    /// A file was made.
+    pub fn create(&mut self, path: &Path) -> Result<(), AllocError> {
+        let file = self.files.len();
+        self.files.push(MadeFile {
+            path: Text::from_str(*self.files.allocator(), path.text())?,
+            has_bytes: false,
+            has_lasted: false,
+            was_stored: false,
+        })?;
+        self.add_name(path, file)
+    }
+
+    /// The file at the path got bytes.
+    pub fn append(&mut self, path: &Path) {
+        if let Some(name) = self.place_of(path) {
+            let file = self.names[name].file;
+            if let Some(made) = self.files.get_mut(file) {
+                made.has_bytes = true;
+            }
+        }
+    }
+
+    /// The file at the path has another name too.
+    pub fn link(&mut self, from: &Path, to: &Path) -> Result<(), AllocError> {
+        match self.place_of(from) {
+            Some(name) => self.add_name(to, self.names[name].file),
+            None => Ok(()),
+        }
+    }
+
+    /// What stands at the path has another name, in the place of what stood there.
+    pub fn rename(&mut self, from: &Path, to: &Path) -> Result<(), AllocError> {
+        self.remove(to);
+        self.link(from, to)?;
+        self.remove(from);
+        Ok(())
+    }
+
+    /// The name is gone.
+    pub fn remove(&mut self, path: &Path) {
+        if let Some(name) = self.place_of(path) {
+            let _name = self.names.swap_remove(name);
+        }
+    }
+
+    /// What is wrong where a command did what it was to do: a file that got bytes for nothing, or that was copied out of the
+    /// store.
+    pub fn flaw(&self, alloc: Global) -> Result<Option<String>, AllocError> {
+        if let Some(path) = &self.copied {
+            let path = path.as_str();
+            return Ok(Some(format!(in alloc; "{path} is no link of the store")?));
+        }
+        match self.files.iter().find(|made| made.has_bytes && !made.has_lasted) {
+            Some(made) => {
+                let path = made.path.as_str();
+                Ok(Some(format!(in alloc; "{path} got bytes, and never stood at a lasting place")?))
+            }
+            None => Ok(None),
+        }
+    }
+
+    /// The place of the path among the names.
+    fn place_of(&self, path: &Path) -> Option<usize> {
+        let path = path.text();
+        self.names.iter().position(|name| name.path.as_str() == path)
+    }
+
+    /// Notes that a file stands at a path.
+    fn add_name(&mut self, path: &Path, file: usize) -> Result<(), AllocError> {
+        let text = path.text();
+        let alloc = *self.names.allocator();
+        let Some(made) = self.files.get_mut(file) else {
+            return Ok(());
+        };
+        let is_copy = is_deployed(text) && !made.was_stored && !is_deploy_file(text);
+        made.was_stored = made.was_stored || is_in_store(text);
+        made.has_lasted = made.has_lasted || is_lasting(text);
+        if is_copy && self.copied.is_none() {
+            self.copied = Some(Text::from_str(alloc, text)?);
+        }
+        let path = Text::from_str(alloc, text)?;
+        self.names.push(Name { path, file })?;
+        Ok(())
+    }
+}
