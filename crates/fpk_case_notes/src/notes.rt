@@ -95,7 +95,11 @@ impl Notes {
             let path = path.as_str();
             return Ok(Some(format!(in alloc; "{path} is no link of the store")?));
         }
-        match self.files.iter().find(|made| made.has_bytes && !made.has_lasted) {
+        match self
+            .files
+            .iter()
+            .find(|made| made.has_bytes && !made.has_lasted)
+        {
             Some(made) => {
                 let path = made.path.as_str();
                 Ok(Some(format!(in alloc; "{path} got bytes, and never stood at a lasting place")?))
@@ -107,7 +111,9 @@ impl Notes {
     /// The place of the path among the names.
     fn place_of(&self, path: &Path) -> Option<usize> {
         let path = path.text();
-        self.names.iter().position(|name| name.path.as_str() == path)
+        self.names
+            .iter()
+            .position(|name| name.path.as_str() == path)
     }
 
     /// Notes that a file stands at a path.
