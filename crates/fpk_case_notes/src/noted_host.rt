@@ -3,6 +3,7 @@ ghost use Rattle.std.specs.Prelude.{◌≤◌, length, IfOk};
 ghost use Rattle.fp_host.specs.Calls.{Step, Creates, makes_dir, appends, links, makes_link, renames, unlinks, removes_dir, syncs, says};
 ghost use Rattle.fp_host.specs.Moments.{Makes, HasCause, NeedsNoMemory};
 ghost use Rattle.fp_host.specs.Reads.{StatOf, ListOf, ReadOf, LinkOf, AreNames, HasBits};
+ghost use Rattle.fp_memhost.specs.Told.{law};
 
 use crate::notes::Notes;
 use fp_base::{Items, Text};
@@ -50,7 +51,7 @@ impl Host for NotedHost {
 
     ghost faults = { λ n. ⟦<MemHost as Host>⟧.faults n.host };
 
-    ghost is_tree = { λ n m told. ⟦<MemHost as Host>⟧.is_tree n.host m told };
+    ghost is_tree = { λ n m told. law n.host m told };
 
     fn stat(&mut self, path: &Path) -> Result<Stat, HostError> {
         self.host.stat(path)

@@ -57,18 +57,18 @@ impl Notes {
 
     /// The file at the path got bytes.
     pub fn append(&mut self, path: &Path) {
-        if let Some(name) = self.place_of(path) {
-            let file = self.names[name].file;
-            if let Some(made) = self.files.get_mut(file) {
-                made.has_bytes = true;
-            }
+        let Some(file) = self.file_at(path) else {
+            return;
+        };
+        if let Some(made) = self.files.get_mut(file) {
+            made.has_bytes = true;
         }
     }
 
     /// The file at the path has another name too.
     pub fn link(&mut self, from: &Path, to: &Path) -> Result<(), AllocError> {
-        match self.place_of(from) {
-            Some(name) => self.add_name(to, self.names[name].file),
+        match self.file_at(from) {
+            Some(file) => self.add_name(to, file),
             None => Ok(()),
         }
     }
@@ -83,9 +83,8 @@ impl Notes {
 
     /// The name is gone.
     pub fn remove(&mut self, path: &Path) {
-        if let Some(name) = self.place_of(path) {
-            let _name = self.names.swap_remove(name);
-        }
+        let path = path.text();
+        self.names.retain(|name| name.path.as_str() != path);
     }
 
     /// What is wrong where a command did what it was to do: a file that got bytes for nothing, or that was copied out of the
@@ -108,12 +107,11 @@ impl Notes {
         }
     }
 
-    /// The place of the path among the names.
-    fn place_of(&self, path: &Path) -> Option<usize> {
+    /// The file that was made and stands at the path, by its place.
+    fn file_at(&self, path: &Path) -> Option<usize> {
         let path = path.text();
-        self.names
-            .iter()
-            .position(|name| name.path.as_str() == path)
+        let mut names = self.names.iter();
+        Some(names.find(|name| name.path.as_str() == path)?.file)
     }
 
     /// Notes that a file stands at a path.
