@@ -1,11 +1,10 @@
 // What each call does to a real folder.
-use crate::fixture::{Runtime, Step, all_fail, all_show, clear, is_message, make_file, path};
-use fp_host::{Host, HostError, Path, Stat};
-use fp_realhost::HostDir;
+use crate::fixture::Made;
+use crate::log::Kind;
+use crate::play::Part;
+use crate::step::Step;
+use crate::tale::{Act, tell};
 use fp_realroot::Access;
-use std::alloc::Global;
-use std::panic::Expect;
-use std::process::Abort;
 
 // Calls, a path, and what it shows after each.
 const ASKED: [(Step<'static>, &str, &str); 22] = [
@@ -33,20 +32,12 @@ const ASKED: [(Step<'static>, &str, &str); 22] = [
     (Step::Sync, "none/below", "absent"),
 ];
 
-// Each row shows what it says. Answers how often a call failed.
-fn asked<R: Runtime>(rt: &R) -> u64 {
-    let host = HostDir::new(rt, rt, rt, rt.alloc(), "asked/root", Access::Change);
-    let mut host = host.expect(rt, "memory");
-    all_show(rt, &mut host, rt.alloc(), &ASKED);
-    host.faults()
-}
-
-#[test]
-fn a_folder_does_what_it_is_asked(rt: HostRuntime) {
-    clear(&rt, "asked");
-    assert!(rt; asked(&rt) == 0);
-    clear(&rt, "asked");
-}
+const ASKING: [Act<'static>; 1] = [Act::Run(
+    Access::Change,
+    "asked/root",
+    &[Part::Show(&ASKED)],
+    (0, ""),
+)];
 
 const MADE: [(Step<'static>, &str, &str); 8] = [
     (Step::MakeDir("folder"), "folder", "dir"),
@@ -96,38 +87,30 @@ const REFUSED: [Step<'static>; 29] = [
     Step::ReadLink("old"),
 ];
 
-// Each row shows what it says, and each call is a fault. Answers whether all are counted, and the last is told.
-fn refuse<R: Runtime>(rt: &R) -> bool {
-    let host = HostDir::new(rt, rt, rt, rt.alloc(), "refused", Access::Change);
-    let mut host = host.expect(rt, "memory");
-    all_show(rt, &mut host, rt.alloc(), &MADE);
-    all_fail(rt, &mut host, rt.alloc(), &REFUSED);
-    let last = "cannot read the link refused/old: Invalid argument (os error 22)";
-    host.faults() == 29 && is_message(rt, rt.alloc(), host.last_error(), last)
-}
+// Each call is a fault, and the last one is told.
+const REFUSING: [Act<'static>; 1] = [Act::Run(
+    Access::Change,
+    "refused",
+    &[Part::Show(&MADE), Part::Fail(&REFUSED)],
+    (
+        29,
+        "cannot read the link refused/old: Invalid argument (os error 22)",
+    ),
+)];
 
-#[test]
-fn what_breaks_a_condition_is_a_fault(rt: HostRuntime) {
-    clear(&rt, "refused");
-    assert!(rt; refuse(&rt));
-    clear(&rt, "refused");
-}
-
-fn is_in_the_way<R: Runtime>(rt: &R) -> bool {
-    let host = HostDir::new(rt, rt, rt, rt.alloc(), "above/file/root", Access::Look);
-    let mut host = host.expect(rt, "memory");
-    let failed = host.stat(&Path::root(rt.alloc())) == Err(HostError::Failed);
-    let last = "cannot use the folder above/file/root: Not a directory (os error 20)";
-    failed && is_message(rt, rt.alloc(), host.last_error(), last)
-}
-
-#[test]
-fn a_file_in_the_place_of_the_root_is_a_fault(rt: HostRuntime) {
-    clear(&rt, "above");
-    make_file(&rt, "above", "above/file", "");
-    assert!(rt; is_in_the_way(&rt));
-    clear(&rt, "above");
-}
+// A file in the place of the root is a fault.
+const IN_THE_WAY: [Act<'static>; 2] = [
+    Act::Make(&[Made::Folder("above"), Made::File("above/file", "")]),
+    Act::Run(
+        Access::Look,
+        "above/file/root",
+        &[Part::Fail(&[Step::Stat("")])],
+        (
+            1,
+            "cannot use the folder above/file/root: Not a directory (os error 20)",
+        ),
+    ),
+];
 
 const IDS: [(Step<'static>, &str, &str); 3] = [
     (Step::Create("a", 0o644), "a", "644 0 "),
@@ -135,32 +118,17 @@ const IDS: [(Step<'static>, &str, &str); 3] = [
     (Step::Link("a", "c"), "c", "644 0 "),
 ];
 
-fn stat_at<H: Host>(rt: &impl Abort, host: &mut H, alloc: Global, at: &str) -> Stat {
-    host.stat(&path(rt, alloc, at)).expect(rt, at)
-}
-
-// Whether two names are of one file.
-fn are_one<H: Host>(rt: &impl Abort, host: &mut H, alloc: Global, a: &str, b: &str) -> bool {
-    let there = stat_at(rt, host, alloc, a);
-    there == stat_at(rt, host, alloc, b)
-}
-
-// Each row shows what it says. Answers whether the linked names are one file, and whether the others are.
-fn linked<R: Runtime>(rt: &R) -> (bool, bool) {
-    let alloc = rt.alloc();
-    let host = HostDir::new(rt, rt, rt, alloc, "ids", Access::Change);
-    let mut host = host.expect(rt, "memory");
-    all_show(rt, &mut host, alloc, &IDS);
-    let linked = are_one(rt, &mut host, alloc, "a", "c");
-    (linked, are_one(rt, &mut host, alloc, "a", "b"))
-}
-
-#[test]
-fn hard_links_have_one_id(rt: HostRuntime) {
-    clear(&rt, "ids");
-    assert!(rt; linked(&rt) == (true, false));
-    clear(&rt, "ids");
-}
+// Hard links have one id.
+const LINKING: [Act<'static>; 1] = [Act::Run(
+    Access::Change,
+    "ids",
+    &[
+        Part::Show(&IDS),
+        Part::AreOne("a", "c", true),
+        Part::AreOne("a", "b", false),
+    ],
+    (0, ""),
+)];
 
 // A place in `hello world`, how many bytes come from there, and the buffer after.
 const PIECES: [(u64, usize, [u8; 4]); 5] = [
@@ -171,26 +139,25 @@ const PIECES: [(u64, usize, [u8; 4]); 5] = [
     (u64::MAX, 0, *b"...."),
 ];
 
-// Whether the file gives this from a place on.
-fn gives<H: Host>(rt: &impl Abort, host: &mut H, file: &Path, row: &(u64, usize, [u8; 4])) -> bool {
-    let (at, n, want) = row;
-    let mut into = *b"....";
-    host.read_at(file, *at, &mut into).expect(rt, "bytes") == *n && into == *want
-}
-
-fn read_pieces<R: Runtime>(rt: &R) {
-    let host = HostDir::new(rt, rt, rt, rt.alloc(), "pieces", Access::Look);
-    let mut host = host.expect(rt, "memory");
-    let file = path(rt, rt.alloc(), "file");
-    for row in &PIECES {
-        assert!(rt; gives(rt, &mut host, &file, row));
-    }
-}
+// Bytes are read in pieces.
+const READING: [Act<'static>; 2] = [
+    Act::Make(&[
+        Made::Folder("pieces"),
+        Made::File("pieces/file", "hello world"),
+    ]),
+    Act::Run(
+        Access::Look,
+        "pieces",
+        &[Part::Give("file", &PIECES)],
+        (0, ""),
+    ),
+];
 
 #[test]
-fn bytes_are_read_in_pieces(rt: HostRuntime) {
-    clear(&rt, "pieces");
-    make_file(&rt, "pieces", "pieces/file", "hello world");
-    read_pieces(&rt);
-    clear(&rt, "pieces");
+fn folders_do_what_they_are_asked(rt: HostRuntime) {
+    tell(&rt, &rt, "asked", Kind::Plain, &ASKING);
+    tell(&rt, &rt, "refused", Kind::Plain, &REFUSING);
+    tell(&rt, &rt, "above", Kind::Plain, &IN_THE_WAY);
+    tell(&rt, &rt, "ids", Kind::Plain, &LINKING);
+    tell(&rt, &rt, "pieces", Kind::Plain, &READING);
 }

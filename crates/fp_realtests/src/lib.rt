@@ -14,8 +14,14 @@ mod log;
 #[cfg(test)]
 mod order;
 #[cfg(test)]
+mod play;
+#[cfg(test)]
 mod remotes;
 #[cfg(test)]
 mod shown;
 #[cfg(test)]
+mod step;
+#[cfg(test)]
 mod stored;
+#[cfg(test)]
+mod tale;

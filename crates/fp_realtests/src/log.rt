@@ -1,240 +1,259 @@
-// A system that notes what it is asked to change, in order, as the lines of a file.
-use crate::fixture::Runtime;
-use fp_realroot::{Access, Failure, System, sync_in_turn};
+// A system that notes what it is asked to change, in order, as lines.
+use fp_realroot::{Access, Failure, System, Unsynced, sync_in_turn};
+use fp_system::{Call, known};
 use std::alloc::{Alloc, Allocator, Global};
+use std::cell::Cell;
 use std::fmt::Display;
-use std::fs::{FileTimes, Metadata, OpenFile, OpenOptions, Permissions};
+use std::fs::{File, FileTimes, Metadata, OpenFile, OpenOptions, Permissions};
+use std::io;
 use std::io::{Eprint, Print, Read, Seek, SeekFrom, Write};
 use std::path::PathBuf;
 use std::rt::Files;
 use std::thread::Threads;
-use std::{fs, io};
 
-// The file, and what is other than in the system below it.
-pub struct Log<'a, R> {
-    pub rt: &'a R,
-    alloc: Global,
-    file: &'a str,
-    // The line that fails. Nothing of that call is done.
-    fails: &'a str,
-    // Whether somebody else holds each lock until it is waited for.
-    is_busy: bool,
-    // Whether it notes what is looked at, too.
-    tells_looks: bool,
+// What is other than in the system below it.
+#[derive(Clone, Copy)]
+pub enum Kind<'a> {
+    Plain,
+    // This line fails. Nothing of that call is done.
+    Failing(&'a str),
+    // Somebody else holds each lock until it is waited for.
+    Busy,
+    // What is looked at is noted, too.
+    TellingLooks,
 }
 
-impl<R> Drop for Log<'_, R> {
-    fn drop(self) {
-        let Log {
-            rt: _,
-            alloc: _,
-            file: _,
-            fails: _,
-            is_busy: _,
-            tells_looks: _,
-        } = self;
-    }
+// The lines since they were read last.
+#[derive(Drop)]
+pub struct Log<'a> {
+    pub alloc: Global,
+    lines: Cell<String>,
+    kind: Kind<'a>,
 }
 
-impl<'a, R: Files + AllocGlobal> Log<'a, R> {
-    pub fn new(rt: &'a R, file: &'a str, fails: &'a str) -> Self {
+impl<'a> Log<'a> {
+    pub fn new(alloc: Global, kind: Kind<'a>) -> Self {
         Log {
-            rt,
-            alloc: rt.alloc(),
-            file,
-            fails,
-            is_busy: false,
-            tells_looks: false,
+            alloc,
+            lines: Cell::new(String::new(alloc)),
+            kind,
         }
     }
 
-    pub fn busy(rt: &'a R, file: &'a str) -> Self {
-        Log {
-            rt,
-            alloc: rt.alloc(),
-            file,
-            fails: "",
-            is_busy: true,
-            tells_looks: false,
+    // Notes a call, and answers whether it is to be done.
+    fn lets(&self, what: &str, at: &str) -> bool {
+        let mut lines = self.take();
+        let is_noted = add_line(&mut lines, what, at);
+        self.lines.set(lines);
+        is_noted && !self.fails(what, at)
+    }
+
+    fn lets_look(&self, at: &str) -> bool {
+        match self.kind {
+            Kind::TellingLooks => self.lets("look", at),
+            _ => true,
         }
     }
 
-    pub fn telling_looks(rt: &'a R, file: &'a str) -> Self {
-        Log {
-            rt,
-            alloc: rt.alloc(),
-            file,
-            fails: "",
-            is_busy: false,
-            tells_looks: true,
+    fn fails(&self, what: &str, at: &str) -> bool {
+        match self.kind {
+            Kind::Failing(line) => is_line(line, what, at),
+            _ => false,
         }
     }
 
-    fn note_look(&self, at: &str) -> io::Result<()> {
-        if self.tells_looks {
-            return self.note("look", at);
-        }
-        Ok(())
+    fn is_busy(&self) -> bool {
+        matches!(self.kind, Kind::Busy)
     }
 
-    fn note(&self, what: &str, at: &str) -> io::Result<()> {
-        let line = format!(in self.alloc; "{what} {at}\n")?;
-        self.add(&line)?;
-        if line.trim_end() == self.fails {
-            return Err(io::Error::other("the cable is out"));
-        }
-        Ok(())
-    }
-
-    fn add(&self, line: &str) -> io::Result<()> {
-        let mut file = OpenOptions::new()
-            .append(true)
-            .create(true)
-            .open(self.rt, self.file)?;
-        file.write_all(line.as_bytes())
-    }
-
-    // Whether just this was noted since the last look.
-    pub fn is_noted(&self, want: &str) -> bool {
-        match self.lines() {
-            Ok(lines) => lines.as_str() == want,
-            Err(_) => false,
+    // The same for a call of which no more is done.
+    fn answer(&self, what: &str, at: &str) -> io::Result<()> {
+        if self.lets(what, at) {
+            Ok(())
+        } else {
+            Err(out())
         }
     }
 
     // The lines since the last time.
-    pub fn lines(&self) -> io::Result<String> {
-        if !fs::exists(self.rt, self.file)? {
-            return Ok(String::new(self.alloc));
-        }
-        let lines = fs::read_to_string(self.rt, self.file)?;
-        fs::remove_file(self.rt, self.file)?;
-        Ok(lines)
+    pub fn take(&self) -> String {
+        self.lines.replace(String::new(self.alloc))
     }
+
+    // Whether just this was noted since the last look.
+    pub fn is_noted(&self, want: &str) -> bool {
+        self.take().as_str() == want
+    }
+
+    // Whether just this call was.
+    pub fn is_one(&self, what: &str, at: &str) -> bool {
+        match self.take().strip_suffix('\n') {
+            Some(line) => is_line(line, what, at),
+            None => false,
+        }
+    }
+}
+
+fn add_line(lines: &mut String, what: &str, at: &str) -> bool {
+    lines.push_str(what).is_ok()
+        && lines.push(' ').is_ok()
+        && lines.push_str(at).is_ok()
+        && lines.push('\n').is_ok()
+}
+
+fn is_line(line: &str, what: &str, at: &str) -> bool {
+    match line.strip_prefix(what) {
+        Some(rest) => rest.strip_prefix(' ') == Some(at),
+        None => false,
+    }
+}
+
+fn out() -> io::Error {
+    io::Error::other("the cable is out")
 }
 
 // The system.
-pub struct Logged<'a, R> {
-    pub log: &'a Log<'a, R>,
-}
-
-impl<R> Drop for Logged<'_, R> {
-    fn drop(self) {
-        let Logged { log: _ } = self;
-    }
+#[derive(Drop)]
+pub struct Logged<'a> {
+    pub rt: &'a HostRuntime,
+    pub log: &'a Log<'a>,
 }
 
 // An open file of it.
-pub struct LoggedFile<'a, R: Files> {
-    log: &'a Log<'a, R>,
+#[derive(Drop)]
+pub struct LoggedFile<'a> {
+    log: &'a Log<'a>,
     at: String,
-    file: R::File,
+    file: File,
 }
 
-impl<R: Files> Drop for LoggedFile<'_, R> {
-    fn drop(self) {
-        let LoggedFile {
-            log: _,
-            at: _,
-            file: _,
-        } = self;
-    }
-}
+impl<'a> Files for Logged<'a> {
+    type File = LoggedFile<'a>;
 
-impl<'a, R: Files + AllocGlobal> Files for Logged<'a, R> {
-    type File = LoggedFile<'a, R>;
+    type Dir = <HostRuntime as Files>::Dir;
 
-    type Dir = R::Dir;
-
-    fn open_file(&self, how: &OpenOptions, path: &str) -> io::Result<LoggedFile<'a, R>> {
-        if how.asks_create_new() {
-            self.log.note("create", path)?;
+    fn open_file(&self, how: &OpenOptions, path: &str) -> io::Result<LoggedFile<'a>> {
+        if how.asks_create_new() && !self.log.lets("create", path) {
+            return Err(out());
         }
         let at = path.to_string(self.log.alloc)?;
         Ok(LoggedFile {
             log: self.log,
             at,
-            file: self.log.rt.open_file(how, path)?,
+            file: self.rt.open_file(how, path)?,
         })
     }
 
-    fn open_dir(&self, path: &str) -> io::Result<R::Dir> {
-        self.log.note_look(path)?;
-        self.log.rt.open_dir(path)
+    fn open_dir(&self, path: &str) -> io::Result<<HostRuntime as Files>::Dir> {
+        if self.log.lets_look(path) {
+            self.rt.open_dir(path)
+        } else {
+            Err(out())
+        }
     }
 
     fn metadata(&self, path: &str) -> io::Result<Metadata> {
-        self.log.note_look(path)?;
-        self.log.rt.metadata(path)
+        if self.log.lets_look(path) {
+            self.rt.metadata(path)
+        } else {
+            Err(out())
+        }
     }
 
     fn symlink_metadata(&self, path: &str) -> io::Result<Metadata> {
-        self.log.note_look(path)?;
-        self.log.rt.symlink_metadata(path)
+        if self.log.lets_look(path) {
+            self.rt.symlink_metadata(path)
+        } else {
+            Err(out())
+        }
     }
 
     fn copy(&self, from: &str, to: &str) -> io::Result<u64> {
-        self.log.rt.copy(from, to)
+        self.rt.copy(from, to)
     }
 
     fn rename(&self, from: &str, to: &str) -> io::Result<()> {
-        self.log.note("rename to", to)?;
-        self.log.rt.rename(from, to)
+        if self.log.lets("rename to", to) {
+            self.rt.rename(from, to)
+        } else {
+            Err(out())
+        }
     }
 
     fn remove_file(&self, path: &str) -> io::Result<()> {
-        self.log.note("remove", path)?;
-        self.log.rt.remove_file(path)
+        if self.log.lets("remove", path) {
+            self.rt.remove_file(path)
+        } else {
+            Err(out())
+        }
     }
 
     fn create_dir(&self, path: &str) -> io::Result<()> {
-        self.log.note("make", path)?;
-        self.log.rt.create_dir(path)
+        if self.log.lets("make", path) {
+            self.rt.create_dir(path)
+        } else {
+            Err(out())
+        }
     }
 
     fn create_dir_with_mode(&self, path: &str, mode: u32) -> io::Result<()> {
-        self.log.note("make", path)?;
-        self.log.rt.create_dir_with_mode(path, mode)
+        if self.log.lets("make", path) {
+            self.rt.create_dir_with_mode(path, mode)
+        } else {
+            Err(out())
+        }
     }
 
     fn remove_dir(&self, path: &str) -> io::Result<()> {
-        self.log.note("remove", path)?;
-        self.log.rt.remove_dir(path)
+        if self.log.lets("remove", path) {
+            self.rt.remove_dir(path)
+        } else {
+            Err(out())
+        }
     }
 
     fn remove_dir_all<B: Allocator>(&self, alloc: B, path: &str) -> io::Result<()> {
-        self.log.rt.remove_dir_all(alloc, path)
+        self.rt.remove_dir_all(alloc, path)
     }
 
     fn read_link<B: Allocator>(&self, alloc: B, path: &str) -> io::Result<PathBuf<B>> {
-        self.log.rt.read_link(alloc, path)
+        self.rt.read_link(alloc, path)
     }
 
     fn hard_link(&self, original: &str, link: &str) -> io::Result<()> {
-        self.log.note("link", link)?;
-        self.log.rt.hard_link(original, link)
+        if self.log.lets("link", link) {
+            self.rt.hard_link(original, link)
+        } else {
+            Err(out())
+        }
     }
 
     fn symlink(&self, original: &str, link: &str) -> io::Result<()> {
-        self.log.note("link", link)?;
-        self.log.rt.symlink(original, link)
+        if self.log.lets("link", link) {
+            self.rt.symlink(original, link)
+        } else {
+            Err(out())
+        }
     }
 
     fn set_permissions(&self, path: &str, perm: Permissions) -> io::Result<()> {
-        self.log.rt.set_permissions(path, perm)
+        self.rt.set_permissions(path, perm)
     }
 }
 
-impl<R: Files> Read for LoggedFile<'_, R> {
+impl Read for LoggedFile<'_> {
     fn read(&mut self, buf: &mut [u8]) -> io::Result<usize> {
         self.file.read(buf)
     }
 }
 
-impl<R: Files + AllocGlobal> Write for LoggedFile<'_, R> {
+impl Write for LoggedFile<'_> {
     fn write(&mut self, buf: &[u8]) -> io::Result<usize> {
-        self.log.note("write", &self.at)?;
-        self.file.write(buf)
+        if self.log.lets("write", &self.at) {
+            self.file.write(buf)
+        } else {
+            Err(out())
+        }
     }
 
     fn flush(&mut self) -> io::Result<()> {
@@ -242,25 +261,31 @@ impl<R: Files + AllocGlobal> Write for LoggedFile<'_, R> {
     }
 }
 
-impl<R: Files> Seek for LoggedFile<'_, R> {
+impl Seek for LoggedFile<'_> {
     fn seek(&mut self, to: SeekFrom) -> io::Result<u64> {
         self.file.seek(to)
     }
 }
 
-impl<R: Files + AllocGlobal> OpenFile for LoggedFile<'_, R> {
+impl OpenFile for LoggedFile<'_> {
     fn metadata(&self) -> io::Result<Metadata> {
         self.file.metadata()
     }
 
     fn set_len(&self, size: u64) -> io::Result<()> {
-        self.log.note("cut", &self.at)?;
-        self.file.set_len(size)
+        if self.log.lets("cut", &self.at) {
+            self.file.set_len(size)
+        } else {
+            Err(out())
+        }
     }
 
     fn sync_all(&self) -> io::Result<()> {
-        self.log.note("sync", &self.at)?;
-        self.file.sync_all()
+        if self.log.lets("sync", &self.at) {
+            self.file.sync_all()
+        } else {
+            Err(out())
+        }
     }
 
     fn sync_data(&self) -> io::Result<()> {
@@ -272,12 +297,15 @@ impl<R: Files + AllocGlobal> OpenFile for LoggedFile<'_, R> {
     }
 
     fn set_times(&self, times: FileTimes) -> io::Result<()> {
-        self.log.note("date", &self.at)?;
-        self.file.set_times(times)
+        if self.log.lets("date", &self.at) {
+            self.file.set_times(times)
+        } else {
+            Err(out())
+        }
     }
 }
 
-impl<R> Alloc for Logged<'_, R> {
+impl Alloc for Logged<'_> {
     type A = Global;
 
     fn alloc(&self) -> Global {
@@ -285,25 +313,25 @@ impl<R> Alloc for Logged<'_, R> {
     }
 }
 
-impl<R: Files + AllocGlobal> Print for Logged<'_, R> {
+impl Print for Logged<'_> {
     fn print<D: Display + Drop>(&self, _value: D) -> io::Result<()> {
-        self.log.note("print", "a value")
+        self.log.answer("print", "a value")
     }
 
     fn println<D: Display + Drop>(&self, _value: D) -> io::Result<()> {
-        self.log.note("print", "a line")
+        self.log.answer("print", "a line")
     }
 
     fn write_all(&self, bytes: &[u8]) -> io::Result<()> {
-        self.log
-            .note("print", std::str::from_utf8(bytes).ok().unwrap_or("?"))
+        let text = std::str::from_utf8(bytes).ok().unwrap_or("?");
+        self.log.answer("print", text)
     }
 }
 
-impl<R: Files + AllocGlobal> Eprint for Logged<'_, R> {
+impl Eprint for Logged<'_> {
     fn eprint<D: Display + Drop>(&self, value: D) -> io::Result<()> {
-        let text = format!(in self.log.alloc; "{value}")?;
-        self.log.note("complain", &text)
+        let text = value.to_string(self.log.alloc)?;
+        self.log.answer("complain", &text)
     }
 
     fn eprintln<D: Display + Drop>(&self, value: D) -> io::Result<()> {
@@ -311,22 +339,44 @@ impl<R: Files + AllocGlobal> Eprint for Logged<'_, R> {
     }
 }
 
-impl<R: Runtime> System for Logged<'_, R> {
+impl System for Logged<'_> {
     fn try_lock(&self, file: &Self::File, access: Access) -> io::Result<bool> {
-        self.log.note("lock", &file.at)?;
-        if self.log.is_busy {
+        if !self.log.lets("lock", &file.at) {
+            return Err(out());
+        }
+        if self.log.is_busy() {
             return Ok(false);
         }
-        self.log.rt.try_lock(&file.file, access)
+        self.rt.try_lock(&file.file, access)
     }
 
     fn lock(&self, file: &Self::File, access: Access) -> io::Result<()> {
-        self.log.note("wait for", &file.at)?;
-        self.log.rt.lock(&file.file, access)
+        if self.log.lets("wait for", &file.at) {
+            self.rt.lock(&file.file, access)
+        } else {
+            Err(out())
+        }
     }
 
     fn sync_paths<T: Threads + Sync>(&self, _threads: &T, paths: &[&str]) -> Option<Failure> {
         sync_in_turn(self, paths)
+    }
+
+    fn sync_files<T: Threads + Sync>(
+        &self,
+        _threads: &T,
+        files: &[&Self::File],
+    ) -> Option<Failure> {
+        for (i, file) in files.iter().enumerate() {
+            if let Err(cause) = known(file.sync_all()) {
+                let unsynced = Unsynced {
+                    call: Call::Sync,
+                    cause,
+                };
+                return Some(Failure { place: i, unsynced });
+            }
+        }
+        None
     }
 
     fn prints_to_terminal(&self) -> bool {

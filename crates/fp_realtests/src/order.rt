@@ -1,14 +1,10 @@
 // What the system is asked, in order, and what a failure of it does.
-use crate::fixture::{Runtime, Step, change, clear};
-use crate::log::{Log, Logged};
-use fp_host::{Host, HostError};
-use fp_realhost::HostDir;
+use crate::fixture::Made;
+use crate::log::Kind;
+use crate::play::Part;
+use crate::step::Step;
+use crate::tale::{Act, tell};
 use fp_realroot::Access;
-use std::alloc::Global;
-use std::fs;
-use std::panic::Expect;
-use std::process::Abort;
-use std::rt::Files;
 
 // Calls, and what the system is asked for each.
 const ASKED: [(Step<'static>, &str); 24] = [
@@ -134,40 +130,13 @@ const WAITING: [(Step<'static>, &str); 14] = [
     ),
 ];
 
-// Makes the calls, and ends the test at the first that fails, or for which the system is asked something else.
-fn all_ask<H: Host, R: Files + AllocGlobal + Abort>(
-    log: &Log<'_, R>,
-    host: &mut H,
-    rows: &[(Step<'_>, &str)],
-) {
-    for (step, want) in rows {
-        change(log.rt, host, log.rt.alloc(), *step).expect(log.rt, want);
-        assert!(log.rt; log.is_noted(want), "{want}");
-    }
-}
+const ASKING: [Act<'static>; 1] = [Act::Logged(Access::Change, "order/root", &[Part::Ask(&ASKED)])];
 
-// The same over a folder whose system notes what it is asked.
-fn run<R: Runtime>(log: &Log<'_, R>, root: &str, rows: &[(Step<'_>, &str)]) {
-    let alloc = log.rt.alloc();
-    let system = Logged { log };
-    let host = HostDir::new(&system, log.rt, &system, alloc, root, Access::Change);
-    let mut host = host.expect(log.rt, "memory");
-    all_ask(log, &mut host, rows);
-}
-
-#[test]
-fn the_system_is_asked_in_order(rt: HostRuntime) {
-    clear(&rt, "order");
-    run(&Log::new(&rt, "order.log", ""), "order/root", &ASKED);
-    clear(&rt, "order");
-}
-
-#[test]
-fn what_waits_for_the_store_is_dated_once(rt: HostRuntime) {
-    clear(&rt, "date");
-    run(&Log::new(&rt, "date.log", ""), "date/root", &WAITING);
-    clear(&rt, "date");
-}
+const DATING: [Act<'static>; 1] = [Act::Logged(
+    Access::Change,
+    "date/root",
+    &[Part::Ask(&WAITING)],
+)];
 
 const CHANGES: [Step<'static>; 5] = [
     Step::MakeDir("d"),
@@ -192,41 +161,13 @@ const FAILURES: [(&str, usize, bool); 11] = [
     ("print words", 4, true),
 ];
 
-// The first of the calls that fails.
-fn first_failure<H: Host>(rt: &impl Abort, host: &mut H, alloc: Global) -> Option<usize> {
-    for (i, step) in (&CHANGES).iter().enumerate() {
-        if change(rt, host, alloc, *step) == Err(HostError::Failed) {
-            return Some(i);
-        }
-    }
-    None
-}
-
-// The first call that fails, and whether a sync succeeds afterwards.
-fn failure<R: Runtime>(log: &Log<'_, R>) -> (Option<usize>, bool) {
-    let alloc = log.rt.alloc();
-    let system = Logged { log };
-    let host = HostDir::new(
-        &system,
-        log.rt,
-        &system,
-        alloc,
-        "fails/root",
-        Access::Change,
-    );
-    let mut host = host.expect(log.rt, "memory");
-    let first = first_failure(log.rt, &mut host, alloc);
-    (first, host.sync().is_ok())
-}
-
 #[test]
 fn what_the_system_fails_at_is_not_done(rt: HostRuntime) {
     for (fails, at, syncs) in &FAILURES {
-        clear(&rt, "fails");
-        let log = Log::new(&rt, "fails.log", fails);
-        assert!(rt; failure(&log) == (Some(*at), *syncs), "{fails}");
+        let parts = [Part::Stop(&CHANGES, *at, *syncs)];
+        let acts = [Act::Logged(Access::Change, "fails/root", &parts)];
+        tell(&rt, &rt, "fails", Kind::Failing(fails), &acts);
     }
-    clear(&rt, "fails");
 }
 
 // What a run does that is stopped.
@@ -256,27 +197,18 @@ const IDLE: [(Step<'static>, &str); 2] = [
     (Step::Sync, ""),
 ];
 
-#[test]
-fn what_a_run_left_is_made_to_last(rt: HostRuntime) {
-    clear(&rt, "left");
-    let log = Log::new(&rt, "left.log", "");
-    let runs: [&[(Step, &str)]; 3] = [&UNSYNCED, &CAUGHT_UP, &IDLE];
-    for rows in &runs {
-        run(&log, "left/root", rows);
-    }
-    clear(&rt, "left");
-}
+const LEFT: [Act<'static>; 3] = [
+    Act::Logged(Access::Change, "left/root", &[Part::Ask(&UNSYNCED)]),
+    Act::Logged(Access::Change, "left/root", &[Part::Ask(&CAUGHT_UP)]),
+    Act::Logged(Access::Change, "left/root", &[Part::Ask(&IDLE)]),
+];
 
 // The mark of an earlier start of the machine means nothing.
-#[test]
-fn what_an_earlier_start_left_is_there(rt: HostRuntime) {
-    clear(&rt, "left");
-    let log = Log::new(&rt, "left.log", "");
-    run(&log, "left/root", &UNSYNCED);
-    fs::write(&rt, "left/root/.lock", "0-0\n").expect(&rt, "a mark");
-    run(&log, "left/root", &IDLE);
-    clear(&rt, "left");
-}
+const MARKED: [Act<'static>; 3] = [
+    Act::Logged(Access::Change, "left/root", &[Part::Ask(&UNSYNCED)]),
+    Act::Make(&[Made::File("left/root/.lock", "0-0\n")]),
+    Act::Logged(Access::Change, "left/root", &[Part::Ask(&IDLE)]),
+];
 
 // A folder that was there without a lock file may hold what was left.
 const UNKNOWN: [(Step<'static>, &str); 2] = [
@@ -291,14 +223,10 @@ const UNKNOWN: [(Step<'static>, &str); 2] = [
     ),
 ];
 
-#[test]
-fn a_folder_without_a_lock_is_synced_once(rt: HostRuntime) {
-    clear(&rt, "old");
-    fs::create_dir_all(&rt, "old/root").expect(&rt, "a root");
-    fs::write(&rt, "old/root/f", "").expect(&rt, "a file");
-    run(&Log::new(&rt, "old.log", ""), "old/root", &UNKNOWN);
-    clear(&rt, "old");
-}
+const UNLOCKED: [Act<'static>; 2] = [
+    Act::Make(&[Made::Folder("old/root"), Made::File("old/root/f", "")]),
+    Act::Logged(Access::Change, "old/root", &[Part::Ask(&UNKNOWN)]),
+];
 
 // What is looked at: the root, and what isn't known to be there or absent. A file that was written while it had two names is looked
 // at again.
@@ -339,41 +267,20 @@ const LOOKS: [(Step<'static>, &str); 27] = [
     (Step::Stat("none/x"), ""),
 ];
 
+const LOOKING: [Act<'static>; 1] = [Act::Logged(
+    Access::Change,
+    "looks/root",
+    &[Part::Ask(&LOOKS)],
+)];
+
 #[test]
-fn nothing_is_looked_at_twice(rt: HostRuntime) {
-    clear(&rt, "looks");
-    run(&Log::telling_looks(&rt, "looks.log"), "looks/root", &LOOKS);
-    clear(&rt, "looks");
-}
-
-// Makes files of this number.
-fn make_many<H: Host>(rt: &impl Abort, host: &mut H, alloc: Global, count: u32) {
-    for i in 0..count {
-        let name = format!(in alloc; "f{i:02}").expect(rt, "memory");
-        change(rt, host, alloc, Step::Create(name.as_str(), 0o644)).expect(rt, "a file");
-    }
-}
-
-// How many files the system was asked to sync since the last look.
-fn count_synced<R: Files + AllocGlobal + Abort>(log: &Log<'_, R>) -> usize {
-    let lines = log.lines().expect(log.rt, "lines");
-    lines
-        .lines()
-        .filter(|line| line.contains("sync many/root/f"))
-        .count()
-}
-
-// How many of this number of files are synced before a sync, and by it, and whether it succeeds, twice.
-fn synced<R: Runtime>(log: &Log<'_, R>, count: u32) -> (usize, usize, bool) {
-    let alloc = log.rt.alloc();
-    let system = Logged { log };
-    let host = HostDir::new(&system, log.rt, &system, alloc, "many/root", Access::Change);
-    let mut host = host.expect(log.rt, "memory");
-    make_many(log.rt, &mut host, alloc, count);
-    let early = count_synced(log);
-    let done = host.sync().is_ok();
-    let late = count_synced(log);
-    (early, late, done && host.sync().is_ok())
+fn the_system_is_asked_in_order(rt: HostRuntime) {
+    tell(&rt, &rt, "order", Kind::Plain, &ASKING);
+    tell(&rt, &rt, "date", Kind::Plain, &DATING);
+    tell(&rt, &rt, "left", Kind::Plain, &LEFT);
+    tell(&rt, &rt, "left", Kind::Plain, &MARKED);
+    tell(&rt, &rt, "old", Kind::Plain, &UNLOCKED);
+    tell(&rt, &rt, "looks", Kind::TellingLooks, &LOOKING);
 }
 
 // How many files are made, and the sync that fails. Where 192 files are open beside the one that is written, they are synced before
@@ -389,9 +296,8 @@ const MANY: [(u32, &str, (usize, usize, bool)); 4] = [
 #[test]
 fn many_files_are_synced(rt: HostRuntime) {
     for (count, fails, want) in &MANY {
-        clear(&rt, "many");
-        let log = Log::new(&rt, "many.log", fails);
-        assert!(rt; synced(&log, *count) == *want, "{fails}");
+        let parts = [Part::Many(*count, want)];
+        let acts = [Act::Logged(Access::Change, "many/root", &parts)];
+        tell(&rt, &rt, "many", Kind::Failing(fails), &acts);
     }
-    clear(&rt, "many");
 }

@@ -1,33 +1,110 @@
 // Folders as remotes, and an input as a source.
-use crate::fixture::{clear, is_message, make_file, path};
-use crate::log::{Log, Logged};
+use crate::fixture::{Made, bits_and_size, clear, demand, is_message, make_all, path, url_of};
+use crate::log::{Kind, Log, Logged};
+use crate::tale::{Act, tell, tells};
 use fp_host::{Node, Path, RemoteError, Remotes, Source, Taken};
 use fp_realinput::{DirRemotes, StdinSource};
 use std::alloc::{Allocator, Global};
 use std::cell::Cell;
-use std::env::Env;
-use std::fs::Permissions;
+use std::io;
 use std::io::{BufRead, ErrorKind, Input, Lines, Read};
-use std::os::unix::fs::{PermissionsExt, symlink};
 use std::panic::Expect;
 use std::process::Abort;
-use std::rt::Files;
-use std::{fs, io};
+
+// A folder as a remote, and other urls.
+#[derive(Clone, Copy)]
+pub struct Remote<'a> {
+    pub folder: &'a str,
+    // A path, what stands there, and how many bytes it has from the seventh on.
+    pub holds: &'a [(&'a str, &'a str, usize)],
+    pub urls: &'a [&'a str],
+    // How often a call failed, and what was refused last, where that is told.
+    pub told: (u64, &'a str),
+}
+
+// What stands at a path where both calls fail.
+pub const FAULT: &str = "a fault";
+
+// Ends the test where the remote is otherwise, or a call at one of the other urls doesn't fail.
+pub fn ask_remote(rt: &HostRuntime, test: &impl Abort, remote: &Remote<'_>) {
+    let url = url_of(rt, test, remote.folder);
+    let mut remotes = DirRemotes::new(rt, rt.alloc());
+    all_hold(test, rt.alloc(), &mut remotes, &url, remote.holds);
+    all_fail(test, rt.alloc(), &mut remotes, remote.urls);
+    let is_told = tells(
+        rt.alloc(),
+        remotes.faults(),
+        remotes.last_error(),
+        remote.told,
+    );
+    demand(test, is_told, 0, "the faults");
+}
+
+fn all_hold<M: Remotes>(
+    test: &impl Abort,
+    alloc: Global,
+    remotes: &mut M,
+    url: &str,
+    rows: &[(&str, &str, usize)],
+) {
+    for (i, (at, want, n)) in rows.iter().enumerate() {
+        let at = path(test, alloc, at);
+        let holds = is_node(test, alloc, remotes, url, &at, want);
+        demand(test, holds && gives(remotes, url, &at, want, *n), i, want);
+    }
+}
+
+fn all_fail<M: Remotes>(test: &impl Abort, alloc: Global, remotes: &mut M, urls: &[&str]) {
+    let root = Path::root(alloc);
+    for (i, url) in urls.iter().enumerate() {
+        let fails = is_node(test, alloc, remotes, url, &root, FAULT);
+        demand(test, fails && gives(remotes, url, &root, FAULT, 0), i, url);
+    }
+}
+
+// Whether this is shown there.
+fn is_node<M: Remotes>(
+    test: &impl Abort,
+    alloc: Global,
+    remotes: &mut M,
+    url: &str,
+    at: &Path,
+    want: &str,
+) -> bool {
+    match remotes.node(alloc, url, at) {
+        Ok(node) => is_shown(test, alloc, &node, want),
+        Err(error) => error == RemoteError::Failed && want == FAULT,
+    }
+}
 
 // Whether a node is shown so.
-fn is_shown(rt: &impl Abort, alloc: Global, node: &Node, want: &str) -> bool {
+fn is_shown(test: &impl Abort, alloc: Global, node: &Node, want: &str) -> bool {
     match node {
         Node::Absent => want == "absent",
         Node::Dir => want == "dir",
-        Node::File { mode, size } => {
-            format!(in alloc; "{mode:o} {size}")
-                .expect(rt, "memory")
-                .as_str()
-                == want
-        }
+        Node::File { mode, size } => is_file(test, alloc, *mode, *size, want),
         Node::Link(text) => text.as_str() == want,
     }
 }
+
+fn is_file(test: &impl Abort, alloc: Global, mode: u32, size: u64, want: &str) -> bool {
+    bits_and_size(test, alloc, mode, size).as_str() == want
+}
+
+// Whether this many bytes come from the seventh on, or the call fails.
+fn gives<M: Remotes>(remotes: &mut M, url: &str, at: &Path, want: &str, n: usize) -> bool {
+    match remotes.read_at(url, at, 6, &mut [0u8; 8]) {
+        Ok(read) => read == n && want != FAULT,
+        Err(error) => error == RemoteError::Failed && want == FAULT,
+    }
+}
+
+const MADE: [Made<'static>; 4] = [
+    Made::Folder("remote"),
+    Made::File("remote/file", "hello world"),
+    Made::Bits("remote/file", 0o640),
+    Made::Link("file", "remote/link"),
+];
 
 // A path, what stands there, and how many bytes it has from the seventh on.
 const HELD: [(&str, &str, usize); 5] = [
@@ -38,56 +115,15 @@ const HELD: [(&str, &str, usize); 5] = [
     ("none", "absent", 0),
 ];
 
-fn make_remote<R: Files + Abort>(rt: &R) {
-    make_file(rt, "remote", "remote/file", "hello world");
-    let bits = Permissions::from_mode(0o640);
-    fs::set_permissions(rt, "remote/file", bits).expect(rt, "bits");
-    symlink(rt, "file", "remote/link").expect(rt, "a symlink");
-}
-
-fn remote_url<R: Env + AllocGlobal + Abort>(rt: &R) -> String {
-    let here = std::env::current_dir(rt)
-        .expect(rt, "a folder")
-        .into_string();
-    format!(in rt.alloc(); "file://{here}/remote").expect(rt, "memory")
-}
-
-// How many bytes the remote's file has from the seventh on.
-fn count_bytes<M: Remotes>(rt: &impl Abort, remotes: &mut M, url: &str, at: &Path) -> usize {
-    remotes
-        .read_at(url, at, 6, &mut [0u8; 8])
-        .expect(rt, "bytes")
-}
-
-fn is_held<M: Remotes>(
-    rt: &impl Abort,
-    remotes: &mut M,
-    alloc: Global,
-    url: &str,
-    row: &(&'static str, &'static str, usize),
-) -> bool {
-    let (at, want, n) = *row;
-    let at = path(rt, alloc, at);
-    let node = remotes.node(alloc, url, &at).expect(rt, want);
-    is_shown(rt, alloc, &node, want) && count_bytes(rt, remotes, url, &at) == n
-}
-
-// Each row is so. Answers how often a call failed.
-fn held<R: Files + AllocGlobal + Abort>(rt: &R, url: &str) -> u64 {
-    let mut remotes = DirRemotes::new(rt, rt.alloc());
-    for row in &HELD {
-        assert!(rt; is_held(rt, &mut remotes, rt.alloc(), url, row));
-    }
-    remotes.faults()
-}
-
-#[test]
-fn folders_are_remotes(rt: HostRuntime) {
-    clear(&rt, "remote");
-    make_remote(&rt);
-    assert!(rt; held(&rt, &remote_url(&rt)) == 0);
-    clear(&rt, "remote");
-}
+const REMOTE: [Act<'static>; 2] = [
+    Act::Make(&MADE),
+    Act::Remote(Remote {
+        folder: "remote",
+        holds: &HELD,
+        urls: &[],
+        told: (0, ""),
+    }),
+];
 
 const OTHER_URLS: [&str; 7] = [
     "",
@@ -99,62 +135,56 @@ const OTHER_URLS: [&str; 7] = [
     "https:///",
 ];
 
-// Whether both calls fail there.
-fn fails<M: Remotes>(remotes: &mut M, alloc: Global, url: &str, root: &Path) -> bool {
-    let node = remotes.node(alloc, url, root);
-    let piece = remotes.read_at(url, root, 0, &mut [0u8; 8]);
-    matches!(node, Err(RemoteError::Failed)) && piece == Err(RemoteError::Failed)
-}
-
-// Both calls fail at each url. Answers whether all are counted, and the last is told.
-fn are_refused<R: Files + AllocGlobal + Abort>(rt: &R) -> bool {
-    let alloc = rt.alloc();
-    let mut remotes = DirRemotes::new(rt, alloc);
-    for url in &OTHER_URLS {
-        assert!(rt;
-            fails(&mut remotes, alloc, url, &Path::root(alloc)),
-            "{url}"
-        );
-    }
-    let last = "cannot find the remote https:///: a url is file:// and an absolute path";
-    remotes.faults() == 14 && is_message(rt, alloc, remotes.last_error(), last)
-}
+// All faults are counted, and the last is told.
+const OTHERS: [Act<'static>; 1] = [Act::Remote(Remote {
+    folder: "",
+    holds: &[],
+    urls: &OTHER_URLS,
+    told: (
+        14,
+        "cannot find the remote https:///: a url is file:// and an absolute path",
+    ),
+})];
 
 #[test]
-fn other_urls_are_faults(rt: HostRuntime) {
-    assert!(rt; are_refused(&rt));
+fn folders_are_remotes_and_other_urls_are_faults(rt: HostRuntime) {
+    tell(&rt, &rt, "remote", Kind::Plain, &REMOTE);
+    tell(&rt, &rt, "others", Kind::Plain, &OTHERS);
 }
 
-// Whether a path is looked at once when its node is asked for.
-fn is_found<M: Remotes, R: Files + AllocGlobal + Abort>(
-    log: &Log<'_, R>,
+// Whether a path is looked at once when its node is asked for, and not again when it is read.
+fn reads_found<M: Remotes>(
+    log: &Log<'_>,
     remotes: &mut M,
-    url: &str,
+    folder: &str,
+    file: &str,
     at: &Path,
 ) -> bool {
-    let alloc = log.rt.alloc();
-    let folder = url.strip_prefix("file://").unwrap_or("");
-    let want = format!(in alloc; "look {folder}/file\n").expect(log.rt, "memory");
-    remotes.node(alloc, url, at).is_ok() && log.is_noted(&want)
+    let found = remotes.node(log.alloc, folder, at).is_ok() && log.is_one("look", file);
+    let read = gives(remotes, folder, at, "", 5);
+    found && read && log.is_noted("")
 }
 
-// Whether a file that was found is not looked at again when it is read.
-fn reads_found<R: Files + AllocGlobal + Abort>(log: &Log<'_, R>, url: &str) -> bool {
-    let alloc = log.rt.alloc();
-    let system = Logged { log };
-    let mut remotes = DirRemotes::new(&system, alloc);
-    let at = path(log.rt, alloc, "file");
-    let found = is_found(log, &mut remotes, url, &at);
-    let read = count_bytes(log.rt, &mut remotes, url, &at) == 5;
-    found && read && log.is_noted("")
+fn looks_once(rt: &HostRuntime, log: &Log<'_>, folder: &str, file: &str, at: &Path) -> bool {
+    let system = Logged { rt, log };
+    let mut remotes = DirRemotes::new(&system, log.alloc);
+    reads_found(log, &mut remotes, folder, file, at)
+}
+
+// Whether the file of the remote is.
+fn is_found(rt: &HostRuntime, test: &impl Abort, log: &Log<'_>) -> bool {
+    let folder = url_of(rt, test, "remote");
+    let file = url_of(rt, test, "remote/file");
+    let at = path(test, log.alloc, "file");
+    let place = file.strip_prefix("file://").unwrap_or("");
+    looks_once(rt, log, &folder, place, &at)
 }
 
 #[test]
 fn a_found_file_is_looked_at_once(rt: HostRuntime) {
     clear(&rt, "remote");
-    make_remote(&rt);
-    let log = Log::telling_looks(&rt, "remote.log");
-    assert!(rt; reads_found(&log, &remote_url(&rt)));
+    make_all(&rt, &rt, &MADE);
+    assert!(rt; is_found(&rt, &rt, &Log::new(rt.alloc(), Kind::TellingLooks)));
     clear(&rt, "remote");
 }
 
@@ -217,13 +247,19 @@ fn takes<S: Source>(source: &mut S) -> [Taken; 4] {
     ]
 }
 
-#[test]
-fn an_input_is_a_source(rt: HostRuntime) {
+// Whether the four takes answer this in turn, and the fault is counted and told.
+fn is_source(alloc: Global) -> bool {
     let turn = Cell::new(0);
     let turns = Turns { turn: &turn };
     let mut source = StdinSource::new(&turns);
     let taken = [Taken::Took(2), Taken::Failed, Taken::End, Taken::Took(0)];
-    assert!(rt; takes(&mut source) == taken && source.faults() == 1);
     let last = "cannot read the standard input: Input/output error (os error 5)";
-    assert!(rt; is_message(&rt, rt.alloc(), source.last_error(), last));
+    takes(&mut source) == taken
+        && source.faults() == 1
+        && is_message(alloc, source.last_error(), last)
+}
+
+#[test]
+fn an_input_is_a_source(rt: HostRuntime) {
+    assert!(rt; is_source(rt.alloc()));
 }

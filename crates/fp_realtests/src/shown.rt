@@ -1,8 +1,9 @@
 // What is printed to a terminal.
-use crate::fixture::Runtime;
-use crate::log::{Log, Logged};
+use crate::fixture::demand;
+use crate::log::{Kind, Log, Logged};
 use fp_realhost::Screen;
 use std::panic::Expect;
+use std::process::Abort;
 
 // What drives a terminal, and what is shown in its place.
 const SHOWN: [(&str, &str); 5] = [
@@ -19,33 +20,41 @@ const SHOWN: [(&str, &str); 5] = [
     ("", ""),
 ];
 
-// Whether these bytes are printed as this.
-fn are_shown<R: Runtime>(log: &Log<'_, R>, is_terminal: bool, bytes: &[u8], want: &str) -> bool {
-    let system = Logged { log };
-    let screen = Screen::new(&system, log.rt.alloc(), is_terminal);
-    screen.write_all(bytes).expect(log.rt, "a write");
-    log.is_noted(want)
+// Prints these bytes.
+fn print_bytes(
+    rt: &HostRuntime,
+    test: &impl Abort,
+    log: &Log<'_>,
+    is_terminal: bool,
+    bytes: &[u8],
+) {
+    let system = Logged { rt, log };
+    let screen = Screen::new(&system, rt.alloc(), is_terminal);
+    screen.write_all(bytes).expect(test, "a write");
 }
 
 // Whether the text is shown so on a terminal, and elsewhere as it is.
-fn is_shown<R: Runtime>(log: &Log<'_, R>, text: &str, want: &str) -> bool {
-    let terminal = format!(in log.rt.alloc(); "print {want}\n").expect(log.rt, "memory");
-    let pipe = format!(in log.rt.alloc(); "print {text}\n").expect(log.rt, "memory");
-    are_shown(log, true, text.as_bytes(), &terminal)
-        && are_shown(log, false, text.as_bytes(), &pipe)
+fn is_shown(rt: &HostRuntime, test: &impl Abort, log: &Log<'_>, text: &str, want: &str) -> bool {
+    print_bytes(rt, test, log, true, text.as_bytes());
+    let terminal = log.is_one("print", want);
+    print_bytes(rt, test, log, false, text.as_bytes());
+    terminal && log.is_one("print", text)
 }
 
-#[test]
-fn nothing_drives_a_terminal(rt: HostRuntime) {
-    let log = Log::new(&rt, "shown.log", "");
-    for (text, want) in &SHOWN {
-        assert!(rt; is_shown(&log, text, want));
+fn all_shown(rt: &HostRuntime, test: &impl Abort, log: &Log<'_>) {
+    for (i, (text, want)) in (&SHOWN).iter().enumerate() {
+        demand(test, is_shown(rt, test, log, text, want), i, want);
     }
 }
 
 #[test]
+fn nothing_drives_a_terminal(rt: HostRuntime) {
+    all_shown(&rt, &rt, &Log::new(rt.alloc(), Kind::Plain));
+}
+
+#[test]
 fn bytes_that_are_no_text_are_shown_so(rt: HostRuntime) {
-    let log = Log::new(&rt, "bytes.log", "");
-    let want = "print a\\x9b\\xff\\u{1b}\n\n";
-    assert!(rt; are_shown(&log, true, b"a\x9b\xff\x1b\n", want));
+    let log = Log::new(rt.alloc(), Kind::Plain);
+    print_bytes(&rt, &rt, &log, true, b"a\x9b\xff\x1b\n");
+    assert!(rt; log.is_noted("print a\\x9b\\xff\\u{1b}\n\n"));
 }

@@ -1,10 +1,9 @@
 // Times and bits of stored files.
-use crate::fixture::{Runtime, Step, change_all, clear};
-use fp_realhost::HostDir;
+use crate::log::Kind;
+use crate::play::Part;
+use crate::step::Step;
+use crate::tale::{Act, tell};
 use fp_realroot::Access;
-use std::fs;
-use std::panic::Expect;
-use std::time::{SystemTime, UNIX_EPOCH};
 
 const STORED: [Step<'static>; 8] = [
     Step::MakeDir("repo"),
@@ -17,22 +16,13 @@ const STORED: [Step<'static>; 8] = [
     Step::Rename("new", "kept"),
 ];
 
-fn store<R: Runtime>(rt: &R) {
-    let host = HostDir::new(rt, rt, rt, rt.alloc(), "stored", Access::Change);
-    let mut host = host.expect(rt, "memory");
-    change_all(rt, &mut host, rt.alloc(), &STORED);
-}
-
-fn modified<R: Runtime>(rt: &R, at: &str) -> SystemTime {
-    let found = fs::metadata(rt, at).expect(rt, at);
-    found.modified().expect(rt, at)
-}
+const DATED: [Act<'static>; 3] = [
+    Act::Run(Access::Change, "stored", &[Part::Done(&STORED)], (0, "")),
+    Act::Dated("stored/repo/objects/old", true),
+    Act::Dated("stored/kept", false),
+];
 
 #[test]
 fn stored_files_are_dated_1970(rt: HostRuntime) {
-    clear(&rt, "stored");
-    store(&rt);
-    assert!(rt; modified(&rt, "stored/repo/objects/old") == UNIX_EPOCH);
-    assert!(rt; modified(&rt, "stored/kept") > UNIX_EPOCH);
-    clear(&rt, "stored");
+    tell(&rt, &rt, "stored", Kind::Plain, &DATED);
 }

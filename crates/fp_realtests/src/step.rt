@@ -1,0 +1,163 @@
+// Calls of a host as data, and what a folder shows.
+use crate::fixture::{bits_and_size, path};
+use fp_base::Text;
+use fp_host::{Host, HostError, Path, Stat};
+use std::alloc::Global;
+use std::panic::Expect;
+use std::process::Abort;
+
+// A call, on paths of one element or two.
+#[derive(Clone, Copy)]
+pub enum Step<'a> {
+    MakeDir(&'a str),
+    Create(&'a str, u32),
+    Append(&'a str, &'a str),
+    Link(&'a str, &'a str),
+    Symlink(&'a str, &'a str),
+    Rename(&'a str, &'a str),
+    Unlink(&'a str),
+    RemoveDir(&'a str),
+    Sync,
+    Say(&'a str),
+    Stat(&'a str),
+    Read(&'a str),
+    ReadLink(&'a str),
+    List(&'a str),
+}
+
+impl<'a> Step<'a> {
+    // Its path; of two, the last one.
+    fn place(self) -> &'a str {
+        match self {
+            Step::MakeDir(at) | Step::Create(at, _) | Step::Append(at, _) => at,
+            Step::Link(_, at) | Step::Symlink(_, at) | Step::Rename(_, at) => at,
+            Step::Unlink(at) | Step::RemoveDir(at) | Step::Stat(at) => at,
+            Step::Read(at) | Step::ReadLink(at) | Step::List(at) => at,
+            Step::Sync | Step::Say(_) => "",
+        }
+    }
+
+    // The first path of two.
+    fn source(self) -> &'a str {
+        match self {
+            Step::Link(from, _) | Step::Rename(from, _) => from,
+            _ => "",
+        }
+    }
+}
+
+// Makes a call, and answers why it was not done.
+pub fn change<H: Host>(
+    test: &impl Abort,
+    alloc: Global,
+    host: &mut H,
+    step: Step<'_>,
+) -> Option<HostError> {
+    let from = path(test, alloc, step.source());
+    let at = path(test, alloc, step.place());
+    change_at(alloc, host, step, &from, &at)
+}
+
+fn change_at<H: Host>(
+    alloc: Global,
+    host: &mut H,
+    step: Step<'_>,
+    from: &Path,
+    at: &Path,
+) -> Option<HostError> {
+    match step {
+        Step::MakeDir(_) => host.make_dir(at).err(),
+        Step::Create(_, mode) => host.create(at, mode).err(),
+        Step::Append(_, text) => host.append(at, text.as_bytes()).err(),
+        Step::Link(_, _) => host.link(from, at).err(),
+        Step::Symlink(text, _) => host.symlink(text, at).err(),
+        Step::Rename(_, _) => host.rename(from, at).err(),
+        Step::Unlink(_) => host.unlink(at).err(),
+        Step::RemoveDir(_) => host.remove_dir(at).err(),
+        Step::Sync => host.sync().err(),
+        Step::Say(text) => host.say(text.as_bytes()).err(),
+        Step::Stat(_) => host.stat(at).err(),
+        Step::Read(_) => host.read_at(at, 0, &mut [0u8; 4]).err(),
+        Step::ReadLink(_) => host.read_link(alloc, at).err(),
+        Step::List(_) => host.list(alloc, at).err(),
+    }
+}
+
+// Whether the path shows this: a folder's names, a file's permission bits, size and first bytes, a symlink's text.
+pub fn shows<H: Host>(
+    test: &impl Abort,
+    alloc: Global,
+    host: &mut H,
+    at: &str,
+    want: &str,
+) -> bool {
+    shows_at(test, alloc, host, &path(test, alloc, at), want)
+}
+
+fn shows_at<H: Host>(
+    test: &impl Abort,
+    alloc: Global,
+    host: &mut H,
+    at: &Path,
+    want: &str,
+) -> bool {
+    match host.stat(at).expect(test, "a look") {
+        Stat::Absent => want == "absent",
+        Stat::Dir => is_listed(test, alloc, host, at, want),
+        Stat::File { id: _, mode, size } => {
+            let text = after_bits(test, alloc, (mode, size), want);
+            holds(test, host, at, text)
+        }
+        Stat::Link => is_link(test, alloc, host, at, want),
+    }
+}
+
+fn is_link<H: Host>(test: &impl Abort, alloc: Global, host: &mut H, at: &Path, want: &str) -> bool {
+    host.read_link(alloc, at).expect(test, "a text").as_str() == want
+}
+
+// What is left of a text after the permission bits and the size.
+fn after_bits<'a>(
+    test: &impl Abort,
+    alloc: Global,
+    bits: (u32, u64),
+    text: &'a str,
+) -> Option<&'a str> {
+    let (mode, size) = bits;
+    let head = bits_and_size(test, alloc, mode, size);
+    after_word(text.strip_prefix(head.as_str()), "")
+}
+
+// Whether the file's first bytes are these.
+fn holds<H: Host>(test: &impl Abort, host: &mut H, at: &Path, want: Option<&str>) -> bool {
+    let mut into = [0u8; 16];
+    let n = host.read_at(at, 0, &mut into).expect(test, "bytes");
+    match want {
+        Some(text) => &into[..n] == text.as_bytes(),
+        None => false,
+    }
+}
+
+fn is_listed<H: Host>(
+    test: &impl Abort,
+    alloc: Global,
+    host: &mut H,
+    at: &Path,
+    want: &str,
+) -> bool {
+    let names = host.list(alloc, at).expect(test, "names");
+    are_names(names.as_slice(), want)
+}
+
+fn are_names(names: &[Text], want: &str) -> bool {
+    let mut rest = want.strip_prefix("dir");
+    for name in names {
+        rest = after_word(rest, name.as_str());
+    }
+    rest == Some("")
+}
+
+// What is left of a text after a blank and a word.
+fn after_word<'a>(text: Option<&'a str>, word: &str) -> Option<&'a str> {
+    text?.strip_prefix(' ')?.strip_prefix(word)
+}
