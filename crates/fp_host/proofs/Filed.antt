@@ -121,6 +121,54 @@ module _ (v : View) (id : ℕ) where
 pub rows_kept : {change : Change} {v w : View} → Called change v w → (id : ℕ) → w.files id ≡ None → v.files id ≡ None
 rows_kept {change = change} {v = v} {w = w} call id none = rows_of v id change w call.went none
 
+module _ (v : View) (id : ℕ) (f : Inode) (none : v.files id ≡ None) where
+  no_file : v.files id ≡ Some f → f.bytes ≡ []
+  no_file some = absurd (cc (none, some))
+
+  new_empty : (i mode : ℕ) → set_file v.files i (Some (record { mode = mode; bytes = [] })) id ≡ Some f → f.bytes ≡ []
+  new_empty i mode some = elim (cases_eq id i) [
+    | inl here ↦
+        let is : Some (record { mode = mode; bytes = [] }) ≡ Some f = sym (file_same v.files i (Some (record { mode = mode; bytes = [] })) id here) ∙ some in
+        let same : record { mode = mode; bytes = [] } ≡ f = cc is in
+        sym (ap (λ (x : Inode). x.bytes) same)
+    | inr off ↦ no_file (sym (file_other v.files i (Some (record { mode = mode; bytes = [] })) id off) ∙ some)
+  ]
+
+  empty_done : (change : Change) → (Fills change v id → ⊥) → (done change v).files id ≡ Some f → f.bytes ≡ []
+  empty_done (makes_dir p) off some = no_file some
+  empty_done (creates p mode i) off some = new_empty i mode some
+  empty_done (appends p bytes) off some = no_file (sym (grow_other (v.names p) bytes v id off) ∙ some)
+  empty_done (links from to) off some = no_file some
+  empty_done (makes_link text p) off some = no_file some
+  empty_done (renames from to) off some = no_file some
+  empty_done (unlinks p) off some = no_file some
+  empty_done (removes_dir p) off some = no_file some
+  empty_done syncs off some = no_file some
+  empty_done (says piece) off some = no_file some
+
+  empty_half : (change : Change) → (half change v).files id ≡ Some f → f.bytes ≡ []
+  empty_half (makes_dir p) some = no_file some
+  empty_half (creates p mode i) some = new_empty i mode some
+  empty_half (appends p bytes) some = no_file some
+  empty_half (links from to) some = no_file some
+  empty_half (makes_link text p) some = no_file some
+  empty_half (renames from to) some = no_file some
+  empty_half (unlinks p) some = no_file some
+  empty_half (removes_dir p) some = no_file some
+  empty_half syncs some = no_file some
+  empty_half (says piece) some = no_file some
+
+  empty_of : (change : Change) (w : View) → Went change v w → (Fills change v id → ⊥) → w.files id ≡ Some f → f.bytes ≡ []
+  empty_of change w (inl same) off some = no_file (sym (ap (λ (x : View). x.files id) same) ∙ some)
+  empty_of change w (inr went) off some = elim went.1 [
+    | inl is ↦ empty_half change (sym (ap (λ (x : View). x.files id) is) ∙ some)
+    | inr is ↦ empty_done change off (sym (ap (λ (x : View). x.files id) is) ∙ some)
+  ]
+
+-- a new file that a call doesn't fill is empty
+pub empty_kept : {change : Change} {v w : View} → Called change v w → (id : ℕ) (f : Inode) → v.files id ≡ None → w.files id ≡ Some f → (Fills change v id → ⊥) → f.bytes ≡ []
+empty_kept {change = change} {v = v} {w = w} call id f none some off = empty_of v id f none change w call.went off some
+
 -- A name of A that a call gives a file gets it from another name of A, or the file is new.
 abbrev pub Passes : (Elements → Type 0) → Change → Type 0
 Passes A (links from to) = A to → A from

@@ -19,6 +19,8 @@ pub record View : Type 0 where
   pub dirty : ℕ → Bool
   -- the bytes printed so far
   pub printed : List ℕ
+  -- what was put at which name so far, the oldest first
+  pub stood : List (Elements × Slot)
 
 -- a stop may leave this at the name
 abbrev pub MayBe : View → Elements → Slot → Type 0
