@@ -189,14 +189,15 @@ files_end i rows files so none = record {
 }
 
 -- the scene that was made
-pub opened_scene : (image : Image) (root added now : List Name) (empty files : List Content) (printed : List ℕ) → view_from root empty printed ≡ empty_view → AddsNames image.names root added → ForgetsNames added now → OpensFiles image.files files
-    → view_from now files printed ≡ opened image
-opened_scene image root added now empty files printed start adds forgets opens =
+pub opened_scene : (image : Image) (root added now : List Name) (empty files : List Content) (printed : List ℕ) (stood : List (Elements × Slot)) → view_from root empty printed stood ≡ empty_view → AddsNames image.names root added → ForgetsNames added now → OpensFiles image.files files
+    → view_from now files printed stood ≡ opened image
+opened_scene image root added now empty files printed stood start adds forgets opens =
     let begin : (q : Elements) → names_of root q ≡ root_alone q = λ q. ap (λ (v : View). v.names q) start in
     let names : (q : Elements) → names_of now q ≡ at (slots_of image.names) q =
     λ q. forgets.names q ∙ adds.names q ∙ built_on image.names (names_of root) root_alone begin image.names q ∙ built_all image.names q in
     let none : printed ≡ [] = ap (λ (v : View). v.printed) start in
-    λ i. record { names = λ q. names q i; files = λ id. opens.files id i; earlier = λ q. forgets.earlier q i; dirty = λ id. opens.dirty id i; printed = none i }
+    let new : stood ≡ [] = ap (λ (v : View). v.stood) start in
+    λ i. record { names = λ q. names q i; files = λ id. opens.files id i; earlier = λ q. forgets.earlier q i; dirty = λ id. opens.dirty id i; printed = none i; stood = new i }
 
 -- what is opened is a tree
 pub opened_tree : (image : Image) → IsImage image → IsTree (opened image)
@@ -221,4 +222,4 @@ pub opened_empty : (image : Image) → image.names ≡ [] → image.files ≡ []
 opened_empty image names files =
     let stand : (q : Elements) → at (slots_of image.names) q ≡ root_alone q = λ q. ap (λ (l : List (Elements × Entry)). at (slots_of l) q) names ∙ empty_slots q in
     let rows : (id : ℕ) → rows_of image.files id ≡ None = λ id. ap (λ (l : List FileRow). rows_of l id) files in
-    λ i. record { names = λ q. stand q i; files = λ id. rows id i; earlier = λ q. []; dirty = λ id. false; printed = [] }
+    λ i. record { names = λ q. stand q i; files = λ id. rows id i; earlier = λ q. []; dirty = λ id. false; printed = []; stood = [] }

@@ -28,9 +28,9 @@ rows_of [] id = None
 rows_of (f ∷ fs) id = if id == f.id then Some (record { mode = f.mode; bytes = f.bytes }) else rows_of fs id
 
 -- The image as it is found when it is opened again: a name counts where each folder above it is one. Nothing stood
--- earlier, and nothing was printed.
+-- earlier, nothing was printed, and nothing is remembered.
 abbrev pub opened : Image → View
-opened image = record { names = at (slots_of image.names); files = rows_of image.files; earlier = λ q. []; dirty = λ id. false; printed = [] }
+opened image = record { names = at (slots_of image.names); files = rows_of image.files; earlier = λ q. []; dirty = λ id. false; printed = []; stood = [] }
 
 -- the disk that an image is
 abbrev pub disk_of : Image → Disk
