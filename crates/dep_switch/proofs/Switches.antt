@@ -86,6 +86,7 @@ switches_rename {staged = staged} {v = v} {w = w} tree step = record {
       (follows_to (given staged row v leads.from leads.to ready.linked) (follows_call tree (called step))) ready.stages;
   names = λ q. elim (puts_call (called step) q) [ inl same ↦ inl same | inr h ↦ inr h ];
   files = (files_renamed step).rows;
+  stood = (files_renamed step).stood;
   printed = printed_kept (called step) tt;
 }
 
@@ -94,6 +95,7 @@ switches_sync {staged = staged} {u = u} {w = w} tree first step = record {
   either = λ s row leads ready. either_follows (follows_to (λ q spot h. h) (follows_call tree (called step))) (first.either s row leads ready);
   names = λ q. let same = names_kept (called step) q (λ none. none) in elim (first.names q) [ inl was ↦ inl (same ∙ was) | inr h ↦ inr (subst (SwitchesName staged u q) (sym same) h) ];
   files = λ id. (files_synced step).rows id ∙ first.files id;
+  stood = λ x had. (files_synced step).stood x (first.stood x had);
   printed = printed_kept (called step) tt ∙ first.printed;
 }
 

@@ -36,7 +36,7 @@ use Rattle.ost_pull.specs.Work.{IsAboveObject, Works, IsKept, IsOnce, AreKept, K
 -- ---- work in the folder
 
 pub works_refl : {t : Elements} {v : View} → Works t v v
-works_refl = record { keeps = keeps_refl; files = record { rows = λ id f some. some } }
+works_refl = record { keeps = keeps_refl; files = files_stay }
 
 works_same : {t : Elements} {v w : View} → w ≡ v → Works t v w
 works_same {t = t} {v = v} same = subst (Works t v) (sym same) works_refl
@@ -84,7 +84,7 @@ cleared_works keeps = record {
 pub synced_works : {t : Elements} {r : Result (Unit {0}) HostError} {u w : View} → IsTree u → Step syncs r u w → Works t u w
 synced_works tree step = record {
   keeps = keeps_call tree (λ q spot h. absurd h) (λ q e h. absurd h) (λ x i h. absurd h) tt tt (called step);
-  files = record { rows = λ id f some. (files_synced step).rows id ∙ some };
+  files = record { rows = λ id f some. (files_synced step).rows id ∙ some; stood = (files_synced step).stood };
 }
 
 -- a look at a path doesn't clash

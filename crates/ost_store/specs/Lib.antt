@@ -1,3 +1,4 @@
+pub mod Gathers
 pub mod Reads
 pub mod Stage
 pub mod Place
