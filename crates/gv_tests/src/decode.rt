@@ -1,20 +1,27 @@
 //! What bytes are read as, in normal form alone.
 
+use crate::rows::agree_at;
 use crate::value::parsed;
 use gv_decode::{DecodeError, decode};
 use gv_value::GvValue;
 use std::alloc::Global;
-use std::test::Fail;
+use std::panic::Expect;
+use std::process::Abort;
 
-/// What bytes are read as, of a type string.
-fn read_as(alloc: Global, of: &str, bytes: &[u8]) -> Result<Result<GvValue, DecodeError>, Fail> {
-    let of = parsed(alloc, of)?;
-    Ok(decode(alloc, &of, bytes))
+/// The value of a type string that bytes are read as.
+fn value_of(rt: &impl Abort, alloc: Global, of: &str, bytes: &[u8]) -> GvValue {
+    let of = parsed(rt, alloc, of);
+    let read = decode(alloc, &of, bytes);
+    drop(of);
+    read.expect(rt, "a value")
 }
 
-/// Whether bytes are no value of a type string.
-fn is_refused(alloc: Global, of: &str, bytes: &[u8]) -> Result<bool, Fail> {
-    Ok(matches!(read_as(alloc, of, bytes)?, Err(DecodeError::NotNormal)))
+/// Why bytes are no value of a type string.
+fn fault_of(rt: &impl Abort, alloc: Global, of: &str, bytes: &[u8]) -> Option<DecodeError> {
+    let of = parsed(rt, alloc, of);
+    let read = decode(alloc, &of, bytes);
+    drop(of);
+    read.err()
 }
 
 /// Whether a value is these bytes.
@@ -39,19 +46,28 @@ fn is_pair(value: &GvValue, letters: &[u8], number: i32) -> bool {
 }
 
 /// Whether these bytes are read as themselves.
-fn reads_bytes(alloc: Global, bytes: &[u8]) -> Result<bool, Fail> {
-    Ok(match read_as(alloc, "ay", bytes)? {
-        Ok(value) => is_bytes(&value, bytes),
-        Err(_) => false,
-    })
+fn reads_bytes(rt: &impl Abort, alloc: Global, bytes: &[u8]) -> bool {
+    let value = value_of(rt, alloc, "ay", bytes);
+    let is_so = is_bytes(&value, bytes);
+    drop(value);
+    is_so
+}
+
+/// Whether these bytes are read as a tuple of this text and this number.
+fn reads_pair(rt: &impl Abort, alloc: Global, bytes: &[u8], letters: &[u8], number: i32) -> bool {
+    let value = value_of(rt, alloc, "(si)", bytes);
+    let is_so = is_pair(&value, letters, number);
+    drop(value);
+    is_so
 }
 
 #[test]
-fn reads_values(rt: HostRuntime) -> Result<(), Fail> {
-    let pair = read_as(rt.alloc(), "(si)", b"foo\0\xff\xff\xff\xff\x04")??;
-    assert!(rt; is_pair(&pair, b"foo", -1));
-    assert!(rt; reads_bytes(rt.alloc(), b"\x04\x05\x06\x07")?);
-    Ok(())
+fn reads_values(rt: HostRuntime) {
+    let pair = b"foo\0\xff\xff\xff\xff\x04";
+    assert!(rt;
+        reads_pair(&rt, rt.alloc(), pair, b"foo", -1)
+            && reads_bytes(&rt, rt.alloc(), b"\x04\x05\x06\x07")
+    );
 }
 
 /// Type strings, and bytes that are no value of the type in normal form.
@@ -69,44 +85,50 @@ const REFUSED: [(&str, &[u8]); 7] = [
     ("mu", b"\x01\0\0\0\0"),
 ];
 
-/// The place of the first row that is read.
-fn first_read(alloc: Global, rows: &[(&str, &[u8])]) -> Result<Option<usize>, Fail> {
-    for (at, (of, bytes)) in rows.iter().enumerate() {
-        if !is_refused(alloc, of, bytes)? {
-            return Ok(Some(at));
-        }
-    }
-    Ok(None)
-}
-
-/// Two texts of 200 and of 52 letters, with their offset in so many bytes.
-fn two_texts(alloc: Global, width: usize) -> Result<Vec<u8>, Fail> {
-    let mut bytes = vec![in alloc; b'a'; 200]?;
-    bytes.push(0)?;
-    bytes.extend_from_slice(&vec![in alloc; b'a'; 52]?)?;
-    bytes.extend_from_slice(&[0, 201])?;
-    for _ in 1..width {
-        bytes.push(0)?;
-    }
-    Ok(bytes)
-}
-
 #[test]
-fn refuses_all_but_the_normal_form(rt: HostRuntime) -> Result<(), Fail> {
-    let alloc = rt.alloc();
-    assert_eq!(rt; first_read(alloc, &REFUSED)?, None);
-    assert!(rt; !is_refused(alloc, "(ss)", &two_texts(alloc, 1)?)?);
-    assert!(rt; is_refused(alloc, "(ss)", &two_texts(alloc, 2)?)?);
-    Ok(())
+fn refuses_all_but_the_normal_form(rt: HostRuntime) {
+    for (at, (of, bytes)) in REFUSED.iter().enumerate() {
+        let fault = fault_of(&rt, rt.alloc(), of, bytes);
+        agree_at(&rt, at, fault == Some(DecodeError::NotNormal));
+    }
+}
+
+/// The letters of two texts.
+const LETTERS: [u8; 252] = [b'a'; 252];
+
+/// Two texts of 200 and of 52 letters, with these bytes as their offset.
+fn two_texts(rt: &impl Abort, alloc: Global, offset: &[u8]) -> Vec<u8> {
+    let (first, second) = LETTERS.split_at(200);
+    [first, b"\0", second, b"\0", offset]
+        .concat(alloc)
+        .expect(rt, "memory")
+}
+
+/// Why two texts with these bytes as their offset are no value.
+fn fault_of_two(rt: &impl Abort, alloc: Global, offset: &[u8]) -> Option<DecodeError> {
+    fault_of(rt, alloc, "(ss)", &two_texts(rt, alloc, offset))
+}
+
+/// An offset has one byte where that is enough.
+#[test]
+fn refuses_wide_offsets(rt: HostRuntime) {
+    assert!(rt;
+        fault_of_two(&rt, rt.alloc(), &[201]) == None
+            && fault_of_two(&rt, rt.alloc(), &[201, 0]) == Some(DecodeError::NotNormal)
+    );
+}
+
+/// Whether these bytes are too many by one.
+fn are_too_many(rt: &impl Abort, alloc: Global, bytes: &[u8]) -> bool {
+    let limit = bytes.get(..0x100_0000).unwrap_or(&[]);
+    limit.len() == 0x100_0000
+        && reads_bytes(rt, alloc, limit)
+        && fault_of(rt, alloc, "ay", bytes) == Some(DecodeError::TooLong)
 }
 
 /// 16 MiB are read, and no more.
 #[test]
-fn refuses_more_than_16_mib(rt: HostRuntime) -> Result<(), Fail> {
-    let alloc = rt.alloc();
-    let bytes = vec![in alloc; 0; 0x100_0001]?;
-    let limit = bytes.get(..0x100_0000).unwrap_or(&[]);
-    assert!(rt; limit.len() == 0x100_0000 && reads_bytes(alloc, limit)?);
-    assert!(rt; matches!(read_as(alloc, "ay", &bytes)?, Err(DecodeError::TooLong)));
-    Ok(())
+fn refuses_more_than_16_mib(rt: HostRuntime) {
+    let bytes = vec![in rt.alloc(); 0; 0x100_0001].expect(&rt, "memory");
+    assert!(rt; are_too_many(&rt, rt.alloc(), &bytes));
 }

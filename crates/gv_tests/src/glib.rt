@@ -1,7 +1,8 @@
 //! Bytes that GLib takes or refuses, and the sizes at which its offsets widen.
 
-use crate::encode::pair;
+use crate::encode::{pair, push, written};
 use crate::examples::EXAMPLES;
+use crate::rows::{agree, agree_at};
 use crate::value::parsed;
 use crate::vectors::VECTORS;
 use fp_base::Text;
@@ -9,61 +10,91 @@ use gv_decode::{DecodeError, decode};
 use gv_encode::encode;
 use gv_value::{GvType, GvValue};
 use std::alloc::Global;
-use std::test::Fail;
+use std::panic::Expect;
+use std::process::Abort;
+
+/// Whether a value of a type is written as these bytes.
+fn is_spelled(rt: &impl Abort, alloc: Global, of: &GvType, value: GvValue, bytes: &[u8]) -> bool {
+    let written = encode(alloc, of, &value);
+    drop(value);
+    written.expect(rt, "a value").as_slice() == bytes
+}
 
 /// Whether bytes are read exactly where they are in normal form, and are written again as they were.
-fn agrees(alloc: Global, normal: bool, of: &GvType, bytes: &[u8]) -> Result<bool, Fail> {
+fn is_read(rt: &impl Abort, alloc: Global, normal: bool, of: &GvType, bytes: &[u8]) -> bool {
     match decode(alloc, of, bytes) {
-        Ok(value) => {
-            let again = encode(alloc, of, &value)?;
-            Ok(normal && again.as_slice() == bytes)
-        }
-        Err(error) => Ok(!normal && error == DecodeError::NotNormal),
+        Ok(value) => is_spelled(rt, alloc, of, value, bytes) && normal,
+        Err(error) => error == DecodeError::NotNormal && !normal,
     }
+}
+
+/// The same of a type string.
+fn agrees(rt: &impl Abort, alloc: Global, normal: bool, of: &str, bytes: &[u8]) -> bool {
+    let of = parsed(rt, alloc, of);
+    let is_so = is_read(rt, alloc, normal, &of, bytes);
+    drop(of);
+    is_so
+}
+
+/// The bytes of hexadecimal digits.
+fn bytes_of(rt: &impl Abort, alloc: Global, digits: &str) -> Vec<u8> {
+    hex::decode(alloc, digits).expect(rt, "digits")
 }
 
 /// Whether a line of the vectors is right.
-fn line_agrees(alloc: Global, line: &str) -> Result<bool, Fail> {
-    let (normal, rest) = line.split_once(' ').ok_or("no word")?;
-    let (of, digits) = rest.split_once(' ').ok_or("no type")?;
-    let of = parsed(alloc, of)?;
-    agrees(alloc, normal == "yes", &of, &hex::decode(alloc, digits)?)
+fn line_agrees(rt: &impl Abort, alloc: Global, line: &str) -> bool {
+    let (word, rest) = line.split_once(' ').expect(rt, "a word");
+    let (of, digits) = rest.split_once(' ').expect(rt, "a type");
+    agrees(rt, alloc, word == "yes", of, &bytes_of(rt, alloc, digits))
 }
 
-/// The first of the lines that isn't right.
-fn first_wrong<'a>(alloc: Global, lines: &'a str) -> Result<Option<&'a str>, Fail> {
+/// Ends the test at a line that isn't right.
+fn agree_on_lines(rt: &impl Abort, alloc: Global, lines: &str) {
     for line in lines.lines() {
-        if !line_agrees(alloc, line)? {
-            return Ok(Some(line));
-        }
+        agree(rt, line, line_agrees(rt, alloc, line));
     }
-    Ok(None)
 }
 
 #[test]
-fn reads_and_writes_as_glib_does(rt: HostRuntime) -> Result<(), Fail> {
-    assert_eq!(rt; first_wrong(rt.alloc(), VECTORS)?, None);
-    assert_eq!(rt; first_wrong(rt.alloc(), EXAMPLES)?, None);
-    Ok(())
+fn reads_and_writes_as_glib_does(rt: HostRuntime) {
+    agree_on_lines(&rt, rt.alloc(), VECTORS);
+    agree_on_lines(&rt, rt.alloc(), EXAMPLES);
 }
 
 /// A text of so many letters a.
-fn letters(alloc: Global, count: usize) -> Result<GvValue, Fail> {
-    Ok(GvValue::Str(Text::from_string("a".repeat(alloc, count)?)))
+fn letters(rt: &impl Abort, alloc: Global, count: usize) -> GvValue {
+    GvValue::Str(Text::from_string("a".repeat(alloc, count).expect(rt, "memory")))
+}
+
+/// Whether bytes are so many, have this ending, and are read and written again.
+fn ends_so(
+    rt: &impl Abort,
+    alloc: Global,
+    of: &str,
+    bytes: &[u8],
+    size: usize,
+    ending: &[u8],
+) -> bool {
+    bytes.len() == size && bytes.ends_with(ending) && agrees(rt, alloc, true, of, bytes)
 }
 
 /// Whether a value is written in so many bytes with this ending, and is read again.
 fn is_written(
+    rt: &impl Abort,
     alloc: Global,
     of: &str,
-    value: &GvValue,
+    value: GvValue,
     size: usize,
     ending: &[u8],
-) -> Result<bool, Fail> {
-    let of = parsed(alloc, of)?;
-    let bytes = encode(alloc, &of, value)?;
-    let bytes = bytes.as_slice();
-    Ok(bytes.len() == size && bytes.ends_with(ending) && agrees(alloc, true, &of, bytes)?)
+) -> bool {
+    ends_so(
+        rt,
+        alloc,
+        of,
+        written(rt, alloc, of, value).as_slice(),
+        size,
+        ending,
+    )
 }
 
 /// The letters of two texts, the bytes that they are written in, and how those end.
@@ -74,27 +105,36 @@ const PAIRS: [(usize, usize, usize, &[u8]); 4] = [
     (65000, 532, 65538, b"a\0\xe9\xfd\0\0"),
 ];
 
-/// The first place where two texts are written otherwise.
-fn first_other_pair(
-    alloc: Global,
-    rows: &[(usize, usize, usize, &[u8])],
-) -> Result<Option<usize>, Fail> {
-    for (at, (first, second, size, ending)) in rows.iter().enumerate() {
-        let value = pair(alloc, letters(alloc, *first)?, letters(alloc, *second)?)?;
-        if !is_written(alloc, "(ss)", &value, *size, ending)? {
-            return Ok(Some(at));
-        }
+/// Two texts of so many letters.
+fn two_texts(rt: &impl Abort, alloc: Global, first: usize, second: usize) -> GvValue {
+    pair(
+        rt,
+        alloc,
+        letters(rt, alloc, first),
+        letters(rt, alloc, second),
+    )
+}
+
+#[test]
+fn offsets_of_members_widen(rt: HostRuntime) {
+    let alloc = rt.alloc();
+    for (at, (first, second, size, ending)) in PAIRS.iter().enumerate() {
+        let value = two_texts(&rt, alloc, *first, *second);
+        agree_at(
+            &rt,
+            at,
+            is_written(&rt, alloc, "(ss)", value, *size, ending),
+        );
     }
-    Ok(None)
 }
 
 /// So many texts of one letter.
-fn many_texts(alloc: Global, count: usize) -> Result<GvValue, Fail> {
+fn many_texts(rt: &impl Abort, alloc: Global, count: usize) -> GvValue {
     let mut items = Vec::new(alloc);
     for _ in 0..count {
-        items.push(letters(alloc, 1)?)?;
+        push(rt, &mut items, letters(rt, alloc, 1));
     }
-    Ok(GvValue::Array(items))
+    GvValue::Array(items)
 }
 
 /// How many texts an array has, the bytes that it is written in, and how those end.
@@ -105,20 +145,11 @@ const ARRAYS: [(usize, usize, &[u8]); 4] = [
     (65536, 393216, b"\0\0\x02\0"),
 ];
 
-/// The first place where an array is written otherwise.
-fn first_other_array(alloc: Global, rows: &[(usize, usize, &[u8])]) -> Result<Option<usize>, Fail> {
-    for (at, (count, size, ending)) in rows.iter().enumerate() {
-        let value = many_texts(alloc, *count)?;
-        if !is_written(alloc, "as", &value, *size, ending)? {
-            return Ok(Some(at));
-        }
-    }
-    Ok(None)
-}
-
 #[test]
-fn offsets_widen_as_glib_widens_them(rt: HostRuntime) -> Result<(), Fail> {
-    assert_eq!(rt; first_other_pair(rt.alloc(), &PAIRS)?, None);
-    assert_eq!(rt; first_other_array(rt.alloc(), &ARRAYS)?, None);
-    Ok(())
+fn offsets_of_items_widen(rt: HostRuntime) {
+    let alloc = rt.alloc();
+    for (at, (count, size, ending)) in ARRAYS.iter().enumerate() {
+        let value = many_texts(&rt, alloc, *count);
+        agree_at(&rt, at, is_written(&rt, alloc, "as", value, *size, ending));
+    }
 }

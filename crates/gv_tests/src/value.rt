@@ -1,13 +1,15 @@
 //! Type strings, the sizes and alignments of types, and which values fit them.
 
-use fp_base::Text;
+use crate::encode::text_of;
+use crate::rows::{agree, agree_at};
 use gv_value::{GvType, GvValue, TypeError, align_of, fits, plan_of, push_type, size_of};
 use std::alloc::Global;
-use std::test::Fail;
+use std::panic::Expect;
+use std::process::Abort;
 
 /// The type of a type string.
-pub fn parsed(alloc: Global, text: &str) -> Result<GvType, Fail> {
-    Ok(GvType::parse(alloc, text.as_bytes())?)
+pub fn parsed(rt: &impl Abort, alloc: Global, text: &str) -> GvType {
+    GvType::parse(alloc, text.as_bytes()).expect(rt, "a type string")
 }
 
 /// Type strings, the size of their values where all have one, and their alignment.
@@ -21,18 +23,12 @@ const SIZES: [(&str, Option<u64>, u64); 7] = [
     ("(ni(yd))", Some(24), 8),
 ];
 
-/// The first of the types that has another size or another alignment.
-fn first_other_size<'a>(
-    alloc: Global,
-    types: &'a [(&'a str, Option<u64>, u64)],
-) -> Result<Option<&'a str>, Fail> {
-    for (text, size, align) in types {
-        let of = parsed(alloc, text)?;
-        if size_of(&of) != *size || align_of(&of) != *align {
-            return Ok(Some(*text));
-        }
-    }
-    Ok(None)
+/// Whether a type has this size and this alignment.
+fn is_sized(rt: &impl Abort, alloc: Global, text: &str, size: Option<u64>, align: u64) -> bool {
+    let of = parsed(rt, alloc, text);
+    let is_so = size_of(&of) == size && align_of(&of) == align;
+    drop(of);
+    is_so
 }
 
 /// Texts, and whether each is a type string.
@@ -51,33 +47,33 @@ const TYPES: [(&str, bool); 12] = [
     ("z", false),
 ];
 
-/// Whether the text is a type string, and is written as it was read.
-fn is_type_string(alloc: Global, text: &[u8]) -> Result<bool, Fail> {
-    match GvType::parse(alloc, text) {
-        Ok(of) => Ok(of.text(alloc)?.as_slice() == text),
-        Err(TypeError::Bad) => Ok(false),
-        Err(TypeError::NoMemory) => Err(Fail::from("memory")),
-    }
+/// Whether a type is written as this text.
+fn is_text(rt: &impl Abort, alloc: Global, of: GvType, text: &[u8]) -> bool {
+    let written = of.text(alloc).expect(rt, "memory");
+    drop(of);
+    written.as_slice() == text
 }
 
-/// The first of the texts that is otherwise.
-fn first_other_type<'a>(
-    alloc: Global,
-    texts: &'a [(&'a str, bool)],
-) -> Result<Option<&'a str>, Fail> {
-    for (text, good) in texts {
-        if is_type_string(alloc, text.as_bytes())? != *good {
-            return Ok(Some(*text));
-        }
+/// Whether the text is a type string that is written as it was read, or is none.
+fn is_taken(rt: &impl Abort, alloc: Global, text: &[u8], good: bool) -> bool {
+    match GvType::parse(alloc, text) {
+        Ok(of) => is_text(rt, alloc, of, text) && good,
+        Err(error) => error == TypeError::Bad && !good,
     }
-    Ok(None)
 }
 
 #[test]
-fn types(rt: HostRuntime) -> Result<(), Fail> {
-    assert_eq!(rt; first_other_size(rt.alloc(), &SIZES)?, None);
-    assert_eq!(rt; first_other_type(rt.alloc(), &TYPES)?, None);
-    Ok(())
+fn sizes(rt: HostRuntime) {
+    for (text, size, align) in &SIZES {
+        agree(&rt, text, is_sized(&rt, rt.alloc(), text, *size, *align));
+    }
+}
+
+#[test]
+fn types(rt: HostRuntime) {
+    for (text, good) in &TYPES {
+        agree(&rt, text, is_taken(&rt, rt.alloc(), text.as_bytes(), *good));
+    }
 }
 
 /// How many arrays stand around a type, its letter, and whether that is a type string.
@@ -89,64 +85,68 @@ const NESTED: [(usize, u8, bool); 4] = [
 ];
 
 /// A type string of so many arrays around a type.
-fn arrays(alloc: Global, count: usize, inside: u8) -> Result<Vec<u8>, Fail> {
-    let mut text = vec![in alloc; b'a'; count]?;
-    text.push(inside)?;
-    Ok(text)
+fn arrays(rt: &impl Abort, alloc: Global, count: usize, inside: u8) -> Vec<u8> {
+    let mut text = vec![in alloc; b'a'; count].expect(rt, "memory");
+    text.push(inside).expect(rt, "memory");
+    text
 }
 
-/// The first place where the nesting is taken otherwise.
-fn first_other_nesting(alloc: Global, rows: &[(usize, u8, bool)]) -> Result<Option<usize>, Fail> {
-    for (at, (count, inside, good)) in rows.iter().enumerate() {
-        let text = arrays(alloc, *count, *inside)?;
-        if is_type_string(alloc, &text)? != *good {
-            return Ok(Some(at));
-        }
+#[test]
+fn nested_types(rt: HostRuntime) {
+    for (at, (count, inside, good)) in NESTED.iter().enumerate() {
+        let text = arrays(&rt, rt.alloc(), *count, *inside);
+        agree_at(&rt, at, is_taken(&rt, rt.alloc(), &text, *good));
     }
-    Ok(None)
 }
 
 /// A type string of a tuple of so many bytes.
-fn long_tuple(alloc: Global, count: usize) -> Result<String, Fail> {
-    let mut text = String::from_str(alloc, "(")?;
-    text.push_str(&"y".repeat(alloc, count)?)?;
-    text.push(')')?;
-    Ok(text)
+fn long_tuple(rt: &impl Abort, alloc: Global, count: usize) -> String {
+    let members = "y".repeat(alloc, count).expect(rt, "memory");
+    ["(", &members, ")"].concat(alloc).expect(rt, "memory")
 }
 
-/// Whether a tuple of 10,000 bytes is read, written, measured and planned.
-fn reads_long(alloc: Global) -> Result<bool, Fail> {
-    let text = long_tuple(alloc, 10_000)?;
-    let of = parsed(alloc, &text)?;
-    let mut again = Vec::new(alloc);
-    push_type(&mut again, &of)?;
-    let _plan = plan_of(alloc, &of)?;
-    Ok(
-        again.as_slice() == text.as_bytes()
-            && size_of(&of) == Some(10_000)
-            && is_type_string(alloc, text.as_bytes())?,
-    )
+/// Whether a type is added as this text.
+fn is_pushed(rt: &impl Abort, alloc: Global, of: &GvType, text: &[u8]) -> bool {
+    let mut bytes = Vec::new(alloc);
+    push_type(&mut bytes, of).expect(rt, "memory");
+    bytes.as_slice() == text
 }
 
-#[test]
-fn large_types(rt: HostRuntime) -> Result<(), Fail> {
-    assert_eq!(rt; first_other_nesting(rt.alloc(), &NESTED)?, None);
-    assert!(rt; reads_long(rt.alloc())?);
-    Ok(())
+/// Whether a tuple of 10,000 bytes is written, measured and planned.
+fn is_long(rt: &impl Abort, alloc: Global, of: &GvType, text: &[u8]) -> bool {
+    is_pushed(rt, alloc, of, text)
+        && size_of(of) == Some(10_000)
+        && plan_of(alloc, of).err() == None
 }
 
-/// A text of its own.
-pub fn text_of(alloc: Global, letters: &str) -> Result<Text, Fail> {
-    Ok(Text::from_string(String::from_str(alloc, letters)?))
+/// Whether the text of a tuple of 10,000 bytes is read, and is written as it was read.
+fn reads_long(rt: &impl Abort, alloc: Global, text: &str) -> bool {
+    let of = parsed(rt, alloc, text);
+    let is_so = is_long(rt, alloc, &of, text.as_bytes());
+    drop(of);
+    is_so && is_taken(rt, alloc, text.as_bytes(), true)
 }
 
 #[test]
-fn a_value_fits_its_type(rt: HostRuntime) -> Result<(), Fail> {
-    let path = GvValue::ObjectPath(text_of(rt.alloc(), "/a//b")?);
+fn large_types(rt: HostRuntime) {
+    assert!(rt; reads_long(&rt, rt.alloc(), &long_tuple(&rt, rt.alloc(), 10_000)));
+}
+
+/// Whether a value is one of a type string's type.
+fn is_one(rt: &impl Abort, alloc: Global, of: &str, value: GvValue) -> bool {
+    let of = parsed(rt, alloc, of);
+    let is_so = fits(&of, &value);
+    drop(of);
+    drop(value);
+    is_so
+}
+
+#[test]
+fn a_value_fits_its_type(rt: HostRuntime) {
+    let path = GvValue::ObjectPath(text_of(&rt, rt.alloc(), "/a//b"));
     assert!(rt;
-        !fits(&GvType::ObjectPath, &path)
-            && fits(&GvType::Uint32, &GvValue::Uint32(1))
-            && !fits(&GvType::Handle, &GvValue::Int32(1))
+        !is_one(&rt, rt.alloc(), "o", path)
+            && is_one(&rt, rt.alloc(), "u", GvValue::Uint32(1))
+            && !is_one(&rt, rt.alloc(), "h", GvValue::Int32(1))
     );
-    Ok(())
 }
