@@ -3,7 +3,8 @@
 ghost use Rattle.std.specs.Prelude.{◌≡◌, ◌<◌, true};
 ghost use Rattle.ost_model.specs.Contents.{file_digest as digest_of_file, is_permission as may_be_mode};
 
-use crate::made_contents::{FILES, LINKS, LONG_LINKS, METADATA};
+use crate::made_contents::{NAMES, Named};
+use crate::parsed::{decoded, digest_of};
 use crate::rows::{agree, agree_at};
 use fp_host::is_link_text;
 use fp_name::Digest;
@@ -15,14 +16,11 @@ use std::panic::Expect;
 use std::process::Abort;
 
 /// Whether the header of a link with this text is these bytes.
-fn is_link_header(alloc: Global, text: &str, want: &[u8]) -> bool {
+fn is_link_header(rt: &impl Abort, alloc: Global, text: &str, want: &[u8]) -> bool {
     if !is_link_text(text) {
         return false;
     }
-    match link_header(alloc, text) {
-        Ok(bytes) => bytes.as_slice() == want,
-        Err(_) => false,
-    }
+    link_header(alloc, text).expect(rt, "memory").as_slice() == want
 }
 
 #[test]
@@ -30,12 +28,7 @@ fn headers(rt: HostRuntime) {
     let file = header(0o644);
     assert!(rt; file == *b"\0\0\0\x12\0\0\0\0\0\0\0\0\0\0\0\0\0\0\x81\xa4\0\0\0\0\0\x11");
     let link = b"\0\0\0\x14\0\0\0\0\0\0\0\0\0\0\0\0\0\0\xa1\xff\0\0\0\0f0\0\x13";
-    assert!(rt; is_link_header(rt.alloc(), "f0", link));
-}
-
-/// Whether a digest is written so.
-fn is_written(digest: &Digest, name: &str) -> bool {
-    digest.digits().as_slice() == name.as_bytes()
+    assert!(rt; is_link_header(&rt, rt.alloc(), "f0", link));
 }
 
 /// The digest of a file whose content comes in pieces of this many bytes. The contracts of the hasher prove that it is the file's.
@@ -55,94 +48,73 @@ fn digest_in_pieces(mode: u32, bytes: &[u8], size: usize) -> Digest
 }
 
 /// The sizes of pieces.
-const SIZES: [usize; 6] = [1, 7, 32, 38, 64, 255];
+const SIZES: &[usize] = &[1, 7, 32, 38, 64, 255];
 
-/// Whether a file has a name, and has it too where its content comes in pieces of these sizes.
-fn is_file_named(mode: u32, bytes: &[u8], name: &str) -> bool {
-    if !is_permission(mode) || !is_written(&file_digest(mode, bytes), name) {
+/// Whether a file has this digest, and has it too where its content comes in pieces of these sizes.
+fn has_digest(mode: u32, bytes: &[u8], want: &Digest) -> bool {
+    if !is_permission(mode) || file_digest(mode, bytes) != *want {
         return false;
     }
-    for size in &SIZES {
-        if *size == 0 || !is_written(&digest_in_pieces(mode, bytes, *size), name) {
+    for size in SIZES {
+        if *size == 0 || digest_in_pieces(mode, bytes, *size) != *want {
             return false;
         }
     }
     true
 }
 
-/// The bytes of the digits.
-fn decoded(rt: &impl Abort, alloc: Global, digits: &str) -> Vec<u8> {
-    hex::decode(alloc, digits).expect(rt, "digits")
-}
-
-#[test]
-fn files_of_a_repository(rt: HostRuntime) {
-    for (mode, digits, name) in &FILES {
-        let bytes = decoded(&rt, rt.alloc(), digits);
-        agree(&rt, name, is_file_named(*mode, &bytes, name));
-    }
-}
-
-/// Whether a link has a name.
-fn is_link_named(alloc: Global, text: &str, name: &str) -> bool {
+/// Whether a link has this digest.
+fn is_link_named(rt: &impl Abort, alloc: Global, text: &str, want: &Digest) -> bool {
     if !is_link_text(text) {
         return false;
     }
-    match link_digest(alloc, text) {
-        Ok(digest) => is_written(&digest, name),
-        Err(_) => false,
+    link_digest(alloc, text).expect(rt, "memory") == *want
+}
+
+/// Whether a link of so many letters has.
+fn is_long_link_named(rt: &impl Abort, alloc: Global, count: usize, want: &Digest) -> bool {
+    let text = "n".repeat(alloc, count).expect(rt, "memory");
+    is_link_named(rt, alloc, &text, want)
+}
+
+/// Whether an object has a name.
+fn is_named(rt: &impl Abort, alloc: Global, named: &Named, name: &str) -> bool {
+    let want = digest_of(rt, name);
+    match named {
+        Named::File(mode, digits) => has_digest(*mode, &decoded(rt, alloc, digits), &want),
+        Named::Link(text) => is_link_named(rt, alloc, text, &want),
+        Named::LongLink(count) => is_long_link_named(rt, alloc, *count, &want),
+        Named::Meta(digits) => meta_digest(&decoded(rt, alloc, digits)) == want,
     }
 }
 
-#[test]
-fn links_of_a_repository(rt: HostRuntime) {
-    for (text, name) in &LINKS {
-        agree(&rt, name, is_link_named(rt.alloc(), text, name));
-    }
-}
-
-/// Links of many letters.
-#[test]
-fn long_links_of_a_repository(rt: HostRuntime) {
-    for (count, name) in &LONG_LINKS {
-        let text = "n".repeat(rt.alloc(), *count).expect(&rt, "memory");
-        agree(&rt, name, is_link_named(rt.alloc(), &text, name));
-    }
-}
-
-/// Whether the metadata object of the digits has a name.
-fn is_metadata_named(rt: &impl Abort, alloc: Global, digits: &str, name: &str) -> bool {
-    is_written(&meta_digest(&decoded(rt, alloc, digits)), name)
-}
-
-#[test]
-fn metadata_of_a_repository(rt: HostRuntime) {
-    for (digits, name) in &METADATA {
-        agree(&rt, name, is_metadata_named(&rt, rt.alloc(), digits, name));
+/// Ends the test where an object hasn't its name.
+fn agree_all(rt: &impl Abort, alloc: Global, names: &[(Named, &str)]) {
+    for (named, name) in names {
+        agree(rt, name, is_named(rt, alloc, named, name));
     }
 }
 
 /// The bytes of an empty directory, which are one zero byte, and no bytes, with the digests that `sha256sum` writes.
-const EMPTY: [(&str, &str); 2] = [
+const EMPTY: &[(Named, &str)] = &[
     (
-        "00",
+        Named::Meta("00"),
         "6e340b9cffb37a989ca544e6bb780a2c78901d3fb33738768511a30617afa01d",
     ),
     (
-        "",
+        Named::Meta(""),
         "e3b0c44298fc1c149afbf4c8996fb92427ae41e4649b934ca495991b7852b855",
     ),
 ];
 
 #[test]
-fn empty_metadata(rt: HostRuntime) {
-    for (digits, name) in &EMPTY {
-        agree(&rt, name, is_metadata_named(&rt, rt.alloc(), digits, name));
-    }
+fn objects_of_a_repository(rt: HostRuntime) {
+    agree_all(&rt, rt.alloc(), NAMES);
+    agree_all(&rt, rt.alloc(), EMPTY);
 }
 
 /// Permission bits, and whether files have them.
-const MODES: [(u32, bool); 15] = [
+const MODES: &[(u32, bool)] = &[
     (0, true),
     (0o644, true),
     (0o755, true),

@@ -1,35 +1,34 @@
 //! What no contract says: digests that `sha256sum` gives, and that both halves are at work at one time.
 
 use crate::holding::HoldingGate;
+use crate::parsed::digest_of;
+use crate::rows::agree_at;
+use crate::steps::{Content, blob_of};
 use fp_base::Blob;
 use fp_name::Digest;
 use par_digest::{Item, digests, digests_gated};
 use sha2::{Digest as Hash, Sha256};
-use std::alloc::{AllocError, Global};
-use std::test::Fail;
+use std::alloc::Global;
+use std::panic::Expect;
+use std::process::Abort;
 use std::thread::Threads;
 
-/// An item of these bytes.
-fn item(alloc: Global, head: &str, body: &str) -> Result<Item, AllocError> {
-    Ok(Item {
-        head: Blob::from_vec(Vec::from_slice(alloc, head.as_bytes())?),
-        body: Blob::from_vec(Vec::from_slice(alloc, body.as_bytes())?),
-    })
-}
-
-/// This many items, whose texts are `item 0`, `item 1` and so on.
-fn numbered(alloc: Global, count: usize) -> Result<Vec<Item>, AllocError> {
-    let mut items = Vec::with_capacity(alloc, count)?;
-    for number in 0..count {
-        let digits = format!(in alloc; "{number}")?;
-        items.push(item(alloc, "item ", &digits)?)?;
+/// The item whose text is `item` and this number.
+fn numbered(rt: &impl Abort, alloc: Global, number: usize) -> Item {
+    let digits = format!(in alloc; "{number}").expect(rt, "memory");
+    Item {
+        head: Blob::from_slice(alloc, b"item ").expect(rt, "memory"),
+        body: Blob::from_slice(alloc, digits.as_bytes()).expect(rt, "memory"),
     }
-    Ok(items)
 }
 
-/// Whether a digest is written so.
-fn is_written(digest: &Digest, name: &str) -> bool {
-    digest.digits().as_slice() == name.as_bytes()
+/// This many of them, from `item 0` on.
+fn many(rt: &impl Abort, alloc: Global, count: usize) -> Vec<Item> {
+    let mut items = Vec::new(alloc);
+    for number in 0..count {
+        items.push(numbered(rt, alloc, number)).expect(rt, "memory");
+    }
+    items
 }
 
 /// The digest of all digests, one after another.
@@ -42,7 +41,7 @@ fn digest_of_all(all: &[Digest]) -> Digest {
 }
 
 /// Counts of items, and the digest of their digests, one after another, as one thread of another program gives it.
-const COUNTS: [(usize, &str); 8] = [
+const COUNTS: &[(usize, &str)] = &[
     (
         0,
         "e3b0c44298fc1c149afbf4c8996fb92427ae41e4649b934ca495991b7852b855",
@@ -77,131 +76,96 @@ const COUNTS: [(usize, &str); 8] = [
     ),
 ];
 
-/// The first of the counts whose digests are others.
-fn first_other_count(
-    rt: &(impl Threads + Sync),
-    alloc: Global,
-    counts: &[(usize, &str)],
-) -> Result<Option<usize>, AllocError> {
-    for (count, name) in counts {
-        let items = numbered(alloc, *count)?;
-        let all = digests(rt, alloc, &items)?;
-        if all.len() != *count || !is_written(&digest_of_all(all.as_slice()), name) {
-            return Ok(Some(*count));
-        }
-    }
-    Ok(None)
+/// Whether this is the digest of all digests, and there are so many of them.
+fn are_counted(rt: &impl Abort, all: &[Digest], count: usize, name: &str) -> bool {
+    all.len() == count && digest_of_all(all) == digest_of(rt, name)
 }
 
-/// Items, and their digests as `sha256sum` writes them.
-const ITEMS: [(&str, &str, &str); 5] = [
+/// Items, head and body, and their digests as `sha256sum` writes them.
+const ITEMS: &[(Content, Content, &str)] = &[
     (
-        "",
-        "",
+        Content::Bytes(b""),
+        Content::Bytes(b""),
         "e3b0c44298fc1c149afbf4c8996fb92427ae41e4649b934ca495991b7852b855",
     ),
     (
-        "a",
-        "bc",
+        Content::Bytes(b"a"),
+        Content::Bytes(b"bc"),
         "ba7816bf8f01cfea414140de5dae2223b00361a396177a9cb410ff61f20015ad",
     ),
     (
-        "abc",
-        "",
+        Content::Bytes(b"abc"),
+        Content::Bytes(b""),
         "ba7816bf8f01cfea414140de5dae2223b00361a396177a9cb410ff61f20015ad",
     ),
     (
-        "",
-        "abc",
+        Content::Bytes(b""),
+        Content::Bytes(b"abc"),
         "ba7816bf8f01cfea414140de5dae2223b00361a396177a9cb410ff61f20015ad",
     ),
     (
-        "item ",
-        "4999",
+        Content::Bytes(b"item "),
+        Content::Bytes(b"4999"),
         "68f78d70037a272d4bb86ca8b4a16fba2e6dde8773334adbfdf46aedfc40afe0",
+    ),
+    (
+        Content::Times(b'x', 1 << 20),
+        Content::Bytes(b""),
+        "8f990ba0b577b51cf009ea049368c16bbda1b21e1b93be07a824758bb253c39b",
+    ),
+    (
+        Content::Bytes(b""),
+        Content::Times(b'x', 1 << 20),
+        "8f990ba0b577b51cf009ea049368c16bbda1b21e1b93be07a824758bb253c39b",
     ),
 ];
 
-/// The items of a table.
-fn listed(alloc: Global, rows: &[(&str, &str, &str)]) -> Result<Vec<Item>, AllocError> {
-    let mut items = Vec::new(alloc);
-    for (head, body, _) in rows {
-        items.push(item(alloc, head, body)?)?;
-    }
-    Ok(items)
-}
-
-/// Whether the digests are written as the rows have them.
-fn are_written(all: &[Digest], rows: &[(&str, &str, &str)]) -> bool {
-    if all.len() != rows.len() {
-        return false;
-    }
-    for (digest, (_, _, name)) in all.iter().zip(rows) {
-        if !is_written(digest, name) {
-            return false;
-        }
-    }
-    true
+/// Whether an item alone has this digest.
+fn is_digest_of(
+    rt: &(impl Abort + Threads + Sync),
+    alloc: Global,
+    head: &Content,
+    body: &Content,
+    name: &str,
+) -> bool {
+    let (head, body) = (blob_of(rt, alloc, head), blob_of(rt, alloc, body));
+    let items = vec![in alloc; Item { head, body }].expect(rt, "memory");
+    let all = digests(rt, alloc, &items).expect(rt, "memory");
+    all.as_slice() == [digest_of(rt, name)].as_slice()
 }
 
 #[test]
-fn digests_of_items(rt: HostRuntime) -> Result<(), Fail> {
-    let alloc = rt.alloc();
-    assert_eq!(rt; first_other_count(&rt, alloc, &COUNTS)?, None);
-    let all = digests(&rt, alloc, &listed(alloc, &ITEMS)?)?;
-    assert!(rt; are_written(all.as_slice(), &ITEMS));
-    Ok(())
-}
-
-/// Whether both halves of this many items were at work, or nothing was told where the items aren't cut.
-fn is_as_due(gate: &HoldingGate, count: usize) -> bool {
-    if count > 16 {
-        gate.both_worked()
-    } else {
-        gate.is_untouched()
+fn digests_of_items(rt: HostRuntime) {
+    for (row, (head, body, name)) in ITEMS.iter().enumerate() {
+        agree_at(&rt, row, is_digest_of(&rt, rt.alloc(), head, body, name));
     }
 }
 
-/// The first of the counts where this half, held until the other one is done, isn't at work beside it.
-fn first_apart(
-    rt: &(impl Threads + Sync),
+/// Whether the digests of so many items, and those that come where this half is held until the other one is done, have this digest,
+/// and both halves are at work.
+fn are_at_work(
+    rt: &(impl Abort + Threads + Sync),
     alloc: Global,
     held: u32,
-    counts: &[(usize, &str)],
-) -> Result<Option<usize>, AllocError> {
-    for (count, name) in counts {
-        let items = numbered(alloc, *count)?;
-        let gate = HoldingGate::new(held, digests(rt, alloc, &items)?);
-        let all = digests_gated(rt, alloc, &items, &gate)?;
-        if !is_written(&digest_of_all(all.as_slice()), name) || !is_as_due(&gate, *count) {
-            return Ok(Some(*count));
-        }
-    }
-    Ok(None)
+    count: usize,
+    name: &str,
+) -> bool {
+    let items = many(rt, alloc, count);
+    let alone = digests(rt, alloc, &items).expect(rt, "memory");
+    let is_wanted = are_counted(rt, alone.as_slice(), count, name);
+    let gate = HoldingGate::new(held, alone);
+    let all = digests_gated(rt, alloc, &items, &gate).expect(rt, "memory");
+    is_wanted && are_counted(rt, all.as_slice(), count, name) && gate.is_as_due(count)
 }
 
 /// The second half is held until the first one is done, and then the other way round, so neither waits for the other's
 /// thread. Only the first cut is told.
 #[test]
-fn both_halves_are_at_work(rt: HostRuntime) -> Result<(), Fail> {
-    assert_eq!(rt; first_apart(&rt, rt.alloc(), 1, &COUNTS)?, None);
-    assert_eq!(rt; first_apart(&rt, rt.alloc(), 0, &COUNTS)?, None);
-    Ok(())
-}
-
-/// A body of a mebibyte is hashed, and the digest is that of the same bytes in the head.
-#[test]
-fn long_items(rt: HostRuntime) -> Result<(), Fail> {
-    let long = "x".repeat(rt.alloc(), 1 << 20)?;
-    let mut items = Vec::new(rt.alloc());
-    items.push(item(rt.alloc(), &long, "")?)?;
-    items.push(item(rt.alloc(), "", &long)?)?;
-    let all = digests(&rt, rt.alloc(), &items)?;
-    assert!(rt;
-        match all.as_slice() {
-            [first, second] => first == second,
-            _ => false,
-        }
-    );
-    Ok(())
+fn both_halves_are_at_work(rt: HostRuntime) {
+    let alloc = rt.alloc();
+    for (count, name) in COUNTS {
+        let is_so = are_at_work(&rt, alloc, 1, *count, name)
+            && are_at_work(&rt, alloc, 0, *count, name);
+        agree_at(&rt, *count, is_so);
+    }
 }

@@ -10,7 +10,12 @@ const TURNS: u64 = 1_000_000_000;
 
 /// Whether no digest is found yet.
 fn are_zeros(digests: &[Digest]) -> bool {
-    digests.iter().all(|digest| *digest.as_bytes() == [0; 32])
+    for digest in digests {
+        if *digest.as_bytes() != [0; 32] {
+            return false;
+        }
+    }
+    true
 }
 
 /// What one half told the gate.
@@ -31,11 +36,6 @@ impl Side {
         }
     }
 
-    /// The work begins.
-    fn reach(&self) {
-        self.reached.fetch_add(1, Ordering::SeqCst);
-    }
-
     /// First there are zeros alone, then all of the digests.
     fn watch(&self, digests: &[Digest], wanted: &[Digest]) {
         let is_due = match self.watched.fetch_add(1, Ordering::SeqCst) {
@@ -48,21 +48,11 @@ impl Side {
         }
     }
 
-    /// Whether all of its digests were shown.
-    fn is_done(&self) -> bool {
-        self.watched.load(Ordering::SeqCst) >= 2
-    }
-
-    /// Whether it began once, and showed first zeros alone and then its digests.
-    fn is_right(&self) -> bool {
-        self.reached.load(Ordering::SeqCst) == 1
-            && self.watched.load(Ordering::SeqCst) == 2
+    /// Whether it began so often, and showed so many times what was due.
+    fn has_told(&self, reached: u64, watched: u64) -> bool {
+        self.reached.load(Ordering::SeqCst) == reached
+            && self.watched.load(Ordering::SeqCst) == watched
             && !self.is_wrong.load(Ordering::SeqCst)
-    }
-
-    /// Whether it told nothing.
-    fn is_untouched(&self) -> bool {
-        self.reached.load(Ordering::SeqCst) == 0 && self.watched.load(Ordering::SeqCst) == 0
     }
 }
 
@@ -91,47 +81,54 @@ impl HoldingGate {
         }
     }
 
-    /// Whether both halves told what they had to, and the held one saw the other one done.
-    pub fn both_worked(&self) -> bool {
-        self.first.is_right()
-            && self.second.is_right()
+    /// Whether each half began so often and showed so many times what was due, nothing else was told, and the held half saw the
+    /// other one done.
+    fn have_told(&self, reached: u64, watched: u64) -> bool {
+        self.first.has_told(reached, watched)
+            && self.second.has_told(reached, watched)
             && !self.gave_up.load(Ordering::SeqCst)
-            && self.has_no_strays()
+            && self.strays.load(Ordering::SeqCst) == 0
     }
 
-    /// Whether nothing was told.
-    pub fn is_untouched(&self) -> bool {
-        self.first.is_untouched() && self.second.is_untouched() && self.has_no_strays()
-    }
-
-    fn has_no_strays(&self) -> bool {
-        self.strays.load(Ordering::SeqCst) == 0
+    /// Whether both halves of this many items were at work, first with zeros alone and then with their digests; or nothing was told
+    /// where the items aren't cut.
+    pub fn is_as_due(&self, count: usize) -> bool {
+        if count > 16 {
+            self.have_told(1, 2)
+        } else {
+            self.have_told(0, 0)
+        }
     }
 
     /// Waits until the other half is done.
     fn hold(&self, other: &Side) {
         for _ in 0..TURNS {
-            if other.is_done() {
+            if other.watched.load(Ordering::SeqCst) >= 2 {
                 return;
             }
         }
         self.gave_up.store(true, Ordering::SeqCst);
     }
+
+    /// A half begins, beside the other one.
+    fn begin(&self, half: u32, this: &Side, other: &Side) {
+        this.reached.fetch_add(1, Ordering::SeqCst);
+        if half == self.held {
+            self.hold(other);
+        }
+    }
+
+    fn stray(&self) {
+        self.strays.fetch_add(1, Ordering::SeqCst);
+    }
 }
 
 impl Gate for HoldingGate {
     fn reach(&self, half: u32) {
-        let (this, other) = match half {
-            0 => (&self.first, &self.second),
-            1 => (&self.second, &self.first),
-            _ => {
-                self.strays.fetch_add(1, Ordering::SeqCst);
-                return;
-            }
-        };
-        this.reach();
-        if half == self.held {
-            self.hold(other);
+        match half {
+            0 => self.begin(half, &self.first, &self.second),
+            1 => self.begin(half, &self.second, &self.first),
+            _ => self.stray(),
         }
     }
 
@@ -140,9 +137,7 @@ impl Gate for HoldingGate {
         match half {
             0 => self.first.watch(digests, front),
             1 => self.second.watch(digests, back),
-            _ => {
-                self.strays.fetch_add(1, Ordering::SeqCst);
-            }
+            _ => self.stray(),
         }
     }
 }

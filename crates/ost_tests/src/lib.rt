@@ -8,16 +8,22 @@ mod halves;
 #[cfg(test)]
 mod holding;
 #[cfg(test)]
+mod long_objects;
+#[cfg(test)]
 mod made_contents;
 #[cfg(test)]
 mod made_objects;
 #[cfg(test)]
 mod object;
 #[cfg(test)]
+mod parsed;
+#[cfg(test)]
 mod refs;
 #[cfg(test)]
 mod rows;
 #[cfg(test)]
 mod shown_objects;
+#[cfg(test)]
+mod steps;
 #[cfg(test)]
 mod store;

@@ -1,7 +1,7 @@
 //! Metadata objects of another repository that the `ostree` command made: those of `scripts/ostree_shows.py`.
 
 /// Their names, and their bytes in hexadecimal digits.
-pub const SHOWN: [(&str, &str); 9] = [
+pub const SHOWN: &[(&str, &str)] = &[
     (
         "1073a1efca2c2eff2e6bb26993c2aae78ce970cba384c9f1eb2d693c286b430a.commit",
         "78612e6e6f7465006f6e6500007308006f73747265652e7265662d62696e64696e670000000000006170702f6f72672e782e4170702f7838365f36342f737461626c65001c006173130f4954686520666972737400000000000000003b9aca00da41e8e96c68cfc560cb14fab9db623a87ee3e3135cffa531da1f0453d16ace6446a0ef11b7cc167f3b603e585c7eeeeb675faa412d5ec73f62988eb0b6c54888056554b4b4b",

@@ -1,0 +1,110 @@
+//! Long metadata objects, byte for byte as GLib spells them.
+
+use std::alloc::Global;
+use std::panic::Expect;
+use std::process::Abort;
+
+/// A piece of an object.
+pub enum Piece {
+    Bytes(&'static [u8]),
+    /// A byte that comes so often.
+    Times(u8, usize),
+    /// Rows: each a letter, its number in four digits, and these bytes.
+    Rows(&'static str, &'static [u8]),
+    /// Where rows of so many bytes end, in numbers of so many bytes, the lowest first.
+    Ends(u32, usize),
+}
+
+/// How many rows there are.
+pub const ROWS: u32 = 1_100;
+
+/// The digest and the kind of a commit with metadata, texts and related objects that are all long: 100 KiB of the byte 7 and a
+/// binding to the rows' refs, the rows' objects, and 100 KiB of the letter t twice.
+pub const COMMIT: &str = "3eaabaf16a1bab4a65de8ab73503cdb23689fdcde8e33bd7fdd9291e9e51d15e.commit";
+
+pub const COMMIT_PIECES: &[Piece] = &[
+    Piece::Bytes(b"a\0\0\0\0\0\0\0"),
+    Piece::Times(7, 100 << 10),
+    Piece::Bytes(b"\0ay\x02\0\0\0\0ostree.ref-binding\0\0\0\0\0\0"),
+    Piece::Rows("r", b"\0"),
+    Piece::Ends(6, 2),
+    // the lengths of both keys, and where both entries end
+    Piece::Bytes(b"\0as\x13\0\x0f\x90\x01\0\x8d\xb2\x01\0"),
+    Piece::Times(2, 32),
+    Piece::Rows("o", ONE_DIGEST),
+    Piece::Ends(39, 2),
+    Piece::Times(b't', 100 << 10),
+    Piece::Bytes(b"\0"),
+    Piece::Times(b't', 100 << 10),
+    Piece::Bytes(b"\0\0\0\0\0\0\x01\0\0\0\0\0\0\0"),
+    Piece::Times(3, 32),
+    Piece::Times(4, 32),
+    // where the other parts end, the last one first
+    Piece::Bytes(
+        b"\x10\x83\x05\0\xe3\x82\x05\0\xe2\xf2\x03\0\xe1\x62\x02\0\xb5\xb2\x01\0\x95\xb2\x01\0",
+    ),
+];
+
+/// A digest of which each byte is 1, after a name of five letters.
+const ONE_DIGEST: &[u8] =
+    b"\0\x01\x01\x01\x01\x01\x01\x01\x01\x01\x01\x01\x01\x01\x01\x01\x01\x01\x01\x01\x01\x01\x01\x01\x01\x01\x01\x01\x01\x01\x01\x01\x01\x06";
+
+/// Two of them.
+const TWO_DIGESTS: &[u8] =
+    b"\0\x01\x01\x01\x01\x01\x01\x01\x01\x01\x01\x01\x01\x01\x01\x01\x01\x01\x01\x01\x01\x01\x01\x01\x01\x01\x01\x01\x01\x01\x01\x01\x01\x01\x01\x01\x01\x01\x01\x01\x01\x01\x01\x01\x01\x01\x01\x01\x01\x01\x01\x01\x01\x01\x01\x01\x01\x01\x01\x01\x01\x01\x01\x01\x01\x26\x06";
+
+/// The same of a dirtree with the rows' files and the rows' directories.
+pub const TREE: &str = "e7e48ebee378fd66087e8333d4611cdcd3cd4307c180900e28f10878182f41a7.dirtree";
+
+pub const TREE_PIECES: &[Piece] = &[
+    Piece::Rows("f", ONE_DIGEST),
+    Piece::Ends(39, 2),
+    Piece::Rows("d", TWO_DIGESTS),
+    Piece::Ends(72, 4),
+    Piece::Bytes(b"\x2c\xb0\0\0"),
+];
+
+fn push(rt: &impl Abort, bytes: &mut Vec<u8>, piece: &[u8]) {
+    bytes.extend_from_slice(piece).expect(rt, "memory");
+}
+
+fn push_times(rt: &impl Abort, alloc: Global, bytes: &mut Vec<u8>, byte: u8, count: usize) {
+    let piece = vec![in alloc; byte; count].expect(rt, "memory");
+    push(rt, bytes, &piece);
+}
+
+fn push_rows(rt: &impl Abort, alloc: Global, bytes: &mut Vec<u8>, letter: &str, end: &[u8]) {
+    for number in 0..ROWS {
+        let row = format!(in alloc; "{letter}{number:04}").expect(rt, "memory");
+        push(rt, bytes, row.as_bytes());
+        push(rt, bytes, end);
+    }
+}
+
+fn push_ends(rt: &impl Abort, bytes: &mut Vec<u8>, size: u32, width: usize) {
+    let mut at: u32 = 0;
+    for _row in 0..ROWS {
+        at = at.wrapping_add(size);
+        let end = at.to_le_bytes();
+        let (low, _) = end.split_at(width.min(4));
+        push(rt, bytes, low);
+    }
+}
+
+fn push_piece(rt: &impl Abort, alloc: Global, bytes: &mut Vec<u8>, piece: &Piece) {
+    match piece {
+        Piece::Bytes(piece) => push(rt, bytes, piece),
+        Piece::Times(byte, count) => push_times(rt, alloc, bytes, *byte, *count),
+        Piece::Rows(letter, end) => push_rows(rt, alloc, bytes, letter, end),
+        Piece::Ends(size, width) => push_ends(rt, bytes, *size, *width),
+    }
+}
+
+/// The bytes of the pieces.
+pub fn spelled(rt: &impl Abort, alloc: Global, pieces: &[Piece]) -> Vec<u8> {
+    let mut bytes = Vec::new(alloc);
+    for piece in pieces {
+        push_piece(rt, alloc, &mut bytes, piece);
+    }
+    bytes
+}
