@@ -2,12 +2,26 @@
 #![tactic(auto)]
 
 #[cfg(test)]
+mod boastful;
+#[cfg(test)]
+mod breaking;
+#[cfg(test)]
+mod faults;
+#[cfg(test)]
 mod fickle;
 #[cfg(test)]
 mod hostile;
+#[cfg(test)]
+mod made_breaks;
+#[cfg(test)]
+mod offering;
 #[cfg(test)]
 mod offers;
 #[cfg(test)]
 mod pulls;
 #[cfg(test)]
 mod rows;
+#[cfg(test)]
+mod sizes;
+#[cfg(test)]
+mod walks;

@@ -31,6 +31,16 @@ pub fn blob(rt: &impl Abort, alloc: Global, bytes: &[u8]) -> Blob {
     Blob::from_slice(alloc, bytes).expect(rt, "memory")
 }
 
+/// This many zero bytes.
+pub fn zeros(rt: &impl Abort, alloc: Global, size: usize) -> Blob {
+    Blob::from_vec(vec![in alloc; 0u8; size].expect(rt, "memory"))
+}
+
+/// The text.
+pub fn text(rt: &impl Abort, alloc: Global, text: &str) -> Text {
+    Text::from_str(alloc, text).expect(rt, "memory")
+}
+
 fn file(rt: &impl Abort, alloc: Global, place: &str, mode: u32, text: &str) -> TreeRow {
     TreeRow::File {
         path: path(rt, alloc, place),
@@ -80,10 +90,37 @@ fn many_rows(rt: &impl Abort, alloc: Global) -> Vec<TreeRow> {
     rows
 }
 
+/// The ref to which the commits are bound.
+pub fn app(rt: &impl Abort, alloc: Global) -> RefName {
+    RefName::parse(alloc, b"app/org.example.App/x86_64/stable").expect(rt, "a ref")
+}
+
 /// The commit of these rows.
 fn commit(rt: &(impl Abort + Threads + Sync), alloc: Global, rows: &[TreeRow]) -> Built {
-    let name = RefName::parse(alloc, b"app/org.example.App/x86_64/stable").expect(rt, "a ref");
+    let name = app(rt, alloc);
     commit_tree(rt, alloc, rows, &name, "subject", 1_700_000_000).expect(rt, "a commit")
+}
+
+/// The commit of no file.
+pub fn bare(rt: &(impl Abort + Threads + Sync), alloc: Global) -> Built {
+    commit(rt, alloc, &[])
+}
+
+/// The commit of a link `l` whose text has one letter.
+pub fn letter(rt: &(impl Abort + Threads + Sync), alloc: Global) -> Built {
+    let rows = vec![in alloc; link(rt, alloc, "l", "f")];
+    commit(rt, alloc, &rows.expect(rt, "memory"))
+}
+
+/// The commit of a file `big` of this many zero bytes.
+pub fn big(rt: &(impl Abort + Threads + Sync), alloc: Global, size: usize) -> Built {
+    let row = TreeRow::File {
+        path: path(rt, alloc, "big"),
+        mode: 0o644,
+        bytes: zeros(rt, alloc, size),
+    };
+    let rows = vec![in alloc; row];
+    commit(rt, alloc, &rows.expect(rt, "memory"))
 }
 
 /// The commit of a few files.

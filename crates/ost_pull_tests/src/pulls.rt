@@ -1,7 +1,10 @@
 //! Pulls into an empty store.
 
 use crate::fickle::Fickle;
-use crate::offers::{SCRIPT, URL, blob, empty, few, many, node_of, offered, path, place, put};
+use crate::offers::{
+    SCRIPT, URL, bare, blob, empty, few, letter, many, node_of, offered, path, place, put, text,
+    zeros,
+};
 use crate::rows::agree_at;
 use fl_lines::refusal_line;
 use fp_base::{ObjKind, Text};
@@ -20,7 +23,7 @@ use std::process::Abort;
 use std::thread::Threads;
 
 /// The files below `objects` of the repository that `ostree commit` makes of the few files.
-const FEW_OBJECTS: &str = "\
+pub const FEW_OBJECTS: &str = "\
 repo/objects/27/087435aa0e61882d62d6ff85ecabf67a078e17662b4542ba9fa777e0daf792.commit
 repo/objects/44/6a0ef11b7cc167f3b603e585c7eeeeb675faa412d5ec73f62988eb0b6c5488.dirmeta
 repo/objects/60/599fdf7cf9cb8925354cd74476b5ded7850eca9b6a120998125a578b6a4d4c.file
@@ -36,12 +39,12 @@ repo/objects/9a/66a8ed7bf66427f5f2716c2f1fae391371f0d9939557f33ade986c45844bef.f
 const MANY_OBJECTS: &[u8; 64] = b"71ceec0db1d292fcb5a5000d2525d209252885618c75d03f06bdf29b363730f8";
 
 /// An empty host.
-fn new_host(rt: &impl Abort, alloc: Global) -> MemHost {
+pub fn new_host(rt: &impl Abort, alloc: Global) -> MemHost {
     MemHost::new(alloc).expect(rt, "memory")
 }
 
 /// The line that is printed of an end.
-fn end_line(rt: &impl Abort, alloc: Global, end: PullEnd) -> Text {
+pub fn end_line(rt: &impl Abort, alloc: Global, end: PullEnd) -> Text {
     let line = match end {
         PullEnd::Refused(refusal) => refusal_line(alloc, &refusal),
         PullEnd::HostFault => Text::from_str(alloc, "the host failed"),
@@ -70,7 +73,7 @@ pub fn pull_into<R: Remotes>(
 }
 
 /// The files and links below `objects`, one a line. The folder of the pull has to be gone.
-fn stored(rt: &impl Abort, alloc: Global, host: &mut MemHost) -> String {
+pub fn stored(rt: &impl Abort, alloc: Global, host: &mut MemHost) -> String {
     let work = host.stat(&path(rt, alloc, "repo/tmp/pull"));
     assert!(rt; work.expect(rt, "an answer") == Stat::Absent);
     let paths = names(alloc, host, &path(rt, alloc, "repo")).expect(rt, "names");
@@ -95,12 +98,38 @@ pub fn pulled<R: Remotes>(
     (end, has)
 }
 
-/// What the store has after a pull of the commit that is done.
-fn objects_of(rt: &(impl Abort + Threads + Sync), alloc: Global, built: &Built) -> String {
+/// Whether a pull of the commit is refused with this line, and stores nothing.
+pub fn is_refused<R: Remotes>(
+    rt: &(impl Abort + Threads + Sync),
+    alloc: Global,
+    remotes: &mut R,
+    commit: &Digest,
+    line: &str,
+) -> bool {
+    let (end, has) = pulled(rt, alloc, remotes, commit);
+    end.as_str() == line && has.is_empty()
+}
+
+/// Pulls a commit of which a remote has all. The calls of the remote with these numbers fail. The text says why it wasn't done, or
+/// nothing.
+pub fn pull_offered(
+    rt: &(impl Abort + Threads + Sync),
+    alloc: Global,
+    host: &mut MemHost,
+    built: &Built,
+    failing: &[u64],
+) -> Text {
     let mut remotes = offered(rt, alloc, built);
-    let (end, has) = pulled(rt, alloc, &mut remotes, &built.commit);
+    remotes.fail_calls(failing).expect(rt, "memory");
+    pull_into(rt, alloc, host, &mut remotes, &built.commit)
+}
+
+/// What the store has after a pull of the commit that is done.
+pub fn objects_of(rt: &(impl Abort + Threads + Sync), alloc: Global, built: &Built) -> String {
+    let mut host = new_host(rt, alloc);
+    let end = pull_offered(rt, alloc, &mut host, built, &[]);
     assert!(rt; end.as_str().is_empty());
-    has
+    stored(rt, alloc, &mut host)
 }
 
 #[test]
@@ -120,6 +149,10 @@ enum Instead {
     Folder,
     /// A link with another text.
     OtherLink,
+    /// A link without a text.
+    EmptyLink,
+    /// A file of so many zero bytes.
+    Zeros(usize),
     /// The file of the object with these permission bits.
     Mode(u32),
 }
@@ -134,6 +167,11 @@ const RUN: &str = "60599fdf7cf9cb8925354cd74476b5ded7850eca9b6a120998125a578b6a4
 
 const FILES: &str = "8212608941e8922146c7ab064a948c86a6b25e843bd89412393269ffd0647bfb";
 
+/// The dirmeta, which is the third object, and the dirtree of the empty folder, which is the fifth.
+const DIRMETA: &str = "446a0ef11b7cc167f3b603e585c7eeeeb675faa412d5ec73f62988eb0b6c5488";
+
+const EMPTY: &str = "6e340b9cffb37a989ca544e6bb780a2c78901d3fb33738768511a30617afa01d";
+
 /// Objects of the few files with what a remote has in their place, and the refusal.
 const HARMS: &[(&[(&str, ObjKind, Instead)], &str)] = &[
     (
@@ -143,6 +181,17 @@ const HARMS: &[(&[(&str, ObjKind, Instead)], &str)] = &[
     (
         &[(FILES, ObjKind::DirTree, Instead::Folder)],
         "error: missing object 8212608941e8922146c7ab064a948c86a6b25e843bd89412393269ffd0647bfb.dirtree\n",
+    ),
+    (
+        &[(FILES, ObjKind::DirTree, Instead::OtherLink)],
+        "error: missing object 8212608941e8922146c7ab064a948c86a6b25e843bd89412393269ffd0647bfb.dirtree\n",
+    ),
+    (
+        &[
+            (DIRMETA, ObjKind::DirMeta, Instead::Zeros(12)),
+            (EMPTY, ObjKind::DirTree, Instead::Nothing),
+        ],
+        "error: corrupt object 446a0ef11b7cc167f3b603e585c7eeeeb675faa412d5ec73f62988eb0b6c5488.dirmeta 15ec7bf0b50732b49f8228e07d24365338f9e3ab994b00af08e5a3bffe55fd8b\n",
     ),
     (
         &[(RUN, ObjKind::File, Instead::Mode(0o1755))],
@@ -183,9 +232,11 @@ fn put_instead(
             let bytes = blob(rt, alloc, b"within");
             put(rt, remotes, &within, MemNode::File { mode: 0o644, bytes });
         }
-        Instead::OtherLink => {
-            let text = Text::from_str(alloc, "other").expect(rt, "memory");
-            put(rt, remotes, at, MemNode::Link(text));
+        Instead::OtherLink => put(rt, remotes, at, MemNode::Link(text(rt, alloc, "other"))),
+        Instead::EmptyLink => put(rt, remotes, at, MemNode::Link(text(rt, alloc, ""))),
+        Instead::Zeros(count) => {
+            let bytes = zeros(rt, alloc, *count);
+            put(rt, remotes, at, MemNode::File { mode: 0o644, bytes });
         }
         Instead::Mode(mode) => {
             let bytes = blob(rt, alloc, SCRIPT.as_bytes());
@@ -216,15 +267,64 @@ fn harmed(
     remotes
 }
 
+/// Whether a pull from such a remote is refused with this line.
+fn is_harm_refused(
+    rt: &(impl Abort + Threads + Sync),
+    alloc: Global,
+    built: &Built,
+    harms: &[(&str, ObjKind, Instead)],
+    line: &str,
+) -> bool {
+    let mut remotes = harmed(rt, alloc, built, harms);
+    is_refused(rt, alloc, &mut remotes, &built.commit, line)
+}
+
 #[test]
 fn what_is_harmed_is_refused(rt: HostRuntime) {
     let alloc = rt.alloc();
     let built = few(&rt, alloc);
-    for (at, row) in HARMS.iter().enumerate() {
-        let mut remotes = harmed(&rt, alloc, &built, row.0);
-        let (end, has) = pulled(&rt, alloc, &mut remotes, &built.commit);
-        agree_at(&rt, at, end.as_str() == row.1 && has.is_empty());
+    for (at, (harms, line)) in HARMS.iter().enumerate() {
+        agree_at(&rt, at, is_harm_refused(&rt, alloc, &built, harms, line));
     }
+}
+
+/// A link of one letter whose text is cut, and the refusal.
+const CUT_LETTER: &[(&str, ObjKind, Instead)] = &[(
+    "43f338adeb68637b721d7ba4c39b7677a4fbb87e3adf4a363a3d50c9de9a35ed",
+    ObjKind::File,
+    Instead::EmptyLink,
+)];
+
+const NO_LETTER: &str =
+    "error: missing object 43f338adeb68637b721d7ba4c39b7677a4fbb87e3adf4a363a3d50c9de9a35ed.file\n";
+
+#[test]
+fn a_link_without_a_text_is_none(rt: HostRuntime) {
+    let alloc = rt.alloc();
+    let built = letter(&rt, alloc);
+    assert!(rt; is_harm_refused(&rt, alloc, &built, CUT_LETTER, NO_LETTER));
+}
+
+/// How many objects the store has after a pull of the commit that is done, and how many bytes were written until then.
+fn amounts_after(
+    rt: &(impl Abort + Threads + Sync),
+    alloc: Global,
+    host: &mut MemHost,
+    built: &Built,
+) -> (usize, u64) {
+    let end = pull_offered(rt, alloc, host, built, &[]);
+    assert!(rt; end.as_str().is_empty());
+    let count = stored(rt, alloc, host).lines().count();
+    (count, host.appended(&Path::root(alloc)))
+}
+
+#[test]
+fn a_second_pull_stores_nothing(rt: HostRuntime) {
+    let alloc = rt.alloc();
+    let built = bare(&rt, alloc);
+    let mut host = new_host(&rt, alloc);
+    let first = amounts_after(&rt, alloc, &mut host, &built);
+    assert!(rt; first.0 == 3 && amounts_after(&rt, alloc, &mut host, &built) == first);
 }
 
 /// Whether a pull from a remote whose reads change so stores all of the few files, each true, or is refused and stores nothing.
