@@ -1,5 +1,6 @@
 //! Worked messages: the header that is read, the rule that is broken, and what is written.
 
+use crate::rows::{agree, agree_at};
 use crate::told::{body_line, bytes_of, front_line, spelled, with_byte, word_at};
 use bus_frame::{
     error_frame, is_bus_name, is_interface_name, is_member_name, is_object_path, is_unique_name,
@@ -40,32 +41,38 @@ const BODIES: &str = "\
 420200010000001900000002000000100501750000000001080167000261730000000015000000076f72672e62617200000000043a312e3100 B 32 - - names:org.bar,:1.1,
 420200010000000400000002000000100501750000000001080167000261730000000000 B 32 - - names:";
 
-/// Ends the test at a line whose message is read otherwise.
-pub fn agree_on_front(rt: &impl Abort, alloc: Global, line: &str) {
-    let (words, wanted) = line.split_once(' ').unwrap_or((line, ""));
-    let read = front_line(rt, alloc, &spelled(rt, alloc, words));
-    assert!(rt; read.as_str() == wanted, "{line}");
+/// Whether this is read at the front of bytes.
+pub fn is_front(rt: &impl Abort, alloc: Global, bytes: &[u8], want: &str) -> bool {
+    front_line(rt, alloc, bytes).as_str() == want
 }
 
-/// Ends the test at a line whose message has another body.
-fn agree_on_body(rt: &impl Abort, alloc: Global, line: &str) {
-    let (words, wanted) = line.split_once(' ').unwrap_or((line, ""));
-    let read = body_line(rt, alloc, &spelled(rt, alloc, words));
-    assert!(rt; read.as_str() == wanted, "{line}");
+/// Whether this is read of the body.
+fn is_body(rt: &impl Abort, alloc: Global, bytes: &[u8], want: &str) -> bool {
+    body_line(rt, alloc, bytes).as_str() == want
+}
+
+/// Whether the message of a line is read as the line says: its front, or its body.
+fn is_read(rt: &impl Abort, alloc: Global, line: &str, body: bool) -> bool {
+    let (words, want) = line.split_once(' ').unwrap_or((line, ""));
+    let bytes = spelled(rt, alloc, words);
+    if body {
+        is_body(rt, alloc, &bytes, want)
+    } else {
+        is_front(rt, alloc, &bytes, want)
+    }
+}
+
+/// Ends the test at a line whose message is read otherwise.
+pub fn agree_on_lines(rt: &impl Abort, alloc: Global, lines: &str, body: bool) {
+    for line in lines.lines() {
+        agree(rt, line, is_read(rt, alloc, line, body));
+    }
 }
 
 #[test]
 fn worked_messages(rt: HostRuntime) {
-    for line in FRONTS.lines() {
-        agree_on_front(&rt, rt.alloc(), line);
-    }
-}
-
-#[test]
-fn worked_bodies(rt: HostRuntime) {
-    for line in BODIES.lines() {
-        agree_on_body(&rt, rt.alloc(), line);
-    }
+    agree_on_lines(&rt, rt.alloc(), FRONTS, false);
+    agree_on_lines(&rt, rt.alloc(), BODIES, true);
 }
 
 /// How long a beginning of the worked call is, and what is read: what its fixed part says, and what follows that isn't
@@ -80,9 +87,9 @@ const LENGTHS: [(usize, &str); 5] = [
 
 #[test]
 fn beginnings(rt: HostRuntime) {
-    for (count, wanted) in &LENGTHS {
-        let line = front_line(&rt, rt.alloc(), CALL.get(..*count).unwrap_or(&[]));
-        assert!(rt; line.as_str() == *wanted, "{wanted}");
+    for (count, want) in &LENGTHS {
+        let front = CALL.get(..*count).unwrap_or(&[]);
+        agree_at(&rt, *count, is_front(&rt, rt.alloc(), front, want));
     }
 }
 
@@ -121,10 +128,9 @@ const BROKEN: [(usize, u8, &str); 27] = [
 
 #[test]
 fn broken_messages(rt: HostRuntime) {
-    for (at, byte, wanted) in &BROKEN {
+    for (row, (at, byte, want)) in BROKEN.iter().enumerate() {
         let changed = with_byte(&rt, rt.alloc(), CALL, *at, *byte);
-        let line = front_line(&rt, rt.alloc(), &changed);
-        assert!(rt; line.as_str() == *wanted, "{at} {wanted}");
+        agree_at(&rt, row, is_front(&rt, rt.alloc(), &changed, want));
     }
 }
 
@@ -135,20 +141,27 @@ fn is_answered(rt: &impl Abort, alloc: Global) -> bool {
     answer.as_slice() == ANSWER
 }
 
+/// Whether bytes are an answer in big endian to a caller with a name.
+fn are_other(rt: &impl Abort, alloc: Global, answer: &[u8]) -> bool {
+    let want = "3 1 4294967295 - - - a.b 7 :1.1 org.freedesktop.DBus - 0";
+    answer.first() == Some(&b'B') && is_front(rt, alloc, answer, want)
+}
+
 /// Whether an answer in big endian to a caller with a name is read.
 fn other_is_answered(rt: &impl Abort, alloc: Global) -> bool {
     let answer = error_frame(alloc, false, "a.b", 7, Some(":1.1")).expect(rt, "memory");
-    let line = front_line(rt, alloc, answer.as_slice());
-    answer.as_slice().first() == Some(&b'B')
-        && line.as_str() == "3 1 4294967295 - - - a.b 7 :1.1 org.freedesktop.DBus - 0"
+    are_other(rt, alloc, answer.as_slice())
 }
 
 /// A name of 255 bytes.
 fn longest_name(rt: &impl Abort, alloc: Global) -> String {
-    let mut name = String::from_str(alloc, "a.").expect(rt, "memory");
     let part = "b".repeat(alloc, 253).expect(rt, "memory");
-    name.push_str(&part).expect(rt, "memory");
-    name
+    ["a.", &part].concat(alloc).expect(rt, "memory")
+}
+
+/// Whether a line tells of an answer with this name to a caller of this name.
+fn is_told(line: &str, name: &str) -> bool {
+    word_at(line, 6) == name && word_at(line, 8) == name
 }
 
 /// Whether the answer with this name to a caller of this name is read.
@@ -157,15 +170,13 @@ fn is_answered_to(rt: &impl Abort, alloc: Global, name: &str) -> bool {
         return false;
     }
     let answer = error_frame(alloc, true, name, 1, Some(name)).expect(rt, "memory");
-    let line = front_line(rt, alloc, answer.as_slice());
-    word_at(&line, 6) == name && word_at(&line, 8) == name
+    is_told(&front_line(rt, alloc, answer.as_slice()), name)
 }
 
 #[test]
 fn answers(rt: HostRuntime) {
-    let name = longest_name(&rt, rt.alloc());
     assert!(rt; is_answered(&rt, rt.alloc()) && other_is_answered(&rt, rt.alloc()));
-    assert!(rt; is_answered_to(&rt, rt.alloc(), &name));
+    assert!(rt; is_answered_to(&rt, rt.alloc(), &longest_name(&rt, rt.alloc())));
 }
 
 /// Names, and what they are: interface, member, unique, well-known, bus name, path.
@@ -206,10 +217,8 @@ fn kinds_of(name: &[u8]) -> [u8; 6] {
 #[test]
 fn kinds_of_names(rt: HostRuntime) {
     for (name, kinds) in &KINDS {
-        assert!(rt;
-            kinds_of(name.as_bytes()).as_slice() == kinds.as_bytes(),
-            "{name}"
-        );
+        let is_so = kinds_of(name.as_bytes()).as_slice() == kinds.as_bytes();
+        agree(&rt, name, is_so);
     }
 }
 
@@ -222,22 +231,33 @@ const WHOLE: &str = "\
 /// What is read of it after its type.
 const AFTER_TYPE: &str = " 0 1 /a a.b M a.b.Error 9 org.bar :1.1 s 6";
 
+/// What is read of it where it is of this type.
+fn whole_front(rt: &impl Abort, alloc: Global, kind: u8) -> String {
+    format!(in alloc; "{kind}{AFTER_TYPE}").expect(rt, "memory")
+}
+
+/// Whether bytes are a message of this type with each of its fields.
+fn are_whole(rt: &impl Abort, alloc: Global, bytes: &[u8], kind: u8) -> bool {
+    is_front(rt, alloc, bytes, &whole_front(rt, alloc, kind))
+        && is_body(rt, alloc, bytes, "l 136 t - -")
+}
+
 /// Whether a message is read whole where it is of this type.
 fn is_read_as(rt: &impl Abort, alloc: Global, message: &[u8], kind: u8) -> bool {
-    let bytes = with_byte(rt, alloc, message, 1, kind);
-    let front = front_line(rt, alloc, &bytes);
-    let number = format!(in alloc; "{kind}").expect(rt, "memory");
-    front.strip_prefix(number.as_str()) == Some(AFTER_TYPE)
-        && body_line(rt, alloc, &bytes).as_str() == "l 136 t - -"
+    are_whole(rt, alloc, &with_byte(rt, alloc, message, 1, kind), kind)
+}
+
+/// Ends the test at a type that isn't read whole.
+fn agree_on_types(rt: &impl Abort, alloc: Global, message: &[u8]) {
+    for kind in 1..=255u8 {
+        agree_at(rt, kind as usize, is_read_as(rt, alloc, message, kind));
+    }
 }
 
 /// A message of each type is read whole, with each of its fields.
 #[test]
 fn each_type(rt: HostRuntime) {
-    let message = bytes_of(&rt, rt.alloc(), WHOLE);
-    for kind in 1..=255u8 {
-        assert!(rt; is_read_as(&rt, rt.alloc(), &message, kind), "{kind}");
-    }
+    agree_on_types(&rt, rt.alloc(), &bytes_of(&rt, rt.alloc(), WHOLE));
 }
 
 /// A call whose path has 100 KiB and whose text a mebibyte.
@@ -254,18 +274,35 @@ const MANY: &str = "\
 6f72672e6261720007017300040000003a312e31000000000501750009000000080167000261730090330000+0700000\
 06f72672e62617200*1100";
 
+/// The length of a word of what is read of the front.
+fn front_length(rt: &impl Abort, alloc: Global, bytes: &[u8], at: usize) -> usize {
+    word_at(&front_line(rt, alloc, bytes), at).len()
+}
+
+/// The length of a word of the body.
+fn body_length(rt: &impl Abort, alloc: Global, bytes: &[u8], at: usize) -> usize {
+    word_at(&body_line(rt, alloc, bytes), at).len()
+}
+
+/// Whether the path and the text of a message are so long.
+fn are_long(rt: &impl Abort, alloc: Global, bytes: &[u8]) -> bool {
+    front_length(rt, alloc, bytes, 3) == (100 << 10) + 1
+        && body_length(rt, alloc, bytes, 2) == 1 << 20
+}
+
 /// A message whose path and body have 100 KiB and a mebibyte is read.
 #[test]
 fn long_message(rt: HostRuntime) {
-    let bytes = spelled(&rt, rt.alloc(), LONG);
-    let line = front_line(&rt, rt.alloc(), &bytes);
-    let body = body_line(&rt, rt.alloc(), &bytes);
-    assert!(rt; word_at(&line, 3).len() == (100 << 10) + 1 && word_at(&body, 2).len() == 1 << 20);
+    assert!(rt; are_long(&rt, rt.alloc(), &spelled(&rt, rt.alloc(), LONG)));
+}
+
+/// How many names a body has, and one more.
+fn count_names(rt: &impl Abort, alloc: Global, bytes: &[u8]) -> usize {
+    word_at(&body_line(rt, alloc, bytes), 4).split(',').count()
 }
 
 /// 1,100 names are read.
 #[test]
 fn many_names(rt: HostRuntime) {
-    let body = body_line(&rt, rt.alloc(), &spelled(&rt, rt.alloc(), MANY));
-    assert!(rt; word_at(&body, 4).split(',').count() == 1_101);
+    assert!(rt; count_names(&rt, rt.alloc(), &spelled(&rt, rt.alloc(), MANY)) == 1_101);
 }

@@ -10,6 +10,8 @@ mod policy;
 #[cfg(test)]
 mod proxy;
 #[cfg(test)]
+mod rows;
+#[cfg(test)]
 mod rules;
 #[cfg(test)]
 mod stream;

@@ -1,5 +1,6 @@
 //! Worked policies: levels of names, and what becomes of messages one after another.
 
+use crate::rows::agree;
 use crate::told::{bytes_of, word_at};
 use bus_frame::{Flags, Header, MessageType};
 use bus_policy::{Level, Policy, PolicyError, RuleKind, Verdict, Watch};
@@ -75,18 +76,24 @@ fn verdict_word(verdict: Verdict) -> &'static str {
 
 /// Notes a message of a step, and whether it goes as it is to.
 fn goes_so(rt: &impl Abort, watch: &mut Watch, step: &str, header: &Header, body: &[u8]) -> bool {
-    let verdict = watch.verdict(side(step), header, body);
-    watch
-        .note(side(step), header, body, verdict)
-        .expect(rt, "memory");
+    let side = side(step);
+    let verdict = watch.verdict(side, header, body);
+    watch.note(side, header, body, verdict).expect(rt, "memory");
     word_at(step, 11) == verdict_word(verdict)
+}
+
+/// Notes a step with this body, and whether it goes as it is to.
+fn goes_with(rt: &impl Abort, alloc: Global, watch: &mut Watch, step: &str, body: &[u8]) -> bool {
+    let header = header(rt, alloc, step, body.len() as u64);
+    let is_so = goes_so(rt, watch, step, &header, body);
+    drop(header);
+    is_so
 }
 
 /// Notes a step, and whether it goes as it is to.
 fn goes(rt: &impl Abort, alloc: Global, watch: &mut Watch, step: &str) -> bool {
-    let body = bytes_of(rt, alloc, word(step, 10).unwrap_or(""));
-    let header = header(rt, alloc, step, body.len() as u64);
-    goes_so(rt, watch, step, &header, &body)
+    let digits = word(step, 10).unwrap_or("");
+    goes_with(rt, alloc, watch, step, &bytes_of(rt, alloc, digits))
 }
 
 /// Names that are open at a level, and rules for calls and broadcasts.
@@ -97,30 +104,7 @@ const LEVELS: [(&str, Level); 4] = [
     ("org.foo.less", Level::See),
 ];
 
-fn policy(rt: &impl Abort, alloc: Global) -> Policy {
-    let mut policy = Policy::new(alloc);
-    for (pattern, level) in &LEVELS {
-        policy.add(alloc, pattern, *level).expect(rt, "a rule");
-    }
-    add_rule(
-        rt,
-        alloc,
-        &mut policy,
-        RuleKind::Call,
-        "org.ruled.*",
-        "a.b.C@/x/*",
-    );
-    add_rule(
-        rt,
-        alloc,
-        &mut policy,
-        RuleKind::Broadcast,
-        "org.cast",
-        "a.b.*",
-    );
-    policy
-}
-
+/// Adds a rule for calls or for broadcasts.
 fn add_rule(
     rt: &impl Abort,
     alloc: Global,
@@ -132,6 +116,22 @@ fn add_rule(
     policy
         .add_rule(alloc, kind, pattern, rule)
         .expect(rt, "a rule");
+}
+
+/// Adds a level.
+fn add(rt: &impl Abort, alloc: Global, policy: &mut Policy, pattern: &str, level: Level) {
+    policy.add(alloc, pattern, level).expect(rt, "a rule");
+}
+
+fn policy(rt: &impl Abort, alloc: Global) -> Policy {
+    let mut policy = Policy::new(alloc);
+    for (pattern, level) in &LEVELS {
+        add(rt, alloc, &mut policy, pattern, *level);
+    }
+    let (call, broadcast) = (RuleKind::Call, RuleKind::Broadcast);
+    add_rule(rt, alloc, &mut policy, call, "org.ruled.*", "a.b.C@/x/*");
+    add_rule(rt, alloc, &mut policy, broadcast, "org.cast", "a.b.*");
+    policy
 }
 
 fn push_owner(
@@ -180,8 +180,9 @@ const NAMES: [(&str, Level); 14] = [
 fn levels(rt: HostRuntime) {
     let watch = watch(&rt, rt.alloc());
     for (name, level) in &NAMES {
-        assert!(rt; watch.level(name) == *level, "{name}");
+        agree(&rt, name, watch.level(name) == *level);
     }
+    drop(watch);
 }
 
 /// Patterns that are none, and rules that are none for a name.
@@ -199,27 +200,31 @@ fn is_no_pattern(policy: &mut Policy, alloc: Global, pattern: &str) -> bool {
     added.err() == Some(PolicyError::Bad) && is_bad(policy, alloc, pattern, "*")
 }
 
+/// Ends the test at a pattern that is added.
+fn agree_on_bad(rt: &impl Abort, alloc: Global, policy: &mut Policy) {
+    for pattern in &BAD_PATTERNS {
+        agree(rt, pattern, is_no_pattern(policy, alloc, pattern));
+    }
+}
+
 #[test]
 fn bad_patterns(rt: HostRuntime) {
     let mut policy = policy(&rt, rt.alloc());
-    for pattern in &BAD_PATTERNS {
-        assert!(rt;
-            is_no_pattern(&mut policy, rt.alloc(), pattern),
-            "{pattern}"
-        );
-    }
+    agree_on_bad(&rt, rt.alloc(), &mut policy);
     assert!(rt; policy.rules().len() == 6);
 }
 
-/// Nothing is added with a bad rule, and a level at a good pattern after that.
+/// Whether nothing is added with a bad rule, and a level at a good pattern after that.
+fn is_one_added(rt: &impl Abort, alloc: Global, policy: &mut Policy) -> bool {
+    let is_so = is_bad(policy, alloc, "org.*", "a.b") && policy.rules().len() == 6;
+    add(rt, alloc, policy, "org.*", Level::See);
+    is_so && policy.rules().len() == 7
+}
+
 #[test]
 fn bad_rules(rt: HostRuntime) {
     let mut policy = policy(&rt, rt.alloc());
-    assert!(rt; is_bad(&mut policy, rt.alloc(), "org.*", "a.b") && policy.rules().len() == 6);
-    policy
-        .add(rt.alloc(), "org.*", Level::See)
-        .expect(&rt, "a rule");
-    assert!(rt; policy.rules().len() == 7);
+    assert!(rt; is_one_added(&rt, rt.alloc(), &mut policy));
 }
 
 /// Calls of the client: to a name at talk, see, none; without a reply; by a rule and past it; to the client itself.
@@ -303,48 +308,55 @@ b 4 0 1 - :1.5 :1.1 c.d M - - Pass
 c 1 0 1 - - :1.5 - M - - Deny
 b 4 0 1 - - - c.d M - - Drop";
 
-/// Ends the test where a step goes otherwise than it is to, from the opening on.
-fn agree(rt: &impl Abort, alloc: Global, steps: &str) {
-    let mut watch = watch(rt, alloc);
+/// Ends the test at a step that goes otherwise than it is to.
+fn agree_on_steps(rt: &impl Abort, alloc: Global, watch: &mut Watch, steps: &str) {
     for step in steps.lines() {
-        assert!(rt; goes(rt, alloc, &mut watch, step), "{step}");
+        agree(rt, step, goes(rt, alloc, watch, step));
     }
+}
+
+/// The same from the opening on.
+fn agree_from_opening(rt: &impl Abort, alloc: Global, steps: &str) {
+    let mut watch = watch(rt, alloc);
+    agree_on_steps(rt, alloc, &mut watch, steps);
+    drop(watch);
 }
 
 #[test]
 fn verdicts(rt: HostRuntime) {
-    for steps in [CALLS, DRIVER_CALLS, REPLIES, PEER_CALLS, SIGNALS] {
-        agree(&rt, rt.alloc(), steps);
+    for steps in &[CALLS, DRIVER_CALLS, REPLIES, PEER_CALLS, SIGNALS] {
+        agree_from_opening(&rt, rt.alloc(), steps);
     }
+}
+
+/// Adds the rule of this number, and one for calls.
+fn add_numbered(rt: &impl Abort, alloc: Global, policy: &mut Policy, number: usize) {
+    let pattern = format!(in alloc; "org.n{number}.*").expect(rt, "memory");
+    add(rt, alloc, policy, &pattern, Level::Talk);
+    add_rule(rt, alloc, policy, RuleKind::Call, &pattern, "a.b.C@/x/*");
 }
 
 /// A policy of this many rules, and as many for calls.
 fn long_policy(rt: &impl Abort, alloc: Global, count: usize) -> Policy {
     let mut policy = Policy::new(alloc);
     for number in 0..count {
-        let pattern = format!(in alloc; "org.n{number}.*").expect(rt, "memory");
-        policy
-            .add(alloc, &pattern, Level::Talk)
-            .expect(rt, "a rule");
-        add_rule(
-            rt,
-            alloc,
-            &mut policy,
-            RuleKind::Call,
-            &pattern,
-            "a.b.C@/x/*",
-        );
+        add_numbered(rt, alloc, &mut policy, number);
     }
     policy
+}
+
+/// Adds a name of this number with an owner of its own.
+fn push_numbered(rt: &impl Abort, alloc: Global, owners: &mut Items<(Text, Text)>, number: usize) {
+    let name = format!(in alloc; "org.n{number}.a").expect(rt, "memory");
+    let owner = format!(in alloc; ":2.{number}").expect(rt, "memory");
+    push_owner(rt, alloc, owners, &name, &owner);
 }
 
 /// This many names, each with an owner of its own.
 fn many_owners(rt: &impl Abort, alloc: Global, count: usize) -> Items<(Text, Text)> {
     let mut owners = Items::new(alloc);
     for number in 0..count {
-        let name = format!(in alloc; "org.n{number}.a").expect(rt, "memory");
-        let owner = format!(in alloc; ":2.{number}").expect(rt, "memory");
-        push_owner(rt, alloc, &mut owners, &name, &owner);
+        push_numbered(rt, alloc, &mut owners, number);
     }
     owners
 }
@@ -357,25 +369,29 @@ fn call(rt: &impl Abort, alloc: Global, serial: u32) -> String {
 /// The reply to the last of 1,100 calls.
 const REPLY: &str = "b 2 0 1 1100 :2.1 :1.1 - M - - Pass";
 
-/// Ends the test where a watch of this many rules and owners doesn't forward each of 1,100 calls, and the reply to the last.
-fn agree_on_calls(rt: &impl Abort, alloc: Global, rules: usize, owners: usize) {
+/// Ends the test where a watch doesn't forward each of 1,100 calls, and the reply to the last.
+fn agree_on_calls(rt: &impl Abort, alloc: Global, watch: &mut Watch) {
+    for serial in 1..=1_100u32 {
+        let step = call(rt, alloc, serial);
+        agree(rt, &step, goes(rt, alloc, watch, &step));
+    }
+    agree(rt, REPLY, goes(rt, alloc, watch, REPLY));
+}
+
+/// The same of a watch of this many rules and owners.
+fn agree_on_many(rt: &impl Abort, alloc: Global, rules: usize, owners: usize) {
     let owners = many_owners(rt, alloc, owners);
     let mut watch = watch_of(rt, alloc, long_policy(rt, alloc, rules), &owners);
-    for serial in 1..=1_100u32 {
-        assert!(rt;
-            goes(rt, alloc, &mut watch, &call(rt, alloc, serial)),
-            "{serial}"
-        );
-    }
-    assert!(rt; goes(rt, alloc, &mut watch, REPLY));
+    agree_on_calls(rt, alloc, &mut watch);
+    drop(watch);
 }
 
 #[test]
 fn many_rules(rt: HostRuntime) {
-    agree_on_calls(&rt, rt.alloc(), 550, 2);
+    agree_on_many(&rt, rt.alloc(), 550, 2);
 }
 
 #[test]
 fn many_names(rt: HostRuntime) {
-    agree_on_calls(&rt, rt.alloc(), 2, 1_100);
+    agree_on_many(&rt, rt.alloc(), 2, 1_100);
 }

@@ -1,5 +1,6 @@
 //! Worked rules, and the messages that they match.
 
+use crate::rows::{agree, agree_at};
 use bus_frame::{Flags, Header, MessageType};
 use bus_rules::{Rule, RuleError};
 use fp_base::Text;
@@ -46,19 +47,27 @@ const RULES: [(&str, bool); 34] = [
     ("a.b.C @/a", false),
 ];
 
-/// Whether the text is a rule, or has no meaning as one.
-fn is_as_due(alloc: Global, text: &str, is_rule: bool) -> bool {
-    match Rule::parse(alloc, text) {
+/// Whether what was read is a rule, or has no meaning as one.
+fn is_due(read: &Result<Rule, RuleError>, is_rule: bool) -> bool {
+    match read {
         Ok(_) => is_rule,
         Err(RuleError::Bad) => !is_rule,
         Err(RuleError::NoMemory) => false,
     }
 }
 
+/// Whether the text is a rule, or has no meaning as one.
+fn is_as_due(alloc: Global, text: &str, is_rule: bool) -> bool {
+    let read = Rule::parse(alloc, text);
+    let is_so = is_due(&read, is_rule);
+    drop(read);
+    is_so
+}
+
 #[test]
 fn grammar(rt: HostRuntime) {
     for (text, is_rule) in &RULES {
-        assert!(rt; is_as_due(rt.alloc(), text, *is_rule), "{text}");
+        agree(&rt, text, is_as_due(rt.alloc(), text, *is_rule));
     }
 }
 
@@ -117,28 +126,39 @@ fn header(rt: &impl Abort, alloc: Global, path: &str, interface: &str, member: &
     }
 }
 
-fn is_matched(rt: &impl Abort, alloc: Global, text: &str, header: &Header) -> bool {
-    Rule::parse(alloc, text)
-        .expect(rt, "a rule")
-        .matches(header)
+/// Whether a rule matches a message.
+fn is_matched(rt: &impl Abort, alloc: Global, text: &str, header: Header) -> bool {
+    let rule = Rule::parse(alloc, text).expect(rt, "a rule");
+    let is_so = rule.matches(&header);
+    drop(rule);
+    drop(header);
+    is_so
 }
 
 #[test]
 fn matching(rt: HostRuntime) {
-    for (text, path, interface, member, matches) in &MATCHES {
+    for (at, (text, path, interface, member, matches)) in MATCHES.iter().enumerate() {
         let header = header(&rt, rt.alloc(), path, interface, member);
-        assert!(rt;
-            is_matched(&rt, rt.alloc(), text, &header) == *matches,
-            "{text} {path}"
-        );
+        let is_so = is_matched(&rt, rt.alloc(), text, header) == *matches;
+        agree_at(&rt, at, is_so);
     }
+}
+
+/// A path of this many elements.
+fn long_path(rt: &impl Abort, alloc: Global, count: usize) -> String {
+    "/p".repeat(alloc, count).expect(rt, "memory")
+}
+
+/// The rule of a method at a path and below it.
+fn rule_at(rt: &impl Abort, alloc: Global, path: &str) -> String {
+    ["a.b.C@", path, "/*"].concat(alloc).expect(rt, "memory")
 }
 
 /// A rule whose path has 100 KiB matches a message of that path.
 #[test]
 fn long_rule(rt: HostRuntime) {
-    let path = "/p".repeat(rt.alloc(), 50 << 10).expect(&rt, "memory");
-    let text = format!(in rt.alloc(); "a.b.C@{path}/*").expect(&rt, "memory");
+    let path = long_path(&rt, rt.alloc(), 50 << 10);
+    let text = rule_at(&rt, rt.alloc(), &path);
     let header = header(&rt, rt.alloc(), &path, "a.b", "C");
-    assert!(rt; is_matched(&rt, rt.alloc(), &text, &header));
+    assert!(rt; is_matched(&rt, rt.alloc(), &text, header));
 }

@@ -1,21 +1,20 @@
 //! What no contract says: messages of the real bus, and worked streams and recordings.
 
 use crate::captured::{CAPTURED, CASES, CHANGED, DIFFERENT, PING};
-use crate::frame::agree_on_front;
+use crate::frame::agree_on_lines;
+use crate::rows::{agree, agree_at};
 use crate::told::{bytes_of, front_line, spelled, with_byte, word};
 use bus_frame::FrameError;
 use bus_stream::{Cut, Cutter, RecordError, Recording, read_recording};
 use fp_base::{FrameRule, Side};
-use std::alloc::Global;
+use std::alloc::{AllocError, Global};
 use std::panic::Expect;
 use std::process::Abort;
 
 /// Real messages read as the libraries of GDBus and libdbus read them.
 #[test]
 fn real_messages(rt: HostRuntime) {
-    for line in CAPTURED.lines() {
-        agree_on_front(&rt, rt.alloc(), line);
-    }
+    agree_on_lines(&rt, rt.alloc(), CAPTURED, false);
 }
 
 /// What the next answer of a stream means, where it ends the stream: `.` for whole messages, `?` where more is to come, `x`
@@ -32,7 +31,9 @@ fn mark(next: &Result<Cut, FrameError>, pending: u64) -> Option<u8> {
 
 fn next_mark(cutter: &mut Cutter) -> Option<u8> {
     let next = cutter.next();
-    mark(&next, cutter.pending())
+    let mark = mark(&next, cutter.pending());
+    drop(next);
+    mark
 }
 
 /// A cutter that was fed these bytes.
@@ -75,29 +76,31 @@ fn daemon_mark(mark: u8) -> u8 {
     if mark == b'L' { b'x' } else { mark }
 }
 
-/// Whether a line of a table is as the daemon says.
-fn is_as_told(rt: &impl Abort, alloc: Global, line: &str, ping: &[u8]) -> bool {
-    let (digits, rest) = line.split_once(' ').unwrap_or((line, ""));
-    let mark = verdict_before(rt, alloc, &bytes_of(rt, alloc, digits), ping);
-    rest.as_bytes().first() == Some(&daemon_mark(mark))
+/// Whether bytes before more are as the daemon says with the first letter of a text.
+fn are_as_told(rt: &impl Abort, alloc: Global, bytes: &[u8], told: &str, ping: &[u8]) -> bool {
+    let mark = daemon_mark(verdict_before(rt, alloc, bytes, ping));
+    told.as_bytes().first() == Some(&mark)
 }
 
-/// The daemon disconnects for messages that break a rule.
+/// Whether a line of a table is as the daemon says.
+fn is_as_told(rt: &impl Abort, alloc: Global, line: &str, ping: &[u8]) -> bool {
+    let (digits, told) = line.split_once(' ').unwrap_or((line, ""));
+    are_as_told(rt, alloc, &bytes_of(rt, alloc, digits), told, ping)
+}
+
+/// Ends the test at a line that is as the daemon says, or is otherwise.
+fn agree_on_told(rt: &impl Abort, alloc: Global, lines: &str, ping: &[u8], is_so: bool) {
+    for line in lines.lines() {
+        agree(rt, line, is_as_told(rt, alloc, line, ping) == is_so);
+    }
+}
+
+/// The daemon disconnects for messages that break a rule, and for no others but those that are listed apart.
 #[test]
 fn broken_messages(rt: HostRuntime) {
     let ping = bytes_of(&rt, rt.alloc(), PING);
-    for line in CASES.lines() {
-        assert!(rt; is_as_told(&rt, rt.alloc(), line, &ping), "{line}");
-    }
-}
-
-/// And for no others but those that are listed apart.
-#[test]
-fn different_messages(rt: HostRuntime) {
-    let ping = bytes_of(&rt, rt.alloc(), PING);
-    for line in DIFFERENT.lines() {
-        assert!(rt; !is_as_told(&rt, rt.alloc(), line, &ping), "{line}");
-    }
+    agree_on_told(&rt, rt.alloc(), CASES, &ping, true);
+    agree_on_told(&rt, rt.alloc(), DIFFERENT, &ping, false);
 }
 
 /// Whether a change of a message is as the daemon says, which waits for longer messages.
@@ -112,42 +115,65 @@ fn changed(rt: &impl Abort, alloc: Global, message: &[u8], number: usize) -> Vec
     with_byte(rt, alloc, message, at, change(number % 5, byte))
 }
 
+/// Whether a message with the change of this number is as the daemon says.
+fn is_change_agreed(
+    rt: &impl Abort,
+    alloc: Global,
+    message: &[u8],
+    number: usize,
+    mark: u8,
+    ping: &[u8],
+) -> bool {
+    let changed = changed(rt, alloc, message, number);
+    is_agreed(verdict_before(rt, alloc, &changed, ping), mark)
+}
+
 /// Ends the test where a change of a message is taken otherwise than these marks say.
 fn agree_on_changes(rt: &impl Abort, alloc: Global, message: &[u8], marks: &str, ping: &[u8]) {
     for (number, mark) in marks.bytes().enumerate() {
-        let changed = changed(rt, alloc, message, number);
-        assert!(rt;
-            is_agreed(verdict_before(rt, alloc, &changed, ping), mark),
-            "{number} {marks}"
-        );
+        let is_so = is_change_agreed(rt, alloc, message, number, mark, ping);
+        agree_at(rt, number, is_so);
+    }
+}
+
+/// The same of the message and the marks of a line.
+fn agree_on_line(rt: &impl Abort, alloc: Global, line: &str, ping: &[u8]) {
+    let (digits, marks) = line.split_once(' ').unwrap_or((line, ""));
+    agree_on_changes(rt, alloc, &bytes_of(rt, alloc, digits), marks, ping);
+}
+
+/// The same of lines.
+fn agree_on_all(rt: &impl Abort, alloc: Global, lines: &str, ping: &[u8]) {
+    for line in lines.lines() {
+        agree_on_line(rt, alloc, line, ping);
     }
 }
 
 /// So it is with each byte changed.
 #[test]
 fn changed_bytes(rt: HostRuntime) {
-    let ping = bytes_of(&rt, rt.alloc(), PING);
-    for line in CHANGED.lines() {
-        let (digits, marks) = line.split_once(' ').unwrap_or((line, ""));
-        let message = bytes_of(&rt, rt.alloc(), digits);
-        agree_on_changes(&rt, rt.alloc(), &message, marks, &ping);
-    }
+    agree_on_all(&rt, rt.alloc(), CHANGED, &bytes_of(&rt, rt.alloc(), PING));
+}
+
+/// How many bytes a line says that lack.
+fn lacking(line: &str) -> Option<usize> {
+    line.strip_prefix("lacks ")
+        .unwrap_or("")
+        .parse::<usize>()
+        .ok()
 }
 
 /// Whether of a message that ends here as many bytes lack as they must.
 fn is_cut(rt: &impl Abort, alloc: Global, message: &[u8], at: usize) -> bool {
     let goal = if at < 16 { 16 } else { message.len() };
     let line = front_line(rt, alloc, message.get(..at).unwrap_or(&[]));
-    let count = line
-        .strip_prefix("lacks ")
-        .and_then(|digits| digits.parse::<usize>().ok());
-    count == Some(goal.saturating_sub(at))
+    lacking(&line) == Some(goal.saturating_sub(at))
 }
 
 /// Ends the test where a message that ends too early lacks other bytes.
 fn agree_on_ends(rt: &impl Abort, alloc: Global, message: &[u8]) {
     for at in 0..message.len() {
-        assert!(rt; is_cut(rt, alloc, message, at), "{at}");
+        agree_at(rt, at, is_cut(rt, alloc, message, at));
     }
 }
 
@@ -158,14 +184,19 @@ fn read_changes(rt: &impl Abort, alloc: Global, message: &[u8]) {
     }
 }
 
+/// Reads the message of a line that ends too early, and with each byte changed.
+fn read_hostile(rt: &impl Abort, alloc: Global, line: &str) {
+    let (digits, _) = line.split_once(' ').unwrap_or((line, ""));
+    let message = bytes_of(rt, alloc, digits);
+    agree_on_ends(rt, alloc, &message);
+    read_changes(rt, alloc, &message);
+}
+
 /// Real messages that end too early, and with each byte changed.
 #[test]
 fn hostile_messages(rt: HostRuntime) {
     for line in CAPTURED.lines() {
-        let (digits, _) = line.split_once(' ').unwrap_or((line, ""));
-        let message = bytes_of(&rt, rt.alloc(), digits);
-        agree_on_ends(&rt, rt.alloc(), &message);
-        read_changes(&rt, rt.alloc(), &message);
+        read_hostile(&rt, rt.alloc(), line);
     }
 }
 
@@ -185,7 +216,9 @@ fn is_message(next: &Result<Cut, FrameError>, wanted: &[u8]) -> bool {
 /// Whether the next message is there, and these are its bytes.
 fn comes(cutter: &mut Cutter, wanted: &[u8]) -> bool {
     let next = cutter.next();
-    is_message(&next, wanted)
+    let is_so = is_message(&next, wanted);
+    drop(next);
+    is_so
 }
 
 /// Whether after one byte more the message is there, where it is to, and that many bytes wait before.
@@ -195,27 +228,34 @@ fn comes_at(rt: &impl Abort, cutter: &mut Cutter, message: &[u8], at: usize, byt
     pending == (at as u64).saturating_add(1) && comes(cutter, message) == (at == 63)
 }
 
-/// A message that comes byte by byte is there with its last byte.
+/// Ends the test where a message that comes byte by byte isn't there with its last byte, or is there before.
+fn agree_on_bytes(rt: &impl Abort, cutter: &mut Cutter, message: &[u8]) {
+    for (at, byte) in message.iter().enumerate() {
+        agree_at(rt, at, comes_at(rt, cutter, message, at, *byte));
+    }
+}
+
 #[test]
 fn byte_by_byte(rt: HostRuntime) {
-    let message = bytes_of(&rt, rt.alloc(), CALL);
     let mut cutter = fed(&rt, rt.alloc(), &[]);
-    for (at, byte) in message.iter().enumerate() {
-        assert!(rt; comes_at(&rt, &mut cutter, &message, at, *byte), "{at}");
-    }
+    agree_on_bytes(&rt, &mut cutter, &bytes_of(&rt, rt.alloc(), CALL));
     assert!(rt; cutter.pending() == 0);
+}
+
+/// Whether this many messages come, and nothing is left.
+fn come(cutter: &mut Cutter, message: &[u8], count: usize) -> bool {
+    for _ in 0..count {
+        if !comes(cutter, message) {
+            return false;
+        }
+    }
+    cutter.pending() == 0
 }
 
 /// Whether this many messages come where they are fed at once, and nothing is left.
 fn are_cut(rt: &impl Abort, alloc: Global, message: &[u8], count: usize) -> bool {
     let all = message.repeat(alloc, count).expect(rt, "memory");
-    let mut cutter = fed(rt, alloc, &all);
-    for _ in 0..count {
-        if !comes(&mut cutter, message) {
-            return false;
-        }
-    }
-    cutter.pending() == 0
+    come(&mut fed(rt, alloc, &all), message, count)
 }
 
 /// A call whose body of bytes has a mebibyte.
@@ -224,12 +264,17 @@ const LONG: &str = "\
 03017300010000004d000000000000000401730009000000612e622e4572726f72000000000000000601730007000000\
 6f72672e6261720007017300040000003a312e310000000005017500090000000801670002617900+00*1048576";
 
+/// Whether as many messages as are spelled so come at once.
+fn spelled_come(rt: &impl Abort, alloc: Global, words: &str, count: usize) -> bool {
+    are_cut(rt, alloc, &spelled(rt, alloc, words), count)
+}
+
 /// A message of a mebibyte comes, and 1,100 messages at once.
 #[test]
 fn long_streams(rt: HostRuntime) {
-    let long = spelled(&rt, rt.alloc(), LONG);
-    let call = spelled(&rt, rt.alloc(), CALL);
-    assert!(rt; are_cut(&rt, rt.alloc(), &long, 1) && are_cut(&rt, rt.alloc(), &call, 1_100));
+    assert!(rt;
+        spelled_come(&rt, rt.alloc(), LONG, 1) && spelled_come(&rt, rt.alloc(), CALL, 1_100)
+    );
 }
 
 /// Recordings, and the first bad line, or 0.
@@ -261,19 +306,27 @@ const RECORDINGS: [(&str, u64); 25] = [
     ("owner org.a\n", 1),
 ];
 
+/// The first bad line of what was read, or 0 where there is none.
+fn bad_line(read: &Result<Recording, RecordError>) -> Option<u64> {
+    match read {
+        Ok(_) => Some(0),
+        Err(RecordError::BadRecord(line)) => Some(*line),
+        Err(RecordError::NoMemory) => None,
+    }
+}
+
 /// Whether this is the first bad line of a recording, or 0 where there is none.
 fn is_first_bad(alloc: Global, text: &str, line: u64) -> bool {
-    match read_recording(alloc, text.as_bytes()) {
-        Ok(_) => line == 0,
-        Err(RecordError::BadRecord(bad)) => line == bad,
-        Err(RecordError::NoMemory) => false,
-    }
+    let read = read_recording(alloc, text.as_bytes());
+    let found = bad_line(&read);
+    drop(read);
+    found == Some(line)
 }
 
 #[test]
 fn bad_recordings(rt: HostRuntime) {
     for (text, line) in &RECORDINGS {
-        assert!(rt; is_first_bad(rt.alloc(), text, *line), "{text}");
+        agree(&rt, text, is_first_bad(rt.alloc(), text, *line));
     }
 }
 
@@ -302,30 +355,53 @@ fn has_pieces(recording: &Recording, client: &[u8], bus: &[u8]) -> bool {
     }
 }
 
+/// Whether the recording of a text has a client, an owner, and a piece of each side.
+fn is_recorded(rt: &impl Abort, alloc: Global, text: &str) -> bool {
+    let recording = recording_of(rt, alloc, text);
+    let is_so = has_owner(&recording, ":1.7", "org.a", ":1.1")
+        && has_pieces(&recording, &[0, 0x6c], &[0xff]);
+    drop(recording);
+    is_so
+}
+
 #[test]
 fn recordings(rt: HostRuntime) {
     let text = "client :1.7\nowner org.a :1.1\nc 006c\nb ff\n";
-    let recording = recording_of(&rt, rt.alloc(), text);
-    assert!(rt; has_owner(&recording, ":1.7", "org.a", ":1.1"));
-    assert!(rt; has_pieces(&recording, &[0, 0x6c], &[0xff]));
+    assert!(rt; is_recorded(&rt, rt.alloc(), text));
+}
+
+fn put_owner(text: &mut String, number: usize) -> Result<(), AllocError> {
+    write!(text, "owner org.n{number} :1.{number}\n")
 }
 
 /// This many owners of names.
-fn push_owners(rt: &impl Abort, alloc: Global, text: &mut String, count: usize) {
+fn push_owners(rt: &impl Abort, text: &mut String, count: usize) {
     for number in 0..count {
-        let line = format!(in alloc; "owner org.n{number} :1.{number}\n").expect(rt, "memory");
-        text.push_str(&line).expect(rt, "memory");
+        put_owner(text, number).expect(rt, "memory");
     }
 }
 
+/// A text as often as this.
+fn repeated(rt: &impl Abort, alloc: Global, text: &str, count: usize) -> String {
+    text.repeat(alloc, count).expect(rt, "memory")
+}
+
 /// This many pieces of one byte, and one of a mebibyte.
-fn push_pieces(rt: &impl Abort, alloc: Global, text: &mut String, count: usize) {
-    let pieces = "c 00\n".repeat(alloc, count).expect(rt, "memory");
-    let digits = "00".repeat(alloc, 1 << 20).expect(rt, "memory");
-    text.push_str(&pieces).expect(rt, "memory");
-    text.push_str("b ").expect(rt, "memory");
-    text.push_str(&digits).expect(rt, "memory");
-    text.push('\n').expect(rt, "memory");
+fn pieces_of(rt: &impl Abort, alloc: Global, count: usize) -> String {
+    let pieces = repeated(rt, alloc, "c 00\n", count);
+    let digits = repeated(rt, alloc, "00", 1 << 20);
+    [&pieces, "b ", &digits, "\n"]
+        .concat(alloc)
+        .expect(rt, "memory")
+}
+
+/// A recording of this many owners and pieces.
+fn long_text(rt: &impl Abort, alloc: Global, count: usize) -> String {
+    let mut text = String::new(alloc);
+    push_owners(rt, &mut text, count);
+    text.push_str(&pieces_of(rt, alloc, count))
+        .expect(rt, "memory");
+    text
 }
 
 /// How many owners and pieces a recording has, and how long the last is.
@@ -338,11 +414,16 @@ fn counted(recording: &Recording) -> (usize, usize, usize) {
     (recording.owners.as_slice().len(), pieces.len(), last)
 }
 
+/// How many owners and pieces the recording of a text has, and how long the last is.
+fn count_all(rt: &impl Abort, alloc: Global, text: &str) -> (usize, usize, usize) {
+    let recording = recording_of(rt, alloc, text);
+    let counts = counted(&recording);
+    drop(recording);
+    counts
+}
+
 #[test]
 fn long_recordings(rt: HostRuntime) {
-    let mut text = String::new(rt.alloc());
-    push_owners(&rt, rt.alloc(), &mut text, 1_100);
-    push_pieces(&rt, rt.alloc(), &mut text, 1_100);
-    let recording = recording_of(&rt, rt.alloc(), &text);
-    assert!(rt; counted(&recording) == (1_100, 1_101, 1 << 20));
+    let counts = count_all(&rt, rt.alloc(), &long_text(&rt, rt.alloc(), 1_100));
+    assert!(rt; counts == (1_100, 1_101, 1 << 20));
 }

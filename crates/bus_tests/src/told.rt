@@ -3,7 +3,7 @@
 use bus_frame::{
     FrameError, Header, ReadFrame, first_string, is_names, names_body, read_frame, three_strings,
 };
-use fp_base::Text;
+use fp_base::{Items, Text};
 use std::alloc::{AllocError, Global};
 use std::panic::Expect;
 use std::process::Abort;
@@ -13,13 +13,18 @@ pub fn bytes_of(rt: &impl Abort, alloc: Global, digits: &str) -> Vec<u8> {
     hex::decode(alloc, digits).expect(rt, "digits")
 }
 
+/// Adds bytes as often as this.
+fn push_times(rt: &impl Abort, bytes: &mut Vec<u8>, part: &[u8], count: u32) {
+    for _ in 0..count {
+        bytes.extend_from_slice(part).expect(rt, "memory");
+    }
+}
+
 /// Adds the bytes of a word: hexadecimal, or hexadecimal with `*` and how often it comes.
 fn push_word(rt: &impl Abort, bytes: &mut Vec<u8>, alloc: Global, word: &str) {
     let (digits, count) = word.split_once('*').unwrap_or((word, "1"));
     let part = bytes_of(rt, alloc, digits);
-    for _ in 0..count.parse::<u32>().unwrap_or(0) {
-        bytes.extend_from_slice(&part).expect(rt, "memory");
-    }
+    push_times(rt, bytes, &part, count.parse::<u32>().unwrap_or(0));
 }
 
 /// The bytes of words with `+` between them.
@@ -53,54 +58,60 @@ pub fn word_at(line: &str, at: usize) -> &str {
     line.split(' ').nth(at).unwrap_or("")
 }
 
-fn put_word(line: &mut String, word: &str) -> Result<(), AllocError> {
-    line.push(' ')?;
-    line.push_str(word)
+/// The words with spaces between them.
+fn joined(rt: &impl Abort, alloc: Global, words: &[&str]) -> String {
+    words.join(alloc, " ").expect(rt, "memory")
 }
 
-/// Adds the texts that say what is called, or which error it is.
-fn put_member(line: &mut String, header: &Header) -> Result<(), AllocError> {
-    put_word(line, word(&header.path))?;
-    put_word(line, word(&header.interface))?;
-    put_word(line, word(&header.member))?;
-    put_word(line, word(&header.error_name))
+/// The texts of a header: what is called, or which error it is, the serial that it replies to, and the others.
+fn texts_of(rt: &impl Abort, alloc: Global, header: &Header, reply: &str) -> String {
+    let path = word(&header.path);
+    let interface = word(&header.interface);
+    let member = word(&header.member);
+    let error = word(&header.error_name);
+    let destination = word(&header.destination);
+    let sender = word(&header.sender);
+    let signature = word(&header.signature);
+    joined(
+        rt,
+        alloc,
+        &[
+            path,
+            interface,
+            member,
+            error,
+            reply,
+            destination,
+            sender,
+            signature,
+        ],
+    )
 }
 
-/// Adds the serial that a message replies to, and the other texts.
-fn put_ends(line: &mut String, header: &Header) -> Result<(), AllocError> {
-    match header.reply_serial {
-        Some(serial) => write!(line, " {serial}")?,
-        None => put_word(line, "-")?,
-    }
-    put_word(line, word(&header.destination))?;
-    put_word(line, word(&header.sender))?;
-    put_word(line, word(&header.signature))
+/// A number, or `-` where there is none.
+fn number_word(rt: &impl Abort, alloc: Global, number: Option<u32>) -> String {
+    let word = match number {
+        Some(number) => format!(in alloc; "{number}"),
+        None => "-".to_string(alloc),
+    };
+    word.expect(rt, "memory")
 }
 
-/// Adds a header: its type, flags and serial, its texts, and how long the body is.
-fn put_header(line: &mut String, header: &Header) -> Result<(), AllocError> {
-    let (kind, flags) = (header.kind.code(), header.flags.bits);
-    write!(line, "{kind} {flags} {}", header.serial)?;
-    put_member(line, header)?;
-    put_ends(line, header)?;
-    write!(line, " {}", header.body_len)
+/// The same of the serial that a header replies to.
+fn texts(rt: &impl Abort, alloc: Global, header: &Header) -> String {
+    texts_of(
+        rt,
+        alloc,
+        header,
+        &number_word(rt, alloc, header.reply_serial),
+    )
 }
 
-/// Adds what is read, and how many bytes follow.
-fn put_front(
-    line: &mut String,
-    read: &Result<ReadFrame, FrameError>,
-    count: u64,
-) -> Result<(), AllocError> {
-    match read {
-        Ok(ReadFrame::Need(count)) => write!(line, "lacks {count}"),
-        Ok(ReadFrame::Frame(header, len)) => {
-            put_header(line, header)?;
-            put_more(line, count.saturating_sub(*len))
-        }
-        Err(FrameError::Bad(rule)) => write!(line, "breaks {rule:?}"),
-        Err(FrameError::NoMemory) => Err(AllocError),
-    }
+/// A header: its type, flags and serial, its texts, and how long the body is.
+fn header_line(rt: &impl Abort, alloc: Global, header: &Header) -> String {
+    let (kind, flags, serial) = (header.kind.code(), header.flags.bits, header.serial);
+    let texts = texts(rt, alloc, header);
+    format!(in alloc; "{kind} {flags} {serial} {texts} {}", header.body_len).expect(rt, "memory")
 }
 
 fn put_more(line: &mut String, count: u64) -> Result<(), AllocError> {
@@ -110,79 +121,112 @@ fn put_more(line: &mut String, count: u64) -> Result<(), AllocError> {
     write!(line, " and {count} more")
 }
 
-fn put_read(line: &mut String, alloc: Global, bytes: &[u8]) -> Result<(), AllocError> {
-    let read = read_frame(alloc, bytes);
-    put_front(line, &read, bytes.len() as u64)
+/// A header, and how many bytes follow.
+fn message_line(rt: &impl Abort, alloc: Global, header: &Header, more: u64) -> String {
+    let mut line = header_line(rt, alloc, header);
+    put_more(&mut line, more).expect(rt, "memory");
+    line
+}
+
+/// What is read of this many bytes.
+fn read_line(
+    rt: &impl Abort,
+    alloc: Global,
+    read: &Result<ReadFrame, FrameError>,
+    count: u64,
+) -> String {
+    match read {
+        Ok(ReadFrame::Need(count)) => format!(in alloc; "lacks {count}").expect(rt, "memory"),
+        Ok(ReadFrame::Frame(header, len)) => {
+            message_line(rt, alloc, header, count.saturating_sub(*len))
+        }
+        Err(error) => error_line(rt, alloc, error),
+    }
+}
+
+/// The rule that is broken.
+fn error_line(rt: &impl Abort, alloc: Global, error: &FrameError) -> String {
+    match error {
+        FrameError::Bad(rule) => format!(in alloc; "breaks {rule:?}").expect(rt, "memory"),
+        FrameError::NoMemory => rt.panic("memory"),
+    }
 }
 
 /// What stands at the front of some bytes: the header of a message, how many bytes lack, or the rule that is broken.
 pub fn front_line(rt: &impl Abort, alloc: Global, bytes: &[u8]) -> String {
-    let mut line = String::new(alloc);
-    put_read(&mut line, alloc, bytes).expect(rt, "memory");
+    let read = read_frame(alloc, bytes);
+    let line = read_line(rt, alloc, &read, bytes.len() as u64);
+    drop(read);
     line
 }
 
-/// Adds names, each with a comma.
-fn put_joined(line: &mut String, names: &[Text]) -> Result<(), AllocError> {
-    for name in names {
-        line.push_str(name.as_str())?;
-        line.push(',')?;
-    }
-    Ok(())
+/// The three texts of a body with commas between them, or `-`.
+fn three_word(rt: &impl Abort, alloc: Global, header: &Header, message: &[u8]) -> String {
+    let three = match three_strings(header, message) {
+        Some((first, second, third)) => [first, second, third].join(alloc, ","),
+        None => "-".to_string(alloc),
+    };
+    three.expect(rt, "memory")
 }
 
-fn put_names(
-    line: &mut String,
-    alloc: Global,
-    header: &Header,
-    message: &[u8],
-) -> Result<(), AllocError> {
-    match names_body(alloc, header, message)? {
-        Some(names) => put_joined(line, names.as_slice()),
-        None => Ok(()),
-    }
-}
-
-/// Adds the order of the bytes and where the body begins, its first text, three texts, and a list of names.
-fn put_body(line: &mut String, header: &Header, message: &[u8]) -> Result<(), AllocError> {
+/// The order of the bytes of a body and where it begins, its first text, three texts, and whether it is a list of names.
+fn plain_line(rt: &impl Abort, alloc: Global, header: &Header, message: &[u8]) -> String {
     let order = if header.little { "l" } else { "B" };
-    write!(line, "{order} {}", header.body_at)?;
-    put_word(line, first_string(header, message).unwrap_or("-"))?;
-    match three_strings(header, message) {
-        Some((first, second, third)) => write!(line, " {first},{second},{third}")?,
-        None => put_word(line, "-")?,
-    }
-    put_word(
-        line,
-        if is_names(header, message) {
-            "names:"
-        } else {
-            "-"
-        },
-    )
+    let first = first_string(header, message).unwrap_or("-");
+    let three = three_word(rt, alloc, header, message);
+    let mark = if is_names(header, message) {
+        "names:"
+    } else {
+        "-"
+    };
+    format!(in alloc; "{order} {} {first} {three} {mark}", header.body_at).expect(rt, "memory")
 }
 
-fn put_message(
-    line: &mut String,
+fn put_name(line: &mut String, name: &Text) -> Result<(), AllocError> {
+    write!(line, "{},", name.as_str())
+}
+
+/// Adds names, each with a comma.
+fn put_names(rt: &impl Abort, line: &mut String, names: &[Text]) {
+    for name in names {
+        put_name(line, name).expect(rt, "memory");
+    }
+}
+
+/// The names in a body, or none.
+fn names_of(rt: &impl Abort, alloc: Global, header: &Header, message: &[u8]) -> Items<Text> {
+    let names = names_body(alloc, header, message).expect(rt, "memory");
+    names.unwrap_or(Items::new(alloc))
+}
+
+/// The same with the names.
+fn full_line(rt: &impl Abort, alloc: Global, header: &Header, message: &[u8]) -> String {
+    let mut line = plain_line(rt, alloc, header, message);
+    put_names(
+        rt,
+        &mut line,
+        names_of(rt, alloc, header, message).as_slice(),
+    );
+    line
+}
+
+/// The body of a message that was read.
+fn read_body(
+    rt: &impl Abort,
     alloc: Global,
     read: &Result<ReadFrame, FrameError>,
     message: &[u8],
-) -> Result<(), AllocError> {
-    let Ok(ReadFrame::Frame(header, _)) = read else {
-        return line.push_str("no message");
-    };
-    put_body(line, header, message)?;
-    put_names(line, alloc, header, message)
-}
-
-fn put_read_body(line: &mut String, alloc: Global, bytes: &[u8]) -> Result<(), AllocError> {
-    let read = read_frame(alloc, bytes);
-    put_message(line, alloc, &read, bytes)
+) -> String {
+    match read {
+        Ok(ReadFrame::Frame(header, _)) => full_line(rt, alloc, header, message),
+        _ => "no message".to_string(alloc).expect(rt, "memory"),
+    }
 }
 
 /// The body of a message: the order of its bytes and where it begins, its first text, its three texts, its names.
 pub fn body_line(rt: &impl Abort, alloc: Global, bytes: &[u8]) -> String {
-    let mut line = String::new(alloc);
-    put_read_body(&mut line, alloc, bytes).expect(rt, "memory");
+    let read = read_frame(alloc, bytes);
+    let line = read_body(rt, alloc, &read, bytes);
+    drop(read);
     line
 }

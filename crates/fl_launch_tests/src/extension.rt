@@ -1,8 +1,10 @@
 //! Metadata files with the points that they have, worked out from the rules by hand.
 
 use crate::given::{key_file, ref_name, row_of};
+use crate::rows::{agree, agree_at};
 use fl_extension::{Point, found, points};
 use fp_base::Items;
+use fp_name::RefName;
 use fp_small::{Layout, RefRow, State};
 use std::alloc::{AllocError, Global};
 use std::panic::Expect;
@@ -11,17 +13,28 @@ use std::process::Abort;
 /// The ref whose metadata the tables have.
 const OF: &str = "app/org.x.App/x86_64/stable";
 
-/// Adds `NAME DIRECTORY auto: CANDIDATE .. CANDIDATE |`, with `manual` for a point that isn't automatic.
-fn push_point(out: &mut String, point: &Point) -> Result<(), AllocError> {
-    out.push_str(point.name.as_str())?;
-    out.push(' ')?;
-    out.push_str(point.directory.as_str())?;
-    out.push_str(if point.auto { " auto: " } else { " manual: " })?;
-    for candidate in point.candidates.as_slice() {
-        out.push_str(candidate.as_str())?;
-        out.push(' ')?;
+fn put_front(out: &mut String, point: &Point) -> Result<(), AllocError> {
+    let kind = if point.auto { "auto" } else { "manual" };
+    let directory = point.directory.as_str();
+    write!(out, "{} {directory} {kind}: ", point.name.as_str())
+}
+
+fn put_candidate(out: &mut String, candidate: &RefName) -> Result<(), AllocError> {
+    write!(out, "{} ", candidate.as_str())
+}
+
+/// Adds a space after each candidate.
+fn put_candidates(rt: &impl Abort, out: &mut String, candidates: &[RefName]) {
+    for candidate in candidates {
+        put_candidate(out, candidate).expect(rt, "memory");
     }
-    out.push('|')
+}
+
+/// Adds `NAME DIRECTORY auto: CANDIDATE .. CANDIDATE |`, with `manual` for a point that isn't automatic.
+fn put_point(rt: &impl Abort, out: &mut String, point: &Point) {
+    put_front(out, point).expect(rt, "memory");
+    put_candidates(rt, out, point.candidates.as_slice());
+    out.push('|').expect(rt, "memory");
 }
 
 /// The points that the metadata of a ref has.
@@ -30,19 +43,24 @@ fn points_of(rt: &impl Abort, alloc: Global, text: &str, of: &str) -> Items<Poin
     points(alloc, &file, &ref_name(rt, alloc, of)).expect(rt, "memory")
 }
 
-/// The same as text.
-fn shown(rt: &impl Abort, alloc: Global, text: &str, of: &str) -> String {
+/// Points as text.
+fn shown(rt: &impl Abort, alloc: Global, points: &[Point]) -> String {
     let mut out = String::new(alloc);
-    for point in points_of(rt, alloc, text, of).as_slice() {
-        push_point(&mut out, point).expect(rt, "memory");
+    for point in points {
+        put_point(rt, &mut out, point);
     }
     out
 }
 
+/// Whether points are this text.
+fn are_shown(rt: &impl Abort, alloc: Global, points: &[Point], want: &str) -> bool {
+    shown(rt, alloc, points).as_str() == want
+}
+
 /// Ends the test where the metadata of a ref has other points.
-fn agree(rt: &impl Abort, alloc: Global, text: &str, of: &str, want: &str) {
-    let points = shown(rt, alloc, text, of);
-    assert!(rt; points.as_str() == want, "{text}");
+fn agree_on(rt: &impl Abort, alloc: Global, text: &str, of: &str, want: &str) {
+    let points = points_of(rt, alloc, text, of);
+    agree(rt, text, are_shown(rt, alloc, points.as_slice(), want));
 }
 
 /// A metadata file of the usual kind.
@@ -111,17 +129,12 @@ const POINTS: [(&str, &str); 19] = [
 #[test]
 fn points_of_metadata(rt: HostRuntime) {
     for (text, want) in &POINTS {
-        agree(&rt, rt.alloc(), text, OF, want);
+        agree_on(&rt, rt.alloc(), text, OF, want);
     }
     let text = "[Runtime]\nname=org.x.Platform\n[Extension org.x.Platform.GL]\ndirectory=lib/GL\n";
     let want = "org.x.Platform.GL lib/GL auto: runtime/org.x.Platform.GL/aarch64/1 |";
-    agree(
-        &rt,
-        rt.alloc(),
-        text,
-        "runtime/org.x.Platform/aarch64/1",
-        want,
-    );
+    let of = "runtime/org.x.Platform/aarch64/1";
+    agree_on(&rt, rt.alloc(), text, of, want);
 }
 
 /// Texts of the key `directory`, and whether a group with each is a point.
@@ -155,20 +168,32 @@ const DIRECTORIES: [(&str, bool); 25] = [
     ("\u{1}", false),
 ];
 
+/// Texts one after another.
+fn joined(rt: &impl Abort, alloc: Global, texts: &[&str]) -> String {
+    texts.concat(alloc).expect(rt, "memory")
+}
+
+/// The group of a point with these keys.
+fn group_of(rt: &impl Abort, alloc: Global, keys: &str) -> String {
+    joined(rt, alloc, &["[Extension org.x.E]\n", keys, "\n"])
+}
+
+/// How many points a group with these keys has.
+fn count_points(rt: &impl Abort, alloc: Global, keys: &str) -> usize {
+    let text = group_of(rt, alloc, keys);
+    points_of(rt, alloc, &text, OF).as_slice().len()
+}
+
 /// Whether a group with this directory is a point.
 fn is_directory(rt: &impl Abort, alloc: Global, directory: &str) -> bool {
-    let text = format!(in alloc; "[Extension org.x.E]\ndirectory={directory}\n");
-    let points = points_of(rt, alloc, &text.expect(rt, "memory"), OF);
-    !points.as_slice().is_empty()
+    count_points(rt, alloc, &joined(rt, alloc, &["directory=", directory])) != 0
 }
 
 #[test]
 fn directories(rt: HostRuntime) {
     for (directory, is_point) in &DIRECTORIES {
-        assert!(rt;
-            is_directory(&rt, rt.alloc(), directory) == *is_point,
-            "{directory}"
-        );
+        let is_so = is_directory(&rt, rt.alloc(), directory) == *is_point;
+        agree(&rt, directory, is_so);
     }
 }
 
@@ -210,32 +235,37 @@ const CANDIDATES: [(&str, &str); 17] = [
     ),
 ];
 
-/// Ends the test where a point with these keys has other candidates.
-fn agree_on_candidates(rt: &impl Abort, alloc: Global, keys: &str, want: &str) {
-    let text = format!(in alloc; "[Extension org.x.E]\ndirectory=e\n{keys}\n");
-    let want = format!(in alloc; "org.x.E e auto: {want}|");
-    let (text, want) = (text.expect(rt, "memory"), want.expect(rt, "memory"));
-    agree(rt, alloc, &text, OF, &want);
+/// Whether a point with these keys besides its directory has these candidates.
+fn has_candidates(rt: &impl Abort, alloc: Global, keys: &str, want: &str) -> bool {
+    let text = group_of(rt, alloc, &joined(rt, alloc, &["directory=e\n", keys]));
+    let points = points_of(rt, alloc, &text, OF);
+    let want = joined(rt, alloc, &["org.x.E e auto: ", want, "|"]);
+    are_shown(rt, alloc, points.as_slice(), &want)
 }
 
 #[test]
 fn candidates(rt: HostRuntime) {
     for (keys, want) in &CANDIDATES {
-        agree_on_candidates(&rt, rt.alloc(), keys, want);
+        agree(&rt, keys, has_candidates(&rt, rt.alloc(), keys, want));
     }
 }
 
-/// A state with the refs, which a space separates.
-fn state_of(rt: &impl Abort, alloc: Global, names: &str) -> State {
-    let mut refs: Items<RefRow> = Items::new(alloc);
+/// The refs, which a space separates.
+fn refs_of(rt: &impl Abort, alloc: Global, names: &str) -> Items<RefRow> {
+    let mut refs = Items::new(alloc);
     for name in names.split(' ') {
         if !name.is_empty() {
             refs.push(row_of(rt, alloc, name, 7)).expect(rt, "memory");
         }
     }
+    refs
+}
+
+/// A state with the refs.
+fn state_of(rt: &impl Abort, alloc: Global, names: &str) -> State {
     State {
         layout: Layout::Two,
-        refs,
+        refs: refs_of(rt, alloc, names),
         remotes: Items::new(alloc),
         pins: Items::new(alloc),
         overrides: Items::new(alloc),
@@ -268,6 +298,14 @@ const FOUND: [(&str, &str, Option<usize>); 9] = [
     ("", "runtime/org.x.E/x86_64/stable", None),
 ];
 
+/// The place that is found for the one point, or how many there are.
+fn found_in(points: &[Point], state: &State) -> Result<Option<usize>, usize> {
+    match points {
+        [point] => Ok(found(point, state)),
+        others => Err(others.len()),
+    }
+}
+
 /// The place that is found for a point of these versions, which is the one point of the metadata.
 fn place_found(
     rt: &impl Abort,
@@ -275,29 +313,41 @@ fn place_found(
     versions: &str,
     state: &State,
 ) -> Result<Option<usize>, usize> {
-    let text = format!(in alloc; "[Extension org.x.E]\ndirectory=e\nversions={versions}\n");
-    let points = points_of(rt, alloc, &text.expect(rt, "memory"), OF);
-    match points.as_slice() {
-        [point] => Ok(found(point, state)),
-        others => Err(others.len()),
-    }
+    let keys = joined(rt, alloc, &["directory=e\nversions=", versions]);
+    let text = group_of(rt, alloc, &keys);
+    found_in(points_of(rt, alloc, &text, OF).as_slice(), state)
+}
+
+/// Whether this place is found in a state of these refs.
+fn is_found(
+    rt: &impl Abort,
+    alloc: Global,
+    versions: &str,
+    refs: &str,
+    want: Option<usize>,
+) -> bool {
+    let state = state_of(rt, alloc, refs);
+    let place = place_found(rt, alloc, versions, &state);
+    drop(state);
+    place == Ok(want)
 }
 
 #[test]
 fn found_candidates(rt: HostRuntime) {
-    for (versions, refs, want) in &FOUND {
-        let state = state_of(&rt, rt.alloc(), refs);
-        let place = place_found(&rt, rt.alloc(), versions, &state);
-        assert!(rt; place == Ok(*want), "{versions} {refs}");
+    for (at, (versions, refs, want)) in FOUND.iter().enumerate() {
+        agree_at(&rt, at, is_found(&rt, rt.alloc(), versions, refs, *want));
     }
+}
+
+fn put_numbered(text: &mut String, number: u32, head: &str, tail: &str) -> Result<(), AllocError> {
+    write!(text, "{head}{number}{tail}")
 }
 
 /// Texts with the numbers from 0, one after another, each with a head and a tail.
 fn many(rt: &impl Abort, alloc: Global, count: u32, head: &str, tail: &str) -> String {
     let mut text = String::new(alloc);
     for number in 0..count {
-        let one = format!(in alloc; "{head}{number}{tail}").expect(rt, "memory");
-        text.push_str(&one).expect(rt, "memory");
+        put_numbered(&mut text, number, head, tail).expect(rt, "memory");
     }
     text
 }
@@ -307,21 +357,18 @@ fn many(rt: &impl Abort, alloc: Global, count: u32, head: &str, tail: &str) -> S
 fn many_candidates(rt: HostRuntime) {
     let alloc = rt.alloc();
     let versions = many(&rt, alloc, 300, "v", ";");
-    let mut refs = many(&rt, alloc, 1_100, "runtime/org.x.D", "/x86_64/1 ");
-    refs.push_str("runtime/org.x.E/x86_64/v299")
-        .expect(&rt, "memory");
-    let state = state_of(&rt, alloc, &refs);
-    assert!(rt; place_found(&rt, alloc, &versions, &state) == Ok(Some(299)));
+    let refs = many(&rt, alloc, 1_100, "runtime/org.x.D", "/x86_64/1 ");
+    let refs = joined(&rt, alloc, &[&refs, "runtime/org.x.E/x86_64/v299"]);
+    assert!(rt; is_found(&rt, alloc, &versions, &refs, Some(299)));
+}
+
+/// The groups of this many points.
+fn many_groups(rt: &impl Abort, alloc: Global, count: u32) -> String {
+    many(rt, alloc, count, "[Extension org.x.E", "]\ndirectory=e\n")
 }
 
 #[test]
 fn many_points(rt: HostRuntime) {
-    let text = many(
-        &rt,
-        rt.alloc(),
-        1_100,
-        "[Extension org.x.E",
-        "]\ndirectory=e\n",
-    );
+    let text = many_groups(&rt, rt.alloc(), 1_100);
     assert!(rt; points_of(&rt, rt.alloc(), &text, OF).as_slice().len() == 1_100);
 }

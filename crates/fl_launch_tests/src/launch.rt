@@ -3,6 +3,7 @@
 ghost use Rattle.std.specs.Prelude.{IsTrue, IsSome};
 
 use crate::given::{key_file, ref_name, row_of};
+use crate::rows::agree;
 use bus_policy::{Grant, Level, Policy, PolicyRule};
 use fl_extension::{Point, points};
 use fl_launch::{LaunchText, launch, launch_extended, policy_of, policy_of_system};
@@ -53,17 +54,28 @@ const BARE: Given<'static> = Given {
     installed: "",
 };
 
+/// The usual application, where an extension is installed.
+const WITH_LOCALE: Given<'static> = Given {
+    installed: "runtime/org.x.App.Locale/x86_64/stable",
+    ..BARE
+};
+
+/// Adds the rows of refs, which spaces separate.
+fn push_rows(rt: &impl Abort, alloc: Global, rows: &mut Vec<RefRow>, names: &str, byte: u8) {
+    for name in names.split(' ') {
+        if !name.is_empty() {
+            rows.push(row_of(rt, alloc, name, byte))
+                .expect(rt, "memory");
+        }
+    }
+}
+
 /// The rows of the application, of the extensions and of the runtime.
 fn rows_of(rt: &impl Abort, alloc: Global, installed: &str) -> Vec<RefRow> {
     let mut rows = Vec::new(alloc);
-    rows.push(row_of(rt, alloc, APP, 1)).expect(rt, "memory");
-    for name in installed.split(' ') {
-        if !name.is_empty() {
-            rows.push(row_of(rt, alloc, name, 3)).expect(rt, "memory");
-        }
-    }
-    rows.push(row_of(rt, alloc, RUNTIME, 2))
-        .expect(rt, "memory");
+    push_rows(rt, alloc, &mut rows, APP, 1);
+    push_rows(rt, alloc, &mut rows, installed, 3);
+    push_rows(rt, alloc, &mut rows, RUNTIME, 2);
     rows
 }
 
@@ -80,24 +92,24 @@ fn push_override(
     rows.push(OverrideRow { name, file }).expect(rt, "memory");
 }
 
-/// A state with the refs and overrides that are given, and an override of an application that isn't launched.
+/// The overrides that are given, and one of an application that isn't launched.
+fn overrides_of(rt: &impl Abort, alloc: Global, given: &Given<'_>) -> Items<OverrideRow> {
+    let mut rows = Items::new(alloc);
+    push_override(rt, alloc, &mut rows, "global", given.global);
+    push_override(rt, alloc, &mut rows, "org.x.App", given.own);
+    let other = "[Context]\nshared=!ipc\n";
+    push_override(rt, alloc, &mut rows, "org.x.Other", other);
+    rows
+}
+
+/// A state with the refs and overrides that are given.
 fn state_of(rt: &impl Abort, alloc: Global, given: &Given<'_>) -> State {
-    let mut overrides = Items::new(alloc);
-    push_override(rt, alloc, &mut overrides, "global", given.global);
-    push_override(rt, alloc, &mut overrides, "org.x.App", given.own);
-    push_override(
-        rt,
-        alloc,
-        &mut overrides,
-        "org.x.Other",
-        "[Context]\nshared=!ipc\n",
-    );
     State {
         layout: Layout::Two,
         refs: Items::from_vec(rows_of(rt, alloc, given.installed)),
         remotes: Items::new(alloc),
         pins: Items::new(alloc),
-        overrides,
+        overrides: overrides_of(rt, alloc, given),
     }
 }
 
@@ -117,13 +129,18 @@ fn read(rt: &impl Abort, alloc: Global, text: &str, kind: MetaKind, of: &RefName
     }
 }
 
-/// What the options mention, which spaces separate.
-fn options_of(rt: &impl Abort, alloc: Global, options: &str) -> Layer {
-    let mut words = Vec::new(alloc);
-    for word in options.split(' ') {
+/// Adds the words of a text, which spaces separate.
+fn push_words(rt: &impl Abort, alloc: Global, words: &mut Vec<Text>, text: &str) {
+    for word in text.split(' ') {
         let word = Text::from_str(alloc, word).expect(rt, "memory");
         words.push(word).expect(rt, "memory");
     }
+}
+
+/// What the options mention, which spaces separate.
+fn options_of(rt: &impl Abort, alloc: Global, options: &str) -> Layer {
+    let mut words = Vec::new(alloc);
+    push_words(rt, alloc, &mut words, options);
     layer_of(alloc, &words).expect(rt, "memory")
 }
 
@@ -165,23 +182,38 @@ fn launched(
     Some(launch.expect(rt, "memory"))
 }
 
-/// The launch of what is given.
-fn launch_of(rt: &impl Abort, alloc: Global, given: &Given<'_>) -> Option<LaunchText> {
+/// The launch of what is given in a state.
+fn launch_in(
+    rt: &impl Abort,
+    alloc: Global,
+    given: &Given<'_>,
+    state: &State,
+) -> Option<LaunchText> {
     let name = ref_name(rt, alloc, APP);
-    let state = state_of(rt, alloc, given);
     let app = read(rt, alloc, given.app, MetaKind::App, &name);
     let under = ref_name(rt, alloc, RUNTIME);
     let runtime = read(rt, alloc, given.runtime, MetaKind::Runtime, &under);
     let words = options_of(rt, alloc, given.options);
-    launched(rt, alloc, &state, &name, &app, &runtime, &words)
+    let launch = launched(rt, alloc, state, &name, &app, &runtime, &words);
+    drop(app);
+    drop(runtime);
+    launch
+}
+
+/// The launch of what is given.
+fn launch_of(rt: &impl Abort, alloc: Global, given: &Given<'_>) -> LaunchText {
+    let state = state_of(rt, alloc, given);
+    let launch = launch_in(rt, alloc, given, &state);
+    drop(state);
+    launch.expect(rt, "a runtime")
 }
 
 /// Whether the text of the launch is the heading and these lines.
 fn has_lines(rt: &impl Abort, alloc: Global, given: &Given<'_>, lines: &str) -> bool {
-    match launch_of(rt, alloc, given) {
-        Some(launch) => launch.text.as_str().strip_prefix(HEADING) == Some(lines),
-        None => false,
-    }
+    let launch = launch_of(rt, alloc, given);
+    let is_so = launch.text.as_str().strip_prefix(HEADING) == Some(lines);
+    drop(launch);
+    is_so
 }
 
 /// The lines of the usual launch after the heading.
@@ -220,20 +252,14 @@ const LAUNCHES: [(Given<'static>, &str); 4] = [
         },
         LINES_WITH_BUS,
     ),
-    (
-        Given {
-            installed: "runtime/org.x.App.Locale/x86_64/stable",
-            ..BARE
-        },
-        LINES_WITH_LOCALE,
-    ),
+    (WITH_LOCALE, LINES_WITH_LOCALE),
     (MUCH, MUCH_LINES),
 ];
 
 #[test]
 fn texts(rt: HostRuntime) {
     for (given, lines) in &LAUNCHES {
-        assert!(rt; has_lines(&rt, rt.alloc(), given, lines), "{lines}");
+        agree(&rt, lines, has_lines(&rt, rt.alloc(), given, lines));
     }
 }
 
@@ -254,32 +280,33 @@ fn plain_text(
     Some(launch.expect(rt, "memory").text.into_string())
 }
 
-/// The launch of the usual application with another command, where an extension is installed.
-fn without_points(rt: &impl Abort, alloc: Global) -> Option<String> {
-    let given = Given {
-        installed: "runtime/org.x.App.Locale/x86_64/stable",
-        ..BARE
-    };
-    let state = state_of(rt, alloc, &given);
+/// What metadata says besides its points.
+fn meta_of(rt: &impl Abort, alloc: Global, text: &str, kind: MetaKind) -> Meta {
+    Meta::read(alloc, &key_file(rt, alloc, text), kind).expect(rt, "metadata")
+}
+
+/// The text of the launch of the usual application with another command, in a state where an extension is installed.
+fn text_without_points(rt: &impl Abort, alloc: Global, state: &State) -> Option<String> {
     let name = ref_name(rt, alloc, APP);
-    let app = key_file(rt, alloc, USUAL);
-    let app = Meta::read(alloc, &app, MetaKind::App).expect(rt, "metadata");
-    let runtime = key_file(rt, alloc, PLATFORM);
-    let runtime = Meta::read(alloc, &runtime, MetaKind::Runtime).expect(rt, "metadata");
-    plain_text(rt, alloc, &state, &name, &app, &runtime)
+    let app = meta_of(rt, alloc, USUAL, MetaKind::App);
+    let runtime = meta_of(rt, alloc, PLATFORM, MetaKind::Runtime);
+    let text = plain_text(rt, alloc, state, &name, &app, &runtime);
+    drop(app);
+    drop(runtime);
+    text
 }
 
 /// Whether a launch has the command that is given, and no points.
-fn is_plain(text: Option<String>) -> bool {
-    match text {
-        Some(text) => text.contains("\ncommand=sh\n") && text.ends_with(LINES),
-        None => false,
-    }
+fn is_plain(text: &str) -> bool {
+    text.contains("\ncommand=sh\n") && text.ends_with(LINES)
 }
 
 #[test]
 fn plain_launch(rt: HostRuntime) {
-    assert!(rt; is_plain(without_points(&rt, rt.alloc())));
+    let state = state_of(&rt, rt.alloc(), &WITH_LOCALE);
+    let text = text_without_points(&rt, rt.alloc(), &state);
+    drop(state);
+    assert!(rt; is_plain(&text.expect(&rt, "a runtime")));
 }
 
 /// The word of a level.
@@ -323,16 +350,22 @@ const SESSION: [&str; 4] = [
 /// And those on the system bus.
 const SYSTEM: [&str; 1] = ["org.c.d=own"];
 
-/// Whether a launch has these rules.
-fn has_policies(rt: &impl Abort, alloc: Global, launch: &LaunchText) -> bool {
+/// Whether a launch has these rules on the session bus.
+fn has_session(rt: &impl Abort, alloc: Global, launch: &LaunchText) -> bool {
     let id = AppId::parse(alloc, b"org.x.App").expect(rt, "an ID");
-    let session = policy_of(alloc, launch, &id).expect(rt, "memory");
-    let system = policy_of_system(alloc, launch).expect(rt, "memory");
-    has_rules(&session, &SESSION) && has_rules(&system, &SYSTEM)
+    let policy = policy_of(alloc, launch, &id).expect(rt, "memory");
+    has_rules(&policy, &SESSION)
+}
+
+/// And these on the system bus.
+fn has_system(rt: &impl Abort, alloc: Global, launch: &LaunchText) -> bool {
+    let policy = policy_of_system(alloc, launch).expect(rt, "memory");
+    has_rules(&policy, &SYSTEM)
 }
 
 #[test]
 fn policies(rt: HostRuntime) {
-    let launch = launch_of(&rt, rt.alloc(), &MUCH).expect(&rt, "a runtime");
-    assert!(rt; has_policies(&rt, rt.alloc(), &launch));
+    let launch = launch_of(&rt, rt.alloc(), &MUCH);
+    assert!(rt; has_session(&rt, rt.alloc(), &launch) && has_system(&rt, rt.alloc(), &launch));
+    drop(launch);
 }

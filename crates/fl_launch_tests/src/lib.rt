@@ -7,3 +7,5 @@ mod extension;
 mod given;
 #[cfg(test)]
 mod launch;
+#[cfg(test)]
+mod rows;

@@ -1,29 +1,40 @@
 //! Batches of commands, a line each.
 
+use crate::rows::{agree, agree_at};
 use crate::words::told_change;
 use fl_words::{BatchError, Change, read_batch};
+use fp_base::Items;
 use std::alloc::{AllocError, Global};
 use std::panic::Expect;
 use std::process::Abort;
 
+fn put_line(text: &mut String, line: &str) -> Result<(), AllocError> {
+    write!(text, "{line}\n")
+}
+
 /// The changes in one text, each with a newline.
-fn told_changes(alloc: Global, changes: &[Change]) -> Result<String, AllocError> {
+fn told_changes(rt: &impl Abort, alloc: Global, changes: &[Change]) -> String {
     let mut text = String::new(alloc);
     for change in changes {
-        let told = told_change(alloc, change)?;
-        text.push_str(&told)?;
-        text.push('\n')?;
+        put_line(&mut text, &told_change(rt, alloc, change)).expect(rt, "memory");
     }
-    Ok(text)
+    text
+}
+
+/// What was read of bytes, in one text.
+fn told_read(rt: &impl Abort, alloc: Global, read: &Result<Items<Change>, BatchError>) -> String {
+    match read {
+        Ok(changes) => told_changes(rt, alloc, changes.as_slice()),
+        Err(error) => format!(in alloc; "{error}").expect(rt, "memory"),
+    }
 }
 
 /// What the bytes read as, in one text.
 fn told(rt: &impl Abort, alloc: Global, bytes: &[u8]) -> String {
-    let text = match read_batch(alloc, bytes) {
-        Ok(changes) => told_changes(alloc, changes.as_slice()),
-        Err(error) => format!(in alloc; "{error}"),
-    };
-    text.expect(rt, "memory")
+    let read = read_batch(alloc, bytes);
+    let text = told_read(rt, alloc, &read);
+    drop(read);
+    text
 }
 
 /// Batches, and what they read as.
@@ -100,41 +111,60 @@ const BAD_LINES: [(&[u8], u64); 29] = [
 #[test]
 fn batches(rt: HostRuntime) {
     for (bytes, want) in &BATCHES {
-        assert!(rt; told(&rt, rt.alloc(), bytes).as_str() == *want, "{want}");
+        agree(&rt, want, told(&rt, rt.alloc(), bytes).as_str() == *want);
+    }
+}
+
+/// The bad line of what was read.
+fn bad_line(read: &Result<Items<Change>, BatchError>) -> Option<u64> {
+    match read {
+        Err(BatchError::BadRecord { line }) => Some(*line),
+        _ => None,
     }
 }
 
 /// Whether the bytes have this bad line.
 fn has_bad_line(alloc: Global, bytes: &[u8], line: u64) -> bool {
-    match read_batch(alloc, bytes) {
-        Err(BatchError::BadRecord { line: bad }) => bad == line,
-        _ => false,
-    }
+    let read = read_batch(alloc, bytes);
+    let found = bad_line(&read);
+    drop(read);
+    found == Some(line)
 }
 
 #[test]
 fn bad_lines(rt: HostRuntime) {
-    for (bytes, line) in &BAD_LINES {
-        assert!(rt; has_bad_line(rt.alloc(), bytes, *line), "{bytes:?}");
+    for (at, (bytes, line)) in BAD_LINES.iter().enumerate() {
+        agree_at(&rt, at, has_bad_line(rt.alloc(), bytes, *line));
     }
+}
+
+/// How many changes a batch has.
+fn count_changes(rt: &impl Abort, alloc: Global, bytes: &[u8]) -> usize {
+    read_batch(alloc, bytes)
+        .expect(rt, "a batch")
+        .as_slice()
+        .len()
+}
+
+/// Bytes as often as this, and others after them.
+fn bytes_of(rt: &impl Abort, alloc: Global, bytes: &[u8], count: usize, more: &[u8]) -> Vec<u8> {
+    let many = bytes.repeat(alloc, count).expect(rt, "memory");
+    [many.as_slice(), more].concat(alloc).expect(rt, "memory")
 }
 
 /// A batch of 1,100 lines reads as as many commands, and one bad line after them is found.
 #[test]
 fn many_lines(rt: HostRuntime) {
-    let mut bytes = b"pin app/*/*/*\n"
-        .repeat(rt.alloc(), 1_100)
-        .expect(&rt, "memory");
-    let changes = read_batch(rt.alloc(), &bytes).expect(&rt, "a batch");
-    assert!(rt; changes.as_slice().len() == 1_100);
-    bytes.push(b'x').expect(&rt, "memory");
-    assert!(rt; has_bad_line(rt.alloc(), &bytes, 1_101));
+    let good = bytes_of(&rt, rt.alloc(), b"pin app/*/*/*\n", 1_100, b"");
+    assert!(rt; count_changes(&rt, rt.alloc(), &good) == 1_100);
+    let bad = bytes_of(&rt, rt.alloc(), b"pin app/*/*/*\n", 1_100, b"x");
+    assert!(rt; has_bad_line(rt.alloc(), &bad, 1_101));
 }
 
 /// A line of a mebibyte is bad.
 #[test]
 fn long_line(rt: HostRuntime) {
-    let bytes = b"pin ".repeat(rt.alloc(), 1 << 18).expect(&rt, "memory");
+    let bytes = bytes_of(&rt, rt.alloc(), b"pin ", 1 << 18, b"");
     assert!(rt; has_bad_line(rt.alloc(), &bytes, 1));
 }
 

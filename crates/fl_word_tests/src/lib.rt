@@ -8,4 +8,6 @@ mod lines;
 #[cfg(test)]
 mod reasons;
 #[cfg(test)]
+mod rows;
+#[cfg(test)]
 mod words;

@@ -1,5 +1,6 @@
 //! The lines that commands print.
 
+use crate::rows::agree;
 use fl_lines::{
     escape, info_text, op_line, pins_text, refs_text, refusal_line, remotes_text, skipped_line,
 };
@@ -7,7 +8,7 @@ use fp_base::{Items, ObjKind, Rule, Text, What};
 use fp_host::Path;
 use fp_name::{Digest, PinPattern, RefName, RemoteName, RemoteUrl};
 use fp_small::{Op, Previous, RefRow, Refusal, RemoteRow};
-use std::alloc::Global;
+use std::alloc::{AllocError, Global};
 use std::panic::Expect;
 use std::process::Abort;
 
@@ -22,72 +23,76 @@ fn digest(rt: &impl Abort, text: &str) -> Digest {
     Digest::parse(text.as_bytes()).expect(rt, "a digest")
 }
 
+/// Ends the test where a line isn't this one.
+fn agree_on_line(rt: &impl Abort, line: Result<Text, AllocError>, want: &str) {
+    agree(rt, want, line.expect(rt, "memory").as_str() == want);
+}
+
 /// Ends the test where the refusal isn't printed as this line.
-fn agree(rt: &impl Abort, alloc: Global, refusal: &Refusal, want: &str) {
-    let line = refusal_line(alloc, refusal).expect(rt, "memory");
-    assert!(rt; line.as_str() == want, "{want}");
+fn agree_on(rt: &impl Abort, alloc: Global, refusal: Refusal, want: &str) {
+    let line = refusal_line(alloc, &refusal);
+    drop(refusal);
+    agree_on_line(rt, line, want);
 }
 
 #[test]
 fn refusals_with_numbers(rt: HostRuntime) {
-    let rows = [
-        (Refusal::BadWords { index: 0 }, "error: words 0\n"),
-        (
-            Refusal::BadWords { index: u64::MAX },
-            "error: words 18446744073709551615\n",
-        ),
-        (Refusal::BadRecord { line: 2 }, "error: record 2\n"),
-    ];
-    for (refusal, want) in &rows {
-        agree(&rt, rt.alloc(), refusal, want);
-    }
+    let alloc = rt.alloc();
+    agree_on(
+        &rt,
+        alloc,
+        Refusal::BadWords { index: 0 },
+        "error: words 0\n",
+    );
+    let last = Refusal::BadWords { index: u64::MAX };
+    agree_on(&rt, alloc, last, "error: words 18446744073709551615\n");
+    agree_on(
+        &rt,
+        alloc,
+        Refusal::BadRecord { line: 2 },
+        "error: record 2\n",
+    );
+}
+
+/// The refusal of this number.
+fn limit(what: What, number: u64) -> Refusal {
+    Refusal::Limit { what, number }
 }
 
 #[test]
 fn refusals_of_limits(rt: HostRuntime) {
-    let pins = Refusal::Limit {
-        what: What::Pins,
-        number: 1025,
-    };
-    agree(&rt, rt.alloc(), &pins, "error: limit pins 1025\n");
-    let input = Refusal::Limit {
-        what: What::Input,
-        number: 67_108_865,
-    };
-    agree(&rt, rt.alloc(), &input, "error: limit input 67108865\n");
+    let alloc = rt.alloc();
+    agree_on(
+        &rt,
+        alloc,
+        limit(What::Pins, 1025),
+        "error: limit pins 1025\n",
+    );
+    let input = limit(What::Input, 67_108_865);
+    agree_on(&rt, alloc, input, "error: limit input 67108865\n");
 }
 
 #[test]
 fn refusals_of_objects(rt: HostRuntime) {
-    let digest = digest(&rt, EMPTY);
-    let kind = ObjKind::DirTree;
-    let rule = Rule::Value;
+    let refusal = Refusal::MalformedObject {
+        digest: digest(&rt, EMPTY),
+        kind: ObjKind::DirTree,
+        rule: Rule::Value,
+    };
     let want =
         "error: malformed object e3b0c44298fc1c149afbf4c8996fb92427ae41e4649b934ca495991b7852b855.dirtree value\n";
-    agree(
-        &rt,
-        rt.alloc(),
-        &Refusal::MalformedObject { digest, kind, rule },
-        want,
-    );
+    agree_on(&rt, rt.alloc(), refusal, want);
 }
 
 #[test]
 fn refusals_of_pins(rt: HostRuntime) {
-    let pin = pattern(&rt, rt.alloc(), "app/*/*/*");
-    agree(
-        &rt,
-        rt.alloc(),
-        &Refusal::PinExists { pin },
-        "error: pin exists app/*/*/*\n",
-    );
-    let pin = pattern(&rt, rt.alloc(), "runtime/org.x.Y/*/1.0");
-    agree(
-        &rt,
-        rt.alloc(),
-        &Refusal::NoSuchPin { pin },
-        "error: no pin runtime/org.x.Y/*/1.0\n",
-    );
+    let alloc = rt.alloc();
+    let pin = pattern(&rt, alloc, "app/*/*/*");
+    let want = "error: pin exists app/*/*/*\n";
+    agree_on(&rt, alloc, Refusal::PinExists { pin }, want);
+    let pin = pattern(&rt, alloc, "runtime/org.x.Y/*/1.0");
+    let want = "error: no pin runtime/org.x.Y/*/1.0\n";
+    agree_on(&rt, alloc, Refusal::NoSuchPin { pin }, want);
 }
 
 /// Paths, and the lines that say that they are damaged.
@@ -106,7 +111,7 @@ const DAMAGED: [(&str, &str); 6] = [
 /// Ends the test where this line doesn't say that the path is damaged.
 fn agree_on_path(rt: &impl Abort, alloc: Global, text: &str, want: &str) {
     let path = Path::parse(alloc, text).expect(rt, "a path");
-    agree(rt, alloc, &Refusal::Damaged { path }, want);
+    agree_on(rt, alloc, Refusal::Damaged { path }, want);
 }
 
 #[test]
@@ -121,15 +126,25 @@ fn repeated(rt: &impl Abort, alloc: Global, text: &str, count: usize) -> String 
     text.repeat(alloc, count).expect(rt, "memory")
 }
 
+/// Texts one after another.
+fn joined(rt: &impl Abort, alloc: Global, texts: &[&str]) -> String {
+    texts.concat(alloc).expect(rt, "memory")
+}
+
 /// A path of 1,100 elements that are each one character to be escaped.
 #[test]
 fn long_path(rt: HostRuntime) {
     let alloc = rt.alloc();
     let above = repeated(&rt, alloc, "\n/", 1_099);
-    let path = format!(in alloc; "{above}\n").expect(&rt, "memory");
+    let path = joined(&rt, alloc, &[&above, "\n"]);
     let above = repeated(&rt, alloc, "\\0a/", 1_099);
-    let want = format!(in alloc; "error: damaged {above}\\0a\n").expect(&rt, "memory");
+    let want = joined(&rt, alloc, &["error: damaged ", &above, "\\0a\n"]);
     agree_on_path(&rt, alloc, &path, &want);
+}
+
+/// Whether the text is escaped so.
+fn is_escaped(rt: &impl Abort, alloc: Global, text: &str, want: &str) -> bool {
+    escape(alloc, text).expect(rt, "memory").as_str() == want
 }
 
 /// A text of 100 KiB is escaped.
@@ -137,24 +152,24 @@ fn long_path(rt: HostRuntime) {
 fn long_text(rt: HostRuntime) {
     let text = repeated(&rt, rt.alloc(), "\\", 100 << 10);
     let want = repeated(&rt, rt.alloc(), "\\5c", 100 << 10);
-    let escaped = escape(rt.alloc(), &text).expect(&rt, "memory");
-    assert!(rt; escaped.as_str() == want.as_str());
+    assert!(rt; is_escaped(&rt, rt.alloc(), &text, &want));
 }
 
 /// Ends the test where an operation isn't printed as this line.
-fn agree_on_op(rt: &impl Abort, alloc: Global, op: &Op, want: &str) {
-    let line = op_line(alloc, op).expect(rt, "memory");
-    assert!(rt; line.as_str() == want, "{want}");
+fn agree_on_op(rt: &impl Abort, alloc: Global, op: Op, want: &str) {
+    let line = op_line(alloc, &op);
+    drop(op);
+    agree_on_line(rt, line, want);
 }
 
 #[test]
 fn operations(rt: HostRuntime) {
     let alloc = rt.alloc();
     let pinned = Op::AddPin(pattern(&rt, alloc, "app/*/*/*"));
-    agree_on_op(&rt, alloc, &pinned, "pinned app/*/*/*\n");
+    agree_on_op(&rt, alloc, pinned, "pinned app/*/*/*\n");
     let unpinned = Op::DropPin(pattern(&rt, alloc, "app/org.x.Y/*/*"));
-    agree_on_op(&rt, alloc, &unpinned, "unpinned app/org.x.Y/*/*\n");
-    agree_on_op(&rt, alloc, &Op::Migrate, "migrated layout 2\n");
+    agree_on_op(&rt, alloc, unpinned, "unpinned app/org.x.Y/*/*\n");
+    agree_on_op(&rt, alloc, Op::Migrate, "migrated layout 2\n");
 }
 
 /// Adds a remote.
@@ -165,8 +180,8 @@ fn push_remote(rt: &impl Abort, alloc: Global, rows: &mut Items<RemoteRow>, name
 }
 
 /// What is printed of remotes.
-fn printed_remotes(rt: &impl Abort, alloc: Global, rows: &Items<RemoteRow>) -> Text {
-    remotes_text(alloc, rows.as_slice()).expect(rt, "memory")
+fn printed_remotes(rt: &impl Abort, alloc: Global, rows: &[RemoteRow]) -> Text {
+    remotes_text(alloc, rows).expect(rt, "memory")
 }
 
 #[test]
@@ -174,35 +189,48 @@ fn remotes(rt: HostRuntime) {
     let mut rows = Items::new(rt.alloc());
     push_remote(&rt, rt.alloc(), &mut rows, "art", "file:///art");
     push_remote(&rt, rt.alloc(), &mut rows, "lab", "file:///lab");
-    let text = printed_remotes(&rt, rt.alloc(), &rows);
+    let text = printed_remotes(&rt, rt.alloc(), rows.as_slice());
     assert!(rt; text.as_str() == "art file:///art\nlab file:///lab\n");
+}
+
+/// This many remotes, all the same.
+fn remotes_of(rt: &impl Abort, alloc: Global, count: usize) -> Items<RemoteRow> {
+    let mut rows = Items::new(alloc);
+    for _ in 0..count {
+        push_remote(rt, alloc, &mut rows, "remote", "file:///r");
+    }
+    rows
 }
 
 /// 256 remotes are printed, of 17 bytes each.
 #[test]
 fn many_remotes(rt: HostRuntime) {
-    let mut rows = Items::new(rt.alloc());
-    for _ in 0..256 {
-        push_remote(&rt, rt.alloc(), &mut rows, "remote", "file:///r");
-    }
-    assert!(rt; printed_remotes(&rt, rt.alloc(), &rows).as_str().len() == 256 * 17);
+    let rows = remotes_of(&rt, rt.alloc(), 256);
+    let text = printed_remotes(&rt, rt.alloc(), rows.as_slice());
+    assert!(rt; text.as_str().len() == 256 * 17);
 }
 
 /// Pins of these texts, as often as this.
-fn pins_of(rt: &impl Abort, alloc: Global, texts: &[&str], count: usize) -> Text {
+fn pins_of(rt: &impl Abort, alloc: Global, texts: &[&str], count: usize) -> Items<PinPattern> {
     let mut pins = Items::new(alloc);
     for text in texts.iter().cycle().take(count) {
         pins.push(pattern(rt, alloc, text)).expect(rt, "memory");
     }
+    pins
+}
+
+/// What is printed of them.
+fn printed_pins(rt: &impl Abort, alloc: Global, texts: &[&str], count: usize) -> Text {
+    let pins = pins_of(rt, alloc, texts, count);
     pins_text(alloc, pins.as_slice()).expect(rt, "memory")
 }
 
 /// Two pins are printed, and 1,024 of 10 bytes each.
 #[test]
 fn pins(rt: HostRuntime) {
-    let two = pins_of(&rt, rt.alloc(), &["runtime/*/*/*", "app/*/*/*"], 2);
+    let two = printed_pins(&rt, rt.alloc(), &["runtime/*/*/*", "app/*/*/*"], 2);
     assert!(rt; two.as_str() == "runtime/*/*/*\napp/*/*/*\n");
-    let many = pins_of(&rt, rt.alloc(), &["app/*/*/*"], 1_024);
+    let many = printed_pins(&rt, rt.alloc(), &["app/*/*/*"], 1_024);
     assert!(rt; many.as_str().len() == 1_024 * 10);
 }
 
@@ -223,25 +251,31 @@ fn deployed(rt: &impl Abort, alloc: Global, previous: Option<Previous>) -> RefRo
     }
 }
 
-/// What is printed of this many rows, all the same.
-fn printed_refs(rt: &impl Abort, alloc: Global, count: usize) -> Text {
+/// This many rows, all the same.
+fn rows_of(rt: &impl Abort, alloc: Global, count: usize) -> Items<RefRow> {
     let mut rows = Items::new(alloc);
     for _ in 0..count {
         rows.push(deployed(rt, alloc, None)).expect(rt, "memory");
     }
+    rows
+}
+
+/// What is printed of them.
+fn printed_refs(rt: &impl Abort, alloc: Global, count: usize) -> Text {
+    let rows = rows_of(rt, alloc, count);
     refs_text(alloc, rows.as_slice()).expect(rt, "memory")
 }
 
-/// What is told of an application with a previous commit, a runtime and two extensions.
-fn told_of_app(rt: &impl Abort, alloc: Global) -> Text {
-    let previous = Previous {
-        commit: digest(rt, EMPTY),
-        timestamp: 0,
-    };
-    let row = deployed(rt, alloc, Some(previous));
+/// Two extensions.
+fn extensions(rt: &impl Abort, alloc: Global) -> [Text; 2] {
+    [text(rt, alloc, "a\\b"), text(rt, alloc, "org.x.App.Locale")]
+}
+
+/// What is told of an application with a runtime and two extensions.
+fn told_of_app(rt: &impl Abort, alloc: Global, row: &RefRow) -> Text {
     let runtime = ref_name(rt, alloc, "runtime/org.x.Platform/x86_64/1");
-    let names = [text(rt, alloc, "a\\b"), text(rt, alloc, "org.x.App.Locale")];
-    info_text(alloc, &row, Some(&runtime), &names).expect(rt, "memory")
+    let names = extensions(rt, alloc);
+    info_text(alloc, row, Some(&runtime), &names).expect(rt, "memory")
 }
 
 fn text(rt: &impl Abort, alloc: Global, text: &str) -> Text {
@@ -275,11 +309,27 @@ fn refs(rt: HostRuntime) {
     assert!(rt; printed_refs(&rt, rt.alloc(), 4_096).as_str().len() == 4_096 * 97);
 }
 
+/// The commit before.
+fn previous(rt: &impl Abort) -> Previous {
+    Previous {
+        commit: digest(rt, EMPTY),
+        timestamp: 0,
+    }
+}
+
 #[test]
 fn info(rt: HostRuntime) {
-    assert!(rt; told_of_app(&rt, rt.alloc()).as_str() == TOLD_OF_APP);
+    let row = deployed(&rt, rt.alloc(), Some(previous(&rt)));
+    let told = told_of_app(&rt, rt.alloc(), &row);
+    drop(row);
+    assert!(rt; told.as_str() == TOLD_OF_APP);
+}
+
+#[test]
+fn info_of_row(rt: HostRuntime) {
     let row = deployed(&rt, rt.alloc(), None);
     let told = info_text(rt.alloc(), &row, None, &[]).expect(&rt, "memory");
+    drop(row);
     assert!(rt; told.as_str() == TOLD_OF_ROW);
 }
 

@@ -1,15 +1,17 @@
 //! Why words are no command, and why a line of a batch asks for no change.
 
+use crate::rows::{agree_at, agree_on_words};
 use crate::words::owned;
 use fl_words::{batch_reason, reason};
+use fp_base::Text;
 use std::alloc::Global;
 use std::panic::Expect;
 use std::process::Abort;
 
 /// Whether this is said of words.
 fn is_said(rt: &impl Abort, alloc: Global, words: &[&str], want: &str) -> bool {
-    let said = reason(alloc, &owned(rt, alloc, words)).expect(rt, "memory");
-    said.as_str() == want
+    let said = reason(alloc, &owned(rt, alloc, words));
+    said.expect(rt, "memory").as_str() == want
 }
 
 /// The usage of all commands.
@@ -163,38 +165,40 @@ const REASONS: [(&[&str], &str); 24] = [
 #[test]
 fn reasons(rt: HostRuntime) {
     for (words, want) in &REASONS {
-        assert!(rt; is_said(&rt, rt.alloc(), words, want), "{words:?}");
+        agree_on_words(&rt, words, is_said(&rt, rt.alloc(), words, want));
     }
 }
 
-/// The usage of all commands is told where the first word is none.
-#[test]
-fn unknown_command(rt: HostRuntime) {
-    let want = format!(in rt.alloc(); "fpk: 'pins' isn't known here\n{USAGE}");
-    let want = want.expect(&rt, "memory");
-    assert!(rt; is_said(&rt, rt.alloc(), &["pins", "app/*/*/*"], &want));
+/// Texts one after another.
+fn joined(rt: &impl Abort, alloc: Global, texts: &[&str]) -> String {
+    texts.concat(alloc).expect(rt, "memory")
 }
 
-/// And where it is missing.
+/// The usage of all commands is told where the first word is none, and where it is missing.
 #[test]
-fn no_command(rt: HostRuntime) {
-    let want = format!(in rt.alloc(); "fpk: a word is missing\n{USAGE}").expect(&rt, "memory");
+fn unknown_commands(rt: HostRuntime) {
+    let want = joined(&rt, rt.alloc(), &["fpk: 'pins' isn't known here\n", USAGE]);
+    assert!(rt; is_said(&rt, rt.alloc(), &["pins", "app/*/*/*"], &want));
+    let want = joined(&rt, rt.alloc(), &["fpk: a word is missing\n", USAGE]);
     assert!(rt; is_said(&rt, rt.alloc(), &[], &want));
+}
+
+/// Whether of words after `show commit`, of which the first is this one, it is told whole.
+fn is_told_whole(rt: &impl Abort, alloc: Global, word: &str, want: &str) -> bool {
+    let mut words = ["x"; 1_103];
+    words[0] = "show";
+    words[1] = "commit";
+    words[2] = word;
+    is_said(rt, alloc, &words, want)
 }
 
 /// A word of a mebibyte is told whole, and of 1,100 words the first that is wrong.
 #[test]
 fn long_words(rt: HostRuntime) {
     let long = "a".repeat(rt.alloc(), 1 << 20).expect(&rt, "memory");
-    let want = format!(in rt.alloc();
-        "fpk: '{long}' is one word too many\nusage: fpk show commit\n"
-    );
-    let want = want.expect(&rt, "memory");
-    let mut words = ["x"; 1_103];
-    words[0] = "show";
-    words[1] = "commit";
-    words[2] = long.as_str();
-    assert!(rt; is_said(&rt, rt.alloc(), &words, &want));
+    let rest = "' is one word too many\nusage: fpk show commit\n";
+    let want = joined(&rt, rt.alloc(), &["fpk: '", &long, rest]);
+    assert!(rt; is_told_whole(&rt, rt.alloc(), &long, &want));
 }
 
 /// Batches, and what is said of the first line that asks for no change.
@@ -247,19 +251,24 @@ const LINES: [(&[u8], Option<&str>); 8] = [
     ),
 ];
 
+/// Whether this was said.
+fn is_reason(said: &Option<Text>, want: Option<&str>) -> bool {
+    match said {
+        Some(text) => want == Some(text.as_str()),
+        None => want == None,
+    }
+}
+
 /// Whether this is said of a batch.
 fn is_said_of(rt: &impl Abort, alloc: Global, bytes: &[u8], want: Option<&str>) -> bool {
-    match (batch_reason(alloc, bytes).expect(rt, "memory"), want) {
-        (None, None) => true,
-        (Some(text), Some(want)) => text.as_str() == want,
-        _ => false,
-    }
+    let said = batch_reason(alloc, bytes).expect(rt, "memory");
+    is_reason(&said, want)
 }
 
 #[test]
 fn lines(rt: HostRuntime) {
-    for (bytes, want) in &LINES {
-        assert!(rt; is_said_of(&rt, rt.alloc(), bytes, *want), "{bytes:?}");
+    for (at, (bytes, want)) in LINES.iter().enumerate() {
+        agree_at(&rt, at, is_said_of(&rt, rt.alloc(), bytes, *want));
     }
 }
 
@@ -267,7 +276,7 @@ fn lines(rt: HostRuntime) {
 #[test]
 fn long_line(rt: HostRuntime) {
     let spaces = " ".repeat(rt.alloc(), 100_000).expect(&rt, "memory");
-    let line = format!(in rt.alloc(); "remote-delete lab{spaces}").expect(&rt, "memory");
+    let line = joined(&rt, rt.alloc(), &["remote-delete lab", &spaces]);
     let want = "fpk: line 1: '' is one word too many\nusage: remote-delete NAME\n";
     assert!(rt; is_said_of(&rt, rt.alloc(), line.as_bytes(), Some(want)));
 }
@@ -278,7 +287,7 @@ fn late_line(rt: HostRuntime) {
     let many = "remote-delete lab\n"
         .repeat(rt.alloc(), 1_100)
         .expect(&rt, "memory");
-    let lines = format!(in rt.alloc(); "{many}remote-delete a/b").expect(&rt, "memory");
+    let lines = joined(&rt, rt.alloc(), &[&many, "remote-delete a/b"]);
     let want = "fpk: line 1101: 'a/b' is no name of a remote\nusage: remote-delete NAME\n";
     assert!(rt; is_said_of(&rt, rt.alloc(), lines.as_bytes(), Some(want)));
 }

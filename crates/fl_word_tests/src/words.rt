@@ -1,16 +1,11 @@
 //! Words of command lines.
 
+use crate::rows::agree_on_words;
 use fl_words::{Change, Command, Listing, PolicySource, Shown, WordsError, read_words};
-use fp_base::{Items, Text};
-use fp_small::RemoteRow;
+use fp_base::Text;
 use std::alloc::{AllocError, Global};
 use std::panic::Expect;
 use std::process::Abort;
-
-/// The words with spaces between them.
-fn spaced(alloc: Global, words: &[&str]) -> Result<String, AllocError> {
-    words.join(alloc, " ")
-}
 
 /// The words, each with room of its own.
 pub fn owned(rt: &impl Abort, alloc: Global, words: &[&str]) -> Vec<String> {
@@ -22,107 +17,156 @@ pub fn owned(rt: &impl Abort, alloc: Global, words: &[&str]) -> Vec<String> {
     owned
 }
 
-/// What the words read as, in one text.
-fn told(rt: &impl Abort, alloc: Global, words: &[&str]) -> String {
-    let text = match read_words(alloc, &owned(rt, alloc, words)) {
-        Ok(command) => told_command(alloc, &command),
-        Err(error) => format!(in alloc; "{error}"),
-    };
-    text.expect(rt, "memory")
-}
-
-/// Whether the words read as this text.
-fn reads_as(rt: &impl Abort, alloc: Global, words: &[&str], want: &str) -> bool {
-    told(rt, alloc, words).as_str() == want
-}
-
-/// A command in one text.
-fn told_command(alloc: Global, command: &Command) -> Result<String, AllocError> {
-    match command {
-        Command::Change(change) => told_change(alloc, change),
-        Command::List(listing) => told_listing(alloc, listing),
-        Command::Show(thing) => told_shown(alloc, thing),
-        Command::Filter(source) => told_source(alloc, source),
-        Command::Batch => "Batch".to_string(alloc),
-        Command::Fsck => "Fsck".to_string(alloc),
-        Command::Export { remote, name } => {
-            spaced(alloc, &["Export", remote.as_str(), name.as_str()])
-        }
-        Command::Exercise(apps) => format!(in alloc; "Exercise {}", apps.number()),
+/// What a change is called, and what it changes: nothing in the place of what it lacks.
+fn change_words(change: &Change) -> [&str; 3] {
+    match change {
+        Change::Pin(pin) => ["Pin", pin.as_str(), ""],
+        Change::Unpin(pin) => ["Unpin", pin.as_str(), ""],
+        Change::RemoteAdd(row) => ["RemoteAdd", row.name.as_str(), row.url.as_str()],
+        Change::RemoteModify(row) => ["RemoteModify", row.name.as_str(), row.url.as_str()],
+        Change::RemoteDelete(name) => ["RemoteDelete", name.as_str(), ""],
+        Change::Install { remote, name } => ["Install", remote.as_str(), name.as_str()],
+        Change::UpdateAll => ["UpdateAll", "", ""],
+        Change::UpdateOne(name) => ["UpdateOne", name.as_str(), ""],
+        Change::Uninstall(name) => ["Uninstall", name.as_str(), ""],
+        Change::UninstallUnused => ["UninstallUnused", "", ""],
+        Change::Rollback(name) => ["Rollback", name.as_str(), ""],
+        Change::OverrideChange { name, .. } => ["OverrideChange", name.as_text().as_str(), ""],
+        Change::OverrideReset { name } => ["OverrideReset", name.as_text().as_str(), ""],
     }
+}
+
+/// The options of a change.
+fn change_options(change: &Change) -> &[Text] {
+    match change {
+        Change::OverrideChange { options, .. } => options.as_slice(),
+        _ => &[],
+    }
+}
+
+/// The same of what is listed.
+fn listing_words(listing: &Listing) -> [&str; 3] {
+    match listing {
+        Listing::Refs => ["ListRefs", "", ""],
+        Listing::Remotes => ["ListRemotes", "", ""],
+        Listing::Pins => ["ListPins", "", ""],
+        Listing::Exports => ["ListExports", "", ""],
+        Listing::Info(name) => ["Info", name.as_str(), ""],
+        Listing::Launch { name, .. } => ["Launch", name.as_str(), ""],
+        Listing::OverrideShow { name } => ["OverrideShow", name.as_str(), ""],
+    }
+}
+
+fn listing_options(listing: &Listing) -> &[Text] {
+    match listing {
+        Listing::Launch { options, .. } => options.as_slice(),
+        _ => &[],
+    }
+}
+
+/// The same of where a policy comes from.
+fn source_words(source: &PolicySource) -> [&str; 3] {
+    match source {
+        PolicySource::Rules(_) => ["Filter", "rules", ""],
+        PolicySource::Session(name) => ["Filter", "session", name.as_str()],
+        PolicySource::System(name) => ["Filter", "system", name.as_str()],
+    }
+}
+
+fn source_options(source: &PolicySource) -> &[Text] {
+    match source {
+        PolicySource::Rules(rules) => rules.as_slice(),
+        _ => &[],
+    }
+}
+
+/// Adds a word, with a space before all but the first.
+fn put_word(text: &mut String, word: &str) -> Result<(), AllocError> {
+    if !text.is_empty() {
+        text.push(' ')?;
+    }
+    text.push_str(word)
+}
+
+/// Adds the words that are there.
+fn put_words(rt: &impl Abort, text: &mut String, words: &[&str]) {
+    for word in words {
+        if !word.is_empty() {
+            put_word(text, word).expect(rt, "memory");
+        }
+    }
+}
+
+/// Adds options.
+fn put_options(rt: &impl Abort, text: &mut String, options: &[Text]) {
+    for option in options {
+        put_word(text, option.as_str()).expect(rt, "memory");
+    }
+}
+
+/// What is done with what, and the options of it, in one text.
+fn told(rt: &impl Abort, alloc: Global, words: [&str; 3], options: &[Text]) -> String {
+    let mut text = String::new(alloc);
+    put_words(rt, &mut text, &words);
+    put_options(rt, &mut text, options);
+    text
 }
 
 /// A change in one text.
-pub fn told_change(alloc: Global, change: &Change) -> Result<String, AllocError> {
-    match change {
-        Change::Pin(pin) => spaced(alloc, &["Pin", pin.as_str()]),
-        Change::Unpin(pin) => spaced(alloc, &["Unpin", pin.as_str()]),
-        Change::RemoteAdd(row) => told_remote(alloc, "RemoteAdd", row),
-        Change::RemoteModify(row) => told_remote(alloc, "RemoteModify", row),
-        Change::RemoteDelete(name) => spaced(alloc, &["RemoteDelete", name.as_str()]),
-        Change::Install { remote, name } => {
-            spaced(alloc, &["Install", remote.as_str(), name.as_str()])
-        }
-        Change::UpdateAll => "UpdateAll".to_string(alloc),
-        Change::UpdateOne(name) => spaced(alloc, &["UpdateOne", name.as_str()]),
-        Change::Uninstall(name) => spaced(alloc, &["Uninstall", name.as_str()]),
-        Change::UninstallUnused => "UninstallUnused".to_string(alloc),
-        Change::Rollback(name) => spaced(alloc, &["Rollback", name.as_str()]),
-        Change::OverrideChange { name, options } => {
-            told_options(alloc, "OverrideChange", name.as_text().as_str(), options)
-        }
-        Change::OverrideReset { name } => {
-            spaced(alloc, &["OverrideReset", name.as_text().as_str()])
-        }
-    }
+pub fn told_change(rt: &impl Abort, alloc: Global, change: &Change) -> String {
+    told(rt, alloc, change_words(change), change_options(change))
 }
 
-fn told_listing(alloc: Global, listing: &Listing) -> Result<String, AllocError> {
-    match listing {
-        Listing::Refs => "ListRefs".to_string(alloc),
-        Listing::Remotes => "ListRemotes".to_string(alloc),
-        Listing::Pins => "ListPins".to_string(alloc),
-        Listing::Exports => "ListExports".to_string(alloc),
-        Listing::Info(name) => spaced(alloc, &["Info", name.as_str()]),
-        Listing::Launch { name, options } => told_options(alloc, "Launch", name.as_str(), options),
-        Listing::OverrideShow { name } => spaced(alloc, &["OverrideShow", name.as_str()]),
-    }
-}
-
-fn told_source(alloc: Global, source: &PolicySource) -> Result<String, AllocError> {
-    match source {
-        PolicySource::Rules(rules) => told_options(alloc, "Filter", "rules", rules),
-        PolicySource::Session(name) => spaced(alloc, &["Filter session", name.as_str()]),
-        PolicySource::System(name) => spaced(alloc, &["Filter system", name.as_str()]),
-    }
-}
-
-/// What is done with what, and the options of it.
-fn told_options(
-    alloc: Global,
-    what: &str,
-    name: &str,
-    options: &Items<Text>,
-) -> Result<String, AllocError> {
-    let mut text = spaced(alloc, &[what, name])?;
-    for option in options.as_slice() {
-        text.push(' ')?;
-        text.push_str(option.as_str())?;
-    }
-    Ok(text)
-}
-
-fn told_shown(alloc: Global, thing: &Shown) -> Result<String, AllocError> {
+fn told_shown(rt: &impl Abort, alloc: Global, thing: &Shown) -> String {
     match thing {
-        Shown::Commit => "ShowCommit".to_string(alloc),
-        Shown::DirTree => "ShowDirTree".to_string(alloc),
-        Shown::DirMeta => "ShowDirMeta".to_string(alloc),
-        Shown::Value(of) => format!(in alloc; "ShowValue {:?}", of.as_type()),
+        Shown::Commit => told(rt, alloc, ["ShowCommit", "", ""], &[]),
+        Shown::DirTree => told(rt, alloc, ["ShowDirTree", "", ""], &[]),
+        Shown::DirMeta => told(rt, alloc, ["ShowDirMeta", "", ""], &[]),
+        Shown::Value(of) => spelled(rt, format!(in alloc; "ShowValue {:?}", of.as_type())),
     }
 }
 
-fn told_remote(alloc: Global, what: &str, row: &RemoteRow) -> Result<String, AllocError> {
-    spaced(alloc, &[what, row.name.as_str(), row.url.as_str()])
+fn spelled(rt: &impl Abort, text: Result<String, AllocError>) -> String {
+    text.expect(rt, "memory")
+}
+
+/// A command in one text.
+fn told_command(rt: &impl Abort, alloc: Global, command: &Command) -> String {
+    match command {
+        Command::Change(change) => told_change(rt, alloc, change),
+        Command::List(listing) => {
+            told(rt, alloc, listing_words(listing), listing_options(listing))
+        }
+        Command::Show(thing) => told_shown(rt, alloc, thing),
+        Command::Filter(source) => told(rt, alloc, source_words(source), source_options(source)),
+        Command::Batch => told(rt, alloc, ["Batch", "", ""], &[]),
+        Command::Fsck => told(rt, alloc, ["Fsck", "", ""], &[]),
+        Command::Export { remote, name } => {
+            told(rt, alloc, ["Export", remote.as_str(), name.as_str()], &[])
+        }
+        Command::Exercise(apps) => { spelled(rt, format!(in alloc; "Exercise {}", apps.number())) }
+    }
+}
+
+/// What was read of words, in one text.
+fn told_read(rt: &impl Abort, alloc: Global, read: &Result<Command, WordsError>) -> String {
+    match read {
+        Ok(command) => told_command(rt, alloc, command),
+        Err(error) => spelled(rt, format!(in alloc; "{error}")),
+    }
+}
+
+/// What the words read as, in one text.
+fn told_words(rt: &impl Abort, alloc: Global, words: &[&str]) -> String {
+    let read = read_words(alloc, &owned(rt, alloc, words));
+    let text = told_read(rt, alloc, &read);
+    drop(read);
+    text
+}
+
+/// Whether the words read as this text.
+fn read_as(rt: &impl Abort, alloc: Global, words: &[&str], want: &str) -> bool {
+    told_words(rt, alloc, words).as_str() == want
 }
 
 /// Words, and the command that they are, or the place of the first bad one.
@@ -430,25 +474,18 @@ const OPTION_WORDS: [(&[&str], &str); 32] = [
     ),
 ];
 
+/// Ends the test at words that read as another text.
+fn agree_on(rt: &impl Abort, alloc: Global, rows: &[(&[&str], &str)]) {
+    for (words, want) in rows {
+        agree_on_words(rt, words, read_as(rt, alloc, words, want));
+    }
+}
+
 #[test]
 fn words(rt: HostRuntime) {
-    for (words, want) in &WORDS {
-        assert!(rt; reads_as(&rt, rt.alloc(), words, want), "{words:?}");
-    }
-}
-
-#[test]
-fn words_on_refs(rt: HostRuntime) {
-    for (words, want) in &REF_WORDS {
-        assert!(rt; reads_as(&rt, rt.alloc(), words, want), "{words:?}");
-    }
-}
-
-#[test]
-fn words_with_options(rt: HostRuntime) {
-    for (words, want) in &OPTION_WORDS {
-        assert!(rt; reads_as(&rt, rt.alloc(), words, want), "{words:?}");
-    }
+    agree_on(&rt, rt.alloc(), &WORDS);
+    agree_on(&rt, rt.alloc(), &REF_WORDS);
+    agree_on(&rt, rt.alloc(), &OPTION_WORDS);
 }
 
 /// This many of a letter.
@@ -456,32 +493,50 @@ fn many(rt: &impl Abort, alloc: Global, letter: &str, count: usize) -> String {
     letter.repeat(alloc, count).expect(rt, "memory")
 }
 
+/// The texts one after another.
+fn joined(rt: &impl Abort, alloc: Global, texts: &[&str]) -> String {
+    texts.concat(alloc).expect(rt, "memory")
+}
+
+/// Whether a pin is read.
+fn is_pin(rt: &impl Abort, alloc: Global, pin: &str) -> bool {
+    read_as(rt, alloc, &["pin", pin], &joined(rt, alloc, &["Pin ", pin]))
+}
+
 /// A pin of three parts of 255 bytes is read.
 #[test]
 fn longest_pin(rt: HostRuntime) {
-    let alloc = rt.alloc();
-    let (rest, part) = (many(&rt, alloc, "a", 249), many(&rt, alloc, "a", 255));
-    let pin = format!(in alloc; "app/org.x.{rest}/{part}/{part}").expect(&rt, "memory");
-    let want = format!(in alloc; "Pin {pin}").expect(&rt, "memory");
-    assert!(rt; reads_as(&rt, alloc, &["pin", &pin], &want));
+    let part = many(&rt, rt.alloc(), "a", 255);
+    let rest = part.get(..249).unwrap_or("");
+    let pin = joined(
+        &rt,
+        rt.alloc(),
+        &["app/org.x.", rest, "/", &part, "/", &part],
+    );
+    assert!(rt; pin.len() == 771 && is_pin(&rt, rt.alloc(), &pin));
+}
+
+/// Whether a remote is added.
+fn is_remote(rt: &impl Abort, alloc: Global, name: &str, url: &str) -> bool {
+    let want = joined(rt, alloc, &["RemoteAdd ", name, " ", url]);
+    read_as(rt, alloc, &["remote-add", name, url], &want)
 }
 
 /// A remote's name of 64 bytes with a url of 1,024 is read.
 #[test]
 fn longest_remote(rt: HostRuntime) {
-    let alloc = rt.alloc();
-    let (name, rest) = (many(&rt, alloc, "r", 64), many(&rt, alloc, "u", 1_016));
-    let url = format!(in alloc; "file:///{rest}").expect(&rt, "memory");
-    let want = format!(in alloc; "RemoteAdd {name} {url}").expect(&rt, "memory");
-    assert!(rt; reads_as(&rt, alloc, &["remote-add", &name, &url], &want));
+    let name = many(&rt, rt.alloc(), "r", 64);
+    let rest = many(&rt, rt.alloc(), "u", 1_016);
+    let url = joined(&rt, rt.alloc(), &["file:///", &rest]);
+    assert!(rt; is_remote(&rt, rt.alloc(), &name, &url));
 }
 
 /// A word of a mebibyte is bad, and so is the second of 1,100.
 #[test]
 fn long_words(rt: HostRuntime) {
     let long = many(&rt, rt.alloc(), "a", 1 << 20);
-    assert!(rt; reads_as(&rt, rt.alloc(), &["pin", &long], "bad words at 1"));
-    assert!(rt; reads_as(&rt, rt.alloc(), &["list"; 1_100], "bad words at 1"));
+    assert!(rt; read_as(&rt, rt.alloc(), &["pin", &long], "bad words at 1"));
+    assert!(rt; read_as(&rt, rt.alloc(), &["list"; 1_100], "bad words at 1"));
 }
 
 /// A change of an override by 3,000 options is read.
@@ -490,11 +545,11 @@ fn many_options(rt: HostRuntime) {
     let mut words = ["--share=ipc"; 3_002];
     words[0] = "override";
     words[3_001] = "org.x.App";
-    assert!(rt; told(&rt, rt.alloc(), &words).len() == 24 + 3_000 * 12);
+    assert!(rt; told_words(&rt, rt.alloc(), &words).len() == 24 + 3_000 * 12);
 }
 
 #[test]
 fn no_memory_is_told(rt: HostRuntime) {
-    let text = format!(in rt.alloc(); "{}", WordsError::NoMemory).expect(&rt, "memory");
+    let text = spelled(&rt, format!(in rt.alloc(); "{}", WordsError::NoMemory));
     assert!(rt; text.as_str() == "out of memory");
 }

@@ -3,67 +3,88 @@
 use fp_base::{Blob, Text};
 use fp_host::Path;
 use fp_name::RefName;
-use ost_commit::{BuildError, TreeRow, commit_tree};
+use ost_commit::{BuildError, Built, TreeRow, commit_tree};
 use std::alloc::Global;
-use std::test::Fail;
+use std::panic::Expect;
+use std::process::Abort;
 use std::thread::Threads;
 
-fn file(alloc: Global, path: &str, mode: u32, text: &[u8]) -> Result<TreeRow, Fail> {
-    Ok(TreeRow::File {
-        path: Path::parse(alloc, path)?,
-        mode,
-        bytes: Blob::from_slice(alloc, text)?,
-    })
+/// The path of the text.
+fn path_of(rt: &impl Abort, alloc: Global, text: &str) -> Path {
+    Path::parse(alloc, text).expect(rt, "a path")
 }
 
-fn link(alloc: Global, path: &str, target: &str) -> Result<TreeRow, Fail> {
-    Ok(TreeRow::Link {
-        path: Path::parse(alloc, path)?,
-        target: Text::from_str(alloc, target)?,
-    })
+fn file(rt: &impl Abort, alloc: Global, path: &str, mode: u32, text: &[u8]) -> TreeRow {
+    TreeRow::File {
+        path: path_of(rt, alloc, path),
+        mode,
+        bytes: Blob::from_slice(alloc, text).expect(rt, "memory"),
+    }
 }
+
+fn link(rt: &impl Abort, alloc: Global, path: &str, target: &str) -> TreeRow {
+    TreeRow::Link {
+        path: path_of(rt, alloc, path),
+        target: Text::from_str(alloc, target).expect(rt, "memory"),
+    }
+}
+
+fn push(rt: &impl Abort, rows: &mut Vec<TreeRow>, row: TreeRow) {
+    rows.push(row).expect(rt, "memory");
+}
+
+/// The metadata of the application.
+const METADATA: &[u8] = b"[Application]\nname=org.example.App\n";
 
 /// A file below two folders, one at the root, a link, and an empty folder.
-fn rows(alloc: Global) -> Result<Vec<TreeRow>, Fail> {
-    let run = file(alloc, "files/bin/run", 0o755, b"#!/bin/sh\n")?;
-    let metadata = file(
-        alloc,
-        "metadata",
-        0o644,
-        b"[Application]\nname=org.example.App\n",
-    )?;
-    let link = link(alloc, "files/link", "bin/run")?;
-    let empty = TreeRow::Dir(Path::parse(alloc, "empty")?);
-    Ok(vec![in alloc; run, metadata, link, empty]?)
+fn rows(rt: &impl Abort, alloc: Global) -> Vec<TreeRow> {
+    let mut rows = Vec::new(alloc);
+    let run = file(rt, alloc, "files/bin/run", 0o755, b"#!/bin/sh\n");
+    push(rt, &mut rows, run);
+    push(rt, &mut rows, file(rt, alloc, "metadata", 0o644, METADATA));
+    push(rt, &mut rows, link(rt, alloc, "files/link", "bin/run"));
+    push(rt, &mut rows, TreeRow::Dir(path_of(rt, alloc, "empty")));
+    rows
 }
 
-/// The digits of the commit of these rows, or the row that is refused.
+/// A file that stands below a link.
+fn bad_rows(rt: &impl Abort, alloc: Global) -> Vec<TreeRow> {
+    let mut rows = Vec::new(alloc);
+    push(rt, &mut rows, link(rt, alloc, "a", "b"));
+    push(rt, &mut rows, file(rt, alloc, "a/b", 0o644, b""));
+    rows
+}
+
+/// The digits of a commit that was built, or the row that is refused.
+fn digits_of(built: &Result<Built, BuildError>) -> Result<[u8; 64], BuildError> {
+    match built {
+        Ok(built) => Ok(built.commit.digits()),
+        Err(error) => Err(*error),
+    }
+}
+
+/// The same of these rows.
 fn digits(
-    rt: &(impl Threads + Sync),
+    rt: &(impl Abort + Threads + Sync),
     alloc: Global,
     rows: &[TreeRow],
-) -> Result<Result<[u8; 64], BuildError>, Fail> {
-    let name = RefName::parse(alloc, b"app/org.example.App/x86_64/stable")?;
-    match commit_tree(rt, alloc, rows, &name, "subject", 1_700_000_000) {
-        Ok(built) => Ok(Ok(built.commit.digits())),
-        Err(error) => Ok(Err(error)),
-    }
+) -> Result<[u8; 64], BuildError> {
+    let name = RefName::parse(alloc, b"app/org.example.App/x86_64/stable").expect(rt, "a ref");
+    let built = commit_tree(rt, alloc, rows, &name, "subject", 1_700_000_000);
+    let digits = digits_of(&built);
+    drop(built);
+    digits
 }
 
 /// `ostree commit --no-xattrs --owner-uid=0 --owner-gid=0 --timestamp=@1700000000` gives this digest.
 #[test]
-fn as_ostree(rt: HostRuntime) -> Result<(), Fail> {
-    let alloc = rt.alloc();
-    let found = digits(&rt, alloc, &rows(alloc)?)?;
+fn as_ostree(rt: HostRuntime) {
+    let found = digits(&rt, rt.alloc(), &rows(&rt, rt.alloc()));
     assert!(rt; found == Ok(*b"6a9c63939657b099e13480c81b59c39977f1b660cd41bd1e0e2adb60c706027f"));
-    Ok(())
 }
 
-/// A file stands below a link.
 #[test]
-fn second_row(rt: HostRuntime) -> Result<(), Fail> {
-    let alloc = rt.alloc();
-    let rows = vec![in alloc; link(alloc, "a", "b")?, file(alloc, "a/b", 0o644, b"")?]?;
-    assert!(rt; digits(&rt, alloc, &rows)? == Err(BuildError::Row(2)));
-    Ok(())
+fn second_row(rt: HostRuntime) {
+    let found = digits(&rt, rt.alloc(), &bad_rows(&rt, rt.alloc()));
+    assert!(rt; found == Err(BuildError::Row(2)));
 }

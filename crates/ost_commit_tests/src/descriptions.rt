@@ -1,22 +1,32 @@
 //! Commits of descriptions, against what the `ostree` command makes of the same tree.
 
 use fp_name::RefName;
+use ost_commit::Built;
 use ost_description::{DescriptionError, commit_description};
 use std::alloc::Global;
-use std::test::Fail;
+use std::panic::Expect;
+use std::process::Abort;
 use std::thread::Threads;
 
-/// The digits of the commit of this description, or why there is none.
+/// The digits of a commit that was made, or why there is none.
+fn digits_of(built: &Result<Built, DescriptionError>) -> Result<[u8; 64], DescriptionError> {
+    match built {
+        Ok(built) => Ok(built.commit.digits()),
+        Err(error) => Err(*error),
+    }
+}
+
+/// The same of this description.
 fn digits(
-    rt: &(impl Threads + Sync),
+    rt: &(impl Abort + Threads + Sync),
     alloc: Global,
     bytes: &[u8],
-) -> Result<Result<[u8; 64], DescriptionError>, Fail> {
-    let name = RefName::parse(alloc, b"app/org.example.App/x86_64/stable")?;
-    match commit_description(rt, alloc, bytes, &name) {
-        Ok(built) => Ok(Ok(built.commit.digits())),
-        Err(error) => Ok(Err(error)),
-    }
+) -> Result<[u8; 64], DescriptionError> {
+    let name = RefName::parse(alloc, b"app/org.example.App/x86_64/stable").expect(rt, "a ref");
+    let built = commit_description(rt, alloc, bytes, &name);
+    let digits = digits_of(&built);
+    drop(built);
+    digits
 }
 
 /// A file below two folders, one at the root, a link, and an empty folder.
@@ -30,11 +40,9 @@ dir empty
 
 /// `ostree commit --no-xattrs --owner-uid=0 --owner-gid=0 --timestamp=@1700000000` gives this digest.
 #[test]
-fn described_as_ostree(rt: HostRuntime) -> Result<(), Fail> {
-    let alloc = rt.alloc();
-    let found = digits(&rt, alloc, TREE)?;
+fn described_as_ostree(rt: HostRuntime) {
+    let found = digits(&rt, rt.alloc(), TREE);
     assert!(rt; found == Ok(*b"6a9c63939657b099e13480c81b59c39977f1b660cd41bd1e0e2adb60c706027f"));
-    Ok(())
 }
 
 /// Descriptions, and the line that is bad.
@@ -61,19 +69,15 @@ const BAD: &[(&[u8], u64)] = &[
     ),
 ];
 
-/// The place of the first description that isn't refused at its line.
-fn first_wrong(rt: &(impl Threads + Sync), alloc: Global) -> Result<Option<usize>, Fail> {
-    for (at, row) in BAD.iter().enumerate() {
-        if digits(rt, alloc, row.0)? != Err(DescriptionError::Record(row.1)) {
-            return Ok(Some(at));
-        }
-    }
-    Ok(None)
+/// Ends the test where this isn't so, and prints the row.
+fn agree_at(rt: &impl Abort, row: usize, is_so: bool) {
+    assert!(rt; is_so, "row {row}");
 }
 
 #[test]
-fn bad_lines(rt: HostRuntime) -> Result<(), Fail> {
-    let alloc = rt.alloc();
-    assert!(rt; first_wrong(&rt, alloc)? == None);
-    Ok(())
+fn bad_lines(rt: HostRuntime) {
+    for (at, (bytes, line)) in BAD.iter().enumerate() {
+        let found = digits(&rt, rt.alloc(), bytes);
+        agree_at(&rt, at, found == Err(DescriptionError::Record(*line)));
+    }
 }
