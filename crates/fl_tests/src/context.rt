@@ -1,46 +1,50 @@
 //! Layers with what they grant, worked out by hand.
 
-use crate::meta::value_word;
+use crate::meta::{mentions, value_word};
+use crate::rows::agree;
 use fl_context::{Grants, fold, is_granted};
-use fl_meta::{Layer, Mention, PermList, Permission, Source, mentions_of};
-use fp_keyfile::{KeyError, KeyFile};
+use fl_meta::{Layer, Mention, PermList, Permission, Source, Value};
 use std::alloc::{AllocError, Global};
-use std::test::Fail;
+use std::panic::Expect;
+use std::process::Abort;
 
 /// Adds `NAME=VALUE`, a `+` where it is granted, and a space.
 fn push_mention(out: &mut String, mention: &Mention) -> Result<(), AllocError> {
-    out.push_str(mention.permission.name.as_str())?;
-    out.push('=')?;
-    out.push_str(value_word(&mention.value))?;
-    out.push_str(if is_granted(&mention.value) {
-        "+ "
-    } else {
-        " "
-    })
+    let name = mention.permission.name.as_str();
+    let mark = if is_granted(&mention.value) { "+" } else { "" };
+    write!(out, "{name}={}{mark} ", value_word(&mention.value))
 }
 
 /// The grants as text, in their order.
-fn shown(alloc: Global, grants: &Grants) -> Result<String, AllocError> {
+fn shown(rt: &impl Abort, alloc: Global, grants: &[Mention]) -> String {
     let mut out = String::new(alloc);
-    for mention in grants.as_slice() {
-        push_mention(&mut out, mention)?;
+    for mention in grants {
+        push_mention(&mut out, mention).expect(rt, "memory");
     }
-    Ok(out)
+    out
 }
 
 /// The mentions of an override.
-fn layer_of(alloc: Global, text: &str) -> Result<Layer, KeyError> {
-    let file = KeyFile::parse(alloc, text.as_bytes())?;
-    Ok(mentions_of(alloc, &file, Source::Override)?)
+fn layer_of(rt: &impl Abort, alloc: Global, text: &str) -> Layer {
+    mentions(rt, alloc, text, Source::Override)
+}
+
+/// What layers grant.
+fn grants(rt: &impl Abort, alloc: Global, layers: &[&Layer]) -> Grants {
+    fold(alloc, layers).expect(rt, "memory")
+}
+
+/// The same as text.
+fn shown_grants(rt: &impl Abort, alloc: Global, layers: &[&Layer]) -> String {
+    shown(rt, alloc, grants(rt, alloc, layers).as_slice())
 }
 
 /// What three layers grant, as text.
-fn granted(alloc: Global, first: &str, second: &str, third: &str) -> Result<String, KeyError> {
-    let first = layer_of(alloc, first)?;
-    let second = layer_of(alloc, second)?;
-    let third = layer_of(alloc, third)?;
-    let grants = fold(alloc, &[&first, &second, &third])?;
-    Ok(shown(alloc, &grants)?)
+fn granted(rt: &impl Abort, alloc: Global, first: &str, second: &str, third: &str) -> String {
+    let first = layer_of(rt, alloc, first);
+    let second = layer_of(rt, alloc, second);
+    let third = layer_of(rt, alloc, third);
+    shown_grants(rt, alloc, &[&first, &second, &third])
 }
 
 /// Three layers, and what they grant.
@@ -99,34 +103,38 @@ const LAYERS: [(&str, &str, &str, &str); 9] = [
     ),
 ];
 
-/// The first layers that grant something else.
-fn first_other<'a>(
-    alloc: Global,
-    tables: &'a [(&'a str, &'a str, &'a str, &'a str)],
-) -> Result<Option<&'a str>, KeyError> {
-    for (first, second, third, want) in tables {
-        if granted(alloc, first, second, third)?.as_str() != *want {
-            return Ok(Some(*want));
-        }
+#[test]
+fn layers(rt: HostRuntime) {
+    for (first, second, third, want) in &LAYERS {
+        let text = granted(&rt, rt.alloc(), first, second, third);
+        agree(&rt, want, text.as_str() == *want);
     }
-    Ok(None)
 }
 
-/// Whether the layers of a text give a permission this value.
+/// What one layer grants.
+fn grants_of(rt: &impl Abort, alloc: Global, text: &str) -> Grants {
+    grants(rt, alloc, &[&layer_of(rt, alloc, text)])
+}
+
+/// Whether a value has this word, which is `nothing` where there is none.
+fn is_word(value: Option<&Value>, want: &str) -> bool {
+    match value {
+        Some(value) => value_word(value) == want,
+        None => want == "nothing",
+    }
+}
+
+/// Whether the grants give a permission this value.
 fn gives(
+    rt: &impl Abort,
     alloc: Global,
-    text: &str,
+    grants: &Grants,
     list: PermList,
     name: &str,
     want: &str,
-) -> Result<bool, KeyError> {
-    let layer = layer_of(alloc, text)?;
-    let grants = fold(alloc, &[&layer])?;
-    let permission = Permission::new(alloc, list, name)?;
-    Ok(match grants.value(&permission) {
-        Some(value) => value_word(value) == want,
-        None => want == "nothing",
-    })
+) -> bool {
+    let permission = Permission::new(alloc, list, name).expect(rt, "memory");
+    is_word(grants.value(&permission), want)
 }
 
 /// Permissions, and their values in the layer below.
@@ -141,64 +149,70 @@ const VALUES: [(PermList, &str, &str); 5] = [
 /// A layer in which one name stands in two lists.
 const LAYER: &str = "[Context]\nshared=!network;\nsockets=network;x11\n";
 
-/// The first of the permissions that has another value.
-fn first_other_value<'a>(
-    alloc: Global,
-    values: &'a [(PermList, &'a str, &'a str)],
-) -> Result<Option<&'a str>, KeyError> {
-    for (list, name, want) in values {
-        if !gives(alloc, LAYER, *list, name, want)? {
-            return Ok(Some(*want));
-        }
+#[test]
+fn values(rt: HostRuntime) {
+    let grants = grants_of(&rt, rt.alloc(), LAYER);
+    for (list, name, want) in &VALUES {
+        let is_so = gives(&rt, rt.alloc(), &grants, *list, name, want);
+        agree(&rt, want, is_so);
     }
-    Ok(None)
 }
 
 /// How many permissions the grants of a text have, as they go through a layer.
-fn count(alloc: Global, text: &str) -> Result<usize, KeyError> {
-    let layer = layer_of(alloc, text)?;
-    let grants = fold(alloc, &[&layer])?;
-    Ok(Grants::from_layer(grants.into_layer()).as_layer().len())
+fn count(rt: &impl Abort, alloc: Global, text: &str) -> usize {
+    let layer = grants_of(rt, alloc, text).into_layer();
+    Grants::from_layer(layer).as_layer().len()
 }
 
 #[test]
-fn layers(rt: HostRuntime) -> Result<(), Fail> {
-    assert_eq!(rt; first_other(rt.alloc(), &LAYERS)?, None);
-    assert_eq!(rt; first_other_value(rt.alloc(), &VALUES)?, None);
-    assert!(rt; count(rt.alloc(), LAYER)? == 3);
-    Ok(())
+fn counts(rt: HostRuntime) {
+    assert!(rt; count(&rt, rt.alloc(), LAYER) == 3);
+}
+
+/// Adds a variable of this number.
+fn put_variable(text: &mut String, number: usize, value: &str) -> Result<(), AllocError> {
+    write!(text, "V{number:04}={value}\n")
 }
 
 /// An override with so many variables, whose values are this.
-pub fn many_variables(alloc: Global, count: usize, value: &str) -> Result<String, AllocError> {
-    let mut text = String::from_str(alloc, "[Environment]\n")?;
+pub fn many_variables(rt: &impl Abort, alloc: Global, count: usize, value: &str) -> String {
+    let mut text = String::from_str(alloc, "[Environment]\n").expect(rt, "memory");
     for number in 0..count {
-        let line = format!(in alloc; "V{number:04}={value}\n")?;
-        text.push_str(&line)?;
+        put_variable(&mut text, number, value).expect(rt, "memory");
     }
-    Ok(text)
+    text
 }
 
-/// How many permissions twenty layers of so many grant, and how many of them have the last layer's value.
-fn folded(alloc: Global, count: usize) -> Result<(usize, usize), KeyError> {
-    let first = layer_of(alloc, &many_variables(alloc, count, "1")?)?;
-    let last = layer_of(alloc, &many_variables(alloc, count, "2")?)?;
+/// The layer of so many variables.
+fn long_layer(rt: &impl Abort, alloc: Global, count: usize, value: &str) -> Layer {
+    layer_of(rt, alloc, &many_variables(rt, alloc, count, value))
+}
+
+/// How many of the mentions have this value.
+fn count_values(mentions: &[Mention], value: &str) -> usize {
+    let mut count = 0usize;
+    for mention in mentions {
+        if value_word(&mention.value) == value {
+            count = count.saturating_add(1);
+        }
+    }
+    count
+}
+
+/// Whether twenty layers, of which the last is another one, grant so many permissions, and all of them with the last
+/// layer's value.
+fn are_folded(rt: &impl Abort, alloc: Global, count: usize) -> bool {
+    let first = long_layer(rt, alloc, count, "1");
+    let last = long_layer(rt, alloc, count, "2");
     let layers = [
         &first, &first, &first, &first, &first, &first, &first, &first, &first, &first, &first,
         &first, &first, &first, &first, &first, &first, &first, &first, &last,
     ];
-    let grants = fold(alloc, &layers)?;
-    let mut right = 0usize;
-    for mention in grants.as_slice() {
-        if value_word(&mention.value) == "2" {
-            right = right.saturating_add(1);
-        }
-    }
-    Ok((grants.as_slice().len(), right))
+    let grants = grants(rt, alloc, &layers);
+    grants.as_slice().len() == count && count_values(grants.as_slice(), "2") == count
 }
 
 #[test]
-fn many_layers(rt: HostRuntime) -> Result<(), Fail> {
-    assert!(rt; folded(rt.alloc(), 300)? == (300, 300));
-    Ok(())
+fn many_layers(rt: HostRuntime) {
+    assert!(rt; are_folded(&rt, rt.alloc(), 300));
 }

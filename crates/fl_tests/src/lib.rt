@@ -7,3 +7,5 @@ mod context;
 mod meta;
 #[cfg(test)]
 mod overrides;
+#[cfg(test)]
+mod rows;

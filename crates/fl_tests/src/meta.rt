@@ -1,13 +1,15 @@
 //! Metadata files with the permissions that they mention, worked out from the rules by hand.
 
+use crate::rows::agree;
 use fl_meta::{
     Layer, Mention, Meta, MetaError, MetaKind, PermList, Permission, Source, Value, is_pattern,
     mentions_of,
 };
 use fp_base::{MetaRule, Text};
-use fp_keyfile::{KeyError, KeyFile};
+use fp_keyfile::KeyFile;
 use std::alloc::{AllocError, Global};
-use std::test::Fail;
+use std::panic::Expect;
+use std::process::Abort;
 
 /// The name of a list in these tables.
 fn list_word(list: PermList) -> &'static str {
@@ -48,28 +50,43 @@ pub fn value_word(value: &Value) -> &str {
 
 /// Adds `LIST<NAME>VALUE` and a space.
 fn push_mention(out: &mut String, mention: &Mention) -> Result<(), AllocError> {
-    out.push_str(list_word(mention.permission.list))?;
-    out.push('<')?;
-    out.push_str(mention.permission.name.as_str())?;
-    out.push('>')?;
-    out.push_str(value_word(&mention.value))?;
-    out.push(' ')
+    let list = list_word(mention.permission.list);
+    let name = mention.permission.name.as_str();
+    write!(out, "{list}<{name}>{} ", value_word(&mention.value))
 }
 
 /// The mentions as text.
-fn shown(alloc: Global, layer: &Layer) -> Result<String, AllocError> {
+fn shown(rt: &impl Abort, alloc: Global, mentions: &[Mention]) -> String {
     let mut out = String::new(alloc);
-    for mention in layer.as_slice() {
-        push_mention(&mut out, mention)?;
+    for mention in mentions {
+        push_mention(&mut out, mention).expect(rt, "memory");
     }
-    Ok(out)
+    out
 }
 
-/// What a key file mentions, as text.
-fn mentioned(alloc: Global, text: &str, source: Source) -> Result<String, KeyError> {
-    let file = KeyFile::parse(alloc, text.as_bytes())?;
-    let layer = mentions_of(alloc, &file, source)?;
-    Ok(shown(alloc, &layer)?)
+/// The key file of a text.
+pub fn key_file(rt: &impl Abort, alloc: Global, text: &str) -> KeyFile {
+    KeyFile::parse(alloc, text.as_bytes()).expect(rt, "a key file")
+}
+
+/// What a key file mentions.
+pub fn mentions(rt: &impl Abort, alloc: Global, text: &str, source: Source) -> Layer {
+    mentions_of(alloc, &key_file(rt, alloc, text), source).expect(rt, "memory")
+}
+
+/// Whether a key file mentions this, as text.
+fn is_mentioned(rt: &impl Abort, alloc: Global, text: &str, source: Source, want: &str) -> bool {
+    are_shown(
+        rt,
+        alloc,
+        mentions(rt, alloc, text, source).as_slice(),
+        want,
+    )
+}
+
+/// Whether mentions are this text.
+fn are_shown(rt: &impl Abort, alloc: Global, mentions: &[Mention], want: &str) -> bool {
+    shown(rt, alloc, mentions).as_str() == want
 }
 
 /// Keys and values of the group `Context`, and what they mention.
@@ -179,25 +196,18 @@ const LISTS: [(&str, &str); 52] = [
     ("devices=a=b;", "?devices<a=b>on "),
 ];
 
-/// The first of the lists that mentions something else.
-fn first_other<'a>(
-    alloc: Global,
-    lists: &'a [(&'a str, &'a str)],
-) -> Result<Option<&'a str>, KeyError> {
-    for (pair, want) in lists {
-        let text = format!(in alloc; "[Context]\n{pair}\n")?;
-        let mentions = mentioned(alloc, text.as_str(), Source::Metadata)?;
-        if mentions.as_str() != *want {
-            return Ok(Some(*pair));
-        }
-    }
-    Ok(None)
+/// The group `Context` with this pair.
+fn context_of(rt: &impl Abort, alloc: Global, pair: &str) -> String {
+    format!(in alloc; "[Context]\n{pair}\n").expect(rt, "memory")
 }
 
 #[test]
-fn lists(rt: HostRuntime) -> Result<(), Fail> {
-    assert_eq!(rt; first_other(rt.alloc(), &LISTS)?, None);
-    Ok(())
+fn lists(rt: HostRuntime) {
+    for (pair, want) in &LISTS {
+        let text = context_of(&rt, rt.alloc(), pair);
+        let is_so = is_mentioned(&rt, rt.alloc(), &text, Source::Metadata, want);
+        agree(&rt, pair, is_so);
+    }
 }
 
 /// Overrides, and what they mention.
@@ -246,23 +256,12 @@ const OVERRIDES: [(&str, &str); 18] = [
     ),
 ];
 
-/// The first of the overrides that mentions something else.
-fn first_other_override<'a>(
-    alloc: Global,
-    files: &'a [(&'a str, &'a str)],
-) -> Result<Option<&'a str>, KeyError> {
-    for (text, want) in files {
-        if mentioned(alloc, text, Source::Override)?.as_str() != *want {
-            return Ok(Some(*text));
-        }
-    }
-    Ok(None)
-}
-
 #[test]
-fn overrides(rt: HostRuntime) -> Result<(), Fail> {
-    assert_eq!(rt; first_other_override(rt.alloc(), &OVERRIDES)?, None);
-    Ok(())
+fn overrides(rt: HostRuntime) {
+    for (text, want) in &OVERRIDES {
+        let is_so = is_mentioned(&rt, rt.alloc(), text, Source::Override, want);
+        agree(&rt, text, is_so);
+    }
 }
 
 /// A metadata file of the usual kind.
@@ -274,25 +273,23 @@ const USUAL_MENTIONS: &str =
     "shared<network>on shared<ipc>on sockets<wayland>on ?sockets<gizmo>on devices<dri>on files<~/x>ro files<~/x>rw files<~/x>ro session<org.foo.*>talk env<A>b c ";
 
 /// The metadata of a file.
-fn read(alloc: Global, text: &str, kind: MetaKind) -> Result<Meta, MetaError> {
-    match KeyFile::parse(alloc, text.as_bytes()) {
-        Ok(file) => Meta::read(alloc, &file, kind),
-        Err(_) => Err(MetaError::NoMemory),
-    }
+fn meta_of(rt: &impl Abort, alloc: Global, text: &str, kind: MetaKind) -> Meta {
+    Meta::read(alloc, &key_file(rt, alloc, text), kind).expect(rt, "metadata")
 }
 
-/// The texts of a list, each followed by a space.
-fn joined(alloc: Global, texts: &[Text]) -> Result<String, AllocError> {
-    let mut out = String::new(alloc);
+fn put_text(out: &mut String, text: &Text) -> Result<(), AllocError> {
+    write!(out, " {}", text.as_str())
+}
+
+/// Adds a space and the text for each.
+fn put_texts(rt: &impl Abort, out: &mut String, texts: &[Text]) {
     for text in texts {
-        out.push_str(text.as_str())?;
-        out.push(' ')?;
+        put_text(out, text).expect(rt, "memory");
     }
-    Ok(out)
 }
 
-/// The runtime, the command and the extensions, with slashes between them.
-fn parts(alloc: Global, meta: &Meta) -> Result<String, AllocError> {
+/// Adds the runtime and the command, with a space between them.
+fn put_parts(out: &mut String, meta: &Meta) -> Result<(), AllocError> {
     let runtime = match &meta.runtime {
         Some(name) => name.as_str(),
         None => "none",
@@ -301,35 +298,45 @@ fn parts(alloc: Global, meta: &Meta) -> Result<String, AllocError> {
         Some(text) => text.as_str(),
         None => "none",
     };
-    let extensions = joined(alloc, meta.extensions.as_slice())?;
-    format!(in alloc; "{runtime} {command} {extensions}")
+    write!(out, "{runtime} {command}")
 }
 
-/// Whether the metadata of a file mentions this.
-fn has_mentions(alloc: Global, text: &str, kind: MetaKind, want: &str) -> Result<bool, MetaError> {
-    let meta = read(alloc, text, kind)?;
-    Ok(shown(alloc, &meta.mentions)?.as_str() == want)
+/// Whether metadata has this runtime, this command and these extensions.
+fn are_parts(rt: &impl Abort, alloc: Global, meta: &Meta, want: &str) -> bool {
+    let mut out = String::new(alloc);
+    put_parts(&mut out, meta).expect(rt, "memory");
+    put_texts(rt, &mut out, meta.extensions.as_slice());
+    out.as_str() == want
 }
 
 /// Whether the metadata of a file has these parts.
-fn has_parts(alloc: Global, text: &str, kind: MetaKind, want: &str) -> Result<bool, MetaError> {
-    let meta = read(alloc, text, kind)?;
-    Ok(parts(alloc, &meta)?.as_str() == want)
+fn has_parts(rt: &impl Abort, alloc: Global, text: &str, kind: MetaKind, want: &str) -> bool {
+    let meta = meta_of(rt, alloc, text, kind);
+    let is_so = are_parts(rt, alloc, &meta, want);
+    drop(meta);
+    is_so
+}
+
+/// Whether the metadata of an application mentions this.
+fn has_mentions(rt: &impl Abort, alloc: Global, text: &str, want: &str) -> bool {
+    let meta = meta_of(rt, alloc, text, MetaKind::App);
+    let is_so = are_shown(rt, alloc, meta.mentions.as_slice(), want);
+    drop(meta);
+    is_so
 }
 
 /// A runtime's metadata.
 const RUNTIME: &str = "[Runtime]\ncommand=x\n[Extension ]\n[Extension a]\n[Extensions]";
 
 #[test]
-fn usual(rt: HostRuntime) -> Result<(), Fail> {
+fn usual(rt: HostRuntime) {
     let alloc = rt.alloc();
-    let want = "runtime/org.x.Platform/x86_64/1 run org.x.App.Locale ";
+    let want = "runtime/org.x.Platform/x86_64/1 run org.x.App.Locale";
     assert!(rt;
-        has_mentions(alloc, USUAL, MetaKind::App, USUAL_MENTIONS)?
-            && has_parts(alloc, USUAL, MetaKind::App, want)?
-            && has_parts(alloc, RUNTIME, MetaKind::Runtime, "none none a ")?
+        has_mentions(&rt, alloc, USUAL, USUAL_MENTIONS)
+            && has_parts(&rt, alloc, USUAL, MetaKind::App, want)
+            && has_parts(&rt, alloc, RUNTIME, MetaKind::Runtime, "none none a")
     );
-    Ok(())
 }
 
 /// Files that are no metadata, of this kind, and the first rule that each breaks.
@@ -364,22 +371,17 @@ const FAULTS: [(&str, MetaKind, MetaRule); 8] = [
     ),
 ];
 
-/// The first of the files that breaks another rule.
-fn first_other_rule<'a>(
-    alloc: Global,
-    files: &'a [(&'a str, MetaKind, MetaRule)],
-) -> Option<&'a str> {
-    for (text, kind, rule) in files {
-        if read(alloc, text, *kind).err() != Some(MetaError::Rule(*rule)) {
-            return Some(*text);
-        }
-    }
-    None
+/// Whether a file breaks this rule.
+fn breaks(rt: &impl Abort, alloc: Global, text: &str, kind: MetaKind, rule: MetaRule) -> bool {
+    let read = Meta::read(alloc, &key_file(rt, alloc, text), kind);
+    read.err() == Some(MetaError::Rule(rule))
 }
 
 #[test]
 fn faults(rt: HostRuntime) {
-    assert_eq!(rt; first_other_rule(rt.alloc(), &FAULTS), None);
+    for (text, kind, rule) in &FAULTS {
+        agree(&rt, text, breaks(&rt, rt.alloc(), text, *kind, *rule));
+    }
 }
 
 /// Texts, and whether each is a pattern of bus names.
@@ -414,111 +416,154 @@ const PATTERNS: [(&str, bool); 28] = [
     ("org.foo/bar", false),
 ];
 
-/// The first of the texts for which the test answers otherwise.
-fn first_other_pattern<'a>(texts: &'a [(&'a str, bool)]) -> Option<&'a str> {
-    for (text, good) in texts {
-        if is_pattern(text) != *good {
-            return Some(*text);
-        }
-    }
-    None
+/// A name of this many bytes, with this end after them.
+fn long_name(rt: &impl Abort, alloc: Global, length: usize, end: &str) -> String {
+    let letters = "b"
+        .repeat(alloc, length.saturating_sub(2))
+        .expect(rt, "memory");
+    ["a.", &letters, end].concat(alloc).expect(rt, "memory")
 }
 
 /// Whether a text is a pattern that has this many bytes before its end.
-fn is_long_pattern(alloc: Global, length: usize, end: &str) -> Result<bool, AllocError> {
-    let mut text = String::from_str(alloc, "a.")?;
-    for _ in 2..length {
-        text.push('b')?;
-    }
-    text.push_str(end)?;
-    Ok(is_pattern(text.as_str()))
+fn is_long_pattern(rt: &impl Abort, alloc: Global, length: usize, end: &str) -> bool {
+    is_pattern(&long_name(rt, alloc, length, end))
 }
 
 #[test]
-fn patterns(rt: HostRuntime) -> Result<(), Fail> {
-    assert_eq!(rt; first_other_pattern(&PATTERNS), None);
+fn patterns(rt: HostRuntime) {
+    for (text, good) in &PATTERNS {
+        agree(&rt, text, is_pattern(text) == *good);
+    }
     assert!(rt;
-        is_long_pattern(rt.alloc(), 255, "")?
-            && !is_long_pattern(rt.alloc(), 256, "")?
-            && is_long_pattern(rt.alloc(), 300, ".*")?
+        is_long_pattern(&rt, rt.alloc(), 255, "")
+            && !is_long_pattern(&rt, rt.alloc(), 256, "")
+            && is_long_pattern(&rt, rt.alloc(), 300, ".*")
     );
-    Ok(())
+}
+
+/// Copies of the mentions.
+fn copies(rt: &impl Abort, alloc: Global, mentions: &[Mention]) -> Layer {
+    let mut copies = Layer::new(alloc);
+    for mention in mentions {
+        let copy = mention.copy().expect(rt, "memory");
+        copies.push(copy).expect(rt, "memory");
+    }
+    copies
 }
 
 /// Whether copies of the mentions are shown alike.
-fn copied_alike(alloc: Global, layer: &Layer) -> Result<bool, AllocError> {
-    let mut copies = Layer::new(alloc);
-    for mention in layer.as_slice() {
-        copies.push(mention.copy()?)?;
-    }
-    Ok(shown(alloc, &copies)?.as_str() == shown(alloc, layer)?.as_str())
+fn are_copied(rt: &impl Abort, alloc: Global, mentions: &[Mention]) -> bool {
+    let want = shown(rt, alloc, mentions);
+    are_shown(rt, alloc, copies(rt, alloc, mentions).as_slice(), &want)
 }
 
-/// Whether the permission of the left name comes before that of the right one.
-fn is_before(alloc: Global, left: &str, right: &str) -> Result<bool, AllocError> {
-    let left = Permission::new(alloc, PermList::Shared, left)?;
-    let right = Permission::new(alloc, PermList::Shared, right)?;
-    Ok(left < right && left != right && left == left.copy()?)
+/// Whether the mentions of an application's metadata are copied.
+fn copies_mentions(rt: &impl Abort, alloc: Global, text: &str) -> bool {
+    let meta = meta_of(rt, alloc, text, MetaKind::App);
+    let is_so = are_copied(rt, alloc, meta.mentions.as_slice());
+    drop(meta);
+    is_so
 }
 
-/// Whether the mentions of a file are copied.
-fn copies(alloc: Global, text: &str) -> Result<bool, MetaError> {
-    let meta = read(alloc, text, MetaKind::App)?;
-    Ok(copied_alike(alloc, &meta.mentions)?)
+/// The permission of this name.
+fn permission(rt: &impl Abort, alloc: Global, name: &str) -> Permission {
+    Permission::new(alloc, PermList::Shared, name).expect(rt, "memory")
+}
+
+fn is_copied(rt: &impl Abort, permission: &Permission) -> bool {
+    *permission == permission.copy().expect(rt, "memory")
+}
+
+/// Whether the left permission comes before the right one, is another one, and is copied.
+fn comes_before(rt: &impl Abort, left: &Permission, right: &Permission) -> bool {
+    left < right && left != right && is_copied(rt, left)
+}
+
+/// The same of names.
+fn is_before(rt: &impl Abort, alloc: Global, left: &str, right: &str) -> bool {
+    let left = permission(rt, alloc, left);
+    comes_before(rt, &left, &permission(rt, alloc, right))
 }
 
 #[test]
-fn permissions(rt: HostRuntime) -> Result<(), Fail> {
+fn permissions(rt: HostRuntime) {
     assert!(rt;
-        copies(rt.alloc(), USUAL)?
-            && is_before(rt.alloc(), "a", "b")?
-            && !is_before(rt.alloc(), "b", "a")?
+        copies_mentions(&rt, rt.alloc(), USUAL)
+            && is_before(&rt, rt.alloc(), "a", "b")
+            && !is_before(&rt, rt.alloc(), "b", "a")
     );
-    Ok(())
+}
+
+/// Adds a text with the numbers from 0, one after another, each with a head and a tail.
+fn put_many(rt: &impl Abort, text: &mut String, count: usize, head: &str, tail: &str) {
+    for number in 0..count {
+        put_numbered(text, number, head, tail).expect(rt, "memory");
+    }
+}
+
+fn put_numbered(
+    text: &mut String,
+    number: usize,
+    head: &str,
+    tail: &str,
+) -> Result<(), AllocError> {
+    write!(text, "{head}{number}{tail}")
+}
+
+fn put(rt: &impl Abort, text: &mut String, more: &str) {
+    text.push_str(more).expect(rt, "memory");
+}
+
+/// The name of 90 bytes between these.
+fn named(rt: &impl Abort, alloc: Global, before: &str, after: &str) -> String {
+    let name = "n".repeat(alloc, 90).expect(rt, "memory");
+    [before, &name, after].concat(alloc).expect(rt, "memory")
+}
+
+/// Adds so many names of two lists.
+fn put_lists(rt: &impl Abort, alloc: Global, text: &mut String, count: usize) {
+    put(
+        rt,
+        text,
+        "[Application]\nruntime=org.x.Platform/x86_64/1\n[Context]\nfilesystems=",
+    );
+    put_many(rt, text, count, &named(rt, alloc, "~/", ""), ":ro;");
+    put(rt, text, "\npersistent=");
+    put_many(rt, text, count, &named(rt, alloc, ".", ""), ";");
+}
+
+/// Adds so many variables and extensions.
+fn put_groups(rt: &impl Abort, alloc: Global, text: &mut String, count: usize) {
+    put(rt, text, "\n[Environment]\n");
+    put_many(rt, text, count, "V", &named(rt, alloc, "=", "\n"));
+    let tail = named(rt, alloc, "]\ndirectory=", "\n");
+    put_many(rt, text, count, "[Extension org.x.E", &tail);
 }
 
 /// Metadata with so many names in each of two lists, variables and extensions, each of 90 bytes and more.
-fn long_metadata(alloc: Global, count: usize) -> Result<String, AllocError> {
-    let name = "n".repeat(alloc, 90)?;
-    let mut text = String::from_str(
-        alloc,
-        "[Application]\nruntime=org.x.Platform/x86_64/1\n[Context]\nfilesystems=",
-    )?;
-    for number in 0..count {
-        let entry = format!(in alloc; "~/{name}{number}:ro;")?;
-        text.push_str(&entry)?;
-    }
-    text.push_str("\npersistent=")?;
-    for number in 0..count {
-        let entry = format!(in alloc; ".{name}{number};")?;
-        text.push_str(&entry)?;
-    }
-    text.push_str("\n[Environment]\n")?;
-    for number in 0..count {
-        let line = format!(in alloc; "V{number}={name}\n")?;
-        text.push_str(&line)?;
-    }
-    for number in 0..count {
-        let group = format!(in alloc; "[Extension org.x.E{number}]\ndirectory={name}\n")?;
-        text.push_str(&group)?;
-    }
-    Ok(text)
+fn long_metadata(rt: &impl Abort, alloc: Global, count: usize) -> String {
+    let mut text = String::new(alloc);
+    put_lists(rt, alloc, &mut text, count);
+    put_groups(rt, alloc, &mut text, count);
+    text
 }
 
 /// How many mentions and extensions the metadata has.
-fn counted(alloc: Global, text: &str) -> Result<(usize, usize), MetaError> {
-    let meta = read(alloc, text, MetaKind::App)?;
-    Ok((meta.mentions.len(), meta.extensions.as_slice().len()))
+fn counted(rt: &impl Abort, alloc: Global, text: &str) -> (usize, usize) {
+    let meta = meta_of(rt, alloc, text, MetaKind::App);
+    let counts = (meta.mentions.len(), meta.extensions.as_slice().len());
+    drop(meta);
+    counts
 }
 
-/// Metadata of 100 KiB is read, and its mentions are copied.
+/// Whether metadata of 100 KiB is read, and its mentions are copied.
+fn is_long(rt: &impl Abort, alloc: Global, text: &str) -> bool {
+    text.len() > 100 << 10
+        && counted(rt, alloc, text) == (900, 300)
+        && copies_mentions(rt, alloc, text)
+}
+
 #[test]
-fn long_files(rt: HostRuntime) -> Result<(), Fail> {
-    let text = long_metadata(rt.alloc(), 300)?;
-    assert!(rt;
-        text.len() > 100 << 10
-            && counted(rt.alloc(), &text)? == (900, 300)
-            && copies(rt.alloc(), &text)?
-    );
-    Ok(())
+fn long_files(rt: HostRuntime) {
+    assert!(rt; is_long(&rt, rt.alloc(), &long_metadata(&rt, rt.alloc(), 300)));
 }

@@ -1,27 +1,27 @@
 //! Overrides, read, changed and written, worked out by hand.
 
 use crate::context::many_variables;
+use crate::meta::key_file;
+use crate::rows::agree;
 use fl_override::OverrideSet;
-use fp_base::Text;
-use fp_keyfile::{KeyError, KeyFile};
-use std::alloc::{AllocError, Global};
-use std::test::Fail;
+use std::alloc::Global;
+use std::panic::Expect;
+use std::process::Abort;
 
 /// The set of an override's text.
-fn set_of(alloc: Global, text: &str) -> Result<OverrideSet, KeyError> {
-    let file = KeyFile::parse(alloc, text.as_bytes())?;
-    Ok(OverrideSet::from_keyfile(alloc, &file)?)
+fn set_of(rt: &impl Abort, alloc: Global, text: &str) -> OverrideSet {
+    OverrideSet::from_keyfile(alloc, &key_file(rt, alloc, text)).expect(rt, "memory")
 }
 
-/// The text of a set.
-fn text_of(alloc: Global, set: &OverrideSet) -> Result<Text, AllocError> {
-    set.to_keyfile(alloc)?.write()
+/// Whether a set is written as this text.
+fn is_text(rt: &impl Abort, alloc: Global, set: &OverrideSet, want: &str) -> bool {
+    let file = set.to_keyfile(alloc).expect(rt, "memory");
+    file.write().expect(rt, "memory").as_str() == want
 }
 
-/// An override read, and written anew.
-fn written(alloc: Global, text: &str) -> Result<Text, KeyError> {
-    let set = set_of(alloc, text)?;
-    Ok(text_of(alloc, &set)?)
+/// Whether an override is written anew as this text.
+fn is_written(rt: &impl Abort, alloc: Global, text: &str, want: &str) -> bool {
+    is_text(rt, alloc, &set_of(rt, alloc, text), want)
 }
 
 /// Overrides, and how each is written anew.
@@ -112,25 +112,24 @@ const FILES: [(&str, &str); 22] = [
     ),
 ];
 
-/// The first of the overrides that is written otherwise, or whose text is.
-fn first_other<'a>(
-    alloc: Global,
-    files: &'a [(&'a str, &'a str)],
-) -> Result<Option<&'a str>, KeyError> {
-    for (text, want) in files {
-        if written(alloc, text)?.as_str() != *want || written(alloc, want)?.as_str() != *want {
-            return Ok(Some(*text));
-        }
+#[test]
+fn files(rt: HostRuntime) {
+    for (text, want) in &FILES {
+        agree(&rt, text, is_written(&rt, rt.alloc(), text, want));
+        agree(&rt, want, is_written(&rt, rt.alloc(), want, want));
     }
-    Ok(None)
 }
 
-/// An override changed by the mentions of another.
-fn changed(alloc: Global, old: &str, options: &str) -> Result<Text, KeyError> {
-    let mut set = set_of(alloc, old)?;
-    let options = set_of(alloc, options)?;
-    set.change(alloc, options.as_layer())?;
-    Ok(text_of(alloc, &set)?)
+/// Changes a set by the mentions of another.
+fn change(rt: &impl Abort, alloc: Global, set: &mut OverrideSet, options: &OverrideSet) {
+    set.change(alloc, options.as_layer()).expect(rt, "memory");
+}
+
+/// Whether an override that is changed by the mentions of another is written as this text.
+fn is_changed(rt: &impl Abort, alloc: Global, old: &str, options: &str, want: &str) -> bool {
+    let mut set = set_of(rt, alloc, old);
+    change(rt, alloc, &mut set, &set_of(rt, alloc, options));
+    is_text(rt, alloc, &set, want)
 }
 
 /// Overrides, options, and what is written then.
@@ -168,33 +167,22 @@ const CHANGES: [(&str, &str, &str); 7] = [
     ),
 ];
 
-/// The first of the options after which something else is written.
-fn first_other_change<'a>(
-    alloc: Global,
-    changes: &'a [(&'a str, &'a str, &'a str)],
-) -> Result<Option<&'a str>, KeyError> {
-    for (old, options, want) in changes {
-        if changed(alloc, old, options)?.as_str() != *want {
-            return Ok(Some(*options));
-        }
+#[test]
+fn changes(rt: HostRuntime) {
+    for (old, options, want) in &CHANGES {
+        let is_so = is_changed(&rt, rt.alloc(), old, options, want);
+        agree(&rt, options, is_so);
     }
-    Ok(None)
 }
 
-/// Whether an override of so many variables is written as it is read, and changed by another of as many.
-fn many_are_changed(alloc: Global, count: usize) -> Result<bool, KeyError> {
-    let old = many_variables(alloc, count, "1")?;
-    let new = many_variables(alloc, count, "2")?;
-    Ok(
-        written(alloc, &old)?.as_str() == old.as_str()
-            && changed(alloc, &old, &new)?.as_str() == new.as_str(),
-    )
+/// Whether an override is written as it is read, and changed by another one.
+fn is_kept(rt: &impl Abort, alloc: Global, old: &str, new: &str) -> bool {
+    is_written(rt, alloc, old, old) && is_changed(rt, alloc, old, new, new)
 }
 
 #[test]
-fn files_and_changes(rt: HostRuntime) -> Result<(), Fail> {
-    assert_eq!(rt; first_other(rt.alloc(), &FILES)?, None);
-    assert_eq!(rt; first_other_change(rt.alloc(), &CHANGES)?, None);
-    assert!(rt; many_are_changed(rt.alloc(), 300)?);
-    Ok(())
+fn many_are_changed(rt: HostRuntime) {
+    let old = many_variables(&rt, rt.alloc(), 300, "1");
+    let new = many_variables(&rt, rt.alloc(), 300, "2");
+    assert!(rt; is_kept(&rt, rt.alloc(), &old, &new));
 }
