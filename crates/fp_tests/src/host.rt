@@ -1,6 +1,6 @@
 //! Paths, their elements, and the texts and bytes that a host is given.
 
-use crate::rows::{agree, agree_at};
+use crate::rows::{agree, agree_at, is_text};
 use fp_base::{Blob, Text};
 use fp_host::{NoRemotes, Node, Path, PathFault, Remotes, is_element, is_link_text};
 use std::alloc::{AllocError, Global};
@@ -46,33 +46,37 @@ const LENGTHS: [(usize, bool, bool); 4] = [
 ];
 
 #[test]
-fn elements(rt: HostRuntime) {
+fn elements_and_link_texts(rt: HostRuntime) {
     for (text, good) in &ELEMENTS {
         agree(&rt, text, is_element(text) == *good);
     }
-}
-
-#[test]
-fn link_texts(rt: HostRuntime) {
     for (text, good) in &LINK_TEXTS {
         agree(&rt, text, is_link_text(text) == *good);
     }
 }
 
+/// Whether the text is no path.
+fn is_no_path(alloc: Global, text: &str) -> bool {
+    Path::parse(alloc, text).err() == Some(PathFault::Bad)
+}
+
 #[test]
 fn no_paths(rt: HostRuntime) {
     for text in &NO_PATHS {
-        let fault = Path::parse(rt.alloc(), text).err();
-        agree(&rt, text, fault == Some(PathFault::Bad));
+        agree(&rt, text, is_no_path(rt.alloc(), text));
     }
+}
+
+/// Whether the text is an element, and the text of a link.
+fn are(text: &str, element: bool, link: bool) -> bool {
+    is_element(text) == element && is_link_text(text) == link
 }
 
 #[test]
 fn lengths(rt: HostRuntime) {
     for (count, element, link) in &LENGTHS {
         let text = "x".repeat(rt.alloc(), *count).expect(&rt, "memory");
-        let is_so = is_element(&text) == *element && is_link_text(&text) == *link;
-        agree_at(&rt, *count, is_so);
+        agree_at(&rt, *count, are(&text, *element, *link));
     }
 }
 
@@ -84,17 +88,21 @@ fn path(rt: &impl Abort, alloc: Global, text: &str) -> Path {
 /// Paths, and how many elements each has.
 const PATHS: [(&str, usize); 2] = [("config", 1), ("repo/refs/heads", 3)];
 
+/// Whether a copy of the path is the same path.
+fn is_copied(rt: &impl Abort, path: &Path) -> bool {
+    path.is(&path.copy().expect(rt, "memory"))
+}
+
 /// Whether the path has this text and this many elements, and its copy is the same path.
-fn is_read_back(path: &Path, text: &str, elements: usize) -> Result<bool, AllocError> {
-    let is_alike = path.is(&path.copy()?);
-    Ok(is_alike && path.text() == text && path.len() == elements && !path.is_root())
+fn is_read_back(rt: &impl Abort, path: &Path, text: &str, elements: usize) -> bool {
+    is_copied(rt, path) && path.text() == text && path.len() == elements && !path.is_root()
 }
 
 #[test]
 fn paths(rt: HostRuntime) {
     for (text, elements) in &PATHS {
         let path = path(&rt, rt.alloc(), text);
-        agree(&rt, text, is_read_back(&path, text, *elements) == Ok(true));
+        agree(&rt, text, is_read_back(&rt, &path, text, *elements));
     }
 }
 
@@ -106,12 +114,16 @@ const ABOVE: [(&str, &str, bool); 4] = [
     ("repo/objects/ab", "repo", false),
 ];
 
+/// Whether the path of the first text is above that of the second.
+fn is_above(rt: &impl Abort, alloc: Global, upper: &str, lower: &str) -> bool {
+    path(rt, alloc, upper).is_above(&path(rt, alloc, lower))
+}
+
 #[test]
 fn paths_above_others(rt: HostRuntime) {
-    for (upper, lower, is_above) in &ABOVE {
-        let upper = path(&rt, rt.alloc(), upper);
-        let lower = path(&rt, rt.alloc(), lower);
-        agree(&rt, lower.text(), upper.is_above(&lower) == *is_above);
+    for (upper, lower, are_above) in &ABOVE {
+        let is_so = is_above(&rt, rt.alloc(), upper, lower) == *are_above;
+        agree(&rt, lower, is_so);
     }
 }
 
@@ -133,12 +145,16 @@ fn is_below_repo(rt: &impl Abort, file: &Path) -> bool {
     repo.text() == "repo" && repo.is_above(file) && !file.is_above(&repo)
 }
 
+/// Whether `tmp` is joined to `repo`.
+fn is_joined(rt: &impl Abort, repo: &Path) -> bool {
+    let tmp = repo.join("tmp").expect(rt, "an element");
+    tmp.text() == "repo/tmp" && repo.is_above(&tmp)
+}
+
 /// Whether elements are joined to the root, and `..` isn't.
 fn are_joined(rt: &impl Abort, root: &Path) -> bool {
     let repo = root.join("repo").expect(rt, "an element");
-    let tmp = repo.join("tmp").expect(rt, "an element");
-    let fault = repo.join("..").err();
-    tmp.text() == "repo/tmp" && repo.is_above(&tmp) && fault == Some(PathFault::Bad)
+    is_joined(rt, &repo) && repo.join("..").err() == Some(PathFault::Bad)
 }
 
 /// Whether the last element is added once more.
@@ -149,59 +165,70 @@ fn is_doubled(rt: &impl Abort, tmp: &Path) -> bool {
     }
 }
 
+/// Whether the root and a file below it are as they have to.
+fn are_folders(rt: &impl Abort, root: &Path, file: &Path) -> bool {
+    is_root_above(root, file) && is_below_repo(rt, file) && are_joined(rt, root)
+}
+
 #[test]
 fn folders(rt: HostRuntime) {
-    let root = Path::root(rt.alloc());
     let file = path(&rt, rt.alloc(), "repo/objects/ab");
-    assert!(rt; is_root_above(&root, &file) && is_below_repo(&rt, &file) && are_joined(&rt, &root));
+    assert!(rt; are_folders(&rt, &Path::root(rt.alloc()), &file));
     assert!(rt; is_doubled(&rt, &path(&rt, rt.alloc(), "repo/tmp")));
 }
 
 /// Whether a text of this many letters is copied.
 fn text_is_copied(rt: &impl Abort, alloc: Global, letters: usize) -> bool {
     let text = Text::from_string("a".repeat(alloc, letters).expect(rt, "memory"));
-    let copy = text.copy().expect(rt, "memory");
-    copy.as_str() == text.as_str() && copy.as_str().len() == letters
+    is_text(rt, text.copy(), text.as_str()) && text.as_str().len() == letters
+}
+
+/// Whether a copy has these bytes.
+fn are_bytes(rt: &impl Abort, copy: Result<Blob, AllocError>, bytes: &[u8]) -> bool {
+    copy.expect(rt, "memory").as_slice() == bytes
 }
 
 /// Whether the bytes are copied.
 fn blob_is_copied(rt: &impl Abort, alloc: Global, bytes: &[u8]) -> bool {
     let blob = Blob::from_vec(bytes.to_vec(alloc).expect(rt, "memory"));
-    blob.copy().expect(rt, "memory").as_slice() == bytes
+    are_bytes(rt, blob.copy(), bytes)
 }
 
 /// A text and bytes that are short, and of a mebibyte.
 #[test]
 fn copies(rt: HostRuntime) {
-    let long = vec![in rt.alloc(); 7u8; 1 << 20].expect(&rt, "memory");
     assert!(rt;
         text_is_copied(&rt, rt.alloc(), 1)
             && text_is_copied(&rt, rt.alloc(), 1 << 20)
             && blob_is_copied(&rt, rt.alloc(), &[1, 2, 3])
-            && blob_is_copied(&rt, rt.alloc(), &long)
     );
+    let long = vec![in rt.alloc(); 7u8; 1 << 20].expect(&rt, "memory");
+    assert!(rt; blob_is_copied(&rt, rt.alloc(), &long));
 }
 
 /// A text of 1,100 elements, each of 250 letters.
 fn deep(rt: &impl Abort, alloc: Global) -> String {
     let element = "e".repeat(alloc, 250).expect(rt, "memory");
-    let mut text = element.clone().expect(rt, "memory");
-    for _ in 1..1_100 {
-        text.push('/').expect(rt, "memory");
-        text.push_str(&element).expect(rt, "memory");
-    }
-    text
+    [element.as_str(); 1_100]
+        .join(alloc, "/")
+        .expect(rt, "memory")
+}
+
+/// Whether a path is cut in the middle as a short one is.
+fn has_middle(rt: &impl Abort, below: &Path) -> bool {
+    below.len() == 1_101 && below.folder(551).expect(rt, "memory").len() == 550
+}
+
+/// Whether the first path is above the second, which has `x` at its end.
+fn is_parent(rt: &impl Abort, path: &Path, below: &Path) -> bool {
+    path.is_above(below) && path.child("x").expect(rt, "memory").is(below)
 }
 
 /// Whether a path of 1,100 elements is copied, joined and cut as a short one is.
 fn goes_deep(rt: &impl Abort, path: &Path) -> bool {
     let copy = path.copy().expect(rt, "memory");
     let below = copy.join("x").expect(rt, "an element");
-    if below.len() != 1_101 || !path.is_above(&below) {
-        return false;
-    }
-    let middle = below.folder(551).expect(rt, "memory");
-    middle.len() == 550 && path.child("x").expect(rt, "memory").is(&below)
+    has_middle(rt, &below) && is_parent(rt, path, &below)
 }
 
 #[test]
@@ -210,16 +237,32 @@ fn deep_paths(rt: HostRuntime) {
     assert!(rt; goes_deep(&rt, &path(&rt, rt.alloc(), &text)));
 }
 
-/// Whether there is nothing at the path of a remote where none is.
-fn holds_nothing(alloc: Global, config: &Path) -> bool {
-    let mut none = NoRemotes;
+/// Whether there is nothing.
+fn is_absent(node: &Node) -> bool {
+    match node {
+        Node::Absent => true,
+        _ => false,
+    }
+}
+
+/// Whether nothing is read where there is no remote.
+fn reads_nothing(config: &Path) -> bool {
     let mut into = [7u8; 4];
-    let read = none.read_at("file:///srv", config, 0, &mut into);
-    let node = none.node(alloc, "file:///srv", config);
-    read == Ok(0) && into == [7u8; 4] && matches!(node, Ok(Node::Absent))
+    NoRemotes.read_at("file:///srv", config, 0, &mut into) == Ok(0) && into == [7u8; 4]
+}
+
+/// Whether there is nothing at the path of a remote where none is.
+fn holds_nothing(rt: &impl Abort, alloc: Global, config: &Path) -> bool {
+    let node = NoRemotes
+        .node(alloc, "file:///srv", config)
+        .expect(rt, "a node");
+    let is_so = is_absent(&node) && reads_nothing(config);
+    drop(node);
+    is_so
 }
 
 #[test]
 fn no_remotes(rt: HostRuntime) {
-    assert!(rt; holds_nothing(rt.alloc(), &path(&rt, rt.alloc(), "config")));
+    let config = path(&rt, rt.alloc(), "config");
+    assert!(rt; holds_nothing(&rt, rt.alloc(), &config));
 }

@@ -1,11 +1,11 @@
 //! Key files with what they read as, worked out from the rules by hand.
 
-use crate::rows::agree;
-use fp_base::{Items, KeyRule};
+use crate::rows::{agree, is_text};
+use fp_base::{Items, KeyRule, Text};
 use fp_keyfile::{
     Group, KeyError, KeyFault, KeyFile, Pair, is_group_name, is_pair_key, is_pair_value, trim_front,
 };
-use std::alloc::Global;
+use std::alloc::{AllocError, Global};
 use std::panic::Expect;
 use std::process::Abort;
 
@@ -76,8 +76,7 @@ fn file_of(rt: &impl Abort, alloc: Global, text: &str) -> KeyFile {
 
 /// Whether the file of the text is written so.
 fn is_written(rt: &impl Abort, alloc: Global, text: &str, want: &str) -> bool {
-    let written = file_of(rt, alloc, text).write().expect(rt, "memory");
-    written.as_str() == want
+    is_text(rt, file_of(rt, alloc, text).write(), want)
 }
 
 /// What is written for a file is written again as it is.
@@ -132,10 +131,8 @@ const FAULTS: [(&str, u64, KeyRule); 36] = [
 
 /// Whether these bytes have this fault.
 fn has_fault(alloc: Global, bytes: &[u8], line: u64, rule: KeyRule) -> bool {
-    match KeyFile::parse(alloc, bytes) {
-        Err(KeyError::Fault(fault)) => fault == KeyFault { line, rule },
-        _ => false,
-    }
+    let fault = KeyError::Fault(KeyFault { line, rule });
+    KeyFile::parse(alloc, bytes).err() == Some(fault)
 }
 
 #[test]
@@ -222,8 +219,7 @@ fn change(rt: &impl Abort, file: &mut KeyFile, group: &str, key: &str, value: Op
 
 /// Whether a copy of the file is written so.
 fn is_now(rt: &impl Abort, file: &KeyFile, text: &str) -> bool {
-    let copy = file.copy().expect(rt, "memory");
-    copy.write().expect(rt, "memory").as_str() == text
+    is_text(rt, file.copy().expect(rt, "memory").write(), text)
 }
 
 #[test]
@@ -231,15 +227,20 @@ fn changes(rt: HostRuntime) {
     let mut file = KeyFile::new(rt.alloc());
     for (group, key, value, text) in &CHANGES {
         change(&rt, &mut file, group, key, *value);
-        agree(
-            &rt,
-            text,
-            is_now(&rt, &file, text) && file.get(group, key) == *value,
-        );
+        let is_so = is_now(&rt, &file, text) && file.get(group, key) == *value;
+        agree(&rt, text, is_so);
     }
 }
 
-/// Whether what is taken from the file of the text is this, and nothing where the wanted text is empty.
+/// Whether what is taken from the file is this, and nothing where the wanted text is empty.
+fn takes(file: &mut KeyFile, group: &str, key: &str, want: &str) -> bool {
+    match file.remove(group, key) {
+        Some(value) => value.as_str() == want,
+        None => want.is_empty(),
+    }
+}
+
+/// Whether what is taken from the file of the text is this.
 fn is_taken(
     rt: &impl Abort,
     alloc: Global,
@@ -249,18 +250,14 @@ fn is_taken(
     want: &str,
 ) -> bool {
     let mut file = file_of(rt, alloc, text);
-    match file.remove(group, key) {
-        Some(value) => value.as_str() == want,
-        None => want.is_empty(),
-    }
+    takes(&mut file, group, key, want)
 }
 
 /// Whether the text has this many groups, and is written again of them.
 fn has_groups(rt: &impl Abort, alloc: Global, text: &str, count: usize) -> bool {
     let groups = file_of(rt, alloc, text).into_groups();
     let is_count = groups.len() == count;
-    let written = KeyFile::from_groups(groups).write().expect(rt, "memory");
-    is_count && written.as_str() == text
+    is_text(rt, KeyFile::from_groups(groups).write(), text) && is_count
 }
 
 /// How many pairs the groups have, and copies of them.
@@ -268,9 +265,8 @@ fn pair_counts(rt: &impl Abort, groups: &[Group]) -> (usize, usize) {
     let mut pairs = 0usize;
     let mut copied = 0usize;
     for group in groups {
-        let copy = group.copy().expect(rt, "memory");
         pairs = pairs.wrapping_add(group.pairs.len());
-        copied = copied.wrapping_add(copy.pairs.len());
+        copied = copied.wrapping_add(group.copy().expect(rt, "memory").pairs.len());
     }
     (pairs, copied)
 }
@@ -281,18 +277,31 @@ fn has_pairs(rt: &impl Abort, alloc: Global, text: &str, count: usize) -> bool {
     pair_counts(rt, file.groups().as_slice()) == (count, count)
 }
 
+/// Whether a copied text is this string.
+fn is_string(rt: &impl Abort, copy: Result<Text, AllocError>, want: &str) -> bool {
+    copy.expect(rt, "memory").into_string().as_str() == want
+}
+
 /// Whether a copy of the pair has this key.
 fn has_key(rt: &impl Abort, pair: &Pair, key: &str) -> bool {
     let copy = pair.copy().expect(rt, "memory");
-    copy.key.copy().expect(rt, "memory").into_string().as_str() == key
+    let again = copy.key.copy();
+    drop(copy);
+    is_string(rt, again, key)
+}
+
+/// A list of one pair with this key.
+fn pairs_of(rt: &impl Abort, alloc: Global, key: &str) -> Items<Pair> {
+    let mut pairs = Items::new(alloc);
+    let pair = Pair::new(alloc, key, "v").expect(rt, "memory");
+    pairs.push(pair).expect(rt, "memory");
+    pairs
 }
 
 /// Whether a list of one pair keeps its key.
 fn keeps_key(rt: &impl Abort, alloc: Global, key: &str) -> bool {
-    let mut pairs = Items::new(alloc);
-    let pair = Pair::new(alloc, key, "v").expect(rt, "memory");
-    pairs.push(pair).expect(rt, "memory");
-    match Items::from_vec(pairs.into_vec()).as_slice() {
+    let pairs = Items::from_vec(pairs_of(rt, alloc, key).into_vec());
+    match pairs.as_slice() {
         [pair] => has_key(rt, pair, key),
         _ => false,
     }
@@ -332,64 +341,95 @@ const PARTS: [(&str, bool, bool, bool); 17] = [
     ("\u{e9}", true, true, true),
 ];
 
+/// Whether a text is a group's name, a key and a value.
+fn are_parts(text: &str, name: bool, key: bool, value: bool) -> bool {
+    is_group_name(text) == name && is_pair_key(text) == key && is_pair_value(text) == value
+}
+
 #[test]
 fn parts(rt: HostRuntime) {
     for (text, name, key, value) in &PARTS {
-        agree(&rt, text, is_group_name(text) == *name);
-        agree(&rt, text, is_pair_key(text) == *key);
-        agree(&rt, text, is_pair_value(text) == *value);
+        agree(&rt, text, are_parts(text, *name, *key, *value));
     }
     assert!(rt; trim_front(" \t a ") == "a ");
 }
 
-/// A file of this many groups with a pair each, whose value has this many bytes.
-fn many_groups(rt: &impl Abort, alloc: Global, count: usize, length: usize) -> String {
-    let value = "v".repeat(alloc, length).expect(rt, "memory");
+/// Adds the group of this number with a pair of this value.
+fn put_group(text: &mut String, number: usize, value: &str) -> Result<(), AllocError> {
+    write!(text, "[g{number}]\nk={value}\n")
+}
+
+/// A file of this many groups with a pair each, which has this value.
+fn many_groups(rt: &impl Abort, alloc: Global, count: usize, value: &str) -> String {
     let mut text = String::new(alloc);
     for number in 0..count {
-        let group = format!(in alloc; "[g{number}]\nk={value}\n").expect(rt, "memory");
-        text.push_str(&group).expect(rt, "memory");
+        put_group(&mut text, number, value).expect(rt, "memory");
     }
     text
 }
 
-/// A file of one value of a mebibyte is read, written and copied.
-#[test]
-fn long_value(rt: HostRuntime) {
-    let alloc = rt.alloc();
-    let text = many_groups(&rt, alloc, 1, 1 << 20);
-    let value = "v".repeat(alloc, 1 << 20).expect(&rt, "memory");
-    assert!(rt;
-        has_groups(&rt, alloc, &text, 1)
-            && is_taken(&rt, alloc, &text, "g0", "k", &value)
-            && keeps_key(&rt, alloc, &value)
-    );
+/// A value of this many bytes.
+fn value_of(rt: &impl Abort, alloc: Global, length: usize) -> String {
+    "v".repeat(alloc, length).expect(rt, "memory")
 }
 
-/// A file of a mebibyte in 1,100 groups is read, written and copied.
+/// Whether a file of one group with this value is read, written and copied.
+fn keeps_value(rt: &impl Abort, alloc: Global, text: &str, value: &str) -> bool {
+    has_groups(rt, alloc, text, 1)
+        && is_taken(rt, alloc, text, "g0", "k", value)
+        && keeps_key(rt, alloc, value)
+}
+
+/// A value of a mebibyte.
+#[test]
+fn long_value(rt: HostRuntime) {
+    let value = value_of(&rt, rt.alloc(), 1 << 20);
+    let text = many_groups(&rt, rt.alloc(), 1, &value);
+    assert!(rt; keeps_value(&rt, rt.alloc(), &text, &value));
+}
+
+/// Whether this many groups with a pair each are read, written and copied.
+fn keeps_groups(rt: &impl Abort, alloc: Global, text: &str, count: usize) -> bool {
+    has_groups(rt, alloc, text, count) && has_pairs(rt, alloc, text, count)
+}
+
+/// A file of a mebibyte in 1,100 groups.
 #[test]
 fn many_groups_are_kept(rt: HostRuntime) {
-    let text = many_groups(&rt, rt.alloc(), 1_100, 1_000);
-    assert!(rt;
-        has_groups(&rt, rt.alloc(), &text, 1_100) && has_pairs(&rt, rt.alloc(), &text, 1_100)
-    );
+    let value = value_of(&rt, rt.alloc(), 1_000);
+    let text = many_groups(&rt, rt.alloc(), 1_100, &value);
+    assert!(rt; keeps_groups(&rt, rt.alloc(), &text, 1_100));
+}
+
+/// Sets a pair of the first group, and a group of its own.
+fn grow(rt: &impl Abort, file: &mut KeyFile, name: &str) {
+    change(rt, file, "g", name, Some("v"));
+    change(rt, file, name, "k", Some("v"));
+}
+
+/// The name of this number.
+fn numbered(rt: &impl Abort, alloc: Global, number: usize) -> String {
+    format!(in alloc; "n{number:04}").expect(rt, "memory")
 }
 
 /// A file in which this many pairs of one group, and this many groups, were set.
 fn grown(rt: &impl Abort, alloc: Global, count: usize) -> KeyFile {
     let mut file = KeyFile::new(alloc);
     for number in 0..count {
-        let name = format!(in alloc; "n{number:04}").expect(rt, "memory");
-        change(rt, &mut file, "g", &name, Some("v"));
-        change(rt, &mut file, &name, "k", Some("v"));
+        grow(rt, &mut file, &numbered(rt, alloc, number));
     }
     file
+}
+
+/// Whether the file has this many groups, and its text this many bytes.
+fn is_large(rt: &impl Abort, file: &KeyFile, groups: usize, length: usize) -> bool {
+    let text = file.write().expect(rt, "memory");
+    file.groups().len() == groups && text.as_str().len() == length
 }
 
 #[test]
 fn many_pairs_are_set(rt: HostRuntime) {
     let file = grown(&rt, rt.alloc(), 1_100);
     let copy = file.copy().expect(&rt, "memory");
-    let text = copy.write().expect(&rt, "memory");
-    assert!(rt; copy.groups().len() == 1_101 && text.as_str().len() == 4 + 1_100 * 8 + 1_100 * 12);
+    assert!(rt; is_large(&rt, &copy, 1_101, 4 + 1_100 * 8 + 1_100 * 12));
 }

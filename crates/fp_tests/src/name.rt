@@ -1,6 +1,6 @@
 //! Names of applications, runtimes and remotes, and digests.
 
-use crate::rows::agree;
+use crate::rows::{agree, is_text};
 use fp_base::Text;
 use fp_name::{
     AppId, Digest, NameFault, PinPattern, RefKind, RefName, RemoteName, RemoteUrl, is_arch,
@@ -11,18 +11,84 @@ use std::cmp::Ordering;
 use std::panic::Expect;
 use std::process::Abort;
 
-/// Whether a text that is in a grammar has no fault, and another one has it.
-fn is_fault(fault: Option<NameFault>, good: bool) -> bool {
-    fault == if good { None } else { Some(NameFault::Bad) }
+/// The fault of a text that is good, or that has one.
+fn fault(good: bool) -> Option<NameFault> {
+    if good { None } else { Some(NameFault::Bad) }
+}
+
+/// Kinds of texts: by what reads them, by what tests them, and what stands after `app/` in a ref.
+#[derive(Clone, Copy)]
+enum Kind {
+    Id,
+    Remote,
+    Url,
+    Ref,
+    Pattern,
+    Digest,
+    TestedId,
+    Arch,
+    Branch,
+    TestedRef,
+    TestedPattern,
+    RefOfApp,
+}
+
+/// The fault of a text as one of this kind.
+fn fault_of(alloc: Global, kind: Kind, text: &str) -> Option<NameFault> {
+    match kind {
+        Kind::Id => AppId::parse(alloc, text.as_bytes()).err(),
+        Kind::Remote => RemoteName::parse(alloc, text.as_bytes()).err(),
+        Kind::Url => RemoteUrl::parse(alloc, text.as_bytes()).err(),
+        Kind::Ref => RefName::parse(alloc, text.as_bytes()).err(),
+        Kind::Pattern => PinPattern::parse(alloc, text.as_bytes()).err(),
+        Kind::Digest => Digest::parse(text.as_bytes()).err(),
+        Kind::TestedId => fault(is_id(text)),
+        Kind::Arch => fault(is_arch(text)),
+        Kind::Branch => fault(is_branch(text)),
+        Kind::TestedRef => fault(is_ref(text)),
+        Kind::TestedPattern => fault(is_pin(text)),
+        Kind::RefOfApp => RefName::of_kind(alloc, RefKind::App, text).err(),
+    }
+}
+
+/// Whether a text is of this kind, or has a fault.
+fn is_as_due(alloc: Global, kind: Kind, text: &str, good: bool) -> bool {
+    fault_of(alloc, kind, text) == fault(good)
+}
+
+/// Ends the test at a text that is otherwise.
+fn agree_on(rt: &impl Abort, alloc: Global, kind: Kind, rows: &[(&str, bool)]) {
+    for (text, good) in rows {
+        agree(rt, text, is_as_due(alloc, kind, text, *good));
+    }
+}
+
+/// The same of two kinds.
+fn agree_on_two(
+    rt: &impl Abort,
+    alloc: Global,
+    first: Kind,
+    second: Kind,
+    rows: &[(&str, bool, bool)],
+) {
+    for (text, one, other) in rows {
+        agree(rt, text, is_as_due(alloc, first, text, *one));
+        agree(rt, text, is_as_due(alloc, second, text, *other));
+    }
+}
+
+/// The same of texts that are none.
+fn agree_on_none(rt: &impl Abort, alloc: Global, kind: Kind, rows: &[&str]) {
+    for text in rows {
+        agree(rt, text, is_as_due(alloc, kind, text, false));
+    }
 }
 
 /// A text of `length` bytes or more: the front, and letters after it.
 fn filled(rt: &impl Abort, alloc: Global, front: &str, length: usize) -> String {
-    let mut text = String::from_str(alloc, front).expect(rt, "memory");
-    for _ in front.len()..length {
-        text.push('a').expect(rt, "memory");
-    }
-    text
+    let count = length.saturating_sub(front.len());
+    let letters = "a".repeat(alloc, count).expect(rt, "memory");
+    [front, &letters].concat(alloc).expect(rt, "memory")
 }
 
 /// Texts, and whether each is an ID.
@@ -63,14 +129,6 @@ const IDS: [(&str, bool); 34] = [
     ("org.x.Y[", false),
 ];
 
-#[test]
-fn ids(rt: HostRuntime) {
-    for (text, good) in &IDS {
-        let fault = AppId::parse(rt.alloc(), text.as_bytes()).err();
-        agree(&rt, text, is_fault(fault, *good) && is_id(text) == *good);
-    }
-}
-
 /// Texts, whether each is an ARCH, and whether it is a BRANCH.
 const ARCHS_AND_BRANCHES: [(&str, bool, bool); 26] = [
     ("x86_64", true, true),
@@ -101,17 +159,6 @@ const ARCHS_AND_BRANCHES: [(&str, bool, bool); 26] = [
     ("a,b", false, false),
 ];
 
-#[test]
-fn archs_and_branches(rt: HostRuntime) {
-    for (text, arch, branch) in &ARCHS_AND_BRANCHES {
-        agree(
-            &rt,
-            text,
-            is_arch(text) == *arch && is_branch(text) == *branch,
-        );
-    }
-}
-
 /// Texts, and whether each is the name of a remote.
 const REMOTES: [(&str, bool); 15] = [
     ("flathub", true),
@@ -130,14 +177,6 @@ const REMOTES: [(&str, bool); 15] = [
     ("\u{e9}", false),
     ("a\"b", false),
 ];
-
-#[test]
-fn names_of_remotes(rt: HostRuntime) {
-    for (text, good) in &REMOTES {
-        let fault = RemoteName::parse(rt.alloc(), text.as_bytes()).err();
-        agree(&rt, text, is_fault(fault, *good));
-    }
-}
 
 /// Texts, and whether each is the url of a remote.
 const URLS: [(&str, bool); 18] = [
@@ -160,14 +199,6 @@ const URLS: [(&str, bool); 18] = [
     ("file:///\u{e9}", false),
     ("file//:/", false),
 ];
-
-#[test]
-fn urls_of_remotes(rt: HostRuntime) {
-    for (text, good) in &URLS {
-        let fault = RemoteUrl::parse(rt.alloc(), text.as_bytes()).err();
-        agree(&rt, text, is_fault(fault, *good));
-    }
-}
 
 /// Texts, whether each is a ref, and whether it is a pattern.
 const REFS_AND_PATTERNS: [(&str, bool, bool); 30] = [
@@ -203,18 +234,49 @@ const REFS_AND_PATTERNS: [(&str, bool, bool); 30] = [
     ("app/*/*/*/*", false, false),
 ];
 
+/// Texts after a kind that make no ref.
+const NO_REFS: [&str; 5] = [
+    "org.x.Y/x86_64",
+    "org.x.Y/x86_64/1/2",
+    "org.x/x86_64/1",
+    "a.b.c/a/.1",
+    "",
+];
+
+/// Texts that are no digests.
+const NO_DIGESTS: [&str; 12] = [
+    "",
+    "e3",
+    "e3b0c44298fc1c149afbf4c8996fb92427ae41e4649b934ca495991b7852b85",
+    "e3b0c44298fc1c149afbf4c8996fb92427ae41e4649b934ca495991b7852b8555",
+    "E3b0c44298fc1c149afbf4c8996fb92427ae41e4649b934ca495991b7852b855",
+    "e3b0c44298fc1c149afbf4c8996fb92427ae41e4649b934ca495991b7852b85F",
+    "g3b0c44298fc1c149afbf4c8996fb92427ae41e4649b934ca495991b7852b855",
+    "e3b0c44298fc1c149afbf4c8996fb92427ae41e4649b934ca495991b7852b85\n",
+    "e3b0c44298fc1c149afbf4c8996fb92427ae41e4649b934ca495991b7852b8\u{e9}",
+    "e3b0c44298fc1c149afbf4c8996fb92427ae41e4649b934ca495991b7852b85/",
+    "e3b0c44298fc1c149afbf4c8996fb92427ae41e4649b934ca495991b7852b85:",
+    "e3b0c44298fc1c149afbf4c8996fb92427ae41e4649b934ca495991b7852b85`",
+];
+
 #[test]
-fn refs_and_patterns(rt: HostRuntime) {
-    for (text, name, pattern) in &REFS_AND_PATTERNS {
-        let fault = RefName::parse(rt.alloc(), text.as_bytes()).err();
-        agree(&rt, text, is_fault(fault, *name) && is_ref(text) == *name);
-        let fault = PinPattern::parse(rt.alloc(), text.as_bytes()).err();
-        agree(
-            &rt,
-            text,
-            is_fault(fault, *pattern) && is_pin(text) == *pattern,
-        );
-    }
+fn texts_of_each_kind(rt: HostRuntime) {
+    let alloc = rt.alloc();
+    agree_on(&rt, alloc, Kind::Id, &IDS);
+    agree_on(&rt, alloc, Kind::TestedId, &IDS);
+    agree_on(&rt, alloc, Kind::Remote, &REMOTES);
+    agree_on(&rt, alloc, Kind::Url, &URLS);
+    agree_on_two(&rt, alloc, Kind::Arch, Kind::Branch, &ARCHS_AND_BRANCHES);
+    agree_on_two(&rt, alloc, Kind::Ref, Kind::Pattern, &REFS_AND_PATTERNS);
+    agree_on_two(
+        &rt,
+        alloc,
+        Kind::TestedRef,
+        Kind::TestedPattern,
+        &REFS_AND_PATTERNS,
+    );
+    agree_on_none(&rt, alloc, Kind::RefOfApp, &NO_REFS);
+    agree_on_none(&rt, alloc, Kind::Digest, &NO_DIGESTS);
 }
 
 #[test]
@@ -222,55 +284,35 @@ fn bytes_that_are_no_text(rt: HostRuntime) {
     let alloc = rt.alloc();
     let no_ref = b"app/org.x.App/x86_64/\xfe";
     assert!(rt;
-        is_fault(AppId::parse(alloc, b"org.x.\xff").err(), false)
-            && is_fault(RemoteName::parse(alloc, b"a\x80").err(), false)
-            && is_fault(RemoteUrl::parse(alloc, b"file:///\xc3").err(), false)
-            && is_fault(RefName::parse(alloc, no_ref).err(), false)
-            && is_fault(PinPattern::parse(alloc, no_ref).err(), false)
+        AppId::parse(alloc, b"org.x.\xff").err() == fault(false)
+            && RemoteName::parse(alloc, b"a\x80").err() == fault(false)
+            && RemoteUrl::parse(alloc, b"file:///\xc3").err() == fault(false)
+            && RefName::parse(alloc, no_ref).err() == fault(false)
+            && PinPattern::parse(alloc, no_ref).err() == fault(false)
     );
 }
 
-/// Grammars of texts whose length has a bound.
-#[derive(Clone, Copy)]
-enum Grammar {
-    Id,
-    Arch,
-    Branch,
-    Remote,
-    Url,
-}
-
-fn is_in(alloc: Global, grammar: Grammar, text: &str) -> bool {
-    match grammar {
-        Grammar::Id => AppId::parse(alloc, text.as_bytes()).is_ok(),
-        Grammar::Arch => is_arch(text),
-        Grammar::Branch => is_branch(text),
-        Grammar::Remote => RemoteName::parse(alloc, text.as_bytes()).is_ok(),
-        Grammar::Url => RemoteUrl::parse(alloc, text.as_bytes()).is_ok(),
-    }
-}
-
-/// Texts that begin so and have this many bytes, and whether each is in the grammar.
-const LENGTHS: [(Grammar, &str, usize, bool); 12] = [
-    (Grammar::Id, "org.x.", 255, true),
-    (Grammar::Id, "org.x.", 256, false),
-    (Grammar::Arch, "", 1, true),
-    (Grammar::Arch, "", 255, true),
-    (Grammar::Arch, "", 256, false),
-    (Grammar::Branch, "", 1, true),
-    (Grammar::Branch, "", 255, true),
-    (Grammar::Branch, "", 256, false),
-    (Grammar::Remote, "a", 64, true),
-    (Grammar::Remote, "a", 65, false),
-    (Grammar::Url, "file:///", 1024, true),
-    (Grammar::Url, "file:///", 1025, false),
+/// Texts that begin so and have this many bytes, and whether each is of the kind.
+const LENGTHS: [(Kind, &str, usize, bool); 12] = [
+    (Kind::Id, "org.x.", 255, true),
+    (Kind::Id, "org.x.", 256, false),
+    (Kind::Arch, "", 1, true),
+    (Kind::Arch, "", 255, true),
+    (Kind::Arch, "", 256, false),
+    (Kind::Branch, "", 1, true),
+    (Kind::Branch, "", 255, true),
+    (Kind::Branch, "", 256, false),
+    (Kind::Remote, "a", 64, true),
+    (Kind::Remote, "a", 65, false),
+    (Kind::Url, "file:///", 1024, true),
+    (Kind::Url, "file:///", 1025, false),
 ];
 
 #[test]
 fn lengths(rt: HostRuntime) {
-    for (grammar, front, length, good) in &LENGTHS {
+    for (kind, front, length, good) in &LENGTHS {
         let text = filled(&rt, rt.alloc(), front, *length);
-        agree(&rt, &text, is_in(rt.alloc(), *grammar, &text) == *good);
+        agree(&rt, &text, is_as_due(rt.alloc(), *kind, &text, *good));
     }
 }
 
@@ -289,62 +331,53 @@ fn has_parts(name: &RefName, kind: RefKind, id: &str, arch: &str, branch: &str) 
 }
 
 fn is_written(rt: &impl Abort, name: &RefName, text: &str) -> bool {
-    let written = name.write().expect(rt, "memory");
-    let path = name.path().expect(rt, "memory");
-    name.as_str() == text && written.as_str() == text && path.as_str() == text
+    name.as_str() == text && is_text(rt, name.write(), text) && is_text(rt, name.path(), text)
+}
+
+fn has_id(rt: &impl Abort, name: &RefName) -> bool {
+    name.app_id().expect(rt, "memory").as_str() == name.id()
 }
 
 fn is_copied(rt: &impl Abort, name: &RefName) -> bool {
-    let copy = name.copy().expect(rt, "memory");
-    let id = name.app_id().expect(rt, "memory");
-    copy == *name && id.as_str() == name.id()
+    name.copy().expect(rt, "memory") == *name
 }
 
 /// Whether a runtime's ref is made of these parts.
-fn is_made(alloc: Global, name: &RefName, id: &str, arch: &str, branch: &str) -> bool {
-    match RefName::new(alloc, RefKind::Runtime, id, arch, branch) {
-        Ok(made) => made == *name,
-        Err(_) => false,
-    }
+fn is_made(
+    rt: &impl Abort,
+    alloc: Global,
+    name: &RefName,
+    id: &str,
+    arch: &str,
+    branch: &str,
+) -> bool {
+    RefName::new(alloc, RefKind::Runtime, id, arch, branch).expect(rt, "a ref") == *name
 }
 
 /// Whether a runtime's ref is made of the text after its kind.
-fn is_made_of(alloc: Global, name: &RefName, rest: &str) -> bool {
-    match RefName::of_kind(alloc, RefKind::Runtime, rest) {
-        Ok(made) => made == *name,
-        Err(_) => false,
-    }
+fn is_made_of(rt: &impl Abort, alloc: Global, name: &RefName, rest: &str) -> bool {
+    RefName::of_kind(alloc, RefKind::Runtime, rest).expect(rt, "a ref") == *name
+}
+
+/// Whether the ref is written, copied, and made of its parts.
+fn is_whole(rt: &impl Abort, alloc: Global, name: &RefName, text: &str) -> bool {
+    is_written(rt, name, text)
+        && is_copied(rt, name)
+        && has_id(rt, name)
+        && is_made(rt, alloc, name, name.id(), name.arch(), name.branch())
+}
+
+/// Whether a ref has these parts, and is made of the text after its kind.
+fn is_read(rt: &impl Abort, alloc: Global, name: &RefName, text: &str) -> bool {
+    has_parts(name, RefKind::Runtime, "org.x.Y-z", "x86_64", "22.08")
+        && is_whole(rt, alloc, name, text)
+        && is_made_of(rt, alloc, name, "org.x.Y-z/x86_64/22.08")
 }
 
 #[test]
 fn refs_of_parts(rt: HostRuntime) {
-    let alloc = rt.alloc();
     let text = "runtime/org.x.Y-z/x86_64/22.08";
-    let name = ref_of(&rt, alloc, text);
-    assert!(rt;
-        has_parts(&name, RefKind::Runtime, "org.x.Y-z", "x86_64", "22.08")
-            && is_written(&rt, &name, text)
-            && is_copied(&rt, &name)
-            && is_made(alloc, &name, "org.x.Y-z", "x86_64", "22.08")
-            && is_made_of(alloc, &name, "org.x.Y-z/x86_64/22.08")
-    );
-}
-
-/// Texts after a kind that make no ref.
-const NO_REFS: [&str; 5] = [
-    "org.x.Y/x86_64",
-    "org.x.Y/x86_64/1/2",
-    "org.x/x86_64/1",
-    "a.b.c/a/.1",
-    "",
-];
-
-#[test]
-fn texts_that_make_no_ref(rt: HostRuntime) {
-    for text in &NO_REFS {
-        let fault = RefName::of_kind(rt.alloc(), RefKind::App, text).err();
-        agree(&rt, text, is_fault(fault, false));
-    }
+    assert!(rt; is_read(&rt, rt.alloc(), &ref_of(&rt, rt.alloc(), text), text));
 }
 
 /// An ID, an ARCH and a BRANCH that make no ref.
@@ -357,30 +390,36 @@ const NO_PARTS: [(&str, &str, &str); 3] = [
 #[test]
 fn parts_that_make_no_ref(rt: HostRuntime) {
     for (id, arch, branch) in &NO_PARTS {
-        let fault = RefName::new(rt.alloc(), RefKind::App, id, arch, branch).err();
-        agree(&rt, id, is_fault(fault, false));
+        let made = RefName::new(rt.alloc(), RefKind::App, id, arch, branch);
+        agree(&rt, id, made.err() == fault(false));
     }
 }
 
-/// Whether the first is the same as the second, and less than the third.
-fn ascend<T: Ord>(first: &T, same: &T, greater: &T) -> bool {
-    first.cmp(same) == Ordering::Equal
-        && first.cmp(greater) == Ordering::Less
-        && greater.cmp(first) == Ordering::Greater
+/// How the refs of the texts are ordered.
+fn order_of_refs(rt: &impl Abort, alloc: Global, left: &str, right: &str) -> Ordering {
+    ref_of(rt, alloc, left).cmp(&ref_of(rt, alloc, right))
 }
 
-/// Whether the refs of the texts ascend.
-fn refs_ascend(rt: &impl Abort, alloc: Global, left: &str, right: &str) -> bool {
-    let first = ref_of(rt, alloc, left);
-    let same = ref_of(rt, alloc, left);
-    ascend(&first, &same, &ref_of(rt, alloc, right))
+/// How the patterns of the texts are ordered.
+fn order_of_patterns(rt: &impl Abort, alloc: Global, left: &str, right: &str) -> Ordering {
+    pattern_of(rt, alloc, left).cmp(&pattern_of(rt, alloc, right))
 }
 
-/// Whether the patterns of the texts ascend.
-fn patterns_ascend(rt: &impl Abort, alloc: Global, left: &str, right: &str) -> bool {
-    let first = pattern_of(rt, alloc, left);
-    let same = pattern_of(rt, alloc, left);
-    ascend(&first, &same, &pattern_of(rt, alloc, right))
+/// How the texts are ordered as refs and as patterns, or nothing where that differs.
+fn order_of(rt: &impl Abort, alloc: Global, left: &str, right: &str) -> Option<Ordering> {
+    let order = order_of_refs(rt, alloc, left, right);
+    if order_of_patterns(rt, alloc, left, right) == order {
+        Some(order)
+    } else {
+        None
+    }
+}
+
+/// Whether the left text comes before the right one, and is the same as itself.
+fn ascend(rt: &impl Abort, alloc: Global, left: &str, right: &str) -> bool {
+    order_of(rt, alloc, left, left) == Some(Ordering::Equal)
+        && order_of(rt, alloc, left, right) == Some(Ordering::Less)
+        && order_of(rt, alloc, right, left) == Some(Ordering::Greater)
 }
 
 /// By the bytes of the texts the left ref comes first. The first two have the other order by their parts, since `-` and
@@ -400,14 +439,8 @@ const ORDERED: [(&str, &str); 10] = [
 
 #[test]
 fn order(rt: HostRuntime) {
-    let alloc = rt.alloc();
     for (left, right) in &ORDERED {
-        let are_ordered = refs_ascend(&rt, alloc, left, right);
-        agree(
-            &rt,
-            left,
-            are_ordered && patterns_ascend(&rt, alloc, left, right),
-        );
+        agree(&rt, left, ascend(&rt, rt.alloc(), left, right));
     }
 }
 
@@ -431,12 +464,20 @@ const PATTERNS: [(&str, bool); 16] = [
     ("app/*/aarch64/stable", false),
 ];
 
+/// Whether the pattern of a text matches a ref.
+fn is_match(rt: &impl Abort, alloc: Global, text: &str, name: &RefName) -> bool {
+    pattern_of(rt, alloc, text).matches(name)
+}
+
 #[test]
 fn matching(rt: HostRuntime) {
     let name = ref_of(&rt, rt.alloc(), "app/org.x.App/x86_64/stable");
     for (text, matches) in &PATTERNS {
-        let pattern = pattern_of(&rt, rt.alloc(), text);
-        agree(&rt, text, pattern.matches(&name) == *matches);
+        agree(
+            &rt,
+            text,
+            is_match(&rt, rt.alloc(), text, &name) == *matches,
+        );
     }
 }
 
@@ -452,10 +493,10 @@ const EMPTY_BYTES: [u8; 32] = [
 #[test]
 fn digest(rt: HostRuntime) {
     let digest = Digest::from_bytes(EMPTY_BYTES);
-    let written = digest.write(rt.alloc()).expect(&rt, "memory");
-    assert!(rt; written.as_str() == EMPTY && digest.digits().as_slice() == EMPTY.as_bytes());
     assert!(rt;
-        Digest::parse(EMPTY.as_bytes()) == Ok(digest)
+        is_text(&rt, digest.write(rt.alloc()), EMPTY)
+            && digest.digits().as_slice() == EMPTY.as_bytes()
+            && Digest::parse(EMPTY.as_bytes()) == Ok(digest)
             && *digest.as_bytes() == EMPTY_BYTES
             && Digest::from_slice(&EMPTY_BYTES) == Some(digest)
             && Digest::from_slice(&EMPTY_BYTES[1..]) == None
@@ -463,68 +504,53 @@ fn digest(rt: HostRuntime) {
     );
 }
 
-/// Texts that are no digests.
-const NO_DIGESTS: [&str; 12] = [
-    "",
-    "e3",
-    "e3b0c44298fc1c149afbf4c8996fb92427ae41e4649b934ca495991b7852b85",
-    "e3b0c44298fc1c149afbf4c8996fb92427ae41e4649b934ca495991b7852b8555",
-    "E3b0c44298fc1c149afbf4c8996fb92427ae41e4649b934ca495991b7852b855",
-    "e3b0c44298fc1c149afbf4c8996fb92427ae41e4649b934ca495991b7852b85F",
-    "g3b0c44298fc1c149afbf4c8996fb92427ae41e4649b934ca495991b7852b855",
-    "e3b0c44298fc1c149afbf4c8996fb92427ae41e4649b934ca495991b7852b85\n",
-    "e3b0c44298fc1c149afbf4c8996fb92427ae41e4649b934ca495991b7852b8\u{e9}",
-    "e3b0c44298fc1c149afbf4c8996fb92427ae41e4649b934ca495991b7852b85/",
-    "e3b0c44298fc1c149afbf4c8996fb92427ae41e4649b934ca495991b7852b85:",
-    "e3b0c44298fc1c149afbf4c8996fb92427ae41e4649b934ca495991b7852b85`",
-];
-
-#[test]
-fn no_digests(rt: HostRuntime) {
-    for text in &NO_DIGESTS {
-        agree(
-            &rt,
-            text,
-            is_fault(Digest::parse(text.as_bytes()).err(), false),
-        );
-    }
+fn id_is_written(rt: &impl Abort, id: &AppId, text: &str) -> bool {
+    is_text(rt, id.write(), text) && id.copy().expect(rt, "memory") == *id
 }
 
-fn id_is_written(rt: &impl Abort, alloc: Global, text: &str) -> bool {
-    let id = AppId::parse(alloc, text.as_bytes()).expect(rt, "an ID");
-    let copy = id.copy().expect(rt, "memory");
-    id.write().expect(rt, "memory").as_str() == text && copy == id
+fn remote_is_written(rt: &impl Abort, name: &RemoteName, text: &str) -> bool {
+    is_text(rt, name.write(), text) && name.copy().expect(rt, "memory") == *name
 }
 
-fn remote_is_written(rt: &impl Abort, alloc: Global, text: &str) -> bool {
-    let name = RemoteName::parse(alloc, text.as_bytes()).expect(rt, "a name");
-    let copy = name.copy().expect(rt, "memory");
-    name.write().expect(rt, "memory").as_str() == text && copy == name
-}
-
-fn url_is_written(rt: &impl Abort, alloc: Global, text: &str) -> bool {
-    let url = RemoteUrl::parse(alloc, text.as_bytes()).expect(rt, "a url");
-    let copy = url.copy().expect(rt, "memory");
-    url.write().expect(rt, "memory").as_str() == text && copy == url
+fn url_is_written(rt: &impl Abort, url: &RemoteUrl, text: &str) -> bool {
+    is_text(rt, url.write(), text) && url.copy().expect(rt, "memory") == *url
 }
 
 fn pattern_is_written(rt: &impl Abort, pattern: &PinPattern, text: &str) -> bool {
-    let copy = pattern.copy().expect(rt, "memory");
-    pattern.write().expect(rt, "memory").as_str() == text && copy == *pattern
+    is_text(rt, pattern.write(), text) && pattern.copy().expect(rt, "memory") == *pattern
+}
+
+/// Whether the ID of the text is written and copied.
+fn writes_id(rt: &impl Abort, alloc: Global, text: &str) -> bool {
+    let id = AppId::parse(alloc, text.as_bytes()).expect(rt, "an ID");
+    id_is_written(rt, &id, text)
+}
+
+/// Whether the name of a remote is.
+fn writes_remote(rt: &impl Abort, alloc: Global, text: &str) -> bool {
+    let name = RemoteName::parse(alloc, text.as_bytes()).expect(rt, "a name");
+    remote_is_written(rt, &name, text)
+}
+
+/// Whether the url of a remote is.
+fn writes_url(rt: &impl Abort, alloc: Global, text: &str) -> bool {
+    let url = RemoteUrl::parse(alloc, text.as_bytes()).expect(rt, "a url");
+    url_is_written(rt, &url, text)
+}
+
+/// Whether the pattern is.
+fn writes_pattern(rt: &impl Abort, alloc: Global, text: &str) -> bool {
+    pattern_is_written(rt, &pattern_of(rt, alloc, text), text)
 }
 
 #[test]
 fn texts_of_names(rt: HostRuntime) {
     let alloc = rt.alloc();
     assert!(rt;
-        id_is_written(&rt, alloc, "org.x.App")
-            && remote_is_written(&rt, alloc, "flathub")
-            && url_is_written(&rt, alloc, "file:///srv")
-            && pattern_is_written(
-                &rt,
-                &pattern_of(&rt, alloc, "app/*/*/stable"),
-                "app/*/*/stable"
-            )
+        writes_id(&rt, alloc, "org.x.App")
+            && writes_remote(&rt, alloc, "flathub")
+            && writes_url(&rt, alloc, "file:///srv")
+            && writes_pattern(&rt, alloc, "app/*/*/stable")
     );
 }
 
@@ -532,11 +558,9 @@ fn texts_of_names(rt: HostRuntime) {
 #[test]
 fn texts_of_long_names(rt: HostRuntime) {
     let alloc = rt.alloc();
-    assert!(rt;
-        id_is_written(&rt, alloc, &filled(&rt, alloc, "org.x.", 255))
-            && remote_is_written(&rt, alloc, &filled(&rt, alloc, "", 64))
-            && url_is_written(&rt, alloc, &filled(&rt, alloc, "file:///", 1024))
-    );
+    assert!(rt; writes_id(&rt, alloc, &filled(&rt, alloc, "org.x.", 255)));
+    assert!(rt; writes_remote(&rt, alloc, &filled(&rt, alloc, "", 64)));
+    assert!(rt; writes_url(&rt, alloc, &filled(&rt, alloc, "file:///", 1024)));
 }
 
 /// The longest ref: an ID, an ARCH and a BRANCH of 255 bytes each.
@@ -548,40 +572,46 @@ fn longest(rt: &impl Abort, alloc: Global) -> String {
         .expect(rt, "memory")
 }
 
-/// The longest ref is written, copied and made again of its parts.
+/// Whether a ref of a runtime is written, copied and made again of its parts, and is a pattern that matches it.
+fn is_kept(rt: &impl Abort, alloc: Global, name: &RefName, text: &str) -> bool {
+    name.kind() == RefKind::Runtime
+        && is_whole(rt, alloc, name, text)
+        && writes_pattern(rt, alloc, text)
+        && is_match(rt, alloc, text, name)
+}
+
+/// The longest ref.
 #[test]
 fn longest_ref(rt: HostRuntime) {
     let text = longest(&rt, rt.alloc());
-    let name = ref_of(&rt, rt.alloc(), &text);
-    assert!(rt;
-        is_made(rt.alloc(), &name, name.id(), name.arch(), name.branch())
-            && name.kind() == RefKind::Runtime
-            && is_written(&rt, &name, &text)
-            && is_copied(&rt, &name)
-    );
-}
-
-/// The text of the longest ref is a pattern that matches it.
-#[test]
-fn longest_pattern(rt: HostRuntime) {
-    let text = longest(&rt, rt.alloc());
-    let pattern = pattern_of(&rt, rt.alloc(), &text);
-    let name = ref_of(&rt, rt.alloc(), &text);
-    assert!(rt; pattern_is_written(&rt, &pattern, &text) && pattern.matches(&name));
+    assert!(rt; is_kept(&rt, rt.alloc(), &ref_of(&rt, rt.alloc(), &text), &text));
 }
 
 /// Whether the text is copied.
 fn text_is_copied(rt: &impl Abort, text: &Text) -> bool {
-    let copy = text.copy().expect(rt, "memory");
-    copy.as_str() == text.as_str()
+    is_text(rt, text.copy(), text.as_str())
+}
+
+/// A text of its own.
+fn text_of(rt: &impl Abort, alloc: Global, text: &str) -> Text {
+    Text::from_str(alloc, text).expect(rt, "memory")
+}
+
+/// Whether a text is copied, and comes after a lesser one.
+fn is_after(rt: &impl Abort, text: &Text, less: &Text) -> bool {
+    text_is_copied(rt, text) && less < text
+}
+
+/// Whether a text of this many letters is copied.
+fn is_long_text(rt: &impl Abort, alloc: Global, length: usize) -> bool {
+    let long = Text::from_string(filled(rt, alloc, "", length));
+    text_is_copied(rt, &long) && long.as_str().len() == length
 }
 
 /// A short text is copied and comes after a lesser one, and a text of a mebibyte is copied.
 #[test]
 fn texts(rt: HostRuntime) {
-    let text = Text::from_str(rt.alloc(), "b").expect(&rt, "memory");
-    let less = Text::from_str(rt.alloc(), "a").expect(&rt, "memory");
-    assert!(rt; text_is_copied(&rt, &text) && less < text);
-    let long = Text::from_string(filled(&rt, rt.alloc(), "", 1 << 20));
-    assert!(rt; text_is_copied(&rt, &long) && long.as_str().len() == 1 << 20);
+    let alloc = rt.alloc();
+    assert!(rt; is_after(&rt, &text_of(&rt, alloc, "b"), &text_of(&rt, alloc, "a")));
+    assert!(rt; is_long_text(&rt, alloc, 1 << 20));
 }
