@@ -2,7 +2,7 @@
 
 use crate::rows::agree_at;
 use fp_base::{Blob, Items};
-use fp_host::{Entry, Host, Node, Path, Remotes, Source, Stat, Taken};
+use fp_host::{Entry, Host, Node, Path, RemoteError, Remotes, Source, Stat, Taken};
 use fp_memhost::{Choice, FileRow, Image, MemHost, MemNode, MemRemotes, MemSource};
 use std::alloc::Global;
 use std::panic::Expect;
@@ -39,9 +39,14 @@ fn replace<H: Host>(host: &mut H, at: &Places) {
     let _said = host.say(b"done");
 }
 
+/// A host in memory with nothing in it.
+fn new_host(rt: &impl Abort, alloc: Global) -> MemHost {
+    MemHost::new(alloc).expect(rt, "memory")
+}
+
 /// The host after these calls, of which one fails: it is done all the same, or a stop may still bring it about.
 fn replaced(rt: &impl Abort, alloc: Global, at: &Places, failing: u64, is_done: bool) -> MemHost {
-    let mut host = MemHost::new(alloc).expect(rt, "memory");
+    let mut host = new_host(rt, alloc);
     host.fail_calls(&[(failing, is_done)]).expect(rt, "memory");
     replace(&mut host, at);
     host
@@ -63,6 +68,24 @@ fn place<H: Host>(host: &mut H, at: &Places) -> &'static str {
     }
 }
 
+/// Where the file is found in a host that begins with this image.
+fn place_in(rt: &impl Abort, alloc: Global, image: Image, at: &Places) -> &'static str {
+    if !image.is_good() {
+        drop(image);
+        return "bad";
+    }
+    let mut host = MemHost::from_image(alloc, image).expect(rt, "memory");
+    let found = place(&mut host, at);
+    drop(host);
+    found
+}
+
+/// Adds the chosen entry of a name.
+fn choose(rt: &impl Abort, names: &mut Items<(Path, u64)>, path: &Path, entry: u64) {
+    let path = path.copy().expect(rt, "memory");
+    names.push((path, entry)).expect(rt, "memory");
+}
+
 /// The chosen entries of the two names.
 fn chosen_names(
     rt: &impl Abort,
@@ -72,10 +95,8 @@ fn chosen_names(
     staged: u64,
 ) -> Items<(Path, u64)> {
     let mut names = Items::new(alloc);
-    let path = at.config.copy().expect(rt, "memory");
-    names.push((path, config)).expect(rt, "memory");
-    let path = at.new.copy().expect(rt, "memory");
-    names.push((path, staged)).expect(rt, "memory");
+    choose(rt, &mut names, &at.config, config);
+    choose(rt, &mut names, &at.new, staged);
     names
 }
 
@@ -89,7 +110,7 @@ fn chosen_files(rt: &impl Abort, alloc: Global, bytes: &[u8]) -> Items<(u64, Blo
 }
 
 fn blob(rt: &impl Abort, alloc: Global, bytes: &[u8]) -> Blob {
-    Blob::from_vec(bytes.to_vec(alloc).expect(rt, "memory"))
+    Blob::from_slice(alloc, bytes).expect(rt, "memory")
 }
 
 /// Where the file is found in what a stop leaves after these calls.
@@ -102,10 +123,7 @@ fn left(
     at: &Places,
 ) -> &'static str {
     match host.image_after(calls, choice).expect(rt, "memory") {
-        Some(image) => place(
-            &mut MemHost::from_image(alloc, image).expect(rt, "memory"),
-            at,
-        ),
+        Some(image) => place_in(rt, alloc, image, at),
         None => "none",
     }
 }
@@ -134,11 +152,16 @@ fn a_stop_leaves_what_is_chosen(rt: HostRuntime) {
     let at = make_places(&rt, alloc);
     let host = replaced(&rt, alloc, &at, 99, true);
     for (row, (calls, config, staged, bytes, want)) in LEFT.iter().enumerate() {
-        let names = chosen_names(&rt, alloc, &at, *config, *staged);
-        let files = chosen_files(&rt, alloc, bytes);
-        let found = left(&rt, alloc, &host, *calls, &Choice { names, files }, &at);
+        let choice = Choice {
+            names: chosen_names(&rt, alloc, &at, *config, *staged),
+            files: chosen_files(&rt, alloc, bytes),
+        };
+        let found = left(&rt, alloc, &host, *calls, &choice, &at);
+        drop(choice);
         agree_at(&rt, row, found == *want);
     }
+    drop(host);
+    drop(at);
 }
 
 /// Which call fails, whether it is done all the same, whether two names may change then, and where the file is found.
@@ -156,37 +179,51 @@ fn count_choices(rt: &impl Abort, host: &MemHost) -> usize {
     host.choices(host.calls()).expect(rt, "memory").len()
 }
 
+/// Whether two names may change in the host, or not, and where the file is found.
+fn is_so(rt: &impl Abort, host: &mut MemHost, at: &Places, are_two: bool, want: &str) -> bool {
+    (count_choices(rt, host) == 2) == are_two && place(host, at) == want
+}
+
 #[test]
 fn calls_fail_as_listed(rt: HostRuntime) {
     let at = make_places(&rt, rt.alloc());
     for (row, (failing, is_done, are_two, want)) in FAILING.iter().enumerate() {
         let mut host = replaced(&rt, rt.alloc(), &at, *failing, *is_done);
-        agree_at(&rt, row, (count_choices(&rt, &host) == 2) == *are_two);
-        agree_at(&rt, row, place(&mut host, &at) == *want);
+        agree_at(&rt, row, is_so(&rt, &mut host, &at, *are_two, want));
+        drop(host);
     }
+    drop(at);
 }
 
-/// The host says what was done with it.
+/// Whether the host says what was done with it.
+fn is_counted(host: &MemHost, at: &Places) -> bool {
+    host.printed() == b"done".as_slice()
+        && host.calls() == 6
+        && host.starved() == 0
+        && host.appended(&at.tmp) == 3
+        && host.appended(&at.new) == 0
+}
+
 #[test]
 fn a_host_counts(rt: HostRuntime) {
     let at = make_places(&rt, rt.alloc());
     let host = replaced(&rt, rt.alloc(), &at, 99, true);
-    assert!(rt;
-        host.printed() == b"done".as_slice()
-            && host.calls() == 6
-            && host.starved() == 0
-            && host.appended(&at.tmp) == 3
-            && host.appended(&at.new) == 0
-    );
+    assert!(rt; is_counted(&host, &at));
+    drop(host);
+    drop(at);
+}
+
+/// Adds a name of file 7.
+fn name_file(rt: &impl Abort, names: &mut Items<(Path, Entry)>, path: &Path) {
+    let path = path.copy().expect(rt, "memory");
+    names.push((path, Entry::File(7))).expect(rt, "memory");
 }
 
 /// A file that two names have, one of them in a folder that isn't there.
 fn names(rt: &impl Abort, alloc: Global, at: &Places) -> Items<(Path, Entry)> {
     let mut names = Items::new(alloc);
-    let path = at.config.copy().expect(rt, "memory");
-    names.push((path, Entry::File(7))).expect(rt, "memory");
-    let path = at.new.copy().expect(rt, "memory");
-    names.push((path, Entry::File(7))).expect(rt, "memory");
+    name_file(rt, &mut names, &at.config);
+    name_file(rt, &mut names, &at.new);
     names
 }
 
@@ -195,16 +232,6 @@ fn rows(rt: &impl Abort, alloc: Global, id: u64, mode: u32) -> Items<FileRow> {
     let mut files = Items::new(alloc);
     files.push(FileRow { id, mode, bytes }).expect(rt, "memory");
     files
-}
-
-fn found(rt: &impl Abort, alloc: Global, image: Image, at: &Places) -> &'static str {
-    if !image.is_good() {
-        return "bad";
-    }
-    place(
-        &mut MemHost::from_image(alloc, image).expect(rt, "memory"),
-        at,
-    )
 }
 
 /// The id and the permission bits of the one file of an image, and where it is found.
@@ -219,14 +246,18 @@ fn an_image_is_opened_again(rt: HostRuntime) {
     let alloc = rt.alloc();
     let at = make_places(&rt, alloc);
     for (row, (id, mode, want)) in IMAGES.iter().enumerate() {
-        let names = names(&rt, alloc, &at);
-        let files = rows(&rt, alloc, *id, *mode);
-        agree_at(
-            &rt,
-            row,
-            found(&rt, alloc, Image { names, files }, &at) == *want,
-        );
+        let image = Image {
+            names: names(&rt, alloc, &at),
+            files: rows(&rt, alloc, *id, *mode),
+        };
+        agree_at(&rt, row, place_in(&rt, alloc, image, &at) == *want);
     }
+    drop(at);
+}
+
+/// Remotes in memory with nothing in them.
+fn new_remotes(rt: &impl Abort, alloc: Global) -> MemRemotes {
+    MemRemotes::new(alloc).expect(rt, "memory")
 }
 
 /// Puts the node where it may be put.
@@ -234,13 +265,13 @@ fn put(remotes: &mut MemRemotes, at: &Path, node: MemNode) -> bool {
     remotes.can_put("lab", at, &node) && remotes.put("lab", at, node).is_ok()
 }
 
-fn put_file(rt: &impl Abort, remotes: &mut MemRemotes, alloc: Global, at: &Path) -> bool {
-    let bytes = blob(rt, alloc, b"abc");
+fn put_file(remotes: &mut MemRemotes, at: &Path, bytes: Blob) -> bool {
     put(remotes, at, MemNode::File { mode: 0o644, bytes })
 }
 
-fn node<R: Remotes>(remotes: &mut R, alloc: Global, at: &Path) -> &'static str {
-    match remotes.node(alloc, "lab", at) {
+/// The word of what stands somewhere.
+fn word_of(node: &Result<Node, RemoteError>) -> &'static str {
+    match node {
         Ok(Node::Absent) => "nothing",
         Ok(Node::Dir) => "folder",
         Ok(Node::File { .. }) => "file",
@@ -249,35 +280,51 @@ fn node<R: Remotes>(remotes: &mut R, alloc: Global, at: &Path) -> &'static str {
     }
 }
 
-/// What stands at the first of the places, at it once more where the call fails, and at the others, where a file was put, and
-/// one was refused where the folder of the first stands.
-#[test]
-fn remotes_hold_what_was_put(rt: HostRuntime) {
-    let alloc = rt.alloc();
-    let at = make_places(&rt, alloc);
-    let mut remotes = MemRemotes::new(alloc).expect(&rt, "memory");
-    let _put = put_file(&rt, &mut remotes, alloc, &at.new);
-    let _refused = put_file(&rt, &mut remotes, alloc, &at.tmp);
-    remotes.fail_calls(&[1]).expect(&rt, "memory");
-    assert!(rt;
-        node(&mut remotes, alloc, &at.tmp) == "folder"
-            && node(&mut remotes, alloc, &at.tmp) == "failed"
-            && node(&mut remotes, alloc, &at.new) == "file"
-            && node(&mut remotes, alloc, &at.config) == "nothing"
-    );
+fn node<R: Remotes>(remotes: &mut R, alloc: Global, at: &Path) -> &'static str {
+    let node = remotes.node(alloc, "lab", at);
+    let word = word_of(&node);
+    drop(node);
+    word
 }
 
-/// A source gives its steps, of which the second fails.
+/// Puts a file, and another one, which is refused where the folder of the first stands.
+fn put_files(rt: &impl Abort, alloc: Global, remotes: &mut MemRemotes, at: &Places) {
+    let _put = put_file(remotes, &at.new, blob(rt, alloc, b"abc"));
+    let _refused = put_file(remotes, &at.tmp, blob(rt, alloc, b"abc"));
+    remotes.fail_calls(&[1]).expect(rt, "memory");
+}
+
+/// What stands at the first of the places, at it once more where the call fails, and at the others.
+fn hold(remotes: &mut MemRemotes, alloc: Global, at: &Places) -> bool {
+    node(remotes, alloc, &at.tmp) == "folder"
+        && node(remotes, alloc, &at.tmp) == "failed"
+        && node(remotes, alloc, &at.new) == "file"
+        && node(remotes, alloc, &at.config) == "nothing"
+}
+
+#[test]
+fn remotes_hold_what_was_put(rt: HostRuntime) {
+    let at = make_places(&rt, rt.alloc());
+    let mut remotes = new_remotes(&rt, rt.alloc());
+    put_files(&rt, rt.alloc(), &mut remotes, &at);
+    assert!(rt; hold(&mut remotes, rt.alloc(), &at));
+    drop(remotes);
+    drop(at);
+}
+
+/// Whether a source of three bytes gives them in steps of two, of which the second fails.
+fn gives_steps(source: &mut MemSource) -> bool {
+    let mut into = [0u8; 4];
+    source.take(&mut into) == Taken::Took(2)
+        && source.take(&mut into) == Taken::Failed
+        && source.take(&mut into) == Taken::Took(1)
+        && source.take(&mut into) == Taken::End
+}
+
 #[test]
 fn a_source_gives_its_steps(rt: HostRuntime) {
-    let mut source = MemSource::new(blob(&rt, rt.alloc(), b"abc"), 2, Some(1));
-    let mut into = [0u8; 4];
-    assert!(rt;
-        source.take(&mut into) == Taken::Took(2)
-            && source.take(&mut into) == Taken::Failed
-            && source.take(&mut into) == Taken::Took(1)
-            && source.take(&mut into) == Taken::End
-    );
+    let bytes = blob(&rt, rt.alloc(), b"abc");
+    assert!(rt; gives_steps(&mut MemSource::new(bytes, 2, Some(1))));
 }
 
 /// Where a file of this number is.
@@ -291,69 +338,106 @@ fn mebibyte(rt: &impl Abort, alloc: Global) -> Vec<u8> {
     vec![in alloc; 7u8; 1 << 20].expect(rt, "memory")
 }
 
-/// A host of 1,100 files, the last of a mebibyte, that said a mebibyte.
-fn filled(rt: &impl Abort, alloc: Global) -> MemHost {
-    let mut host = MemHost::new(alloc).expect(rt, "memory");
-    let long = mebibyte(rt, alloc);
+/// Makes 1,100 files.
+fn make_files(rt: &impl Abort, alloc: Global, host: &mut MemHost) {
     for number in 0..1_100 {
         let at = numbered(rt, alloc, number);
         host.create(&at, 0o644).expect(rt, "a new file");
     }
-    host.append(&numbered(rt, alloc, 1_099), &long)
-        .expect(rt, "a file");
-    host.say(&long).expect(rt, "said");
+}
+
+/// Adds these bytes to a file, and says them.
+fn add_much(rt: &impl Abort, host: &mut MemHost, at: &Path, bytes: &[u8]) {
+    host.append(at, bytes).expect(rt, "a file");
+    host.say(bytes).expect(rt, "said");
+}
+
+/// A host of 1,100 files, the last of a mebibyte, that said a mebibyte.
+fn filled(rt: &impl Abort, alloc: Global, last: &Path) -> MemHost {
+    let mut host = new_host(rt, alloc);
+    make_files(rt, alloc, &mut host);
+    add_much(rt, &mut host, last, &mebibyte(rt, alloc));
     host
 }
 
-/// A host of 1,100 files and one of a mebibyte is left by a stop as it is.
-#[test]
-fn much_is_kept(rt: HostRuntime) {
-    let mut host = filled(&rt, rt.alloc());
-    let names = host
-        .list(rt.alloc(), &Path::root(rt.alloc()))
-        .expect(&rt, "names");
-    assert!(rt; names.len() == 1_100 && count_choices(&rt, &host) == 1_100);
-    host.sync().expect(&rt, "a sync");
-    let last = numbered(&rt, rt.alloc(), 1_099);
-    assert!(rt; host.printed().len() == 1 << 20 && is_left(&rt, rt.alloc(), &host, &last));
+/// How many names stand at the top.
+fn count_names(rt: &impl Abort, alloc: Global, host: &mut MemHost) -> usize {
+    host.list(alloc, &Path::root(alloc))
+        .expect(rt, "names")
+        .len()
 }
 
-/// Whether a stop now leaves the file with a mebibyte.
-fn is_left(rt: &impl Abort, alloc: Global, host: &MemHost, at: &Path) -> bool {
+/// Whether a stop leaves a host of 1,100 files and one of a mebibyte as it is.
+fn is_kept(rt: &impl Abort, alloc: Global, host: &mut MemHost, last: &Path) -> bool {
+    let are_all = count_names(rt, alloc, host) == 1_100 && count_choices(rt, host) == 1_100;
+    host.sync().expect(rt, "a sync");
+    are_all && host.printed().len() == 1 << 20 && is_left(rt, alloc, host, last)
+}
+
+#[test]
+fn much_is_kept(rt: HostRuntime) {
+    let last = numbered(&rt, rt.alloc(), 1_099);
+    let mut host = filled(&rt, rt.alloc(), &last);
+    assert!(rt; is_kept(&rt, rt.alloc(), &mut host, &last));
+    drop(host);
+}
+
+/// What a stop now leaves where nothing is chosen.
+fn image_now(rt: &impl Abort, alloc: Global, host: &MemHost) -> Option<Image> {
     let choice = Choice {
         names: Items::new(alloc),
         files: Items::new(alloc),
     };
-    match host.image_after(host.calls(), &choice).expect(rt, "memory") {
-        Some(image) => {
-            let mut again = MemHost::from_image(alloc, image).expect(rt, "memory");
-            has_file(&mut again, at, 1 << 20)
-        }
-        None => false,
-    }
+    let image = host.image_after(host.calls(), &choice);
+    drop(choice);
+    image.expect(rt, "memory")
 }
 
-/// A host of which the calls from 100 to 1,199 fail.
-fn failing(rt: &impl Abort, alloc: Global) -> MemHost {
+/// Whether a stop now leaves the file with a mebibyte.
+fn is_left(rt: &impl Abort, alloc: Global, host: &MemHost, at: &Path) -> bool {
+    let image = image_now(rt, alloc, host).expect(rt, "an image");
+    if !image.is_good() {
+        drop(image);
+        return false;
+    }
+    let mut again = MemHost::from_image(alloc, image).expect(rt, "memory");
+    let is_there = has_file(&mut again, at, 1 << 20);
+    drop(again);
+    is_there
+}
+
+/// The calls from 100 to 1,199, which fail.
+fn failing_calls(rt: &impl Abort, alloc: Global) -> Vec<(u64, bool)> {
     let mut list = Vec::new(alloc);
     for number in 100..1_200 {
         list.push((number, false)).expect(rt, "memory");
     }
-    let mut host = MemHost::new(alloc).expect(rt, "memory");
-    host.fail_calls(&list).expect(rt, "memory");
-    host
+    list
 }
 
-/// A path of 100 elements is made before the calls that fail.
+/// Makes a path of 100 folders, and gives it.
+fn make_folders(rt: &impl Abort, alloc: Global, host: &mut MemHost) -> Path {
+    let mut path = Path::root(alloc);
+    for _ in 0..100 {
+        path = path.child("e").expect(rt, "memory");
+        host.make_dir(&path).expect(rt, "a folder");
+    }
+    path
+}
+
+/// Whether a path of 100 elements is made before the calls that fail.
+fn makes_all_before(rt: &impl Abort, alloc: Global, host: &mut MemHost) -> bool {
+    let path = make_folders(rt, alloc, host);
+    host.stat(&path).is_err() && host.calls() == 101
+}
+
 #[test]
 fn many_calls_fail(rt: HostRuntime) {
-    let mut host = failing(&rt, rt.alloc());
-    let mut path = Path::root(rt.alloc());
-    for _ in 0..100 {
-        path = path.child("e").expect(&rt, "memory");
-        host.make_dir(&path).expect(&rt, "a folder");
-    }
-    assert!(rt; host.stat(&path).is_err() && host.calls() == 101);
+    let mut host = new_host(&rt, rt.alloc());
+    host.fail_calls(&failing_calls(&rt, rt.alloc()))
+        .expect(&rt, "memory");
+    assert!(rt; makes_all_before(&rt, rt.alloc(), &mut host));
+    drop(host);
 }
 
 /// The bytes of the file of this number: one byte, and of the last a mebibyte.
@@ -362,23 +446,28 @@ fn bytes_of(rt: &impl Abort, alloc: Global, number: usize) -> Blob {
     Blob::from_vec(vec![in alloc; 7u8; length].expect(rt, "memory"))
 }
 
-/// Remotes hold 1,100 files, the last of a mebibyte.
+/// Puts 1,100 files, the last of a mebibyte.
+fn put_many(rt: &impl Abort, alloc: Global, remotes: &mut MemRemotes) {
+    for number in 0..1_100 {
+        let at = numbered(rt, alloc, number);
+        let is_put = put_file(remotes, &at, bytes_of(rt, alloc, number));
+        agree_at(rt, number, is_put);
+    }
+}
+
+/// Whether a mebibyte is read of the file.
+fn is_read(rt: &impl Abort, alloc: Global, remotes: &mut MemRemotes, at: &Path) -> bool {
+    let mut into = mebibyte(rt, alloc);
+    remotes.read_at("lab", at, 0, &mut into) == Ok(1 << 20)
+}
+
 #[test]
 fn remotes_hold_much(rt: HostRuntime) {
-    let alloc = rt.alloc();
-    let mut remotes = MemRemotes::new(alloc).expect(&rt, "memory");
-    for number in 0..1_100 {
-        let at = numbered(&rt, alloc, number);
-        let bytes = bytes_of(&rt, alloc, number);
-        agree_at(
-            &rt,
-            number,
-            put(&mut remotes, &at, MemNode::File { mode: 0o644, bytes }),
-        );
-    }
-    let mut into = mebibyte(&rt, alloc);
-    let read = remotes.read_at("lab", &numbered(&rt, alloc, 1_099), 0, &mut into);
-    assert!(rt; read == Ok(1 << 20));
+    let mut remotes = new_remotes(&rt, rt.alloc());
+    put_many(&rt, rt.alloc(), &mut remotes);
+    let last = numbered(&rt, rt.alloc(), 1_099);
+    assert!(rt; is_read(&rt, rt.alloc(), &mut remotes, &last));
+    drop(remotes);
 }
 
 /// A source of a mebibyte gives it at once.

@@ -1,6 +1,6 @@
 //! The small files of an installation, in the layout of today and the one before.
 
-use crate::rows::agree;
+use crate::rows::{agree, is_text};
 use fp_base::Items;
 use fp_host::{Host, Path, Stat};
 use fp_memhost::MemHost;
@@ -10,24 +10,36 @@ use fp_small::{
     insert_remote, load, make_above, read_config, read_pins, read_remotes, remove_pin,
     remove_remote, replace, take_away, write_config,
 };
-use std::alloc::Global;
+use std::alloc::{AllocError, Global};
 use std::panic::Expect;
 use std::process::Abort;
+
+/// The small files: `config`, and `remotes.conf` and `pins` of the layout before.
+#[derive(Clone, Copy)]
+enum File {
+    Config,
+    Remotes,
+    Pins,
+}
+
+fn put_remote(text: &mut String, row: &RemoteRow) -> Result<(), AllocError> {
+    write!(text, "{}={} ", row.name.as_str(), row.url.as_str())
+}
 
 /// Each remote with its url.
 fn add_remotes(rt: &impl Abort, text: &mut String, remotes: &[RemoteRow]) {
     for row in remotes {
-        text.push_str(row.name.as_str()).expect(rt, "memory");
-        text.push('=').expect(rt, "memory");
-        text.push_str(row.url.as_str()).expect(rt, "memory");
-        text.push(' ').expect(rt, "memory");
+        put_remote(text, row).expect(rt, "memory");
     }
+}
+
+fn put_pin(text: &mut String, pin: &PinPattern) -> Result<(), AllocError> {
+    write!(text, "{} ", pin.as_str())
 }
 
 fn add_pins(rt: &impl Abort, text: &mut String, pins: &[PinPattern]) {
     for pin in pins {
-        text.push_str(pin.as_str()).expect(rt, "memory");
-        text.push(' ').expect(rt, "memory");
+        put_pin(text, pin).expect(rt, "memory");
     }
 }
 
@@ -36,13 +48,43 @@ fn settings_of(rt: &impl Abort, alloc: Global, text: &str) -> Settings {
     read_config(alloc, text.as_bytes()).expect(rt, "a config")
 }
 
-/// What a `config` says, in order.
-fn said_by_config(rt: &impl Abort, alloc: Global, text: &str) -> String {
-    let settings = settings_of(rt, alloc, text);
+/// The remotes of a `remotes.conf`.
+fn remotes_of(rt: &impl Abort, alloc: Global, text: &str) -> Items<RemoteRow> {
+    read_remotes(alloc, text.as_bytes()).expect(rt, "a remotes.conf")
+}
+
+/// The pins of a `pins`.
+fn pins_of(rt: &impl Abort, alloc: Global, text: &str) -> Items<PinPattern> {
+    read_pins(alloc, text.as_bytes()).expect(rt, "a pins")
+}
+
+fn add_settings(rt: &impl Abort, said: &mut String, settings: Settings) {
+    add_remotes(rt, said, settings.remotes.as_slice());
+    add_pins(rt, said, settings.pins.as_slice());
+    drop(settings);
+}
+
+/// Adds what a file says, in order.
+fn add_said(rt: &impl Abort, alloc: Global, said: &mut String, file: File, text: &str) {
+    match file {
+        File::Config => add_settings(rt, said, settings_of(rt, alloc, text)),
+        File::Remotes => add_remotes(rt, said, remotes_of(rt, alloc, text).as_slice()),
+        File::Pins => add_pins(rt, said, pins_of(rt, alloc, text).as_slice()),
+    }
+}
+
+/// Whether a file says this.
+fn says(rt: &impl Abort, alloc: Global, file: File, text: &str, want: &str) -> bool {
     let mut said = String::new(alloc);
-    add_remotes(rt, &mut said, settings.remotes.as_slice());
-    add_pins(rt, &mut said, settings.pins.as_slice());
-    said
+    add_said(rt, alloc, &mut said, file, text);
+    said.as_str() == want
+}
+
+/// Ends the test at a text that says something else.
+fn agree_on_said(rt: &impl Abort, alloc: Global, file: File, rows: &[(&str, &str)]) {
+    for (text, want) in rows {
+        agree(rt, text, says(rt, alloc, file, text, want));
+    }
 }
 
 /// A `config`, and what it says.
@@ -67,14 +109,52 @@ const GOOD: [(&str, &str); 6] = [
     ),
 ];
 
+/// A `remotes.conf`, and what it says.
+const OLD_REMOTES: [(&str, &str); 4] = [
+    ("", ""),
+    ("# none\n\n", ""),
+    ("[remote \"lab\"]\nurl=file:///lab", "lab=file:///lab "),
+    (
+        "[remote \"b\"]\nurl=file:///b\n[remote \"a\"]\nurl=file:///a\n",
+        "a=file:///a b=file:///b ",
+    ),
+];
+
+/// A `pins`, and what it says.
+const OLD_PINS: [(&str, &str); 3] = [
+    ("", ""),
+    ("app/*/*/*\n", "app/*/*/* "),
+    (
+        "app/*/*/*\nruntime/org.x.Platform/*/*\n",
+        "app/*/*/* runtime/org.x.Platform/*/* ",
+    ),
+];
+
 #[test]
-fn configs(rt: HostRuntime) {
-    for (text, want) in &GOOD {
-        agree(
-            &rt,
-            text,
-            said_by_config(&rt, rt.alloc(), text).as_str() == *want,
-        );
+fn said_by_files(rt: HostRuntime) {
+    agree_on_said(&rt, rt.alloc(), File::Config, &GOOD);
+    agree_on_said(&rt, rt.alloc(), File::Remotes, &OLD_REMOTES);
+    agree_on_said(&rt, rt.alloc(), File::Pins, &OLD_PINS);
+}
+
+/// The fault of a text as such a file.
+fn fault_of(alloc: Global, file: File, text: &str) -> Option<ConfigFault> {
+    match file {
+        File::Config => read_config(alloc, text.as_bytes()).err(),
+        File::Remotes => read_remotes(alloc, text.as_bytes()).err(),
+        File::Pins => read_pins(alloc, text.as_bytes()).err(),
+    }
+}
+
+/// Whether a text is no such file.
+fn is_bad(alloc: Global, file: File, text: &str) -> bool {
+    fault_of(alloc, file, text) == Some(ConfigFault::Bad)
+}
+
+/// Ends the test at a text that is such a file.
+fn agree_on_bad(rt: &impl Abort, alloc: Global, file: File, rows: &[&str]) {
+    for text in rows {
+        agree(rt, text, is_bad(alloc, file, text));
     }
 }
 
@@ -96,12 +176,36 @@ const BAD: [&str; 14] = [
     "[installation]\nlayout=2\n[pins]\nx\n",
 ];
 
+/// Texts that are no `remotes.conf`.
+const BAD_OLD_REMOTES: [&str; 9] = [
+    "url=file:///lab\n",
+    "[installation]\nlayout=2\n",
+    "[pins]\n",
+    "[remote \"lab\"]\n",
+    "[remote \"lab\"]\nurl=lab\n",
+    "[remote \"lab\"]\nurl=file:///lab\nmore=1\n",
+    "[remote \"\"]\nurl=file:///lab\n",
+    "[remote lab]\nurl=file:///lab\n",
+    "[remote \"lab\"]\nurl=file:///lab\n[other]\n",
+];
+
+/// Texts that are no `pins`.
+const BAD_OLD_PINS: [&str; 8] = [
+    "app/*/*/*",
+    "\n",
+    "app/*/*/*\n\n",
+    "app/*/*/*\r\n",
+    "app/*/*/*\napp/*/*/*\n",
+    "runtime/org.x.Platform/*/*\napp/*/*/*\n",
+    "app/*/*/*\nruntime/org.x.Platform/*/*",
+    "app/*/*\n",
+];
+
 #[test]
-fn no_configs(rt: HostRuntime) {
-    for text in &BAD {
-        let fault = read_config(rt.alloc(), text.as_bytes()).err();
-        agree(&rt, text, fault == Some(ConfigFault::Bad));
-    }
+fn texts_that_are_no_files(rt: HostRuntime) {
+    agree_on_bad(&rt, rt.alloc(), File::Config, &BAD);
+    agree_on_bad(&rt, rt.alloc(), File::Remotes, &BAD_OLD_REMOTES);
+    agree_on_bad(&rt, rt.alloc(), File::Pins, &BAD_OLD_PINS);
 }
 
 /// A `config`, and how its settings are written.
@@ -121,16 +225,17 @@ const WRITTEN: [(&str, &str); 3] = [
 ];
 
 /// Whether what a `config` says is written so.
-fn is_written(alloc: Global, text: &str, want: &str) -> Result<bool, ConfigFault> {
-    let settings = read_config(alloc, text.as_bytes())?;
-    let written = write_config(alloc, settings.remotes.as_slice(), settings.pins.as_slice())?;
-    Ok(written.as_str() == want)
+fn is_written(rt: &impl Abort, alloc: Global, text: &str, want: &str) -> bool {
+    let settings = read_config(alloc, text.as_bytes()).expect(rt, "a config");
+    let written = write_config(alloc, settings.remotes.as_slice(), settings.pins.as_slice());
+    drop(settings);
+    is_text(rt, written, want)
 }
 
 #[test]
 fn written_configs(rt: HostRuntime) {
     for (text, want) in &WRITTEN {
-        agree(&rt, text, is_written(rt.alloc(), text, want) == Ok(true));
+        agree(&rt, text, is_written(&rt, rt.alloc(), text, want));
     }
 }
 
@@ -139,180 +244,105 @@ fn pattern_of(rt: &impl Abort, alloc: Global, text: &str) -> PinPattern {
     PinPattern::parse(alloc, text.as_bytes()).expect(rt, "a pattern")
 }
 
-/// A pin is there from when it is put in until it is taken away.
+/// Puts in a copy of the pin.
+fn insert(rt: &impl Abort, pins: &mut Vec<PinPattern>, pin: &PinPattern) {
+    let copy = pin.copy().expect(rt, "memory");
+    insert_pin(pins, copy).expect(rt, "memory");
+}
+
+/// Whether a pin is there from when it is put in until it is taken away.
+fn comes_and_goes(rt: &impl Abort, pins: &mut Vec<PinPattern>, pin: &PinPattern) -> bool {
+    let was_there = has_pin(pins, pin);
+    insert(rt, pins, pin);
+    let is_there = has_pin(pins, pin);
+    remove_pin(pins, pin);
+    !was_there && is_there && pins.is_empty()
+}
+
 #[test]
 fn a_pin_comes_and_goes(rt: HostRuntime) {
     let pin = pattern_of(&rt, rt.alloc(), "runtime/org.x.Platform/*/*");
-    let mut pins = Vec::new(rt.alloc());
-    assert!(rt; !has_pin(&pins, &pin));
-    let copy = pin.copy().expect(&rt, "memory");
-    insert_pin(&mut pins, copy).expect(&rt, "memory");
-    assert!(rt; has_pin(&pins, &pin));
-    remove_pin(&mut pins, &pin);
-    assert!(rt; pins.is_empty());
+    assert!(rt; comes_and_goes(&rt, &mut Vec::new(rt.alloc()), &pin));
 }
 
-/// The remotes of a `remotes.conf`.
-fn remotes_of(rt: &impl Abort, alloc: Global, text: &str) -> Items<RemoteRow> {
-    read_remotes(alloc, text.as_bytes()).expect(rt, "a remotes.conf")
+/// Adds a remote of this number.
+fn put_group(text: &mut String, number: u32) -> Result<(), AllocError> {
+    write!(text, "[remote \"r{number}\"]\nurl=file:///r\n")
 }
 
-/// What a `remotes.conf` says, in order.
-fn said_by_remotes(rt: &impl Abort, alloc: Global, text: &str) -> String {
-    let mut said = String::new(alloc);
-    add_remotes(rt, &mut said, remotes_of(rt, alloc, text).as_slice());
-    said
-}
-
-/// A `remotes.conf`, and what it says.
-const OLD_REMOTES: [(&str, &str); 4] = [
-    ("", ""),
-    ("# none\n\n", ""),
-    ("[remote \"lab\"]\nurl=file:///lab", "lab=file:///lab "),
-    (
-        "[remote \"b\"]\nurl=file:///b\n[remote \"a\"]\nurl=file:///a\n",
-        "a=file:///a b=file:///b ",
-    ),
-];
-
-#[test]
-fn old_remotes(rt: HostRuntime) {
-    for (text, want) in &OLD_REMOTES {
-        agree(
-            &rt,
-            text,
-            said_by_remotes(&rt, rt.alloc(), text).as_str() == *want,
-        );
-    }
-}
-
-/// Texts that are no `remotes.conf`.
-const BAD_OLD_REMOTES: [&str; 9] = [
-    "url=file:///lab\n",
-    "[installation]\nlayout=2\n",
-    "[pins]\n",
-    "[remote \"lab\"]\n",
-    "[remote \"lab\"]\nurl=lab\n",
-    "[remote \"lab\"]\nurl=file:///lab\nmore=1\n",
-    "[remote \"\"]\nurl=file:///lab\n",
-    "[remote lab]\nurl=file:///lab\n",
-    "[remote \"lab\"]\nurl=file:///lab\n[other]\n",
-];
-
-/// Whether a text is no `remotes.conf`.
-fn is_bad_remotes(alloc: Global, text: &str) -> bool {
-    read_remotes(alloc, text.as_bytes()).err() == Some(ConfigFault::Bad)
-}
-
-#[test]
-fn no_old_remotes(rt: HostRuntime) {
-    for text in &BAD_OLD_REMOTES {
-        agree(&rt, text, is_bad_remotes(rt.alloc(), text));
+/// Adds the remotes of these numbers.
+fn add_groups(rt: &impl Abort, text: &mut String, first: u32, end: u32) {
+    for number in first..end {
+        put_group(text, number).expect(rt, "memory");
     }
 }
 
 /// A `remotes.conf` of this many remotes.
 fn many_remotes(rt: &impl Abort, alloc: Global, count: u32) -> String {
     let mut text = String::new(alloc);
-    for number in 0..count {
-        let group = format!(in alloc; "[remote \"r{number}\"]\nurl=file:///r\n");
-        text.push_str(&group.expect(rt, "memory"))
-            .expect(rt, "memory");
-    }
+    add_groups(rt, &mut text, 0, count);
     text
+}
+
+/// How many remotes a `remotes.conf` of this many has.
+fn count_remotes(rt: &impl Abort, alloc: Global, count: u32) -> usize {
+    remotes_of(rt, alloc, &many_remotes(rt, alloc, count)).len()
 }
 
 /// A `remotes.conf` has at most 256 remotes.
 #[test]
 fn many_old_remotes(rt: HostRuntime) {
-    let alloc = rt.alloc();
-    let most = many_remotes(&rt, alloc, 256);
-    assert!(rt; remotes_of(&rt, alloc, &most).len() == 256);
-    assert!(rt; is_bad_remotes(alloc, &many_remotes(&rt, alloc, 257)));
+    assert!(rt; count_remotes(&rt, rt.alloc(), 256) == 256);
+    assert!(rt;
+        is_bad(
+            rt.alloc(),
+            File::Remotes,
+            &many_remotes(&rt, rt.alloc(), 257)
+        )
+    );
 }
 
-/// The pins of a `pins`.
-fn pins_of(rt: &impl Abort, alloc: Global, text: &str) -> Items<PinPattern> {
-    read_pins(alloc, text.as_bytes()).expect(rt, "a pins")
+/// Adds a pin of this number, with these letters at the end.
+fn put_line(text: &mut String, number: u32, end: &str) -> Result<(), AllocError> {
+    write!(text, "app/org.x.A{number:04}/*/*{end}\n")
 }
 
-/// What a `pins` says, in order.
-fn said_by_pins(rt: &impl Abort, alloc: Global, text: &str) -> String {
-    let mut said = String::new(alloc);
-    add_pins(rt, &mut said, pins_of(rt, alloc, text).as_slice());
-    said
-}
-
-/// A `pins`, and what it says.
-const OLD_PINS: [(&str, &str); 3] = [
-    ("", ""),
-    ("app/*/*/*\n", "app/*/*/* "),
-    (
-        "app/*/*/*\nruntime/org.x.Platform/*/*\n",
-        "app/*/*/* runtime/org.x.Platform/*/* ",
-    ),
-];
-
-#[test]
-fn old_pins(rt: HostRuntime) {
-    for (text, want) in &OLD_PINS {
-        agree(
-            &rt,
-            text,
-            said_by_pins(&rt, rt.alloc(), text).as_str() == *want,
-        );
-    }
-}
-
-/// Texts that are no `pins`.
-const BAD_OLD_PINS: [&str; 8] = [
-    "app/*/*/*",
-    "\n",
-    "app/*/*/*\n\n",
-    "app/*/*/*\r\n",
-    "app/*/*/*\napp/*/*/*\n",
-    "runtime/org.x.Platform/*/*\napp/*/*/*\n",
-    "app/*/*/*\nruntime/org.x.Platform/*/*",
-    "app/*/*\n",
-];
-
-/// Whether a text is no `pins`.
-fn is_bad_pins(alloc: Global, text: &str) -> bool {
-    read_pins(alloc, text.as_bytes()).err() == Some(ConfigFault::Bad)
-}
-
-#[test]
-fn no_old_pins(rt: HostRuntime) {
-    for text in &BAD_OLD_PINS {
-        agree(&rt, text, is_bad_pins(rt.alloc(), text));
-    }
-}
-
-/// The lines of a `pins` of this many patterns, with these letters at the end of each.
-fn many_pins(rt: &impl Abort, alloc: Global, count: u32, end: &str) -> String {
-    let mut text = String::new(alloc);
+/// Adds the pins of this many numbers, each on a line.
+fn add_lines(rt: &impl Abort, text: &mut String, count: u32, end: &str) {
     for number in 0..count {
-        let line = format!(in alloc; "app/org.x.A{number:04}/*/*{end}\n");
-        text.push_str(&line.expect(rt, "memory"))
-            .expect(rt, "memory");
+        put_line(text, number, end).expect(rt, "memory");
     }
+}
+
+/// A `pins` of this many patterns.
+fn many_pins(rt: &impl Abort, alloc: Global, count: u32) -> String {
+    let mut text = String::new(alloc);
+    add_lines(rt, &mut text, count, "");
     text
+}
+
+/// How many patterns a `pins` of this many has.
+fn count_pins(rt: &impl Abort, alloc: Global, count: u32) -> usize {
+    pins_of(rt, alloc, &many_pins(rt, alloc, count)).len()
 }
 
 /// A `pins` has at most 1,024 patterns.
 #[test]
 fn many_old_pins(rt: HostRuntime) {
-    let alloc = rt.alloc();
-    let most = many_pins(&rt, alloc, 1_024, "");
-    assert!(rt; pins_of(&rt, alloc, &most).len() == 1_024);
-    assert!(rt; is_bad_pins(alloc, &many_pins(&rt, alloc, 1_025, "")));
+    assert!(rt; count_pins(&rt, rt.alloc(), 1_024) == 1_024);
+    assert!(rt; is_bad(rt.alloc(), File::Pins, &many_pins(&rt, rt.alloc(), 1_025)));
+}
+
+/// The name of this number.
+fn numbered_name(rt: &impl Abort, alloc: Global, number: u32) -> RemoteName {
+    let name = format!(in alloc; "r{number:04}").expect(rt, "memory");
+    RemoteName::parse(alloc, name.as_bytes()).expect(rt, "a name")
 }
 
 /// A remote of this number.
 fn numbered_remote(rt: &impl Abort, alloc: Global, number: u32) -> RemoteRow {
-    let name = format!(in alloc; "r{number:04}").expect(rt, "memory");
     RemoteRow {
-        name: RemoteName::parse(alloc, name.as_bytes()).expect(rt, "a name"),
+        name: numbered_name(rt, alloc, number),
         url: RemoteUrl::parse(alloc, b"file:///r").expect(rt, "a url"),
     }
 }
@@ -327,47 +357,51 @@ fn inserted_remotes(rt: &impl Abort, alloc: Global) -> Vec<RemoteRow> {
     remotes
 }
 
+/// Whether one of 256 remotes goes.
+fn remote_goes(remotes: &mut Vec<RemoteRow>, name: &RemoteName) -> bool {
+    let was_there = has_remote(remotes, name) && remotes.len() == 256;
+    remove_remote(remotes, name);
+    was_there && !has_remote(remotes, name) && remotes.len() == 255
+}
+
 #[test]
 fn many_remotes_come_and_go(rt: HostRuntime) {
-    let mut remotes = inserted_remotes(&rt, rt.alloc());
-    let last = numbered_remote(&rt, rt.alloc(), 255)
-        .copy()
-        .expect(&rt, "memory");
-    assert!(rt; has_remote(&remotes, &last.name) && remotes.len() == 256);
-    remove_remote(&mut remotes, &last.name);
-    assert!(rt; !has_remote(&remotes, &last.name) && remotes.len() == 255);
+    let row = numbered_remote(&rt, rt.alloc(), 255);
+    let last = row.copy().expect(&rt, "memory");
+    drop(row);
+    assert!(rt; remote_goes(&mut inserted_remotes(&rt, rt.alloc()), &last.name));
+    drop(last);
 }
 
 /// The pins of a `pins`, put in one after another.
-fn inserted_pins(rt: &impl Abort, alloc: Global, text: &str) -> Vec<PinPattern> {
+fn inserted_pins(rt: &impl Abort, alloc: Global, rows: &[PinPattern]) -> Vec<PinPattern> {
     let mut pins = Vec::new(alloc);
-    for pin in pins_of(rt, alloc, text).as_slice() {
-        let copy = pin.copy().expect(rt, "memory");
-        insert_pin(&mut pins, copy).expect(rt, "memory");
+    for pin in rows {
+        insert(rt, &mut pins, pin);
     }
     pins
 }
 
+/// Whether one of 1,024 pins goes.
+fn pin_goes(pins: &mut Vec<PinPattern>, pin: &PinPattern) -> bool {
+    let was_there = has_pin(pins, pin) && pins.len() == 1_024;
+    remove_pin(pins, pin);
+    was_there && !has_pin(pins, pin) && pins.len() == 1_023
+}
+
 #[test]
 fn many_pins_come_and_go(rt: HostRuntime) {
-    let mut pins = inserted_pins(&rt, rt.alloc(), &many_pins(&rt, rt.alloc(), 1_024, ""));
+    let rows = pins_of(&rt, rt.alloc(), &many_pins(&rt, rt.alloc(), 1_024));
     let last = pattern_of(&rt, rt.alloc(), "app/org.x.A1023/*/*");
-    assert!(rt; has_pin(&pins, &last) && pins.len() == 1_024);
-    remove_pin(&mut pins, &last);
-    assert!(rt; !has_pin(&pins, &last) && pins.len() == 1_023);
+    assert!(rt; pin_goes(&mut inserted_pins(&rt, rt.alloc(), rows.as_slice()), &last));
 }
 
 /// A `config` of 256 remotes and 1,024 pins, as it is written.
 fn longest_config(rt: &impl Abort, alloc: Global) -> String {
     let mut text = String::from_str(alloc, "[installation]\nlayout=2\n").expect(rt, "memory");
-    for number in 100..356 {
-        let group = format!(in alloc; "[remote \"r{number}\"]\nurl=file:///r\n");
-        text.push_str(&group.expect(rt, "memory"))
-            .expect(rt, "memory");
-    }
+    add_groups(rt, &mut text, 100, 356);
     text.push_str("[pins]\n").expect(rt, "memory");
-    text.push_str(&many_pins(rt, alloc, 1_024, "=true"))
-        .expect(rt, "memory");
+    add_lines(rt, &mut text, 1_024, "=true");
     text
 }
 
@@ -375,15 +409,30 @@ fn longest_config(rt: &impl Abort, alloc: Global) -> String {
 #[test]
 fn longest_settings(rt: HostRuntime) {
     let text = longest_config(&rt, rt.alloc());
-    assert!(rt; is_written(rt.alloc(), &text, &text) == Ok(true));
+    assert!(rt; is_written(&rt, rt.alloc(), &text, &text));
+}
+
+/// Whether these bytes were loaded.
+fn are_bytes(loaded: &Loaded, want: &[u8]) -> bool {
+    match loaded {
+        Loaded::Bytes(found) => found.as_slice() == want,
+        _ => false,
+    }
 }
 
 /// Whether these bytes are loaded from the file.
 fn is_loaded(rt: &impl Abort, alloc: Global, host: &mut MemHost, path: &Path, want: &[u8]) -> bool {
-    match load(alloc, host, path, 1 << 20).expect(rt, "a file") {
-        Loaded::Bytes(found) => found.as_slice() == want,
-        _ => false,
-    }
+    let loaded = load(alloc, host, path, 1 << 20).expect(rt, "a file");
+    let is_so = are_bytes(&loaded, want);
+    drop(loaded);
+    is_so
+}
+
+/// Whether these bytes take the place of a file.
+fn are_put(rt: &impl Abort, alloc: Global, host: &mut MemHost, path: &Path, bytes: &[u8]) -> bool {
+    replace(alloc, host, path, b"short").expect(rt, "replaced");
+    replace(alloc, host, path, bytes).expect(rt, "replaced");
+    is_loaded(rt, alloc, host, path, bytes)
 }
 
 /// A mebibyte takes the place of a file.
@@ -393,16 +442,20 @@ fn much_is_replaced(rt: HostRuntime) {
     let mut host = MemHost::new(alloc).expect(&rt, "memory");
     let path = Path::parse(alloc, "etc/config").expect(&rt, "a path");
     let bytes = vec![in alloc; 7u8; 1 << 20].expect(&rt, "memory");
-    replace(alloc, &mut host, &path, b"short").expect(&rt, "replaced");
-    replace(alloc, &mut host, &path, &bytes).expect(&rt, "replaced");
-    assert!(rt; is_loaded(&rt, alloc, &mut host, &path, &bytes));
+    assert!(rt; are_put(&rt, alloc, &mut host, &path, &bytes));
+    drop(host);
+}
+
+/// Where the file of this number is in a folder.
+fn numbered_path(rt: &impl Abort, alloc: Global, folder: &Path, number: u32) -> Path {
+    let name = format!(in alloc; "f{number:04}").expect(rt, "memory");
+    folder.join(&name).expect(rt, "an element")
 }
 
 /// Makes this many empty files in the folder.
 fn fill(rt: &impl Abort, alloc: Global, host: &mut MemHost, folder: &Path, count: u32) {
     for number in 0..count {
-        let name = format!(in alloc; "f{number:04}").expect(rt, "memory");
-        let path = folder.join(&name).expect(rt, "an element");
+        let path = numbered_path(rt, alloc, folder, number);
         host.create(&path, 0o644).expect(rt, "a new file");
     }
 }
@@ -430,24 +483,33 @@ fn filled(rt: &impl Abort, alloc: Global, folder: &Path) -> MemHost {
     host
 }
 
+/// Whether 1,100 files lose one, and are cleared.
+fn are_cleared(rt: &impl Abort, alloc: Global, host: &mut MemHost, folder: &Path) -> bool {
+    take_away(host, &numbered_path(rt, alloc, folder, 0)).expect(rt, "taken");
+    let left = count_names(rt, alloc, host, folder);
+    clear_below(alloc, host, folder).expect(rt, "cleared");
+    left == 1_099 && count_names(rt, alloc, host, folder) == 0
+}
+
 /// A folder below 125 others is filled with 1,100 files, loses one, and is emptied.
 #[test]
 fn many_files_are_cleared(rt: HostRuntime) {
-    let alloc = rt.alloc();
-    let folder = path_of(&rt, alloc, 126);
-    let mut host = filled(&rt, alloc, &folder);
-    take_away(&mut host, &folder.join("f0000").expect(&rt, "an element")).expect(&rt, "taken");
-    assert!(rt; count_names(&rt, alloc, &mut host, &folder) == 1_099);
-    clear_below(alloc, &mut host, &folder).expect(&rt, "cleared");
-    assert!(rt; count_names(&rt, alloc, &mut host, &folder) == 0);
+    let folder = path_of(&rt, rt.alloc(), 126);
+    let mut host = filled(&rt, rt.alloc(), &folder);
+    assert!(rt; are_cleared(&rt, rt.alloc(), &mut host, &folder));
+    drop(host);
+}
+
+/// Whether a folder is cleared.
+fn is_cleared(rt: &impl Abort, alloc: Global, host: &mut MemHost, top: &Path) -> bool {
+    clear(alloc, host, top).expect(rt, "cleared");
+    host.stat(top) == Ok(Stat::Absent)
 }
 
 /// The folders above 1,100 files are taken away with them.
 #[test]
 fn many_folders_are_cleared(rt: HostRuntime) {
-    let alloc = rt.alloc();
-    let mut host = filled(&rt, alloc, &path_of(&rt, alloc, 126));
-    let top = path_of(&rt, alloc, 1);
-    clear(alloc, &mut host, &top).expect(&rt, "cleared");
-    assert!(rt; host.stat(&top) == Ok(Stat::Absent));
+    let mut host = filled(&rt, rt.alloc(), &path_of(&rt, rt.alloc(), 126));
+    assert!(rt; is_cleared(&rt, rt.alloc(), &mut host, &path_of(&rt, rt.alloc(), 1)));
+    drop(host);
 }
