@@ -20,10 +20,6 @@ use Rattle.dep_open.specs.Parts.{lesser}
 abbrev pub NotShown : Disk → Type 0
 NotShown disk = (s : State) → Shows disk s → ⊥
 
--- no name
-abbrev pub NoName : Elements → Slot → Type 0
-NoName q e = ⊥
-
 -- this is the first path that doesn't read
 abbrev pub IsDamagedAt : View → Elements → Type 0
 IsDamagedAt v p = IsFirstDamaged (shows v) p

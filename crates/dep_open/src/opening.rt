@@ -1,11 +1,11 @@
 // Opening an installation.
 ghost use Rattle.std.specs.Prelude.{◌≡◌, IfOk, IsErrOf};
 ghost use Rattle.fp_host.specs.Causes.{IsCounted};
-ghost use Rattle.fp_host.specs.Frame.{AtEnd, Frame, NoPath};
+ghost use Rattle.fp_host.specs.Frame.{AtEnd, Frame, NoPath, NoName};
 ghost use Rattle.fp_host.specs.Moments.{Always};
 ghost use Rattle.fp_host.specs.Outcome.{Nothing};
 ghost use Rattle.dep_states.specs.After.{IsGood};
-ghost use Rattle.dep_open.specs.Open.{Opened as HasOpened, NoName, StaysUnread};
+ghost use Rattle.dep_open.specs.Open.{Opened as HasOpened, StaysUnread};
 
 use crate::open_end::OpenEnd;
 use crate::reading::read_state;

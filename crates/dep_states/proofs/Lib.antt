@@ -22,3 +22,6 @@ pub mod Openings
 pub mod Absent
 pub mod Pulling
 pub mod Small
+pub mod Lasting
+pub mod Linked
+pub mod Elsewhere

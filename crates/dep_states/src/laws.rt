@@ -1,13 +1,16 @@
 //! Laws of what images show. Each is the contract of a function that does nothing.
-ghost use Rattle.std.specs.Prelude.{◌≡◌, ◌⊎◌, ◌↔◌, ◌≤◌, ◌++◌, ◌∷◌, ℕ, List, length, map, true, Some, None, Result, Err};
-ghost use Rattle.fp_host.specs.Paths.{Elements, absent};
+ghost use Rattle.std.specs.Prelude.{◌≡◌, ◌≢◌, ◌⊎◌, ◌↔◌, ◌≤◌, ◌++◌, ◌∷◌, ℕ, List, [], length, map, true, Some, None, Result, Err};
+ghost use Rattle.fp_host.specs.Paths.{Elements, absent, IsAbove};
 ghost use Rattle.fp_host.specs.View.{View, IsTree};
+ghost use Rattle.fp_host.specs.Calls.{CanCreate, creates, appends, links, done};
 ghost use Rattle.fp_host.specs.Outcome.{Disk, Follows, Nothing, IsSettled, gone, folder, shows};
 ghost use Rattle.fp_base.specs.declared.object.ObjKind.{ObjKind};
 ghost use Rattle.fp_host.specs.Reads.{is_ascending};
 ghost use Rattle.fp_name.specs.Hex.{is_digest};
 ghost use Rattle.fp_name.specs.Refs.{Ref, is_ref};
 ghost use Rattle.fp_small.specs.Config.{IsSettings, config_text};
+ghost use Rattle.fp_small.specs.Clear.{IsWithin};
+ghost use Rattle.fp_small.specs.Files.{KeepsFiles};
 ghost use Rattle.fp_small.specs.Places.{repo, tmp};
 ghost use Rattle.fp_small.specs.declared.config.Settings.{Settings};
 ghost use Rattle.fp_small.specs.declared.op.Op.TheVariants.{Install, Update, Uninstall, SetOverride, DropOverride, Rollback};
@@ -15,13 +18,18 @@ ghost use Rattle.fp_small.specs.declared.state.State.{State};
 ghost use Rattle.fp_small.specs.declared.state.RefRow.{RefRow};
 ghost use Rattle.fp_small.specs.declared.state.OverrideRow.{OverrideRow};
 ghost use Rattle.fp_small.specs.declared.state.Previous.{Previous};
+ghost use Rattle.ost_model.specs.Objects.{object_path};
 ghost use Rattle.ost_model.specs.Order.{In};
 ghost use Rattle.ost_model.specs.Stores.{IsStore};
+ghost use Rattle.ost_refs.specs.Places.{place_path};
+ghost use Rattle.ost_refs.specs.declared.place.RefPlace.{RefPlace};
 ghost use Rattle.dep_states.specs.After.{HasOrder, IsGood, row_at, after_op};
 ghost use Rattle.dep_states.specs.Frames.{KeptIn, InDir, IsUnused, ObjectGone, IsNewObject, Pulls};
 ghost use Rattle.dep_states.specs.Small.{IsSetting, IsLayered};
 ghost use Rattle.dep_states.specs.Switch.{IsWith, SwitchesAt, Stages, OpensEither};
-ghost use Rattle.dep_states.specs.Names.{active, config, remotes_conf, pins_file, override_path};
+ghost use Rattle.dep_states.specs.Lasting.{IsLasting};
+ghost use Rattle.dep_states.specs.Links.{Links};
+ghost use Rattle.dep_states.specs.Names.{active, commit_dir, config, deploy, remotes_conf, pins_file, override_path};
 ghost use Rattle.dep_states.specs.Shown.{there, seen_of, settings_seen, override_seen, at_name, override_key, setup_of, Shows, IsShown, config_most};
 ghost use Rattle.dep_states.specs.Zones.{Allowed, IsFileOrGone, IsFolderOrGone, anything, outward, zone};
 ghost use Rattle.dep_states.specs.Damaged.{Damages, Gives};
@@ -271,4 +279,29 @@ pub fn a_switch_is_old_or_new()
         → is_ref name ≡ true
         → IsWith s name (Some row) t → Follows (SwitchesAt name row (rest ++ tmp)) u w → Stages s name row u
         → OpensEither s t w }
+{}
+
+// ---- where files stay
+
+/// No work lasts, and of what stands in a commit's folder only the record does. An object of the store lasts, and a file of its
+/// refs.
+pub fn what_lasts()
+    ensures no_work { (q : Elements) → IsWithin tmp q → IsLasting q → ⊥ }
+    ensures record { (name : Ref) (commit : List ℕ) (q : Elements) → IsAbove (commit_dir name commit) q
+        → IsLasting q → q ≡ deploy (commit_dir name commit) }
+    ensures object { (d : List ℕ) (kind : ObjKind) → IsLasting (object_path repo d kind) }
+    ensures a_ref { (place : RefPlace) → IsLasting (place_path repo place) }
+{}
+
+/// Where no name changes, all that stands in commits' folders is linked; so it is after two steps if it is after each. A link to
+/// an object's file is, wherever it stands. A file that is written into a commit's folder is not, unless it is the record.
+pub fn what_is_linked()
+    ensures still { (u w : View) → ((q : Elements) → w.names q ≡ u.names q) → Links u w }
+    ensures on { (u v w : View) → Links u v → Links v w → KeepsFiles v w → Links u w }
+    ensures linked { (v : View) (d : List ℕ) (kind : ObjKind) (q : Elements) → IsTree v
+        → Links v (done (links (object_path repo d kind) q) v) }
+    ensures written { (v : View) (name : Ref) (commit bytes : List ℕ) (q : Elements) (mode id : ℕ)
+        → CanCreate q mode v → v.stood ≡ [] → IsAbove (commit_dir name commit) q
+        → q ≢ deploy (commit_dir name commit)
+        → Links v (done (appends q bytes) (done (creates q mode id) v)) → ⊥ }
 {}

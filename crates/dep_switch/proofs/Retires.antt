@@ -7,8 +7,8 @@ use Rattle.fp_host.specs.Calls.{unlinks, syncs, Can, Step, IsLeaf}
 use Rattle.fp_host.specs.Outcome.{Spot, gone, folder, holds, points, spot_of, Nothing, Disk, Leaves, Follows, IsSettled, shows}
 use Rattle.fp_host.specs.declared.host.HostError.{HostError}
 use Rattle.fp_host.proofs.Follow.{follows_on, follows_call, follows_to, called}
-use Rattle.fp_host.proofs.Filed.{puts_call}
-use Rattle.fp_host.proofs.Keep.{printed_kept, names_kept}
+use Rattle.fp_host.proofs.Filed.{puts_call, put_call}
+use Rattle.fp_host.proofs.Keep.{printed_kept, names_kept, stood_kept}
 use Rattle.fp_host.specs.Frame.{AtEnd}
 use Rattle.fp_host.specs.Moments.{Moments, Makes}
 use Rattle.fp_host.proofs.Framed.{IsTold}
@@ -86,7 +86,9 @@ pub retires_unlink : {s : State} {plan : RetirePlan} {r : Result (Unit {0}) Host
 retires_unlink {s = s} {plan = plan} {v = v} {w = w} tree step = record {
   either = λ planned opens. retire_law planned.good (gone_with plan.name opens) (follows_to (retires_at planned) (follows_call tree (called step))) opens;
   names = λ q. puts_call (called step) q;
+  puts = λ x had. put_call (called step) x had;
   files = unlinked_files step;
+  stood = stood_kept (called step);
   printed = printed_kept (called step) tt;
 }
   where
@@ -100,7 +102,9 @@ pub retires_sync : {s : State} {plan : RetirePlan} {r : Result (Unit {0}) HostEr
 retires_sync {plan = plan} {w = w} tree first step = record {
   either = λ planned opens. either_follows (follows_to (λ q spot h. h) (follows_call tree (called step))) (first.either planned opens);
   names = λ q. let same = names_kept (called step) q (λ none. none) in elim (first.names q) [ inl was ↦ inl (same ∙ was) | inr h ↦ inr (h.0, same ∙ h.1) ];
+  puts = λ x had. elim (put_call (called step) x had) [ inl before ↦ first.puts x before | inr none ↦ absurd none ];
   files = λ id. (files_synced step).rows id ∙ first.files id;
+  stood = λ x had. (files_synced step).stood x (first.stood x had);
   printed = printed_kept (called step) tt ∙ first.printed;
 }
 

@@ -9,7 +9,7 @@ use Rattle.fp_host.specs.Outcome.{Spot, gone, points, spot_of, GivesOf, Nothing,
 use Rattle.fp_host.specs.Frame.{Keeps, NoPath}
 use Rattle.fp_host.specs.declared.host.HostError.{HostError}
 use Rattle.fp_host.proofs.Follow.{follows_call, follows_to, called}
-use Rattle.fp_host.proofs.Filed.{PutsOf, puts_call}
+use Rattle.fp_host.proofs.Filed.{PutsOf, puts_call, put_call}
 use Rattle.fp_host.proofs.Keep.{printed_kept, names_kept}
 use Rattle.fp_host.proofs.Separate.{set_same, set_other}
 use Rattle.fp_host.specs.Frame.{AtEnd}
@@ -85,7 +85,9 @@ switches_rename {staged = staged} {v = v} {w = w} tree step = record {
   either = λ s row leads ready. switch_law {s = s} {t = staged.state} {name = row.name} {row = row} {u = v} {w = w} (codes "active" ∷ []) (good_ref ready) (is_with leads ready.stages.opens)
       (follows_to (given staged row v leads.from leads.to ready.linked) (follows_call tree (called step))) ready.stages;
   names = λ q. elim (puts_call (called step) q) [ inl same ↦ inl same | inr h ↦ inr h ];
+  puts = λ x had. elim (put_call (called step) x had) [ inl before ↦ inl before | inr h ↦ inr h ];
   files = (files_renamed step).rows;
+  stood = (files_renamed step).stood;
   printed = printed_kept (called step) tt;
 }
 
@@ -93,7 +95,9 @@ pub switches_sync : {staged : Staged} {r : Result (Unit {0}) HostError} {u v w :
 switches_sync {staged = staged} {u = u} {w = w} tree first step = record {
   either = λ s row leads ready. either_follows (follows_to (λ q spot h. h) (follows_call tree (called step))) (first.either s row leads ready);
   names = λ q. let same = names_kept (called step) q (λ none. none) in elim (first.names q) [ inl was ↦ inl (same ∙ was) | inr h ↦ inr (subst (SwitchesName staged u q) (sym same) h) ];
+  puts = λ x had. elim (put_call (called step) x had) [ inl before ↦ first.puts x before | inr none ↦ absurd none ];
   files = λ id. (files_synced step).rows id ∙ first.files id;
+  stood = λ x had. (files_synced step).stood x (first.stood x had);
   printed = printed_kept (called step) tt ∙ first.printed;
 }
 

@@ -1,5 +1,6 @@
 -- A file that is written anew.
-use Rattle.std.proofs.Common.{◌≡◌, ◌≢◌, ◌⊎◌, inl, inr, ℕ, List, [], ◌∷◌, Option, Some, None, Result, Ok, refl, sym, ◌∙◌, ap, subst, ◌≤◌, arith}
+use Rattle.std.proofs.Common.{◌≡◌, ◌≢◌, ◌⊎◌, inl, inr, ℕ, List, [], ◌∷◌, Option, Some, None, Result, Ok, refl, sym, ◌∙◌, ap, subst, Contains, ◌≤◌, arith}
+use Rattle.std.proofs.lemmas.Bool.{cases_eq}
 use Rattle.fp_host.specs.Paths.{Elements, Slot, absent, dir, file, link}
 use Rattle.fp_host.specs.View.{View, Inode, IsTree}
 use Rattle.fp_host.specs.Calls.{appends, creates, Step, Creates, CanCreate, HasFolder, IsFile, IsNoDir}
@@ -7,8 +8,8 @@ use Rattle.fp_host.specs.Outcome.{Spot, gone, Follows}
 use Rattle.fp_host.specs.Frame.{Keeps, NoPath}
 use Rattle.fp_host.specs.declared.host.HostError.{HostError}
 use Rattle.fp_host.proofs.Follow.{follows_on, follows_to, follows_call, called, no_loop}
-use Rattle.fp_host.proofs.Filed.{files_kept}
-use Rattle.fp_host.proofs.Keep.{names_kept, printed_kept}
+use Rattle.fp_host.proofs.Filed.{files_kept, empty_kept, put_call}
+use Rattle.fp_host.proofs.Keep.{names_kept, printed_kept, stood_kept}
 use Rattle.fp_host.specs.Frame.{Frame, AtEnd}
 use Rattle.fp_host.specs.Moments.{Moments, Goes, Makes}
 use Rattle.fp_host.proofs.Ending.{ends_call, ends_frame, ends_on, goes_known}
@@ -18,13 +19,14 @@ use Rattle.fp_small.specs.Clear.{GoneAt, AbsentAt}
 use Rattle.fp_small.specs.Files.{KeepsFiles}
 use Rattle.fp_small.specs.Replace.{IsFreeFile}
 use Rattle.fp_small.proofs.Keeping as keeping
+use Rattle.fp_small.proofs.Sharing.{shares_empty}
 use Rattle.fp_small.proofs.Staging.{Written, begun_create, written_append}
 use Rattle.dep_states.specs.Zones.{IsFileOrGone}
 use Rattle.dep_switch.specs.Writing.{FileAt, FileName, WritesFile, HasFile, CanWrite}
 
 -- what was done until the new file gets bytes
 pub writes_keeps : {p : Elements} {u w : View} → Keeps (FileAt p) (FileName p) NoPath u w → WritesFile p u w
-writes_keeps keeps = record { follows = keeps.follows; names = keeps.names; files = keeping.files_kept keeps; printed = keeps.printed }
+writes_keeps keeps = record { follows = keeps.follows; names = keeps.names; puts = keeps.puts; files = keeping.files_kept keeps; shares = shares_empty keeps; printed = keeps.printed }
 
 pub gone_file : {p : Elements} (q : Elements) (spot : Spot) → GoneAt p q spot → FileAt p q spot
 gone_file q spot h = (h.0, subst IsFileOrGone (sym h.1) tt)
@@ -40,7 +42,7 @@ pub record IsBegun (p : Elements) (u v : View) : Type 0 where
 pub begun : {p : Elements} {G : Elements → Spot → Type 0} {W : Elements → Slot → Type 0} {u v w : View} → Keeps G W NoPath u v → Creates p 420 (Ok tt) v w → IsBegun p u w
 begun {p = p} first step =
     let made = begun_create {t = p} step in
-    record { written = record { id = made.written.id; name = made.written.name; row = made.written.row; dirty = made.written.dirty }; free = first.rows made.written.id made.free }
+    record { written = record { id = made.written.id; name = made.written.name; stood = made.written.stood; row = made.written.row; dirty = made.written.dirty }; free = first.rows made.written.id made.free }
 
 some_none : {A : Type 0} {a : A} {o : Option A} → o ≡ Some a → o ≡ None → ⊥
 some_none some none = cc (sym some ∙ none)
@@ -56,12 +58,31 @@ writes_append {p = p} {u = u} {v = v} {w = w} tree first new step = record {
     | inl was ↦ inl (same ∙ was)
     | inr put ↦ inr (subst (FileName p q) (sym same) put)
   ];
+  puts = λ x had. elim (put_call (called step) x had) [ inl before ↦ first.puts x before | inr none ↦ absurd none ];
   files = record {
     rows = λ id f some. let kept = first.files id f some (λ q none is. none) in
         files_kept (called step) id f kept (λ fills. some_none some (ap u.files (same_id fills new.written.name) ∙ new.free));
+    stood = λ x had. stood_kept (called step) x (first.stood x had);
+  };
+  shares = record {
+    each = λ id f none some. elim (cases_eq id new.written.id) [
+      | inl is ↦ inr (p, refl, stood_kept (called step) (p, file id) (subst (λ (i : ℕ). Contains v.stood (p, file i)) (sym is) new.written.stood))
+      | inr off ↦ inl (other_empty id f none some (λ fills. off (same_id fills new.written.name)))
+    ];
   };
   printed = printed_kept (called step) tt ∙ first.printed;
 }
+  where
+    -- another file gets no bytes
+    other_empty : (id : ℕ) (f : Inode) → u.files id ≡ None → w.files id ≡ Some f → (v.names p ≡ file id → ⊥) → f.bytes ≡ []
+    other_empty id f none some off = by_row (v.files id) refl
+      where
+        by_row : (row : Option Inode) → v.files id ≡ row → f.bytes ≡ []
+        by_row None new = empty_kept (called step) id f new some off
+        by_row (Some g) old =
+            let same : Some g ≡ Some f = sym (files_kept (called step) id g old off) ∙ some in
+            let is : g ≡ f = cc same in
+            ap (λ (x : Inode). x.bytes) (sym is) ∙ first.empty (λ q no. no) id g none old
 
 pub has_file : {p : Elements} {bytes : List ℕ} {u w : View} → Written p bytes u w → HasFile p bytes w
 has_file made = record { id = made.id; name = made.name; row = made.row }

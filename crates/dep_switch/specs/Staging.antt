@@ -1,5 +1,5 @@
 -- A switch to another commit: what stands before it, and what it leaves.
-use Rattle.std.specs.Prelude.{◌≡◌, ◌⊎◌, ◌≤◌, ℕ, List, length, true, Some}
+use Rattle.std.specs.Prelude.{◌≡◌, ◌⊎◌, ◌≤◌, ℕ, List, length, true, Some, Contains}
 use Rattle.fp_host.specs.Paths.{Elements, Slot, absent, link}
 use Rattle.fp_host.specs.View.{View}
 use Rattle.fp_host.specs.Outcome.{IsSettled, shows}
@@ -86,11 +86,14 @@ pub record CanSwitch (staged : Staged) (v : View) : Type 0 where
 abbrev pub SwitchesName : Staged → View → Elements → Slot → Type 0
 SwitchesName staged u q e = ((q ≡ staged.to) × (e ≡ u.names staged.from)) ⊎ ((q ≡ staged.from) × (e ≡ absent))
 
--- At every moment each stop leaves the state of before or the one after. No file changes, and nothing is printed.
+-- At every moment each stop leaves the state of before or the one after. No file changes, what was put at a
+-- name stays remembered, and nothing is printed.
 pub record Switches (staged : Staged) (u w : View) : Type 0 where
   pub either : (s : State) (row : RefRow) → LeadsTo s row staged → IsStaged s row u → OpensEither s staged.state w
   pub names : (q : Elements) → (w.names q ≡ u.names q) ⊎ SwitchesName staged u q (w.names q)
+  pub puts : (x : Elements × Slot) → Contains w.stood x → Contains u.stood x ⊎ SwitchesName staged u x.0 x.1
   pub files : (id : ℕ) → w.files id ≡ u.files id
+  pub stood : (x : Elements × Slot) → Contains u.stood x → Contains w.stood x
   pub printed : w.printed ≡ u.printed
 
 -- in the end the one after, and what stands

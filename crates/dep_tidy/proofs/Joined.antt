@@ -1,29 +1,36 @@
 -- Steps of tidying, one after another.
-use Rattle.std.proofs.Common.{◌≡◌, ◌≢◌, ◌⊎◌, inl, inr, true, take, ℕ, List, [], ◌∷◌, ◌++◌, Option, Result, Ok, refl, sym, ◌∙◌, ap, subst, codes}
-use Rattle.fp_host.specs.Paths.{Elements, Slot, absent, IsAbove}
+use Rattle.std.proofs.Common.{◌≡◌, ◌≢◌, ◌⊎◌, inl, inr, true, take, ℕ, List, [], ◌∷◌, ◌++◌, Option, Result, Ok, refl, sym, ◌∙◌, ap, subst, codes, Contains}
+use Rattle.fp_host.specs.Paths.{Elements, Slot, absent, file, IsAbove}
 use Rattle.fp_host.specs.View.{View, IsTree}
 use Rattle.fp_host.specs.Calls.{syncs, Step}
 use Rattle.fp_host.specs.Outcome.{Spot, Disk, Leaves, Nothing, IsSettled, gone, shows, spot_of}
-use Rattle.fp_host.specs.Frame.{Keeps, NoPath}
+use Rattle.fp_host.specs.Frame.{Keeps, NoPath, NoName}
 use Rattle.fp_host.specs.Moments.{Moments, Goes, Makes}
 use Rattle.fp_host.specs.declared.host.HostError.{HostError}
+use Rattle.fp_host.proofs.Filed.{put_call}
 use Rattle.fp_host.proofs.Follow.{called}
 use Rattle.fp_host.proofs.Framed.{IsTold, keeps_call}
 use Rattle.fp_host.proofs.Goes.{begins, goes_on, knowing, makes_goes, ends_tree}
 use Rattle.fp_host.proofs.Settled.{settled_disk, at_tree}
 use Rattle.fp_base.specs.declared.object.ObjKind.{ObjKind}
 use Rattle.fp_small.specs.Places.{repo, tmp}
-use Rattle.fp_small.specs.Clear.{GoneBelow, AbsentBelow}
-use Rattle.fp_small.specs.Files.{KeepsFiles}
-use Rattle.fp_small.proofs.Keeping.{files_stay, files_on, files_kept}
+use Rattle.fp_small.specs.Clear.{GoneBelow, AbsentBelow, IsWithin}
+use Rattle.fp_small.specs.Files.{KeepsFiles, SameFiles}
+use Rattle.fp_small.proofs.Keeping.{files_stay, files_on, files_kept, files_synced}
+use Rattle.fp_small.proofs.Sharing.{shares_on, shares_same}
 use Rattle.fp_small.specs.declared.state.State.{State}
 use Rattle.fp_small.specs.declared.state.RefRow.{RefRow}
 use Rattle.ost_model.specs.Objects.{object_path, object_at}
 use Rattle.ost_prune.specs.Prune.{Prunes}
+use Rattle.ost_store.proofs.Creating.{creates_none, creates_on}
+use Rattle.dep_tidy.specs.Lasts.{Lasts}
+use Rattle.dep_states.specs.Links.{Links}
 use Rattle.dep_states.specs.Names.{config, commit_dir, ref_file}
 use Rattle.dep_states.specs.Sound.{Opens, IsOld, HasConfig}
 use Rattle.dep_states.specs.Settled.{Settled}
+use Rattle.dep_states.proofs.Lasting.{lasting_ref}
 use Rattle.dep_states.proofs.Law.{frame_law, spares_nothing}
+use Rattle.dep_states.proofs.Linked.{links_refl, links_still, links_on, links_lasting}
 use Rattle.dep_states.proofs.Switching.{second}
 use Rattle.dep_states.proofs.Deployed.{top}
 use Rattle.dep_states.proofs.Usual.{old_go, settled_config}
@@ -40,6 +47,7 @@ use Rattle.dep_states.proofs.Switching.{word_no_repo}
 use Rattle.fp_name.specs.declared.kind.RefKind.{RefKind}
 use Rattle.ost_refs.specs.Files.{ref_in, ref_file as file_says}
 use Rattle.ost_refs.specs.declared.place.RefFile.TheVariants.{Digest}
+use Rattle.ost_refs.specs.declared.place.RefPlace.TheVariants.{Remote}
 use Rattle.ost_refs.proofs.Files.{written}
 use Rattle.fp_host.specs.Outcome.{folder, holds, points}
 use Rattle.fp_host.proofs.Separate.{absent_cases}
@@ -48,12 +56,29 @@ use Rattle.fp_name.specs.Kinds.{kind_word}
 use Rattle.fp_small.specs.Places.{new_name}
 use Rattle.fp_small.proofs.Emptying.{cleared_absent}
 use Rattle.dep_states.specs.After.{IsGoodRow}
+use Rattle.dep_states.specs.Lasting.{IsLasting}
 use Rattle.dep_states.specs.Settled.{HasBytes}
 use Rattle.dep_states.specs.Sound.{is_remotes, is_pins}
 use Rattle.dep_states.proofs.Good.{shown_good as state_good}
 use Rattle.dep_states.proofs.Sparing.{kept_of_state}
 use Rattle.dep_tidy.proofs.Pruned.{row_shown, row_by_seen}
 use Rattle.dep_tidy.proofs.RefFiles.{row_good}
+
+-- ---- files
+
+-- a file comes to a ref's name, or is work
+may_file : (s : State) (q : Elements) (id : ℕ) → MayTidy s q (file id) → IsLasting q ⊎ IsWithin tmp q
+may_file s q id (some_work above) = inr (inr above)
+may_file s q id (commit_gone name commit good digits unkept within none) = absurd (cc none)
+may_file s q id (old_gone old none) = absurd (cc none)
+may_file s q id (ref_gone origin name remote good other at none) = absurd (cc none)
+may_file s q id (ref_written row has at f) = inl (subst IsLasting (sym at) (lasting_ref (Remote row.origin row.name)))
+may_file s q id (ref_folder row has at is) = absurd (cc is)
+may_file s q id (object_gone d kind digits at none) = absurd (cc none)
+
+-- so it links no other file
+tidy_links : (s : State) {u w : View} → ((q : Elements) → (w.names q ≡ u.names q) ⊎ MayTidy s q (w.names q)) → Links u w
+tidy_links s names = links_lasting (MayTidy s) names (may_file s)
 
 -- ---- no name changes
 
@@ -64,14 +89,12 @@ tidies_still {u = u} {w = w} tree opens names files printed = record {
   idle = λ o settled q. names q;
   used = λ o d kind is. ap (object_at kind) (shows_along tree files (object_path repo d kind) (all_same_to u.names w.names names (object_path repo d kind)));
   files = files;
+  links = links_still names;
   printed = printed;
 }
 
 pub tidies_same : {s : State} {u w : View} → w ≡ u → Tidies s u w
-tidies_same {s = s} {u = u} same = subst (Tidies s u) (sym same) (record { opens = λ o. o; names = λ q. inl refl; idle = λ o settled q. refl; used = λ o d kind is. refl; files = files_stay; printed = refl })
-
-abbrev NoName : Elements → Slot → Type 0
-NoName q e = ⊥
+tidies_same {s = s} {u = u} same = subst (Tidies s u) (sym same) (record { opens = λ o. o; names = λ q. inl refl; idle = λ o settled q. refl; used = λ o d kind is. refl; files = files_stay; links = links_refl; printed = refl })
 
 -- a sync
 pub tidies_sync : {s : State} {r : Result (Unit {0}) HostError} {u w : View} → IsTree u → Step syncs r u w → Tidies s u w
@@ -104,6 +127,7 @@ tidies_on {u = u} {v = v} tree between first second_ = record {
       second_.idle (first.opens o) (subst Settled (sym (all_shows tree between first.files names)) settled) q ∙ names q;
   used = λ o d kind is. second_.used (first.opens o) d kind (used_on o (first.opens o) (first.used o) d kind is) ∙ first.used o d kind is;
   files = files_on first.files second_.files;
+  links = links_on first.links second_.links second_.files;
   printed = second_.printed ∙ first.printed;
 }
 
@@ -135,13 +159,14 @@ module _ {G : Elements → Spot → Type 0} {W : Elements → Slot → Type 0} {
       elim (b.2 (object_path repo d kind)) [ inl same ↦ same ∙ steady.objects b.0 b.1 d kind | inr given ↦ absurd (aside.objects d kind (disk (object_path repo d kind)) given) ]
 
   pub steadily : {s : State} → (Opens s u → IsSteady u → Opens s w) → ((q : Elements) (e : Slot) → W q e → MayTidy s q e) → (Opens s u → Settled (shows u) → (q : Elements) → w.names q ≡ u.names q) → IsSteady u → Steadily s u w
-  steadily opens may idle steady = record {
+  steadily {s = s} opens may idle steady = record {
     tidies = record {
       opens = λ o. opens o steady;
-      names = λ q. elim (step.names q) [ inl same ↦ inl same | inr put ↦ inr (may q (w.names q) put) ];
+      names = names;
       idle = idle;
       used = λ o d kind is. ap (object_at kind) (object_same steady (shows w) (now_left w) d kind);
       files = step.files;
+      links = tidy_links s names;
       printed = step.printed;
     };
     steady = record {
@@ -149,6 +174,9 @@ module _ {G : Elements → Spot → Type 0} {W : Elements → Slot → Type 0} {
       objects = λ disk left d kind. object_same steady disk left d kind ∙ sym (object_same steady (shows w) (now_left w) d kind);
     };
   }
+    where
+      names : (q : Elements) → (w.names q ≡ u.names q) ⊎ MayTidy s q (w.names q)
+      names q = elim (step.names q) [ inl same ↦ inl same | inr put ↦ inr (may q (w.names q) put) ]
 
 -- where a name could only go that wasn't there, none changes
 pub none_goes : {W : Elements → Slot → Type 0} (u w : View) → ((q : Elements) → (w.names q ≡ u.names q) ⊎ W q (w.names q)) → ((q : Elements) (e : Slot) → W q e → e ≡ absent) → ((q : Elements) (e : Slot) → W q e → u.names q ≡ absent)
@@ -191,14 +219,18 @@ module _ {u w : View} (tree : IsTree u) (keeps : Keeps (GoneBelow tmp) (AbsentBe
 
   -- alone
   pub tidies_work : {s : State} → Tidies s u w
-  tidies_work = record {
+  tidies_work {s = s} = record {
     opens = λ o. frame_law (work_goes u) keeps.follows o;
-    names = λ q. elim (keeps.names q) [ inl same ↦ inl same | inr put ↦ inr (some_work put.0) ];
+    names = names;
     idle = λ o settled. work_idle settled;
     used = λ o d kind is. ap (object_at kind) (shows_along tree (files_kept keeps) (object_path repo d kind) (along d kind));
     files = files_kept keeps;
+    links = tidy_links s names;
     printed = keeps.printed;
   }
+    where
+      names : (q : Elements) → (w.names q ≡ u.names q) ⊎ MayTidy s q (w.names q)
+      names q = elim (keeps.names q) [ inl same ↦ inl same | inr put ↦ inr (some_work put.0) ]
 
 -- ---- folders
 
@@ -311,14 +343,18 @@ module _ {s : State} {u w : View} (step : Writes s.refs u w) where
 -- ---- objects
 
 pub tidies_pruned : {s : State} {u w : View} → IsSteady u → Prunes repo (kept_of s.refs) u w → Tidies s u w
-tidies_pruned {s = s} {u = u} steady pruned = record {
+tidies_pruned {s = s} {u = u} {w = w} steady pruned = record {
   opens = λ o. opens_pruned o steady pruned;
-  names = λ q. elim (pruned.keeps.names q) [ inl same ↦ inl same | inr put ↦ inr (object_gone put.0.object.0 put.0.object.1 put.0.unused.digits put.0.name put.1) ];
+  names = names;
   idle = λ o settled q. elim (pruned.keeps.names q) [ inl same ↦ same | inr put ↦ absurd (none_unused o (λ d kind good some. settled.used d kind good some) q put.0) ];
   used = λ o d kind is. used_stays o steady pruned d kind is;
   files = files_kept pruned.keeps;
+  links = tidy_links s names;
   printed = pruned.keeps.printed;
 }
+  where
+    names : (q : Elements) → (w.names q ≡ u.names q) ⊎ MayTidy s q (w.names q)
+    names q = elim (pruned.keeps.names q) [ inl same ↦ inl same | inr put ↦ inr (object_gone put.0.object.0 put.0.object.1 put.0.unused.digits put.0.name put.1) ]
 
 -- ---- over the moments
 
@@ -359,12 +395,19 @@ ready_more step ready = record { steady = (step ready.steady).steady; opens = re
 
 -- ---- the two syncs
 
+-- nothing was put anywhere
+abbrev pub PutsNone : View → View → Type 0
+PutsNone u w = (x : Elements × Slot) → Contains w.stood x → Contains u.stood x
+
+puts_none : {r : Result (Unit {0}) HostError} {u w : View} → Step syncs r u w → PutsNone u w
+puts_none step x had = elim (put_call (called step) x had) [ inl before ↦ before | inr none ↦ absurd none ]
+
 -- synced, and tidied so far
 abbrev pub Synced : State → View → View → Type 0
-Synced s u w = Tidies s u w × IsSteady w
+Synced s u w = Tidies s u w × IsSteady w × SameFiles u w × PutsNone u w
 
 pub synced_goes : {s : State} {a b : Option Moments} → IsTold a → IsTold b → Makes (Step syncs (Ok tt)) a b → Goes a b (Tidies s) (Synced s)
-synced_goes {s = s} told next call = ends_tree next (begins {R' = Tidies s} {Q' = λ u w. IsTree w → Synced s u w} told (makes_goes call) (λ u w tree step. tidies_sync tree step) (λ u w tree r step after. (tidies_sync tree step, steady_synced after step))) (λ u w tree q. q tree)
+synced_goes {s = s} told next call = ends_tree next (begins {R' = Tidies s} {Q' = λ u w. IsTree w → Synced s u w} told (makes_goes call) (λ u w tree step. tidies_sync tree step) (λ u w tree r step after. (tidies_sync tree step, steady_synced after step, files_synced step, puts_none step))) (λ u w tree q. q tree)
 
 -- then all between the syncs
 pub settled_goes : {s : State} {a b c : Option Moments} → IsTold a → IsTold b → Goes a b (Tidies s) (Synced s) → Goes b c (Tidying s) (Tidying s) → Goes a c (Tidies s) (Tidies s)
@@ -381,11 +424,19 @@ ended_goes {s = s} told between first call = knowing {P = IsTree} {R = λ u w. I
     (λ u w tree r. r tree) (λ u w tree q. q tree)
 
 -- what is settled stays so
-pub was_tidied : {s : State} {u v w : View} → (Opens s u → Settled (shows v)) → Step syncs (Ok tt) v w → WasTidied s u w
-was_tidied {v = v} settled step = record {
+pub was_tidied : {s : State} {u v w : View} → (Opens s u → Settled (shows v)) → Lasts u v → Step syncs (Ok tt) v w → WasTidied s u w
+was_tidied {v = v} {w = w} settled so_far step = record {
   settled = λ opens. subst Settled (sym (ap shows step.how.1)) (settled opens);
   lasts = settled_synced step;
+  shares = shares_on so_far.shares (shares_same same) kept;
+  creates = creates_on so_far.creates (creates_none NoName (λ x had. inl (puts_none step x had)) (λ q id below none. none)) so_far.files kept;
 }
+  where
+    same : SameFiles v w
+    same = files_synced step
+
+    kept : KeepsFiles v w
+    kept = record { rows = λ id f some. same.rows id ∙ some; stood = same.stood }
 
 -- of the same state
 pub tidying_of : {s z : State} {a b : Option Moments} → z ≡ s → Goes a b (Tidying z) (Tidying z) → Goes a b (Tidying s) (Tidying s)
@@ -399,4 +450,9 @@ pub tidied_of : {s z : State} {u v w : View} → z ≡ s → Synced s u v → Wa
 tidied_of {v = v} same q was = record {
   settled = λ opens. was.settled (subst (λ x. Opens x v) (sym same) (q.0.opens opens));
   lasts = was.lasts;
+  shares = record { each = λ id f none some. was.shares.each id f (q.2.rows id ∙ none) some };
+  creates = record {
+    each = λ o none. absurd none;
+    only = λ p id below had. elim (was.creates.only p id below had) [ inl before ↦ inl (q.3 (p, file id) before) | inr new ↦ absurd new.1.1 ];
+  };
 }

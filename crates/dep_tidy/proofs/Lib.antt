@@ -6,6 +6,7 @@ mod Texts
 mod UnkeptFolders
 pub mod RowsKept
 mod OldFiles
+mod Lasted
 mod RefFiles
 pub mod Pruned
 mod Joined

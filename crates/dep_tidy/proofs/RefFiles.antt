@@ -33,6 +33,7 @@ use Rattle.ost_refs.specs.Changes.{CanWrite, WasDropped}
 use Rattle.dep_states.specs.After.{IsGoodRow}
 use Rattle.dep_states.proofs.Good.{shown_good as state_good}
 use Rattle.dep_states.proofs.Law.{frame_law}
+use Rattle.dep_tidy.proofs.Lasted.{lasts_same, lasts_on, lasts_ref}
 use Rattle.dep_tidy.proofs.Clearing.{can_drop, can_write, refs_spare}
 use Rattle.dep_states.proofs.Single.{some_is}
 use Rattle.dep_states.proofs.Worked.{word_same}
@@ -190,6 +191,7 @@ module _ (row : RefRow) where
               ]
             ]
           ];
+          lasts = lasts_ref row.origin row.name r was;
         }
 
   pub writes_same : {u w : View} → w ≡ u → Writes one u w
@@ -197,7 +199,7 @@ module _ (row : RefRow) where
 
   -- one that says it already
   pub found_file : {u w : View} → w ≡ u → ref_in (shows u (ref_file row.origin row.name)) ≡ Digest row.commit → WroteFile row u w
-  found_file {u = u} same is = record { file = λ good. says_one (ap (λ (v : View). ref_in (shows v (ref_file row.origin row.name))) same ∙ is); work = λ q above. ap (λ (v : View). v.names q) same }
+  found_file {u = u} same is = record { file = λ good. says_one (ap (λ (v : View). ref_in (shows v (ref_file row.origin row.name))) same ∙ is); work = λ q above. ap (λ (v : View). v.names q) same; lasts = lasts_same same }
 
 -- ---- along the rows
 
@@ -273,7 +275,7 @@ module _ (rows items : List RefRow) (i : ℕ) (row : RefRow) (low : i < length i
     }
 
 pub wrote_none : (s : State) (items : List RefRow) {u w : View} → w ≡ u → WroteSome s (take 0 items) u w
-wrote_none s items same = record { files = λ opens. record { each = λ r has. absurd (in_none r has) }; work = λ q above. ap (λ (v : View). v.names q) same }
+wrote_none s items same = record { files = λ opens. record { each = λ r has. absurd (in_none r has) }; work = λ q above. ap (λ (v : View). v.names q) same; lasts = lasts_same same }
 
 pub wrote_next : (s : State) (items : List RefRow) (i : ℕ) (row : RefRow) → i < length items → row ≡ get_or items i row → items ≡ s.refs → {u v w : View} → IsTree v → IsTree w
     → WroteSome s (take i items) u v → Writes (row ∷ []) v w → WroteFile row v w → WroteSome s (take (i + 1) items) u w
@@ -283,10 +285,12 @@ wrote_next s items i row low is same {u = u} tree next before step here = record
       let good = row_of_state s row (in_rows s.refs items i row low is same) opens in
       next_files s.refs items i row low is same shown.refs_ascend tree next step.alters (before.files opens) (here.file good.commit);
   work = λ q above. here.work q above ∙ before.work q above;
+  lasts = lasts_on before.lasts here.lasts;
 }
 
 pub wrote_all : (s : State) (items : List RefRow) (i : ℕ) → length items ≤ i → items ≡ s.refs → {u w : View} → WroteSome s (take i items) u w → WroteSome s s.refs u w
 wrote_all s items i high same wrote = record {
   files = λ opens. record { each = λ r has. (wrote.files opens).each r (all_taken items i r high (subst (λ (l : List RefRow). Contains l r) (sym same) has)) };
   work = wrote.work;
+  lasts = wrote.lasts;
 }

@@ -25,6 +25,7 @@ use Rattle.ost_refs.specs.declared.place.RefPlace.TheVariants.{Head, Remote}
 use Rattle.dep_states.specs.Names.{config, remotes_conf, pins_file, branch_dir, commit_dir, ref_file}
 use Rattle.dep_states.specs.Frames.{KeptIn}
 use Rattle.dep_states.specs.Sound.{Opens, IsOld, OldGone, HasConfig}
+use Rattle.dep_tidy.specs.Lasts.{Lasts}
 use Rattle.dep_tidy.specs.Tidy.{IsFrom, Tidies}
 
 -- What a step gives and where, what its names come to hold; each file that was there is as it was, and nothing is printed.
@@ -155,15 +156,17 @@ pub record Writes (rows : List RefRow) (u w : View) : Type 0 where
   pub alters : Alters (RefAt rows) (RefName rows) u w
   pub idle : HasRefFiles rows u → w ≡ u
 
--- The row has its ref file. The names of work are as they were.
+-- The row has its ref file. The names of work are as they were. What was made lasts, and is no object.
 pub record WroteFile (row : RefRow) (u w : View) : Type 0 where
   pub file : is_digest row.commit ≡ true → HasRefFiles (row ∷ []) w
   pub work : (q : Elements) → IsAbove tmp q → w.names q ≡ u.names q
+  pub lasts : Lasts u w
 
 -- These rows of the state have their files.
 pub record WroteSome (s : State) (rows : List RefRow) (u w : View) : Type 0 where
   pub files : Opens s u → HasRefFiles rows w
   pub work : (q : Elements) → IsAbove tmp q → w.names q ≡ u.names q
+  pub lasts : Lasts u w
 
 -- each ref of the state has its file
 abbrev pub WroteFiles : State → View → View → Type 0

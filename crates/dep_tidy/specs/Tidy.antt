@@ -11,14 +11,18 @@ use Rattle.fp_name.specs.Refs.{Ref, is_ref}
 use Rattle.fp_small.specs.Places.{repo, tmp}
 use Rattle.fp_small.specs.Clear.{IsWithin}
 use Rattle.fp_small.specs.Files.{KeepsFiles}
+use Rattle.fp_small.specs.Shares.{Shares}
 use Rattle.fp_small.specs.Replace.{folders_of}
 use Rattle.fp_small.specs.declared.state.State.{State}
 use Rattle.fp_small.specs.declared.state.RefRow.{RefRow}
 use Rattle.ost_model.specs.Objects.{object_path, store}
+use Rattle.ost_store.specs.Created.{Creates, NoObject}
 use Rattle.dep_states.specs.Names.{config, remotes_conf, pins_file, overrides_folder, commit_dir, ref_file}
 use Rattle.dep_states.specs.Shown.{there, ref_seen}
 use Rattle.dep_states.specs.After.{row_at}
 use Rattle.dep_states.specs.Frames.{KeptIn}
+use Rattle.dep_states.specs.Lasting.{IsLasting}
+use Rattle.dep_states.specs.Links.{Links}
 use Rattle.dep_states.specs.Sound.{Keeps, Opens, IsOld}
 use Rattle.dep_states.specs.Settled.{Settled, Used, HasBytes, HasOrigin}
 
@@ -43,19 +47,22 @@ pub data MayTidy (s : State) (q : Elements) (e : Slot) : Type 0 where
 
 -- At every moment: what every stop left before it leaves now, a name is what it was or what tidying makes of it, and where all is
 -- settled no name changes. Each object that a kept commit uses is as it was. Each file that was there keeps its mode and its
--- bytes, and nothing is printed.
+-- bytes, one that comes to a commit's folder is a record or was put below the store's objects, and nothing is printed.
 pub record Tidies (s : State) (u w : View) : Type 0 where
   pub opens : Opens s u → Opens s w
   pub names : (q : Elements) → (w.names q ≡ u.names q) ⊎ MayTidy s q (w.names q)
   pub idle : Opens s u → Settled (shows u) → (q : Elements) → w.names q ≡ u.names q
   pub used : Opens s u → (d : List ℕ) (kind : ObjKind) → Used (shows u) d kind → store repo (shows w) d kind ≡ store repo (shows u) d kind
   pub files : KeepsFiles u w
+  pub links : Links u w
   pub printed : w.printed ≡ u.printed
 
--- all is settled, and every stop leaves what stands
+-- All is settled, and every stop leaves what stands. Each new file that has bytes came to a lasting name, and no object was made.
 pub record WasTidied (s : State) (u w : View) : Type 0 where
   pub settled : Opens s u → Settled (shows w)
   pub lasts : IsSettled w
+  pub shares : Shares IsLasting u w
+  pub creates : Creates repo NoObject u w
 
 -- Settled, but that work may be left in `repo/tmp`
 pub record SettledButWork (disk : Disk) : Type 0 where

@@ -8,6 +8,7 @@ ghost use Rattle.fp_small.specs.Places.{repo, tmp};
 ghost use Rattle.fp_small.specs.Clear.{GoneBelow, AbsentBelow};
 ghost use Rattle.dep_states.specs.Sound.{Opens};
 ghost use Rattle.dep_states.specs.Settled.{Settled};
+ghost use Rattle.dep_tidy.specs.Lasts.{Lasts};
 ghost use Rattle.dep_tidy.specs.Tidy.{Tidies, WasTidied, SettledButWork};
 ghost use Rattle.dep_tidy.specs.Steps.{IsSteady, Steadily, IsReady, IsCleared, HasRefs};
 
@@ -77,6 +78,8 @@ fn clear_left<H: Host>(alloc: Global, host: &mut H, state: &State) -> Result<(),
         (H.moments host.old) (H.moments host.new) }
     ensures on_success { OnOk result (AtEnd (λ u w. IsCleared state.now w)
         (H.moments host.old) (H.moments host.new)) }
+    ensures lasts { OnOk result (AtEnd Lasts
+        (H.moments host.old) (H.moments host.new)) }
     ensures fault_has_cause { IsCaused (IsErrOf result HostEnd.Fault) (H.moments host.old)
         (IsReady state.now) (H.faults host.old) (H.faults host.new) }
 {
@@ -97,6 +100,8 @@ fn settle_refs<H: Host>(
         (H.moments host.old) (H.moments host.new) }
     ensures on_success { OnOk result (AtEnd (λ u w. IsCleared state.now u → Opens state.now u
         → HasRefs state.now w) (H.moments host.old) (H.moments host.new)) }
+    ensures lasts { OnOk result (AtEnd Lasts
+        (H.moments host.old) (H.moments host.new)) }
     ensures fault_has_cause { IsCaused (IsErrOf result HostEnd.Fault) (H.moments host.old)
         (IsReady state.now) (H.faults host.old) (H.faults host.new) }
 {

@@ -129,7 +129,7 @@ module _ {May : Op → Type 0} {s : State} where
         performed = λ held known rests.
             let d = q.1.performed held known rests in
             let at = left_rests held (f held (world_at s x)) s t y rests d in
-            performed_second held f g s t r x y z d (n.performs held known at).files (l.performed held known at);
+            performed_second held f g s t r x y z d (q.0.performs held known rests).files (n.performs held known at).files (l.performed held known at);
       })
 
 -- ---- each of a list, in turn

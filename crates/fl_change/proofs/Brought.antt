@@ -63,7 +63,7 @@ pub record IsSupplied (held : Holdings) (op : Op) (s : State) (v : View) : Type 
   pub refused : op_refusal (supplied held (world_at s v) op) op ≡ op_refusal (have_for s op held v) op
   pub done : done_of op held (world_at s v) ≡ done_with (have_for s op held v) op
 
-by_store : (held : Holdings) (op : Op) (s : State) {v : View} → Rests s v → supply (used_of s (store repo (shows v))) (remote held (url_for s op)) ≡ have_for s op held v
+pub by_store : (held : Holdings) (op : Op) (s : State) {v : View} → Rests s v → supply (used_of s (store repo (shows v))) (remote held (url_for s op)) ≡ have_for s op held v
 by_store held op s rests = ap (λ (h : Have). supply h (remote held (url_for s op))) (settled_store s rests)
 
 pub supplied_is : (held : Holdings) (op : Op) (s : State) {v : View} → Rests s v → IsSupplied held op s v

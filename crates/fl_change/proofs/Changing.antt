@@ -10,13 +10,16 @@ use Rattle.fp_small.specs.Files.{KeepsFiles}
 use Rattle.fp_small.specs.Folders.{ancestors}
 use Rattle.fp_small.specs.Places.{repo, tmp}
 use Rattle.fp_small.specs.Replace.{ReplacesName, folders_of}
+use Rattle.fp_small.specs.Shares.{Shares}
 use Rattle.fp_small.proofs.Keeping.{files_stay, files_on}
+use Rattle.fp_small.proofs.Sharing.{shares_none}
 use Rattle.fp_small.specs.declared.state.State.{State}
 use Rattle.fp_small.specs.declared.op.Op.{Op}
 use Rattle.fp_small.specs.declared.op.Op.TheVariants.{Install, Update, Uninstall, AddPin, DropPin, AddRemote, ModifyRemote, DropRemote, SetOverride, DropOverride, Migrate, Rollback}
 use Rattle.fp_name.specs.Kinds.{kind_word}
 use Rattle.ost_store.proofs.Lists.{in_none, in_cases}
 use Rattle.dep_states.specs.Names.{config, commit_dir, override_path}
+use Rattle.dep_states.proofs.Linked.{links_still, links_on}
 use Rattle.dep_switch.specs.Writing.{new_deploy, new_folder, the_link, new_link}
 use Rattle.dep_tidy.specs.Tidy.{MayTidy, Tidies}
 use Rattle.dep_tidy.proofs.Left.{config_left}
@@ -33,10 +36,11 @@ change_on {May = May} u v w first second = record {
     | inr may ↦ inr may
   ];
   files = files_on first.files second.files;
+  links = links_on first.links second.links second.files;
 }
 
 pub change_none : {May : Op → Type 0} {u w : View} → ((q : Elements) → w.names q ≡ u.names q) → KeepsFiles u w → Changes May u w
-change_none names files = record { names = λ q. inl (names q); files = files }
+change_none names files = record { names = λ q. inl (names q); files = files; links = links_still names }
 
 may_hold : {A B : Op → Type 0} {q : Elements} {e : Slot} → ((op : Op) → A op → B op) → MayHold A q e → MayHold B q e
 may_hold wider (operated s op v may put) = operated s op v (wider op may) put
@@ -44,12 +48,12 @@ may_hold wider (tidied s may) = tidied s may
 
 -- by more operations
 pub change_to : {A B : Op → Type 0} {u w : View} → ((op : Op) → A op → B op) → Changes A u w → Changes B u w
-change_to wider changes = record { names = λ q. elim (changes.names q) [ inl same ↦ inl same | inr may ↦ inr (may_hold wider may) ]; files = changes.files }
+change_to wider changes = record { names = λ q. elim (changes.names q) [ inl same ↦ inl same | inr may ↦ inr (may_hold wider may) ]; files = changes.files; links = changes.links }
 
 -- ---- nothing but what is printed
 
 pub not_touched : {v : View} → IsUntouched v v
-not_touched = record { names = λ q. refl; earlier = λ q. refl; files = λ id. refl; dirty = λ id. refl }
+not_touched = record { names = λ q. refl; earlier = λ q. refl; files = λ id. refl; dirty = λ id. refl; stood = refl }
 
 pub same_untouched : {u w : View} → w ≡ u → IsUntouched u w
 same_untouched {u = u} same = subst (IsUntouched u) (sym same) not_touched
@@ -60,10 +64,15 @@ untouched_both first second = record {
   earlier = λ q. second.earlier q ∙ first.earlier q;
   files = λ id. second.files id ∙ first.files id;
   dirty = λ id. second.dirty id ∙ first.dirty id;
+  stood = second.stood ∙ first.stood;
 }
 
 pub keeps_files : {u w : View} → IsUntouched u w → KeepsFiles u w
-keeps_files same = record { rows = λ id f some. same.files id ∙ some }
+keeps_files same = record { rows = λ id f some. same.files id ∙ some; stood = λ x had. subst (λ (l : List (Elements × Slot)). Contains l x) (sym same.stood) had }
+
+-- and none is made
+pub none_made : {L : Elements → Type 0} {u w : View} → IsUntouched u w → Shares L u w
+none_made same = shares_none (λ id none. same.files id ∙ none)
 
 pub change_untouched : {May : Op → Type 0} {u w : View} → IsUntouched u w → Changes May u w
 change_untouched same = change_none same.names (keeps_files same)
@@ -81,12 +90,14 @@ pub applied_changes : {May : Op → Type 0} (s : State) (op : Op) (u w : View) �
 applied_changes s op u w may changes = record {
   names = λ q. elim (changes.names q) [ inl same ↦ inl same | inr put ↦ inr (operated s op u may put) ];
   files = changes.files;
+  links = changes.links;
 }
 
 pub tidied_changes : {May : Op → Type 0} (s : State) (u w : View) → Tidies s u w → Changes May u w
 tidied_changes s u w tidies = record {
   names = λ q. elim (tidies.names q) [ inl same ↦ inl same | inr may ↦ inr (tidied s may) ];
   files = tidies.files;
+  links = tidies.links;
 }
 
 -- ---- where no operation is done

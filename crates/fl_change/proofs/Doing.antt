@@ -8,12 +8,18 @@ use Rattle.fp_host.specs.Outcome.{Disk, Leaves, holds as standing, holding, spot
 use Rattle.fp_small.specs.Config.{config_text}
 use Rattle.fp_small.specs.Files.{KeepsFiles}
 use Rattle.fp_small.specs.Move.{HasNew, IsNew}
+use Rattle.fp_small.specs.Shares.{Shares}
+use Rattle.fp_small.specs.Places.{repo}
 use Rattle.fp_small.proofs.Keeping.{files_stay, files_on}
+use Rattle.fp_small.proofs.Sharing.{shares_refl, shares_on}
 use Rattle.fp_small.specs.declared.state.State.{State}
 use Rattle.fp_small.specs.declared.op.Op.{Op}
 use Rattle.fp_small.specs.declared.op.Op.TheVariants.{Install, Update, Uninstall, AddPin, DropPin, AddRemote, ModifyRemote, DropRemote, SetOverride, DropOverride, Migrate, Rollback}
 use Rattle.fp_small.specs.declared.refusal.Refusal.{Refusal}
 use Rattle.ost_model.specs.Objects.{Have}
+use Rattle.ost_store.specs.Created.{Creates}
+use Rattle.ost_store.proofs.Creating.{creates_refl, creates_to, creates_on}
+use Rattle.dep_states.specs.Lasting.{IsLasting}
 use Rattle.dep_states.specs.Names.{config}
 use Rattle.dep_states.specs.Shown.{settings_of}
 use Rattle.dep_states.specs.Sound.{Opens}
@@ -27,11 +33,13 @@ use Rattle.fl_change.specs.World.{World, world_at, world_after, worlds_after, su
 use Rattle.fl_change.specs.Answer.{Answer, Piece, lines_of, joined, ops_in, ops_of, done_answer, refusal_answer, unless, sets_config, set_config, keeps_commits}
 use Rattle.fl_change.specs.Refs.{op_over}
 use Rattle.fl_change.specs.Changes.{HasText}
+use Rattle.fl_change.specs.Created.{LacksFor}
 use Rattle.fl_change.specs.Performs.{Printed, IsSome, Performs, Holds, IsDone, IsHalted, Performed, Rests, done_of, WasDone, WasDoneBy, WasTidiedAfter}
 use Rattle.fl_change.specs.declared.end.RunEnd.TheVariants.{Refused}
 use Rattle.fl_change.specs.Says.{Says, WasSaid}
 use Rattle.fl_change.proofs.Brought.{plainly, done_is, supplied_is, world_is, same_world}
-use Rattle.fl_change.proofs.Changing.{config_kept, config_tidied, tidied_not, keeps_files, text_on}
+use Rattle.fl_change.proofs.Changing.{config_kept, config_tidied, tidied_not, keeps_files, none_made, text_on}
+use Rattle.fl_change.proofs.Created.{none_created, no_ops_created, lacks_is, brought_is, one_created}
 use Rattle.fl_change.proofs.Pulled.{op_pulls}
 use Rattle.fl_change.proofs.Resting.{small_rest}
 use Rattle.fl_change.proofs.Same.{same_opens, same_rest, now_left}
@@ -66,6 +74,8 @@ none_done held a x v none holds = record {
   tidied = λ why. elim why [ inl tidy ↦ tidy | inr some ↦ absurd (some (ap ops_in none)) ];
   text = λ some. absurd (let both : false ≡ true = ap (λ (l : List Piece). set_config (ops_in l)) (sym none) ∙ some in cc both);
   config = λ not. refl;
+  shares = λ no. shares_refl;
+  creates = λ no. no_ops_created held x (ops_of a) (ap ops_in none) creates_refl;
 }
 
 -- ---- the answer of an operation
@@ -151,6 +161,8 @@ module _ (holds : Option Holdings) (held : Holdings) (told : holds ≡ Some held
         tidied = λ why. was.settled known rests.opens rests.settled;
         text = λ some. absurd (cc some);
         config = λ not. config_kept s op (refused_keeps here op r is) changes;
+        shares = λ none. absurd (cc none);
+        creates = λ none. absurd (cc none);
       }
 
   pub apply_refused : {w : View} (r : Refusal) → op_refusal here op ≡ Some r → Applies s op holds v w → WasLeft s holds v w → WasDoneBy held op s (Err (Refused r)) v w
@@ -203,6 +215,8 @@ pub record Applied (held : Holdings) (op : Op) (s t : State) (v w : View) : Type
   pub text : sets_config op ≡ true → HasText t w
   pub config : sets_config op ≡ false → w.names config ≡ v.names config
   pub rest : keeps_commits op ≡ true → SettledButWork (shows w)
+  pub shares : Shares IsLasting v w
+  pub creates : Creates repo (LacksFor held (world_at s v) op) v w
 
 -- one that sets `config` is one on it, and brings nothing
 record OnConfig (op : Op) : Type 0 where
@@ -243,6 +257,8 @@ applied holds held told op s t {v = v} {w = w} may tree next rests applies was a
           subst (λ (x : State). HasText x w) (sym plain_is) (written (was.settings on.is).text);
       config = λ not. config_kept s op not changes;
       rest = small_rest s op may tree next rests changes;
+      shares = was.shares held (λ b. told) (λ b. rests.opens);
+      creates = creates_to (lacks_is held op s rests) (brought_is held op s rests) (was.creates held (λ b. told) (λ b. rests.opens));
     }
 
 -- ---- its answer
@@ -303,6 +319,8 @@ module _ (held : Holdings) (op : Op) (s t : State) (v : View) where
     text = λ sets. text_on (was.untouched.names config) (keeps_files was.untouched) (a.text sets);
     config = λ not. was.untouched.names config ∙ a.config not;
     rest = λ keeps. same_rest was.shown (a.rest keeps);
+    shares = shares_on a.shares (none_made was.untouched) (keeps_files was.untouched);
+    creates = creates_on a.creates (none_created was.untouched) a.files (keeps_files was.untouched);
   }
 
   -- ---- tidying after it
@@ -342,6 +360,8 @@ module _ (held : Holdings) (op : Op) (s t : State) (v : View) where
       tidied = λ why. was.settled (subst (λ (q : State). Opens q w) (sym done.state) done.holds.opens) done.rest;
       text = λ some. text_on (config_tidied tidies) tidies.files (subst (λ (q : State). HasText q w) done.state (done.text (sets true some)));
       config = λ not. config_tidied tidies ∙ done.config (sets false not);
+      shares = λ none. shares_on done.shares was.shares tidies.files;
+      creates = λ none. one_created held x op d op_is (creates_on done.creates was.creates done.files tidies.files);
     },
   )
 

@@ -1,12 +1,13 @@
 -- An install and updates of a runtime from a remote that has all its objects, computed.
-use Rattle.std.proofs.Common.{◌≡◌, [], ◌∷◌, Some, None, Ok, Err, refl, arith}
+use Rattle.std.proofs.Common.{◌≡◌, [], ◌∷◌, true, Some, None, Ok, Err, refl, arith}
 use Rattle.std.specs.Prelude.{codes}
 use Rattle.std.specs.Str.{is_utf8, chars}
 use lib.Utf8.{encode}
 use Rattle.sha2.specs.Sha256.{sha256, digest_bytes, hash_after, compress, rounds, schedule, first_words}
 use Rattle.fp_keyfile.specs.KeyFile.{file_of, with_pair, with_group, value_at}
 use Rattle.fp_keyfile.specs.Lines.{line_says}
-use Rattle.fp_name.specs.Hex.{hex, unhex, bytes_of}
+use Rattle.fp_base.specs.declared.object.ObjKind.TheVariants as kinds
+use Rattle.fp_name.specs.Hex.{hex, unhex, bytes_of, is_digest}
 use Rattle.fp_small.specs.declared.op.Op.TheVariants.{Install, Update, Uninstall}
 use Rattle.fp_small.specs.declared.refusal.Refusal.TheVariants as refusals
 use Rattle.fl_meta.specs.Metadata.{meta_of}
@@ -99,3 +100,13 @@ no_user = refl
 
 pub goes : change_over (changes.Uninstall platform) holdings installed ≡ op_answer (Uninstall platform)
 goes = rw no_user refl
+
+-- ---- the object of its commit
+
+pub commit_good : is_digest commit ≡ true
+unfolding hex unhex bytes_of is_utf8 chars encode
+commit_good = refl
+
+pub installed_has : installed.have commit kinds.Commit ≡ None → ⊥
+unfolding used_of hex is_utf8 chars encode
+installed_has none = cc none

@@ -6,6 +6,7 @@ pub mod Saying
 pub mod Stored
 pub mod Kept
 pub mod Brought
+pub mod Created
 pub mod Pulled
 pub mod Resting
 pub mod Doing

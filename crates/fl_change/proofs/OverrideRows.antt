@@ -1,5 +1,5 @@
 -- Worked overrides, closed by computing.
-use Rattle.std.proofs.Common.{◌≡◌, ℕ, List, [], ◌∷◌, refl}
+use Rattle.std.proofs.Common.{◌≡◌, [], ◌∷◌, refl}
 use Rattle.std.specs.Prelude.{codes}
 use lib.Utf8.{encode}
 use Rattle.std.specs.Str.{is_utf8, chars}

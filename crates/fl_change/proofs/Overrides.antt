@@ -1,5 +1,5 @@
 -- Overrides, changed by options.
-use Rattle.std.proofs.Common.{◌≡◌, ℕ, ◌<◌, ◌≤◌, Bool, true, false, List, [], ◌∷◌, ◌++◌, length, map, refl, ap, sym, ◌∙◌, subst}
+use Rattle.std.proofs.Common.{◌≡◌, ℕ, true, List, [], ◌∷◌, ◌++◌, map, refl, ap, sym, ◌∙◌, subst}
 use Rattle.std.specs.declared.cmp.Ordering.{Ordering}
 use Rattle.std.specs.declared.cmp.Ordering.TheVariants as orders
 use Rattle.std.specs.Ordering.{match_ordering, ordering_reverse}
@@ -17,7 +17,7 @@ use Rattle.fl_meta.specs.Order.{list_place, name_of, permission_cmp}
 use Rattle.fl_context.specs.Grants.{later, last_mention, value_in, permission_of, IsAscending}
 use Rattle.fl_context.specs.Latest.{with_mention, merged_onto, merged}
 use Rattle.fl_context.proofs.Merging.{value_in-merged, last_mention-append, last-one, same_list}
-use Rattle.fl_options.specs.Options.{IsOfFile, option_layer, layer_of}
+use Rattle.fl_options.specs.Options.{option_layer, layer_of}
 use Rattle.fl_options.proofs.Layers.{of_file}
 use Rattle.fl_override.specs.Written.{CanWrite, file_with}
 use Rattle.fl_override.specs.Overrides.{AllCanWrite}

@@ -1,20 +1,22 @@
 -- What an operation that changes no commit leaves: all is settled but for work.
-use Rattle.std.proofs.Common.{◌≡◌, ◌≢◌, ◌⊎◌, inl, inr, ℕ, List, [], ◌∷◌, ◌++◌, Bool, true, false, Option, Some, None, Result, Ok, Err, OnOk, Contains, if◌then◌else◌, refl, sym, ◌∙◌, ap, subst, codes}
-use Rattle.fp_host.specs.Paths.{Elements, Slot}
+use Rattle.std.proofs.Common.{◌≡◌, ◌≢◌, ◌⊎◌, inl, inr, ℕ, List, [], ◌∷◌, Bool, true, false, Option, Some, None, Result, Ok, Err, OnOk, Contains, if◌then◌else◌, refl, sym, ◌∙◌, ap, subst}
+use Rattle.fp_host.specs.Paths.{Elements, Slot, file}
 use Rattle.fp_host.specs.View.{View, IsTree}
-use Rattle.fp_host.specs.Frame.{AtEnd}
+use Rattle.fp_host.specs.Frame.{AtEnd, Frame, NoPath}
 use Rattle.fp_host.specs.Moments.{Moments}
-use Rattle.fp_host.proofs.Ending.{ends_to}
-use Rattle.fp_host.specs.Outcome.{Disk, Spot, gone, folder, holds, points, shows}
+use Rattle.fp_host.proofs.Ending.{ends_to, ends_both, ends_frame}
+use Rattle.fp_host.proofs.Framed.{IsTold}
+use Rattle.fp_host.specs.Outcome.{Spot, gone, folder, holds, points, shows}
 use Rattle.fp_small.specs.Clear.{IsWithin}
 use Rattle.fp_small.specs.Places.{repo, tmp}
 use Rattle.fp_small.specs.Replace.{ReplacesName, folders_of}
 use Rattle.fp_small.specs.declared.state.State.{State}
-use Rattle.fp_small.specs.declared.state.Layout.{Layout}
 use Rattle.fp_small.specs.declared.state.Layout.TheVariants.{One, Two}
 use Rattle.fp_small.specs.declared.state.RemoteRow.{RemoteRow}
 use Rattle.fp_small.specs.declared.op.Op.{Op}
 use Rattle.fp_small.specs.declared.op.Op.TheVariants.{Install, Update, Uninstall, AddPin, DropPin, AddRemote, ModifyRemote, DropRemote, SetOverride, DropOverride, Migrate, Rollback}
+use Rattle.fp_small.proofs.Sharing.{shares_empty}
+use Rattle.ost_store.proofs.Creating.{creates_frame}
 use Rattle.ost_store.proofs.Lists.{in_cases, in_one}
 use Rattle.dep_states.specs.Names.{config, remotes_conf, pins_file, overrides_folder, override_path}
 use Rattle.dep_states.specs.After.{May}
@@ -136,7 +138,7 @@ small_rest s op {v = v} {w = w} may tree next rests changes keeps =
 
 -- ---- tidying after it
 
-pub work_is_enough : {E : Type 0} (op : Op) (s : State) (r : Result State E) (a b : Option Moments) → keeps_commits op ≡ true
+pub work_is_enough : {E : Type 0} {G : Elements → Spot → Type 0} {W : Elements → Slot → Type 0} (op : Op) (s : State) (r : Result State E) (a b : Option Moments) → keeps_commits op ≡ true → ((q : Elements) (id : ℕ) → W q (file id) → ⊥) → IsTold a → Frame G W NoPath a b
     → OnOk r (AtEnd (λ u w. SettledButWork (shows u) → Settled (shows w)) a b) → OnOk r (AtEnd (WasTidiedAfter op s) a b)
-work_is_enough op s (Ok t) a b keeps end = ends_to end (λ u w settle. record { settled = λ opens rest. settle (rest keeps) })
-work_is_enough op s (Err e) a b keeps end = end
+work_is_enough {W = W} op s (Ok t) a b keeps off told frame end = ends_to (ends_both end (ends_frame told frame)) (λ u w q. record { settled = λ opens rest. q.0 (rest keeps); shares = shares_empty q.1; creates = creates_frame W q.1 (λ p id below put. off p id put) })
+work_is_enough op s (Err e) a b keeps off told frame end = end

@@ -14,10 +14,10 @@ use Rattle.fl_change.specs.Says.{Says, WasSaid, SaidBy}
 use Rattle.fp_host.proofs.Follow.{follows_refl, follows_say, called}
 
 said_done : (text : List ℕ) (v : View) → Says text v (done (says text) v)
-said_done text v = record { printed = inr refl; follows = follows_say v (v.printed ++ text); untouched = record { names = λ q. refl; earlier = λ q. refl; files = λ id. refl; dirty = λ id. refl }; shown = λ q. refl }
+said_done text v = record { printed = inr refl; follows = follows_say v (v.printed ++ text); untouched = record { names = λ q. refl; earlier = λ q. refl; files = λ id. refl; dirty = λ id. refl; stood = refl }; shown = λ q. refl }
 
 said_none : (text : List ℕ) (v : View) → Says text v v
-said_none text v = record { printed = inl refl; follows = follows_refl; untouched = record { names = λ q. refl; earlier = λ q. refl; files = λ id. refl; dirty = λ id. refl }; shown = λ q. refl }
+said_none text v = record { printed = inl refl; follows = follows_refl; untouched = record { names = λ q. refl; earlier = λ q. refl; files = λ id. refl; dirty = λ id. refl; stood = refl }; shown = λ q. refl }
 
 says_called : {text : List ℕ} {v w : View} → Called (says text) v w → Says text v w
 says_called {text = text} {v = v} call = elim call.went [
@@ -32,7 +32,7 @@ pub says_step : {text : List ℕ} {r : Result (Unit {0}) HostError} {v w : View}
 says_step step = says_called (called step)
 
 was_done : (text : List ℕ) (v : View) → WasSaid text v (done (says text) v)
-was_done text v = record { printed = refl; follows = follows_say v (v.printed ++ text); untouched = record { names = λ q. refl; earlier = λ q. refl; files = λ id. refl; dirty = λ id. refl }; shown = λ q. refl }
+was_done text v = record { printed = refl; follows = follows_say v (v.printed ++ text); untouched = record { names = λ q. refl; earlier = λ q. refl; files = λ id. refl; dirty = λ id. refl; stood = refl }; shown = λ q. refl }
 
 pub was_said : {text : List ℕ} {v w : View} → Step (says text) (Ok tt) v w → WasSaid text v w
 was_said {text = text} {v = v} step = subst (WasSaid text v) (sym step.how.1) (was_done text v)

@@ -14,7 +14,8 @@ use Rattle.fl_change.specs.Ends.{end_of_host}
 use Rattle.fl_change.specs.Performs.{Printed, Performs, IsDone, PerformsOver, PerformedOver, Acts, Rests}
 use Rattle.fl_change.specs.Says.{Says, WasSaid}
 use Rattle.fl_change.specs.declared.end.RunEnd.{RunEnd}
-use Rattle.fl_change.proofs.Changing.{tidied_none, keeps_files}
+use Rattle.fl_change.proofs.Changing.{tidied_none, keeps_files, none_made}
+use Rattle.fl_change.proofs.Created.{none_created, no_ops_created}
 use Rattle.fl_change.proofs.Composing.{Saying, works_said, works_not_said}
 use Rattle.fl_change.proofs.Doing.{none_yet, not_done}
 use Rattle.fl_change.proofs.Same.{same_opens, same_settled}
@@ -41,6 +42,8 @@ told held text s {x = x} {y = y} rests was = record {
   tidied = λ why. same_settled was.shown rests.settled;
   text = λ some. absurd (cc some);
   config = λ not. was.untouched.names _;
+  shares = λ none. none_made was.untouched;
+  creates = λ none. no_ops_created held (world_at s x) [] refl (none_created was.untouched);
 }
 
 while_told : (text : List ℕ) (s : State) (holds : Option Holdings) (x y : View) → Says text x y → PerformsOver (Rests s) holds (λ held w. text_answer text) s x y

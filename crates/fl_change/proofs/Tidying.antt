@@ -11,8 +11,15 @@ use Rattle.fp_host.specs.declared.host.HostEnd.TheVariants as host
 use Rattle.fp_host.proofs.Framed.{IsTold}
 use Rattle.fp_small.specs.declared.state.State.{State}
 use Rattle.fp_small.specs.declared.op.Op.{Op}
+use Rattle.fp_small.specs.Files.{KeepsFiles}
+use Rattle.fp_small.specs.Places.{repo}
+use Rattle.fp_small.specs.Shares.{Shares}
 use Rattle.fp_small.proofs.Keeping.{files_on}
+use Rattle.fp_small.proofs.Sharing.{shares_on}
+use Rattle.ost_store.specs.Created.{Creates, NoObject}
+use Rattle.ost_store.proofs.Creating.{creates_after}
 use Rattle.ost_walk.specs.Ends.{Outside}
+use Rattle.dep_states.specs.Lasting.{IsLasting}
 use Rattle.dep_states.specs.Sound.{Opens}
 use Rattle.dep_states.specs.Settled.{Settled}
 use Rattle.dep_tidy.specs.Tidy.{Tidies, WasTidied}
@@ -57,26 +64,28 @@ module _ (s : State) {u v : View} (tidies : Tidies s u v) (opens : Opens s u) wh
     some = performs.some;
   }
 
-  module _ (held : Holdings) (settled : Settled (shows v)) where
-    done_moved : (a : Answer) {w : View} → IsDone held a (world_at s v) v w → IsDone held a (world_at s v) u w
-    done_moved a done = record {
+  module _ (held : Holdings) (settled : Settled (shows v)) (made : Shares IsLasting u v) (creates : Creates repo NoObject u v) where
+    done_moved : (a : Answer) {w : View} → KeepsFiles v w → IsDone held a (world_at s v) v w → IsDone held a (world_at s v) u w
+    done_moved a kept done = record {
       only_tidied = λ idle. tidied_on (tidies_only tidies) (done.only_tidied idle);
       printed = done.printed ∙ ap (λ (p : List ℕ). p ++ joined a.pieces) tidies.printed;
       holds = done.holds;
       tidied = λ why. done.tidied (inl settled);
       text = done.text;
       config = λ not. done.config not ∙ config_tidied tidies;
+      shares = λ none. shares_on made (done.shares none) kept;
+      creates = λ none. creates_after creates (done.creates none) tidies.files kept;
     }
 
     halted_moved : (a : Answer) {w : View} → IsHalted a s v w → IsHalted a s u w
     halted_moved a halted = record { said = halted.said; so_far = first_moved tidies.printed halted.so_far; opens = halted.opens }
 
-    performed_moved : (a : Answer) (r : Result State RunEnd) (w : View) → Performed held a (world_at s v) r v w → Performed held a (world_at s v) r u w
-    performed_moved a (Ok t) w done = (done.0, done.1, done_moved a done.2)
-    performed_moved a (Err (Refused refusal)) w done = (done.0, done_moved a done.1)
-    performed_moved a (Err Fault) w done = tt
-    performed_moved a (Err RemoteFault) w done = halted_moved a done
-    performed_moved a (Err NoMemory) w done = halted_moved a done
+    performed_moved : (a : Answer) (r : Result State RunEnd) (w : View) → KeepsFiles v w → Performed held a (world_at s v) r v w → Performed held a (world_at s v) r u w
+    performed_moved a (Ok t) w kept done = (done.0, done.1, done_moved a kept done.2)
+    performed_moved a (Err (Refused refusal)) w kept done = (done.0, done_moved a kept done.1)
+    performed_moved a (Err Fault) w kept done = tt
+    performed_moved a (Err RemoteFault) w kept done = halted_moved a done
+    performed_moved a (Err NoMemory) w kept done = halted_moved a done
 
 -- ---- work after it
 
@@ -101,7 +110,7 @@ acts_tidied_first {May = May} f s t r {u = u} {v = v} {w = w} told call acts = w
     (λ x y z p q n l. record {
       performed = λ held known opens.
           let rests : Rests s y = record { opens = q.0.opens opens; settled = q.1.settled opens } in
-          subst (λ (a : World). Performed held (f held a) a r x z) (tidied_world s q.0 opens) (performed_moved s q.0 opens held rests.settled (f held (world_at s y)) r z (l.performed held known rests));
+          subst (λ (a : World). Performed held (f held a) a r x z) (tidied_world s q.0 opens) (performed_moved s q.0 opens held rests.settled q.1.shares q.1.creates (f held (world_at s y)) r z (n.performs held known rests).files (l.performed held known rests));
     })
   where
     first : Works May s (PerformsOver (Opens s) u.holdings f s) (λ x y. Tidies s x y × WasTidied s x y) (Ok s) u v

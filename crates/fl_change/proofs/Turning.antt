@@ -17,6 +17,7 @@ use Rattle.fp_small.specs.declared.op.Op.TheVariants.{Install, Update, Uninstall
 use Rattle.fp_small.specs.declared.refusal.Refusal.{Refusal}
 use Rattle.fp_small.specs.Files.{KeepsFiles}
 use Rattle.fp_small.proofs.Keeping.{files_stay, files_on}
+use Rattle.fp_small.proofs.Sharing.{shares_on}
 use Rattle.dep_states.specs.Shown.{Shows, settings_of}
 use Rattle.dep_states.specs.Sound.{Opens}
 use Rattle.dep_states.specs.After.{Done, row_at, after, after_all, after_op, updated, rolled_back, back}
@@ -27,6 +28,7 @@ use Rattle.fl_change.specs.Performs.{Printed, IsSome, Performs, Holds, IsDone, P
 use Rattle.fl_change.specs.declared.end.RunEnd.{RunEnd}
 use Rattle.fl_change.specs.declared.end.RunEnd.TheVariants.{Refused, Fault, RemoteFault, NoMemory}
 use Rattle.fl_change.proofs.Changing.{tidied_on, text_on}
+use Rattle.fl_change.proofs.Created.{created_both}
 use Rattle.fl_change.proofs.Doing.{none_done}
 use Rattle.fl_change.proofs.Worlds.{holds_at, world_held, worlds_state}
 
@@ -199,13 +201,15 @@ one_made : (xs ys : List Done) → xs ++ ys ≢ [] → (xs ≢ []) ⊎ (ys ≢ [
 one_made [] ys some = inr some
 one_made (x ∷ xs) ys some = inl (λ none. cc none)
 
-done_onto : (held : Holdings) (pieces : List Piece) (b : Answer) (x y : World) {v w z : View} → y ≡ worlds_after held x (ops_in pieces) → IsDone held (unrefused pieces) x v w → IsDone held b y w z → KeepsFiles w z → IsDone held (continued pieces None b) x v z
-done_onto held pieces b x y {v = v} {w = w} {z = z} is done next kept = record {
+done_onto : (held : Holdings) (pieces : List Piece) (b : Answer) (x y : World) {v w z : View} → y ≡ worlds_after held x (ops_in pieces) → IsDone held (unrefused pieces) x v w → IsDone held b y w z → KeepsFiles v w → KeepsFiles w z → IsDone held (continued pieces None b) x v z
+done_onto held pieces b x y {v = v} {w = w} {z = z} is done next before kept = record {
   only_tidied = λ idle. let both = no_ops pieces b idle.0 in tidied_on (done.only_tidied (both.0, tt)) (subst (λ (s : State). OnlyTidied s w z) (same_state held pieces x y is both.0) (next.only_tidied (both.1, idle.1)));
   printed = next.printed ∙ ap (λ (p : List ℕ). p ++ joined b.pieces) done.printed ∙ append_assoc v.printed (joined pieces) (joined b.pieces) ∙ ap (λ (p : List ℕ). v.printed ++ p) (sym (joined-append pieces b.pieces));
   holds = subst (λ (q : World). Holds q z) (worlds_pieces held x y pieces b.pieces is) next.holds;
   text = λ some. subst (λ (q : State). HasText q z) after_both (text_by (set_config (ops_of b)) refl (set_both some));
   config = λ not. let none = none_set not in next.config none.1 ∙ done.config none.0;
+  shares = λ none. shares_on (done.shares refl) (next.shares none) kept;
+  creates = λ none. created_both held x y (ops_in pieces) (ops_of b) (ops_of (continued pieces None b)) is (ops-append pieces b.pieces) (done.creates refl) (next.creates none) before kept;
   tidied = λ why. next.tidied (elim why [
     | inl tidy ↦ inl (done.tidied (inl tidy))
     | inr made ↦ elim (one_made (ops_in pieces) (ops_of b) (λ none. made (ops-append pieces b.pieces ∙ none))) [
@@ -240,20 +244,20 @@ done_onto held pieces b x y {v = v} {w = w} {z = z} is done next kept = record {
         let first : set_config (ops_in pieces) ≡ true = first_true (set_config (ops_in pieces)) (set_config (ops_of b)) some sets in
         text_same (settings_kept y.state (ops_of b) sets) (text_on (next.config sets) kept (from (done.text first)))
 
-performed_onto : (held : Holdings) (pieces : List Piece) (b : Answer) (x y : World) (r : Result State RunEnd) (v w z : View) → y ≡ worlds_after held x (ops_in pieces) → IsDone held (unrefused pieces) x v w → KeepsFiles w z → Performed held b y r w z → Performed held (continued pieces None b) x r v z
-performed_onto held pieces b x y (Ok t) v w z is done kept next = (
+performed_onto : (held : Holdings) (pieces : List Piece) (b : Answer) (x y : World) (r : Result State RunEnd) (v w z : View) → y ≡ worlds_after held x (ops_in pieces) → IsDone held (unrefused pieces) x v w → KeepsFiles v w → KeepsFiles w z → Performed held b y r w z → Performed held (continued pieces None b) x r v z
+performed_onto held pieces b x y (Ok t) v w z is done before kept next = (
   next.0,
   next.1 ∙ sym (after_pieces x.state y.state pieces (ops_of b) (ap (λ (q : World). q.state) is ∙ worlds_state held x (ops_in pieces))) ∙ ap (after_all x.state) (sym (ops-append pieces b.pieces)),
-  done_onto held pieces b x y is done next.2 kept,
+  done_onto held pieces b x y is done next.2 before kept,
 )
-performed_onto held pieces b x y (Err (Refused refusal)) v w z is done kept next = (next.0, done_onto held pieces b x y is done next.1 kept)
-performed_onto held pieces b x y (Err Fault) v w z is done kept next = tt
-performed_onto held pieces b x y (Err RemoteFault) v w z is done kept next = record {
+performed_onto held pieces b x y (Err (Refused refusal)) v w z is done before kept next = (next.0, done_onto held pieces b x y is done next.1 before kept)
+performed_onto held pieces b x y (Err Fault) v w z is done before kept next = tt
+performed_onto held pieces b x y (Err RemoteFault) v w z is done before kept next = record {
   said = pieces ++ next.said;
   so_far = printed_second pieces b next.said done.printed next.so_far;
   opens = subst (λ (q : State). Opens q z) (sym (after_pieces x.state y.state pieces (ops_in next.said) (ap (λ (q : World). q.state) is ∙ worlds_state held x (ops_in pieces))) ∙ ap (after_all x.state) (sym (ops-append pieces next.said))) next.opens;
 }
-performed_onto held pieces b x y (Err NoMemory) v w z is done kept next = record {
+performed_onto held pieces b x y (Err NoMemory) v w z is done before kept next = record {
   said = pieces ++ next.said;
   so_far = printed_second pieces b next.said done.printed next.so_far;
   opens = subst (λ (q : State). Opens q z) (sym (after_pieces x.state y.state pieces (ops_in next.said) (ap (λ (q : World). q.state) is ∙ worlds_state held x (ops_in pieces))) ∙ ap (after_all x.state) (sym (ops-append pieces next.said))) next.opens;
@@ -266,7 +270,7 @@ then_is : (a b : Answer) → a.refusal ≡ None → continued a.pieces None b �
 then_is a b none = ap (λ (o : Option Refusal). continued a.pieces o b) (sym none)
 
 done_plain : (held : Holdings) (a : Answer) (x : World) {v w : View} → IsDone held a x v w → a.refusal ≡ None → IsDone held (unrefused a.pieces) x v w
-done_plain held a x done none = record { only_tidied = λ idle. done.only_tidied (idle.0, subst IsUnpulled (sym none) tt); printed = done.printed; holds = done.holds; tidied = done.tidied; text = done.text; config = done.config }
+done_plain held a x done none = record { only_tidied = λ idle. done.only_tidied (idle.0, subst IsUnpulled (sym none) tt); printed = done.printed; holds = done.holds; tidied = done.tidied; text = done.text; config = done.config; shares = λ ok. done.shares none; creates = λ ok. done.creates none }
 
 -- the world in which the first leaves the view
 pub left_world : (held : Holdings) (a : Answer) (s t : State) (v w : View) → Performed held a (world_at s v) (Ok t) v w → world_at t w ≡ worlds_after held (world_at s v) (ops_of a)
@@ -300,13 +304,13 @@ module _ (held : Holdings) (f g : Holdings → World → Answer) (s : State) whe
       (subst (λ (q : Answer). Performs q s v z) (then_is a (g held (world_at t w)) d.0)
       (performs_onto held a.pieces (g held (world_at t w)) (world_at s v) (world_at t w) y (done_plain held a (world_at s v) d.2 d.0) files performs))
 
-  pub performed_second : (t : State) (r : Result State RunEnd) (v w z : View) → Performed held (f held (world_at s v)) (world_at s v) (Ok t) v w → KeepsFiles w z → Performed held (g held (world_at t w)) (world_at t w) r w z → Performed held (Both f g held (world_at s v)) (world_at s v) r v z
-  performed_second t r v w z d files next =
+  pub performed_second : (t : State) (r : Result State RunEnd) (v w z : View) → Performed held (f held (world_at s v)) (world_at s v) (Ok t) v w → KeepsFiles v w → KeepsFiles w z → Performed held (g held (world_at t w)) (world_at t w) r w z → Performed held (Both f g held (world_at s v)) (world_at s v) r v z
+  performed_second t r v w z d before files next =
       let a = f held (world_at s v) in
       let y = left_world held a s t v w d in
       subst (λ (q : World). Performed held (followed a (g held q)) (world_at s v) r v z) y
       (subst (λ (q : Answer). Performed held q (world_at s v) r v z) (then_is a (g held (world_at t w)) d.0)
-      (performed_onto held a.pieces (g held (world_at t w)) (world_at s v) (world_at t w) r v w z y (done_plain held a (world_at s v) d.2 d.0) files next))
+      (performed_onto held a.pieces (g held (world_at t w)) (world_at s v) (world_at t w) r v w z y (done_plain held a (world_at s v) d.2 d.0) before files next))
 
 -- ---- each of a list, in turn
 
@@ -345,7 +349,7 @@ module _ {A : Type 0} (item : A → Holdings → World → Answer) (held : Holdi
       same = stage.same ∙ ap (continued stage.pieces None) (sym (then_is next_answer later_answer done.0)) ∙ pieces_both stage.pieces next_answer.pieces later_answer ∙ ap (λ (q : World). continued (stage.pieces ++ next_answer.pieces) None (each_over item left held q)) (sym (left_world held next_answer t t' w z done));
       state = done.1 ∙ sym (after_pieces s t stage.pieces (ops_of next_answer) stage.state) ∙ ap (after_all s) (sym (ops-append stage.pieces next_answer.pieces));
       files = files_on stage.files kept;
-      done = done_onto held stage.pieces (unrefused next_answer.pieces) (world_at s v) (world_at t w) stage_world stage.done (done_plain held next_answer (world_at t w) done.2 done.0) kept;
+      done = done_onto held stage.pieces (unrefused next_answer.pieces) (world_at s v) (world_at t w) stage_world stage.done (done_plain held next_answer (world_at t w) done.2 done.0) stage.files kept;
     }
 
     -- at every moment of the next
@@ -358,7 +362,7 @@ module _ {A : Type 0} (item : A → Holdings → World → Answer) (held : Holdi
     pub stage_failed : (e : RunEnd) (z : View) → KeepsFiles w z → Performed held next_answer (world_at t w) (Err e) w z → Performed held (each_over item all held (world_at s v)) (world_at s v) (Err e) v z
     stage_failed e z kept failed =
         subst (λ (q : Answer). Performed held q (world_at s v) (Err e) v z) (sym stage.same)
-        (performed_onto held stage.pieces (each_over item (a ∷ left) held (world_at t w)) (world_at s v) (world_at t w) (Err e) v w z stage_world stage.done kept
+        (performed_onto held stage.pieces (each_over item (a ∷ left) held (world_at t w)) (world_at s v) (world_at t w) (Err e) v w z stage_world stage.done stage.files kept
         (failed_followed held next_answer later_answer (world_at t w) e w z failed))
 
   -- what was reached is at rest
@@ -374,5 +378,5 @@ module _ {A : Type 0} (item : A → Holdings → World → Answer) (held : Holdi
       let x = world_held t (stage.state ∙ sym (worlds_state held (world_at s v) (ops_in stage.pieces))) stage.done.holds in
       let opens = subst (λ (q : State). Opens q w) (worlds_state held (world_at s v) (ops_in stage.pieces) ∙ sym stage.state) stage.done.holds.opens in
       subst (λ (q : Answer). Performed held q (world_at s v) (Ok t) v w) (sym stage.same)
-      (performed_onto held stage.pieces nothing (world_at s v) (world_at t w) (Ok t) v w w x stage.done files_stay
+      (performed_onto held stage.pieces nothing (world_at s v) (world_at t w) (Ok t) v w w x stage.done stage.files files_stay
       (refl, refl, none_done held nothing (world_at t w) w refl (holds_at t w opens)))

@@ -5,6 +5,7 @@ use Rattle.fp_host.specs.View.{View}
 use Rattle.fp_small.specs.Files.{KeepsFiles}
 use Rattle.fp_small.specs.Config.{config_text}
 use Rattle.fp_small.specs.declared.state.State.{State}
+use Rattle.dep_states.specs.Links.{Links}
 use Rattle.dep_states.specs.Names.{config}
 use Rattle.dep_states.specs.Shown.{settings_of}
 use Rattle.dep_tidy.specs.Tidy.{MayTidy}
@@ -17,21 +18,24 @@ pub data MayHold (May : Op → Type 0) (q : Elements) (e : Slot) : Type 0 where
   tidied : (s : State) → MayTidy s q e → MayHold May q e
 
 -- Each name holds what it held, or what it may. Each file that was there keeps its mode and its bytes: what is new is in new
--- files.
+-- files. What came to a commit's folder is its record, or a file of the store.
 pub record Changes (May : Op → Type 0) (u w : View) : Type 0 where
   pub names : (q : Elements) → (w.names q ≡ u.names q) ⊎ MayHold May q (w.names q)
   pub files : KeepsFiles u w
+  pub links : Links u w
 
 -- Names change only by tidying an installation of this state.
 pub record OnlyTidied (s : State) (u w : View) : Type 0 where
   pub names : (q : Elements) → (w.names q ≡ u.names q) ⊎ MayTidy s q (w.names q)
 
--- Nothing changes but what is printed: no name, nothing that a stop may bring back at one, and no file; none is new.
+-- Nothing changes but what is printed: no name, nothing that a stop may bring back at one, and no file; none is new, and
+-- nothing was put at a name.
 pub record IsUntouched (u w : View) : Type 0 where
   pub names : (q : Elements) → w.names q ≡ u.names q
   pub earlier : (q : Elements) → w.earlier q ≡ u.earlier q
   pub files : (id : ℕ) → w.files id ≡ u.files id
   pub dirty : (id : ℕ) → w.dirty id ≡ u.dirty id
+  pub stood : w.stood ≡ u.stood
 
 -- `config` is a file with exactly the text of this state, and the permission bits 0644
 pub record HasText (s : State) (v : View) : Type 0 where

@@ -5,6 +5,7 @@ pub mod Overrides
 pub mod Refs
 pub mod Turns
 pub mod Changes
+pub mod Created
 pub mod Performs
 pub mod Ends
 pub mod Says

@@ -9,9 +9,12 @@ use Rattle.fp_host.specs.Outcome.{Disk, Leaves, shows}
 use Rattle.fp_small.specs.declared.state.State.{State}
 use Rattle.fp_small.specs.Files.{KeepsFiles}
 use Rattle.fp_small.specs.Places.{repo}
+use Rattle.fp_small.specs.Shares.{Shares}
 use Rattle.fp_small.specs.declared.op.Op.{Op}
 use Rattle.ost_model.specs.Objects.{store}
+use Rattle.ost_store.specs.Created.{Creates, NoObject}
 use Rattle.ost_walk.specs.Ends.{IsRemotes, Outside}
+use Rattle.dep_states.specs.Lasting.{IsLasting}
 use Rattle.dep_states.specs.Names.{config}
 use Rattle.dep_states.specs.Shown.{Shows}
 use Rattle.dep_states.specs.Sound.{Sound, Opens}
@@ -25,6 +28,7 @@ use Rattle.fl_change.specs.World.{World, world_at, used_of, supplied, world_afte
 use Rattle.fl_change.specs.Answer.{Answer, Piece, joined, ops_in, ops_of, lines_of, sets_config, set_config, keeps_commits, IsIdle}
 use Rattle.fl_change.specs.Refs.{op_over}
 use Rattle.fl_change.specs.Changes.{Changes, OnlyTidied, HasText}
+use Rattle.fl_change.specs.Created.{LacksFor, IsCreated}
 use Rattle.fl_change.specs.declared.end.RunEnd.{RunEnd}
 use Rattle.fl_change.specs.declared.end.RunEnd.TheVariants.{Refused, Fault, RemoteFault, NoMemory}
 
@@ -59,7 +63,8 @@ pub record Holds (x : World) (v : View) : Type 0 where
   pub have : x.have ≡ used_of x.state (store repo (shows v))
 
 -- All that isn't the line of a refusal was printed, every stop leaves the state after all operations, and all is settled,
--- where it was or an operation was done. Where one of them set it, `config` has just its text; else it is as it was.
+-- where it was or an operation was done. Where one of them set it, `config` has just its text; else it is as it was. Without
+-- a refusal each new file that has bytes came to a lasting name, and just the objects were made that the operations lacked.
 pub record IsDone (held : Holdings) (a : Answer) (x : World) (v w : View) : Type 0 where
   pub printed : w.printed ≡ v.printed ++ joined a.pieces
   pub only_tidied : IsIdle a → OnlyTidied x.state v w
@@ -67,6 +72,8 @@ pub record IsDone (held : Holdings) (a : Answer) (x : World) (v w : View) : Type
   pub tidied : Settled (shows v) ⊎ (ops_of a ≢ []) → Settled (shows w)
   pub text : set_config (ops_of a) ≡ true → HasText (after_all x.state (ops_of a)) w
   pub config : set_config (ops_of a) ≡ false → w.names config ≡ v.names config
+  pub shares : a.refusal ≡ None → Shares IsLasting v w
+  pub creates : a.refusal ≡ None → Creates repo (IsCreated held x (ops_of a)) v w
 
 -- every stop leaves the state after the acknowledged operations
 pub record IsHalted (a : Answer) (s : State) (v w : View) : Type 0 where
@@ -135,6 +142,7 @@ abbrev pub done_of : Op → Holdings → World → Done
 done_of op held x = done_with (supplied held x op) op
 
 -- An operation is done and its line printed; it isn't tidied after it. Where it changes no commit, all is settled but for work.
+-- Each new file that has bytes came to a lasting name, and just the objects were made that the operation lacked.
 pub record WasDone (held : Holdings) (op : Op) (s t : State) (v w : View) : Type 0 where
   pub allowed : op_refusal (supplied held (world_at s v) op) op ≡ None
   pub state : t ≡ after s (done_of op held (world_at s v))
@@ -144,10 +152,15 @@ pub record WasDone (held : Holdings) (op : Op) (s t : State) (v w : View) : Type
   pub text : sets_config op ≡ true → HasText t w
   pub config : sets_config op ≡ false → w.names config ≡ v.names config
   pub rest : keeps_commits op ≡ true → SettledButWork (shows w)
+  pub shares : Shares IsLasting v w
+  pub creates : Creates repo (LacksFor held (world_at s v) op) v w
 
--- After an operation that changes no commit it is enough that work is taken away.
+-- After an operation that changes no commit it is enough that work is taken away. Each new file that has bytes came to a
+-- lasting name, and no object was made.
 pub record WasTidiedAfter (op : Op) (s : State) (u w : View) : Type 0 where
   pub settled : Opens s u → (keeps_commits op ≡ true → SettledButWork (shows u)) → Settled (shows w)
+  pub shares : Shares IsLasting u w
+  pub creates : Creates repo NoObject u w
 
 abbrev pub WasDoneBy : Holdings → Op → State → Result State RunEnd → View → View → Type 0
 WasDoneBy held op s (Ok t) v w = WasDone held op s t v w

@@ -1,5 +1,5 @@
 -- A line after changes, over an installation that every stop leaves in a state.
-use Rattle.std.proofs.Common.{◌≡◌, inl, inr, ℕ, List, [], ◌∷◌, ◌++◌, Option, Some, None, Result, Ok, Err, refl, sym, ◌∙◌, ap, subst}
+use Rattle.std.proofs.Common.{◌≡◌, inl, inr, ℕ, List, [], ◌∷◌, ◌++◌, Option, None, Result, Ok, Err, refl, sym, ◌∙◌, ap, subst}
 use Rattle.std.proofs.lemmas.List.{append-nil}
 use Rattle.fp_host.specs.Causes.{end_of}
 use Rattle.fp_host.specs.Remote.{Holdings}
@@ -9,7 +9,6 @@ use Rattle.fp_host.proofs.Framed.{IsTold}
 use Rattle.fp_small.specs.declared.op.Op.{Op}
 use Rattle.fp_small.specs.declared.state.State.{State}
 use Rattle.ost_walk.specs.Ends.{Outside}
-use Rattle.dep_states.specs.After.{after_all}
 use Rattle.dep_states.specs.Sound.{Opens}
 use Rattle.fl_change.specs.Answer.{Answer, Piece, ops_of, text_answer}
 use Rattle.fl_change.specs.Ends.{end_of_host}
@@ -18,7 +17,8 @@ use Rattle.fl_change.specs.Says.{Says, WasSaid}
 use Rattle.fl_change.specs.World.{World, world_at}
 use Rattle.fl_change.specs.declared.end.RunEnd.{RunEnd}
 use Rattle.fl_change.specs.declared.end.RunEnd.TheVariants.{NoMemory}
-use Rattle.fl_change.proofs.Changing.{tidied_none, keeps_files}
+use Rattle.fl_change.proofs.Changing.{tidied_none, keeps_files, none_made}
+use Rattle.fl_change.proofs.Created.{none_created, no_ops_created}
 use Rattle.fl_change.proofs.Composing.{Saying, works_said, works_not_said}
 use Rattle.fl_change.proofs.Doing.{none_yet, not_yet, not_done, halted}
 use Rattle.fl_change.proofs.Same.{same_opens, same_settled}
@@ -48,6 +48,8 @@ told held text s {x = x} {y = y} opens was = record {
   tidied = λ why. elim why [ inl settled ↦ same_settled was.shown settled | inr some ↦ absurd (some refl) ];
   text = λ some. absurd (cc some);
   config = λ not. was.untouched.names _;
+  shares = λ none. none_made was.untouched;
+  creates = λ none. no_ops_created held (world_at s x) [] refl (none_created was.untouched);
 }
 
 while_told : (holds : Option Holdings) (f : Holdings → World → Answer) (s : State) (text : List ℕ) → ((held : Holdings) (x : View) → f held (world_at s x) ≡ text_answer text)
@@ -107,5 +109,5 @@ module _ {May : Op → Type 0} (f g : Holdings → World → Answer) (s : State)
         performed = λ held known opens.
             let d = q.1.performed held known opens in
             let at = left_opens held (f held (world_at s x)) s t y d in
-            performed_second held f g s t r x y z d (n.performs held known at).files (l.performed held known at);
+            performed_second held f g s t r x y z d (q.0.performs held known opens).files (n.performs held known at).files (l.performed held known at);
       })

@@ -9,7 +9,7 @@ use Rattle.fp_small.proofs.Keeping.{files_stay, files_on, files_kept}
 use Rattle.fl_export.specs.Steps.{Alters}
 
 pub alters_none : {G : Elements → Spot → Type 0} {W : Elements → Slot → Type 0} {v : View} → Alters G W v v
-alters_none = record { follows = follows_refl; names = λ q. inl refl; files = files_stay; printed = refl }
+alters_none = record { follows = follows_refl; names = λ q. inl refl; puts = λ x had. inl had; files = files_stay; printed = refl }
 
 pub alters_same : {G : Elements → Spot → Type 0} {W : Elements → Slot → Type 0} {v w : View} → w ≡ v → Alters G W v w
 alters_same {G = G} {W = W} {v = v} same = subst (Alters G W v) (sym same) alters_none
@@ -21,6 +21,7 @@ alters_on {W = W} first second = record {
     | inl same ↦ elim (first.names q) [ inl was ↦ inl (same ∙ was) | inr put ↦ inr (subst (W q) (sym same) put) ]
     | inr put ↦ inr put
   ];
+  puts = λ x had. elim (second.puts x had) [ inl before ↦ first.puts x before | inr put ↦ inr put ];
   files = files_on first.files second.files;
   printed = second.printed ∙ first.printed;
 }
@@ -29,9 +30,10 @@ pub alters_to : {G H : Elements → Spot → Type 0} {V W : Elements → Slot �
 alters_to given put step = record {
   follows = follows_to given step.follows;
   names = λ q. elim (step.names q) [ inl same ↦ inl same | inr h ↦ inr (put q _ h) ];
+  puts = λ x had. elim (step.puts x had) [ inl before ↦ inl before | inr h ↦ inr (put x.0 x.1 h) ];
   files = step.files;
   printed = step.printed;
 }
 
 pub alters_kept : {G : Elements → Spot → Type 0} {W : Elements → Slot → Type 0} {u w : View} → Keeps G W NoPath u w → Alters G W u w
-alters_kept keeps = record { follows = keeps.follows; names = keeps.names; files = files_kept keeps; printed = keeps.printed }
+alters_kept keeps = record { follows = keeps.follows; names = keeps.names; puts = keeps.puts; files = files_kept keeps; printed = keeps.printed }

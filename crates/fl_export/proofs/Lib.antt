@@ -12,5 +12,6 @@ pub mod Tested
 pub mod Putting
 pub mod PutRows
 pub mod Rowed
+pub mod Elsewhere
 pub mod LinkTexts
 pub mod Refreshed

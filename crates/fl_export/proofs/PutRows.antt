@@ -1,29 +1,29 @@
 -- Rows that are put at their places.
-use Rattle.std.proofs.Common.{◌≡◌, ◌≢◌, ◌⊎◌, ◌≤◌, ◌<◌, ◌+◌, inl, inr, ℕ, List, [], ◌∷◌, ◌++◌, length, take, drop, get_or, codes, true, refl, sym, ◌∙◌, ap, subst, arith, Contains}
-use Rattle.std.proofs.lemmas.List.{append_cancel_right, take-append-drop, take_more, take_all}
+use Rattle.std.proofs.Common.{◌≡◌, ◌≢◌, ◌⊎◌, ◌≤◌, ◌<◌, ◌+◌, inl, inr, ℕ, List, [], ◌∷◌, ◌++◌, length, take, drop, get_or, codes, refl, sym, ◌∙◌, ap, subst, arith, Contains}
+use Rattle.std.proofs.lemmas.List.{append_cancel_right, take-append-drop, take_all}
 use Rattle.std.proofs.lemmas.List.Elements.{Contains-append_cases, Contains-append_left, Contains-get_or}
 use Rattle.fp_host.specs.Paths.{Elements, Slot, absent, dir, IsAbove}
 use Rattle.fp_host.specs.View.{View, IsTree}
-use Rattle.fp_host.specs.Outcome.{Spot, shows}
+use Rattle.fp_host.specs.Outcome.{shows}
 use Rattle.fp_small.specs.Places.{repo, tmp, new_name}
-use Rattle.fp_small.specs.Clear.{IsWithin, CanEmpty, CanClear}
-use Rattle.fp_small.specs.Folders.{ancestors, IsFree, AreFree}
+use Rattle.fp_small.specs.Clear.{IsWithin, CanEmpty}
+use Rattle.fp_small.specs.Folders.{ancestors, IsFree}
 use Rattle.fp_small.specs.Replace.{folders_of}
 use Rattle.fp_small.proofs.Replacement.{ancestors_above}
 use Rattle.fp_small.proofs.Emptying.{above_longer}
 use Rattle.ost_store.proofs.Lists.{in_none, in_cases, in_one, in_first}
 use Rattle.ost_store.proofs.Staying.{shown_stays}
 use Rattle.fp_small.specs.Files.{KeepsFiles}
+use Rattle.fp_small.proofs.Sharing.{shares_refl, shares_on, shares_to}
 use Rattle.dep_states.proofs.Rows.{text_apart}
 use Rattle.fl_export.specs.declared.rows.ExportRow.{ExportRow}
-use Rattle.fl_export.specs.declared.rows.ExportWhat.{ExportWhat}
 use Rattle.fl_export.specs.Texts.{desktop_path, icon_path}
 use Rattle.fl_export.specs.Placed.{exports, place_of, IsExported}
-use Rattle.fl_export.specs.Steps.{Alters, PutAt, PutName, it_name, gone_name, folder_name, work_name, PutsAt, WasPut, CanPut, PutAmong, NameAmong, HasRows, PutsRows, HasForm, AreRows, WereThere, WereAllPut, CanPutRows}
+use Rattle.fl_export.specs.Steps.{PutName, it_name, gone_name, folder_name, work_name, PutsAt, WasPut, CanPut, HasRows, PutsRows, HasForm, AreRows, WereThere, WereAllPut, CanPutRows}
 use Rattle.fl_export.proofs.Alter.{alters_none, alters_on, alters_to}
 use Rattle.fl_export.proofs.Spared.{within_from, apart_from_work, apart_from_repo}
-use Rattle.fl_export.proofs.Putting.{within_trans, above_within, root_above, folder_no_work}
-use Rattle.fl_export.proofs.Swept.{took_cases}
+use Rattle.fl_export.proofs.Putting.{within_trans, above_within, root_above}
+use Rattle.fl_export.proofs.Swept.{took_cases, earlier_in, took_here}
 
 -- where a name is the same and files stay, the same shows
 pub same_shows : {u v : View} → IsTree u → IsTree v → KeepsFiles u v → (q : Elements) → v.names q ≡ u.names q → shows v q ≡ shows u q
@@ -33,6 +33,11 @@ same_shows {u = u} {v = v} tree next files q name = shown_stays q u v (record { 
 
 pub place_within : (row : ExportRow) → IsWithin exports (place_of row)
 place_within row = within_from exports row.path
+
+-- a place below the folder
+pub place_above : (path : Elements) → path ≢ [] → IsAbove exports (path ++ exports)
+place_above [] some = absurd (some refl)
+place_above (x ∷ up) some = elim (within_from exports up) [ inl is ↦ inl (sym is) | inr above ↦ inr above ]
 
 some_place : (path : Elements) → path ++ exports ≢ []
 some_place [] is = cc is
@@ -70,6 +75,10 @@ apart p q (inl a) (inr b) above = desktop_no_icon a.0 b.0 b.1 (subst (At (deskto
 apart p q (inr a) (inl b) above = omega (arith, longer (icon_path a.0 a.1) (desktop_path b.0) (subst (At (icon_path a.0 a.1)) b.1 (subst (λ (x : Elements). At x q) a.2 above)))
 apart p q (inr a) (inr b) above = omega (arith, longer (icon_path a.0 a.1) (icon_path b.0 b.1) (subst (At (icon_path a.0 a.1)) b.2 (subst (λ (x : Elements). At x q) a.2 above)))
 
+pub some_path : (p : Elements) → HasForm p → p ≢ []
+some_path p (inl a) none = cc (sym a.1 ∙ none)
+some_path p (inr a) none = cc (sym a.2 ∙ none)
+
 pub short_place : (p : Elements) → HasForm p → length (p ++ exports) ≤ 128
 short_place p (inl a) = subst (λ (x : Elements). length (x ++ exports) ≤ 128) (sym a.1) (omega arith)
 short_place p (inr a) = subst (λ (x : Elements). length (x ++ exports) ≤ 128) (sym a.2) (omega arith)
@@ -90,7 +99,7 @@ module _ (row : ExportRow) where
   has_one {v = v} there = record { each = λ r has. subst (λ (x : ExportRow). IsExported x.what (shows v (place_of x))) (sym (in_one row r has)) there }
 
   pub stands_already : {u w : View} → w ≡ u → IsExported row.what (shows u (place_of row)) → WereThere one u w
-  stands_already {u = u} same there = subst (WereThere one u) (sym same) (record { there = has_one there; work = λ q above. refl })
+  stands_already {u = u} same there = subst (WereThere one u) (sym same) (record { there = has_one there; work = λ q above. refl; shares = shares_refl })
 
   module _ {place : Elements} (at : place ≡ place_of row) where
     pub puts_row : {u w : View} → (IsExported row.what (shows u (place_of row)) → ⊥) → PutsAt place row.what u w → PutsRows one u w
@@ -102,7 +111,7 @@ module _ (row : ExportRow) where
     pub were_put : {u w : View} → WasPut place row.what u w → WereThere one u w
     were_put {u = u} {w = w} put =
         let p = subst (λ (q : Elements). WasPut q row.what u w) at put in
-        record { there = has_one p.there; work = p.work (place_within row) }
+        record { there = has_one p.there; work = p.work (place_within row); shares = shares_to (λ q is. (row, in_first row [], is)) p.shares }
 
     pub can_put : {v : View} → IsTree v → CanPutRows one v → CanPut place row.what v
     can_put {v = v} tree can = subst (λ (p : Elements). CanPut p row.what v) (sym at) (record {
@@ -153,6 +162,7 @@ module _ (rows : List ExportRow) (are : AreRows rows) where
     next_there {u = u} {v = v} {w = w} tree next before step here = record {
       there = record { each = λ r has. elim (took_cases rows i row low is r has) [ inl earlier ↦ kept r earlier | inr same ↦ now r same ] };
       work = λ q above. here.work q above ∙ before.work q above;
+      shares = shares_on (shares_to (λ q h. (h.0, earlier_in rows i row low h.0 h.1, h.2)) before.shares) (shares_to (λ q h. (row, took_here rows i row low is, h.2 ∙ ap place_of (in_one row h.0 h.1))) here.shares) step.alters.files;
     }
       where
         now : (r : ExportRow) → r ≡ row → IsExported r.what (shows w (place_of r))
@@ -257,7 +267,7 @@ pub record WereSomePut (rows : List ExportRow) (i : ℕ) (u w : View) : Type 0 w
   pub some : AreRows rows → WereThere (take i rows) u w
 
 pub all_none : (rows : List ExportRow) {u w : View} → w ≡ u → WereSomePut rows 0 u w
-all_none rows {u = u} same = record { some = λ are. subst (WereThere (take 0 rows) u) (sym same) (record { there = record { each = λ r has. absurd (in_none r has) }; work = λ q above. refl }) }
+all_none rows {u = u} same = record { some = λ are. subst (WereThere (take 0 rows) u) (sym same) (record { there = record { each = λ r has. absurd (in_none r has) }; work = λ q above. refl; shares = shares_refl }) }
 
 pub all_next : (rows : List ExportRow) (i : ℕ) (row : ExportRow) → i < length rows → row ≡ get_or rows i row → {u v w : View} → IsTree v → IsTree w → WereSomePut rows i u v → PutsRows (row ∷ []) v w → WereThere (row ∷ []) v w → WereSomePut rows (i + 1) u w
 all_next rows i row low is tree next before step here = record { some = λ are. next_there rows are i row low is tree next (before.some are) step here }

@@ -1,5 +1,5 @@
 -- What is put at its place.
-use Rattle.std.proofs.Common.{◌≡◌, ◌≢◌, ◌⊎◌, inl, inr, ℕ, List, [], ◌∷◌, ◌++◌, true, length, ◌<◌, Option, Result, Ok, arith, refl, sym, ◌∙◌, ap, subst, Contains}
+use Rattle.std.proofs.Common.{◌≡◌, ◌≢◌, ◌⊎◌, inl, inr, ℕ, List, [], ◌∷◌, true, Option, Ok, arith, refl, sym, ◌∙◌, ap, subst, Contains}
 use Rattle.std.proofs.lemmas.List.Elements.{Contains-append_left, Contains-append_cases}
 use Rattle.fp_host.specs.Paths.{Elements, Slot, absent, dir, file, link, is_link_text, IsAbove}
 use Rattle.fp_host.specs.View.{View, IsTree}
@@ -18,17 +18,18 @@ use Rattle.fp_host.proofs.Framed.{IsTold}
 use Rattle.fp_host.proofs.Goes.{begins}
 use Rattle.fp_host.proofs.Separate.{set_same}
 use Rattle.fp_host.proofs.Settled.{at_tree}
-use Rattle.fp_small.specs.Places.{repo, tmp, new_name}
+use Rattle.fp_small.specs.Places.{repo, tmp}
 use Rattle.fp_small.specs.Clear.{IsWithin, GoneWithin, AbsentWithin, IsCleared, CanClear}
 use Rattle.fp_small.specs.Folders.{ancestors, FoldersAt, DirsAt, IsFree, AreFree, AreDirs}
 use Rattle.fp_small.specs.Replace.{folders_of, IsFreeFile, ReplacesAt, ReplacesName, Replaces, WasReplaced, CanReplace}
 use Rattle.fp_small.proofs.Replacement.{ancestors_above, parent_in}
 use Rattle.fp_small.proofs.Emptying.{above_longer}
+use Rattle.fp_small.proofs.Sharing.{shares_on, shares_empty, shares_made}
 use Rattle.ost_store.proofs.Lists.{in_none, in_cases}
 use Rattle.fl_export.specs.declared.rows.ExportWhat.{ExportWhat}
 use Rattle.fl_export.specs.declared.rows.ExportWhat.TheVariants as what
-use Rattle.fl_export.specs.Placed.{exports, IsExported}
-use Rattle.fl_export.specs.Steps.{Alters, PutAt, it_at, gone_at, folder_at, work_at, PutName, it_name, gone_name, folder_name, work_name, MayStay, PutsAt, WasPut, CanPut, HasLinkText}
+use Rattle.fl_export.specs.Placed.{exports}
+use Rattle.fl_export.specs.Steps.{Alters, PutAt, it_at, gone_at, folder_at, work_at, PutName, it_name, gone_name, folder_name, work_name, MayStay, PutsAt, WasPut, HasLinkText}
 use Rattle.fl_export.proofs.Alter.{alters_kept, alters_to}
 use Rattle.fl_export.proofs.Spared.{apart_from_work, apart_from_repo}
 
@@ -65,6 +66,7 @@ pub put_text : {place : Elements} {bytes : List ℕ} {u w : View} → Replaces p
 put_text {place = place} {bytes = bytes} {u = u} {w = w} r = record {
   follows = follows_to (gives place bytes u) r.keeps.follows;
   names = λ q. elim (r.keeps.names q) [ inl same ↦ inl same | inr put ↦ inr (puts place u q (w.names q) put) ];
+  puts = λ x had. elim (r.keeps.puts x had) [ inl before ↦ inl before | inr put ↦ inr (puts place u x.0 x.1 put) ];
   files = r.files;
   printed = r.keeps.printed;
 }
@@ -148,7 +150,7 @@ module _ (place : Elements) (within : IsWithin exports place) where
     can_fold free = record { free = λ q has. free_still u v q (keeps.names q) (free.free q (Contains-append_left (ancestors place) (repo ∷ (tmp ∷ [])) q has)) }
 
 pub was_text : {place : Elements} {bytes : List ℕ} {u v w : View} → Keeps (GoneWithin place) (AbsentWithin place) NoPath u v → Replaces place bytes v w → WasReplaced place bytes v w → WasPut place (what.Text bytes) u w
-was_text {place = place} {u = u} {v = v} {w = w} keeps r was = record { there = was.new.each (shows w) (now_left w); work = work }
+was_text {place = place} {u = u} {v = v} {w = w} keeps r was = record { there = was.new.each (shows w) (now_left w); work = work; shares = shares_on (shares_empty keeps) (shares_made refl was.made) r.files }
   where
     work_still : IsWithin exports place → (q : Elements) → IsAbove tmp q → v.names q ≡ u.names q
     work_still inside q above = elim (keeps.names q) [ inl same ↦ same | inr put ↦ absurd (within_no_work place inside q put.0 above) ]

@@ -1,12 +1,12 @@
 -- A refresh, step by step.
-use Rattle.std.proofs.Common.{◌≡◌, ◌≢◌, ◌⊎◌, ◌≤◌, inl, inr, ℕ, List, [], ◌∷◌, ◌++◌, map, length, codes, refl, sym, ◌∙◌, ap, subst, arith, Contains}
+use Rattle.std.proofs.Common.{◌≡◌, ◌≢◌, ◌⊎◌, ◌≤◌, inl, inr, ℕ, List, [], ◌∷◌, length, refl, sym, ◌∙◌, ap, subst, arith, Contains}
 use Rattle.std.specs.Prelude.{Option, Some, None, Result, Ok}
 use Rattle.fp_base.specs.declared.object.ObjKind.{ObjKind}
 use Rattle.std.proofs.lemmas.List.Elements.{Contains-append_cases}
 use Rattle.fp_host.specs.Paths.{Elements, Slot, absent, dir, file, link, IsAbove}
 use Rattle.fp_host.specs.View.{View, Inode, IsTree}
 use Rattle.fp_host.specs.Calls.{IsLeaf, syncs, done}
-use Rattle.fp_host.specs.Outcome.{Spot, gone, folder, holds, points, Follows, Nothing, IsSettled, spot_of, shows}
+use Rattle.fp_host.specs.Outcome.{Spot, gone, Nothing, spot_of, shows}
 use Rattle.fp_host.specs.Calls.{Step}
 use Rattle.fp_host.specs.Frame.{AtEnd, Frame, Keeps, NoPath, Unchanged}
 use Rattle.fp_host.specs.Moments.{Moments, Goes, Always, Makes}
@@ -15,32 +15,32 @@ use Rattle.fp_host.proofs.Ending.{ends_both, ends_call, ends_frame, ends_goes, e
 use Rattle.fp_host.proofs.Framed.{IsTold, frame_start, frame_sync}
 use Rattle.fp_host.proofs.Goes.{begins, goes_on}
 use Rattle.fp_host.proofs.Settled.{at_tree}
-use Rattle.fp_small.specs.Places.{repo, tmp, new_name}
+use Rattle.fp_small.specs.Places.{repo, tmp}
 use Rattle.fp_small.specs.Clear.{IsWithin, CanEmpty, Reaches}
-use Rattle.fp_small.specs.Files.{KeepsFiles}
 use Rattle.fp_small.specs.Folders.{ancestors, IsFree}
-use Rattle.fp_small.specs.Replace.{folders_of}
+use Rattle.fp_small.specs.Shares.{Shares}
 use Rattle.fp_small.specs.declared.state.State.{State}
 use Rattle.fp_small.proofs.Replacement.{ancestors_above}
 use Rattle.fp_small.proofs.Emptying.{above_longer}
 use Rattle.fp_small.proofs.Keeping.{files_on, files_stay}
+use Rattle.fp_small.proofs.Sharing.{shares_on, shares_to}
 use Rattle.ost_model.specs.Objects.{Have, object_at, object_path, store}
 use Rattle.ost_model.specs.Remotes.{Stores}
+use Rattle.ost_store.proofs.Creating.{creates_none}
 use Rattle.ost_store.proofs.Lists.{in_none, in_cases, in_one, in_map, from_map}
 use Rattle.dep_states.specs.Sound.{Opens, Sound}
 use Rattle.dep_states.specs.Zones.{Fits, IsFolderOrGone, outward, zone}
-use Rattle.dep_states.proofs.Deployed.{top}
 use Rattle.dep_states.proofs.Law.{frame_law}
-use Rattle.dep_states.proofs.Rows.{text_apart}
-use Rattle.dep_states.proofs.Switching.{second}
+use Rattle.dep_states.proofs.Linked.{links_refl, links_still, links_on}
 use Rattle.fl_export.specs.declared.rows.ExportRow.{ExportRow}
 use Rattle.fl_export.specs.Exported.{exported}
 use Rattle.fl_export.specs.Placed.{exports, place_of, places_of, IsExported, IsLeafSpot, ExportsAre}
-use Rattle.fl_export.specs.Steps.{Alters, Exports, in_exports, in_store, in_work, MayRefresh, some_export, some_work, store_folder, work_folder, Cleans, HasNoStale, PutAt, it_at, gone_at, folder_at, work_at, PutName, it_name, gone_name, folder_name, work_name, PutAmong, NameAmong, HasRows, PutsRows, AreRows, HasLinkText, CanPutRows, WereThere, WereAllPut, Refreshes, WasRefreshed, exported_in}
+use Rattle.fl_export.specs.Steps.{Alters, Exports, in_exports, in_store, in_work, MayRefresh, some_export, some_work, store_folder, work_folder, Cleans, HasNoStale, PutAt, it_at, gone_at, folder_at, work_at, PutName, it_name, gone_name, folder_name, work_name, HasRows, PutsRows, AreRows, HasLinkText, CanPutRows, WereAllPut, Refreshes, WasRefreshed, exported_in}
 use Rattle.fl_export.proofs.Alter.{alters_on, alters_to, alters_kept}
-use Rattle.fl_export.proofs.Spared.{exports_spare, exports_top, outward_is, apart_from_work, work_top, no_repo}
+use Rattle.fl_export.proofs.Elsewhere.{refresh_links, no_object_put}
+use Rattle.fl_export.proofs.Spared.{exports_spare, apart_from_work}
 use Rattle.fl_export.proofs.Putting.{now_left, within_trans, above_within, root_above}
-use Rattle.fl_export.proofs.PutRows.{apart, place_within, short_place, same_shows}
+use Rattle.fl_export.proofs.PutRows.{apart, place_within, place_above, some_path, short_place, same_shows}
 use Rattle.fl_export.proofs.Rowed.{are_rows}
 
 -- ---- what rows give
@@ -131,11 +131,12 @@ refreshes_by {s = s} {rows = rows} {u = u} {w = w} tree is brings = record {
   idle = λ opens right q. let are = subst (λ (l : List ExportRow). ExportsAre l (shows u)) (sym is) right in
       ap (λ (x : View). x.names q) (brings.idle (stale_of tree are) (record { each = are.each }));
   files = brings.alters.files;
+  links = refresh_links brings.alters.names;
   printed = brings.alters.printed;
 }
 
 pub refreshes_none : {s : State} {v : View} → Refreshes s v v
-refreshes_none = record { opens = λ opens. opens; names = λ q. inl refl; idle = λ opens right q. refl; files = files_stay; printed = refl }
+refreshes_none = record { opens = λ opens. opens; names = λ q. inl refl; idle = λ opens right q. refl; files = files_stay; links = links_refl; printed = refl }
 
 pub refreshes_same : {s : State} {v w : View} → w ≡ v → Refreshes s v w
 refreshes_same {s = s} {v = v} same = subst (Refreshes s v) (sym same) refreshes_none
@@ -148,6 +149,7 @@ pub record Brought (rows : List ExportRow) (u w : View) : Type 0 where
   pub stale : HasNoStale (places_of rows) w
   pub there : HasRows rows w
   pub work : (q : Elements) → IsAbove tmp q → w.names q ≡ u.names q
+  pub shares : Shares (IsAbove exports) u w
 
 still_none : (rows : List ExportRow) {v w : View} → HasNoStale (places_of rows) v → PutsRows rows v w → HasNoStale (places_of rows) w
 still_none rows {v = v} {w = w} none puts = record {
@@ -171,24 +173,13 @@ brought {rows = rows} {u = u} {v = v} {w = w} are cleans none puts put =
       stale = still_none rows none puts;
       there = there.there;
       work = λ q above. there.work q above ∙ elim (cleans.alters.names q) [ inl same ↦ same | inr put ↦ absurd (apart_from_work q put.0.within (inr above)) ];
+      shares = shares_on (shares_to (λ q none. absurd none) cleans.empty) (shares_to (λ q h. subst (IsAbove exports) (sym h.2) (place_above h.0.path (some_path h.0.path (are.forms h.0 h.1)))) there.shares) puts.alters.files;
     }
 
 -- ---- the store stays
 
-tmp_no_objects : codes "tmp" ≢ codes "objects"
-tmp_no_objects = text_apart (codes "tmp") (codes "objects") refl
-
-work_second : (q : Elements) → IsAbove tmp q → second (outward q) ≡ codes "tmp"
-work_second q above = ap second (outward_is tmp q (inr above)).1
-
 object_same : (u w : View) → ((q : Elements) → (w.names q ≡ u.names q) ⊎ MayRefresh q (w.names q)) → (d : List ℕ) (kind : ObjKind) → w.names (object_path repo d kind) ≡ u.names (object_path repo d kind)
-object_same u w names d kind = elim (names (object_path repo d kind)) [ inl same ↦ same | inr put ↦ absurd (none (w.names (object_path repo d kind)) put) ]
-  where
-    none : (e : Slot) → MayRefresh (object_path repo d kind) e → ⊥
-    none e (some_export within) = no_repo (sym (exports_top (object_path repo d kind) within))
-    none e (some_work above) = tmp_no_objects (sym (work_second (object_path repo d kind) above))
-    none e (store_folder at is) = omega (arith, ap length at)
-    none e (work_folder at is) = omega (arith, ap length at)
+object_same u w names d kind = elim (names (object_path repo d kind)) [ inl same ↦ same | inr put ↦ absurd (no_object_put (object_path repo d kind) (w.names (object_path repo d kind)) (inr (inl refl)) put) ]
 
 pub same_store : {u w : View} → IsTree u → IsTree w → Alters Exports MayRefresh u w → store repo (shows w) ≡ store repo (shows u)
 same_store {u = u} {w = w} tree next alters = λ i d kind. object_at kind (same_shows tree next alters.files (object_path repo d kind) (object_same u w alters.names d kind) i)
@@ -199,6 +190,8 @@ was_refreshed {s = s} {rows = rows} {u = u} {v = v} {w = w} tree next is done_so
   exports_are = subst (λ (l : List ExportRow). ExportsAre l (shows w)) (is ∙ ap (λ h. exported h s) (sym (same_store tree next alters))) (record { each = there; only = only });
   lasts = record { earlier = λ q. ap (λ (x : View). x.earlier q) same; dirty = λ id. ap (λ (x : View). x.dirty id) same };
   work = λ q above. ap (λ (x : View). x.names q) same ∙ done_so.work q above;
+  shares = subst (Shares (IsAbove exports) u) (sym same) (record { each = done_so.shares.each });
+  creates = creates_none MayRefresh alters.puts (λ q id below put. no_object_put q (file id) below put);
 }
   where
     there : (r : ExportRow) → Contains rows r → IsExported r.what (shows w (place_of r))
@@ -219,6 +212,7 @@ synced {u = u} {v = v} {w = w} first keeps =
       ];
       idle = λ opens right q. elim (keeps.names q) [ inl same ↦ same ∙ first.idle opens right q | inr none ↦ absurd none ];
       files = files_on first.files step.files;
+      links = links_on first.links (links_still (λ q. elim (keeps.names q) [ inl same ↦ same | inr none ↦ absurd none ])) step.files;
       printed = step.printed ∙ first.printed;
     }
 

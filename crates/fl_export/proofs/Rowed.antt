@@ -1,7 +1,7 @@
 -- What holds of the rows that are exported.
-use Rattle.std.proofs.Common.{◌≡◌, ◌⊎◌, ◌≤◌, ◌+◌, inl, inr, ℕ, List, [], ◌∷◌, ◌++◌, map, length, Bool, true, false, Option, Some, None, codes, refl, sym, ◌∙◌, ap, subst, arith, Contains}
-use Rattle.std.specs.Prelude.{if◌then◌else◌, ◌&&◌, ◌==◌, not, option_and_then, option_map, option_to_list}
-use Rattle.std.specs.List.{flat_map, list_all}
+use Rattle.std.proofs.Common.{◌≡◌, ◌⊎◌, inl, inr, ℕ, List, [], ◌∷◌, map, Bool, true, false, Option, Some, None, codes, refl, sym, ◌∙◌, ap, subst, Contains}
+use Rattle.std.specs.Prelude.{if◌then◌else◌, ◌&&◌, option_and_then, option_map, option_to_list}
+use Rattle.std.specs.List.{flat_map}
 use Rattle.std.specs.Str.{bytes_eq}
 use Rattle.std.specs.Cmp.Lexicographic.{slice_cmp}
 use Rattle.std.specs.Ordering.{is_lt, is_eq, nat_cmp}
@@ -11,7 +11,7 @@ use Rattle.std.proofs.lemmas.Bool.{and_parts, and_from}
 use Rattle.std.proofs.lemmas.List.Elements.{Contains-append_cases}
 use Rattle.std.proofs.lemmas.Map.Text.{is_eq-slice_cmp}
 use Rattle.fp_base.specs.declared.object.ObjKind.TheVariants as kinds
-use Rattle.fp_host.specs.Paths.{Elements, is_element, path_text}
+use Rattle.fp_host.specs.Paths.{is_element, path_text}
 use Rattle.fp_host.specs.Reads.{comes_first, is_ascending}
 use Rattle.fp_name.specs.Refs.{Ref}
 use Rattle.fp_name.specs.declared.kind.RefKind.{RefKind}
@@ -25,7 +25,7 @@ use Rattle.ost_model.specs.Objects.{Have}
 use Rattle.ost_store.proofs.Lists.{in_none, in_cases, in_one, in_first, in_rest}
 use Rattle.fl_export.specs.declared.rows.ExportRow.{ExportRow}
 use Rattle.fl_export.specs.Rewritten.{rewritten}
-use Rattle.fl_export.specs.Texts.{is_own, is_desktop, desktop_path, icon_path, applications, hicolor}
+use Rattle.fl_export.specs.Texts.{is_own, is_desktop, applications, hicolor}
 use Rattle.fl_export.specs.Trees.{files_in, dirs_in, tree_look, tree_next, is_file, short_content}
 use Rattle.fl_export.specs.Exported.{desktop_row, desktop_of, desktop_files, icon_row, icon_of, icon_files, icons_of, icons, desktops_by, icons_by, exported_by, if_app, exported_at, all_exported, key, by_order, put_in, in_order, exported, in_export}
 use Rattle.fl_export.specs.Steps.{HasForm, AreRows}

@@ -1,10 +1,9 @@
 -- What may come and go below `exports`.
-use Rattle.std.proofs.Common.{◌≡◌, ◌≢◌, ◌⊎◌, ◌≤◌, inl, inr, ℕ, List, [], ◌∷◌, ◌++◌, codes, length, refl, sym, ◌∙◌, ap, subst, arith}
+use Rattle.std.proofs.Common.{◌≡◌, ◌≢◌, ◌⊎◌, ◌≤◌, inl, inr, ℕ, [], ◌∷◌, ◌++◌, codes, length, refl, sym, ◌∙◌, ap, subst, arith}
 use Rattle.fp_host.specs.Paths.{Elements, IsAbove}
 use Rattle.fp_host.specs.View.{View}
 use Rattle.fp_host.specs.Outcome.{Spot, Disk, Leaves, gone, folder}
 use Rattle.fp_name.specs.declared.kind.RefKind.{RefKind}
-use Rattle.fp_name.specs.declared.kind.RefKind.TheVariants.{App, Runtime}
 use Rattle.fp_name.specs.Kinds.{kind_word}
 use Rattle.fp_small.specs.Places.{repo, tmp, new_name}
 use Rattle.fp_small.specs.Clear.{IsWithin}
@@ -14,7 +13,7 @@ use Rattle.dep_states.specs.Sound.{IsOld, is_remotes, is_pins, Fixed, InTmp, is_
 use Rattle.dep_states.proofs.Deployed.{outward_append, top}
 use Rattle.dep_states.proofs.Rows.{head_of, text_apart}
 use Rattle.dep_states.proofs.Sparing.{none_in_repo, word_apart}
-use Rattle.dep_states.proofs.Switching.{permits_gone, word_no_repo, second}
+use Rattle.dep_states.proofs.Switching.{word_no_repo, second}
 use Rattle.dep_states.proofs.Usual.{tmp_spares}
 use Rattle.fl_export.specs.Placed.{exports}
 use Rattle.fl_export.specs.Steps.{Exports, in_exports, in_store, in_work}
@@ -54,7 +53,7 @@ apart_from_repo q a is = no_repo (sym (exports_top q a) ∙ ap top is)
 
 -- ---- no fixed path is there
 
-word_no_exports : (k : RefKind) → kind_word k ≢ codes "exports"
+pub word_no_exports : (k : RefKind) → kind_word k ≢ codes "exports"
 word_no_exports k = word_apart k (codes "exports") refl refl
 
 no_old : {p : Elements} → IsOld p → top p ≡ codes "exports" → ⊥

@@ -1,7 +1,7 @@
 -- What is stale goes.
-use Rattle.std.proofs.Common.{◌≡◌, ◌≢◌, ◌⊎◌, inl, inr, ℕ, ◌+◌, ◌-◌, ◌<◌, ◌≤◌, List, [], ◌∷◌, ◌++◌, length, take, get_or, refl, sym, ◌∙◌, ap, subst, Contains, arith}
+use Rattle.std.proofs.Common.{◌≡◌, ◌≢◌, ◌⊎◌, inl, inr, ℕ, ◌+◌, ◌-◌, ◌<◌, List, [], ◌∷◌, ◌++◌, length, take, get_or, refl, sym, ◌∙◌, ap, subst, Contains, arith}
 use Rattle.std.proofs.lemmas.List.{take_more}
-use Rattle.std.proofs.lemmas.List.Elements.{Contains-append_cases, Contains-get_or}
+use Rattle.std.proofs.lemmas.List.Elements.{Contains-append_cases, Contains-append_left, Contains-push, Contains-get_or}
 use Rattle.fp_host.specs.Paths.{Elements, Slot, absent, file, link, dir, IsAbove}
 use Rattle.fp_host.specs.View.{View, IsTree}
 use Rattle.fp_host.specs.Calls.{IsLeaf, IsNoDir}
@@ -9,6 +9,7 @@ use Rattle.fp_host.specs.Frame.{Keeps, NoPath, Only}
 use Rattle.fp_small.specs.Clear.{GoneAt, AbsentAt, IsWithin, Reaches}
 use Rattle.fp_small.specs.Naming.{ListsIn}
 use Rattle.fp_small.proofs.Emptying.{within_child, reaches_child, emptied_no_dir}
+use Rattle.fp_small.proofs.Sharing.{shares_refl, shares_on, shares_empty}
 use Rattle.ost_store.proofs.Lists.{in_none, in_one}
 use Rattle.fl_export.specs.Steps.{IsStale, Sweeps, SweepsAt, HasNoStaleIn}
 use Rattle.fl_export.proofs.Alter.{alters_none, alters_on, alters_to, alters_kept}
@@ -19,10 +20,16 @@ took_cases items i x low is k has = elim (Contains-append_cases (take i items) (
   | inr last ↦ inr (in_one (get_or items i x) k last ∙ sym is)
 ]
 
+pub earlier_in : {A : Type 0} (items : List A) (i : ℕ) (x : A) → i < length items → (k : A) → Contains (take i items) k → Contains (take (i + 1) items) k
+earlier_in items i x low k has = subst (λ l. Contains l k) (sym (take_more items i x low)) (Contains-append_left (take i items) (get_or items i x ∷ []) k has)
+
+pub took_here : {A : Type 0} (items : List A) (i : ℕ) (x : A) → i < length items → x ≡ get_or items i x → Contains (take (i + 1) items) x
+took_here items i x low is = subst (λ l. Contains l x) (sym (take_more items i x low)) (subst (λ y. Contains (take i items ++ y ∷ []) x) is (Contains-push (take i items) x))
+
 -- ---- sweeps
 
 pub sweeps_none : {region : Elements → Type 0} {places : List Elements} {v : View} → Sweeps region places v v
-sweeps_none = record { alters = alters_none; idle = λ none. refl }
+sweeps_none = record { alters = alters_none; idle = λ none. refl; empty = shares_refl }
 
 pub sweeps_same : {region : Elements → Type 0} {places : List Elements} {v w : View} → w ≡ v → Sweeps region places v w
 sweeps_same {region = region} {places = places} {v = v} same = subst (Sweeps region places v) (sym same) sweeps_none
@@ -32,6 +39,7 @@ pub sweeps_to : {region wider : Elements → Type 0} {places : List Elements} {u
 sweeps_to {region = region} {wider = wider} {places = places} to s = record {
   alters = alters_to (λ q spot h. (wide q h.0, h.1)) (λ q e h. (wide q h.0, h.1)) s.alters;
   idle = λ none. s.idle (record { none = λ q within off leaf. none.none q (to q within) off leaf });
+  empty = s.empty;
 }
   where
     wide : (q : Elements) → IsStale region places q → IsStale wider places q
@@ -41,6 +49,7 @@ pub sweeps_on : {region : Elements → Type 0} {places : List Elements} {u v w :
 sweeps_on {region = region} {places = places} first step = record {
   alters = alters_on first.alters step.alters;
   idle = λ none. let same = first.idle none in step.idle (subst (HasNoStaleIn region places) (sym same) none) ∙ same;
+  empty = shares_on first.empty step.empty step.alters.files;
 }
 
 leaf_absent : {e : Slot} → e ≡ absent → IsLeaf e → ⊥
@@ -72,6 +81,7 @@ module _ {places : List Elements} {path : Elements} where
     sweeps = λ leaf. record {
       alters = alters_to (λ q spot h. (only_stale off q h.0, h.1)) (λ q e h. (only_stale off q h.0, h.1)) (alters_kept keeps);
       idle = λ none. absurd (none.none path refl off leaf);
+      empty = shares_empty keeps;
     };
   }
 

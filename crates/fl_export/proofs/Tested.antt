@@ -1,15 +1,15 @@
 -- What stands at a place already.
-use Rattle.std.proofs.Common.{◌≡◌, ℕ, List, Bool, true, false, eqb, Err, length, leb, Option, Some, None, Ok, refl, sym, ◌∙◌, ap, subst, arith}
+use Rattle.std.proofs.Common.{◌≡◌, ℕ, List, Bool, true, false, Err, length, leb, Option, Some, None, Ok, refl, sym, ◌∙◌, ap, arith}
 use Rattle.std.specs.Prelude.{◌&&◌, ◌==◌, if◌then◌else◌}
 use Rattle.std.specs.Str.{bytes_eq}
-use Rattle.std.proofs.lemmas.Bool.{and_parts, and_from}
+use Rattle.std.proofs.lemmas.Bool.{and_parts}
 use Rattle.std.proofs.lemmas.Bool.Decides.{nat_tests}
 use Rattle.fp_host.specs.Paths.{Elements, Slot, absent, dir, file, link}
 use Rattle.fp_host.specs.View.{View, Inode, IsTree}
 use Rattle.fp_host.specs.Outcome.{Spot, gone, folder, holds, points, holding, spot_of, shows}
 use Rattle.fp_host.specs.Reads.{IsStat, StatOf, LinkOf}
 use Rattle.fp_host.specs.declared.host.Stat.{Stat}
-use Rattle.fp_host.specs.declared.host.Stat.TheVariants.{Absent, Dir, File as StatFile, Link}
+use Rattle.fp_host.specs.declared.host.Stat.TheVariants.{File as StatFile, Link}
 use Rattle.fp_host.specs.Moments.{Makes}
 use Rattle.fp_host.specs.Frame.{AtEnd}
 use Rattle.fp_host.specs.declared.host.HostError.{HostError}

@@ -1,11 +1,11 @@
 -- The steps of a refresh.
-use Rattle.std.specs.Prelude.{◌≡◌, ◌⊎◌, ◌≤◌, ◌==◌, ℕ, List, ◌∷◌, [], length, true, not, Contains}
+use Rattle.std.specs.Prelude.{◌≡◌, ◌⊎◌, ◌≤◌, ◌==◌, ℕ, List, ◌∷◌, length, true, not, Contains}
 use Rattle.std.specs.List.{list_all}
 use Rattle.fp_host.specs.Paths.{Elements, Slot, absent, dir, IsAbove}
 use Rattle.fp_host.specs.View.{View}
 use Rattle.fp_host.specs.Calls.{IsLeaf}
 use Rattle.fp_host.specs.Outcome.{Spot, gone, folder, Follows, IsSettled, shows}
-use Rattle.fp_host.specs.Frame.{Only}
+use Rattle.fp_host.specs.Frame.{NoPath, Only}
 use Rattle.fp_host.specs.declared.host.Stat.{Stat}
 use Rattle.fp_host.specs.declared.host.Stat.TheVariants.{Absent, Dir, File as StatFile, Link}
 use Rattle.fp_small.specs.Places.{repo, tmp, new_name}
@@ -13,20 +13,25 @@ use Rattle.fp_small.specs.Clear.{IsWithin, CanClear, CanEmpty}
 use Rattle.fp_small.specs.Files.{KeepsFiles}
 use Rattle.fp_small.specs.Folders.{AreFree, IsFree}
 use Rattle.fp_small.specs.Replace.{folders_of}
+use Rattle.fp_small.specs.Shares.{Shares}
 use Rattle.fp_small.specs.declared.state.State.{State}
 use Rattle.ost_model.specs.Objects.{store}
+use Rattle.ost_store.specs.Created.{Creates, NoObject}
+use Rattle.dep_states.specs.Links.{Links}
 use Rattle.dep_states.specs.Sound.{Opens}
 use Rattle.fl_export.specs.declared.rows.ExportRow.{ExportRow}
 use Rattle.fl_export.specs.declared.rows.ExportWhat.{ExportWhat}
 use Rattle.fl_export.specs.declared.rows.ExportWhat.TheVariants as what
 use Rattle.fl_export.specs.Exported.{exported}
 use Rattle.fl_export.specs.Texts.{desktop_path, icon_path}
-use Rattle.fl_export.specs.Placed.{exports, place_of, places_of, IsExported, ExportsAre}
+use Rattle.fl_export.specs.Placed.{exports, place_of, IsExported, ExportsAre}
 
--- What a step gives and where, what its names come to hold; each file that was there is as it was, and nothing is printed.
+-- What a step gives and where, what its names come to hold, and what was put at names since; each file that was there is as it
+-- was, and nothing is printed.
 pub record Alters (G : Elements → Spot → Type 0) (W : Elements → Slot → Type 0) (u w : View) : Type 0 where
   pub follows : Follows G u w
   pub names : (q : Elements) → (w.names q ≡ u.names q) ⊎ W q (w.names q)
+  pub puts : (x : Elements × Slot) → Contains w.stood x → Contains u.stood x ⊎ W x.0 x.1
   pub files : KeepsFiles u w
   pub printed : w.printed ≡ u.printed
 
@@ -60,10 +65,11 @@ StaleAbsent region places q e = IsStale region places q × (e ≡ absent)
 pub record HasNoStaleIn (region : Elements → Type 0) (places : List Elements) (v : View) : Type 0 where
   pub none : (q : Elements) → region q → (Contains places q → ⊥) → IsLeaf (v.names q) → ⊥
 
--- What is stale in the region goes; where nothing is, nothing changes.
+-- What is stale in the region goes; where nothing is, nothing changes. Each new file is empty.
 pub record Sweeps (region : Elements → Type 0) (places : List Elements) (u w : View) : Type 0 where
   pub alters : Alters (StaleGone region places) (StaleAbsent region places) u w
   pub idle : HasNoStaleIn region places u → w ≡ u
+  pub empty : Shares NoPath u w
 
 -- so where a file or link is at the path
 pub record SweepsAt (path : Elements) (places : List Elements) (u w : View) : Type 0 where
@@ -94,10 +100,11 @@ pub data PutName (place q : Elements) (e : Slot) : Type 0 where
 abbrev pub PutsAt : Elements → ExportWhat → View → View → Type 0
 PutsAt place what u w = Alters (PutAt place what) (PutName place) u w
 
--- It stands there. The names of work are as they were.
+-- It stands there. The names of work are as they were. Each new file that has bytes came to the place.
 pub record WasPut (place : Elements) (what : ExportWhat) (u w : View) : Type 0 where
   pub there : IsExported what (shows w place)
   pub work : IsWithin exports place → (q : Elements) → IsAbove tmp q → w.names q ≡ u.names q
+  pub shares : Shares (Only place) u w
 
 -- the link's text is one, but for its spelling in UTF-8
 abbrev pub HasLinkText : ExportWhat → Type 0
@@ -139,10 +146,15 @@ pub record PutsRows (rows : List ExportRow) (u w : View) : Type 0 where
   pub alters : Alters (PutAmong rows) (NameAmong rows) u w
   pub idle : HasRows rows u → w ≡ u
 
--- Each stands at its place. The names of work are as they were.
+-- the place of one of these rows
+abbrev pub IsPlaceIn : List ExportRow → Elements → Type 0
+IsPlaceIn rows q = (row : ExportRow) × Contains rows row × (q ≡ place_of row)
+
+-- Each stands at its place. The names of work are as they were. Each new file that has bytes came to such a place.
 pub record WereThere (rows : List ExportRow) (u w : View) : Type 0 where
   pub there : HasRows rows w
   pub work : (q : Elements) → IsAbove tmp q → w.names q ≡ u.names q
+  pub shares : Shares (IsPlaceIn rows) u w
 
 abbrev pub WerePut : List ExportRow → View → View → Type 0
 WerePut rows u w = WereThere rows u w
@@ -175,17 +187,21 @@ abbrev pub exported_in : State → View → List ExportRow
 exported_in s v = exported (store repo (shows v)) s
 
 -- At every moment: what every stop left before it leaves now; only names of exports and of work change, and where all is right
--- already none does. Each file that was there keeps its mode and its bytes, and nothing is printed.
+-- already none does. Each file that was there keeps its mode and its bytes, and nothing is printed. No file came to a commit's
+-- folder.
 pub record Refreshes (s : State) (u w : View) : Type 0 where
   pub opens : Opens s u → Opens s w
   pub names : (q : Elements) → (w.names q ≡ u.names q) ⊎ MayRefresh q (w.names q)
   pub idle : Opens s u → ExportsAre (exported_in s u) (shows u) → (q : Elements) → w.names q ≡ u.names q
   pub files : KeepsFiles u w
+  pub links : Links u w
   pub printed : w.printed ≡ u.printed
 
 -- In the end the files and links at or below `exports` are exactly those that are exported, and every stop leaves what stands.
--- The names of work are as they were.
+-- The names of work are as they were. Each new file that has bytes came to a name below `exports`, and no object was made.
 pub record WasRefreshed (s : State) (u w : View) : Type 0 where
   pub exports_are : ExportsAre (exported_in s w) (shows w)
   pub lasts : IsSettled w
   pub work : (q : Elements) → IsAbove tmp q → w.names q ≡ u.names q
+  pub shares : Shares (IsAbove exports) u w
+  pub creates : Creates repo NoObject u w

@@ -1,5 +1,5 @@
 -- In a sound installation nothing is in the way of a remote that is made.
-use Rattle.std.proofs.Common.{◌≡◌, ◌≢◌, inl, inr, ℕ, List, [], ◌∷◌, Bool, true, false, ◌&&◌, Option, Some, None, codes, refl, sym, ◌∙◌, ap, subst}
+use Rattle.std.proofs.Common.{◌≡◌, inl, inr, ℕ, List, [], ◌∷◌, Bool, true, false, ◌&&◌, Option, Some, None, codes, refl, sym, ◌∙◌, subst}
 use Rattle.std.specs.Prelude.{if◌then◌else◌, is_some, take}
 use Rattle.fp_name.specs.Hex.{hex, is_digest}
 use Rattle.fp_small.specs.Places.{repo, tmp}
@@ -7,7 +7,7 @@ use Rattle.ost_model.specs.Stores.{is_prefix}
 use Rattle.std.proofs.lemmas.Bool.{and_parts}
 use Rattle.fp_host.specs.Paths.{Elements, Slot, absent, dir, file, link, IsAbove}
 use Rattle.fp_host.specs.View.{View, IsTree, Inode}
-use Rattle.fp_host.specs.Outcome.{Spot, gone, folder, holds, points, spot_of, holding, shows}
+use Rattle.fp_host.specs.Outcome.{Spot, spot_of, holding, shows}
 use Rattle.fp_host.proofs.Settled.{at_tree}
 use Rattle.fp_name.specs.declared.kind.RefKind.{RefKind}
 use Rattle.fp_name.specs.declared.kind.RefKind.TheVariants.{App, Runtime}

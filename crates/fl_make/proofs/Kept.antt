@@ -1,6 +1,6 @@
 -- What stays where a remote is made.
-use Rattle.std.proofs.Common.{arith, true, ◌≡◌, ◌≢◌, ◌⊎◌, inl, inr, ℕ, List, [], ◌∷◌, ◌++◌, Option, Some, None, codes, refl, sym, ◌∙◌, ap, subst}
-use Rattle.fp_host.specs.Paths.{Elements, Slot, absent, dir, IsAbove}
+use Rattle.std.proofs.Common.{arith, true, ◌≡◌, ◌≢◌, ◌⊎◌, inl, inr, ℕ, List, [], ◌∷◌, ◌++◌, codes, refl, sym, ◌∙◌, ap, subst}
+use Rattle.fp_host.specs.Paths.{Elements, Slot, dir, file, IsAbove}
 use Rattle.fp_host.specs.View.{View, IsTree}
 use Rattle.fp_host.specs.Calls.{syncs, done}
 use Rattle.fp_host.specs.Outcome.{Disk, Leaves, gone, shows}
@@ -13,27 +13,35 @@ use Rattle.fp_base.specs.declared.object.ObjKind.{ObjKind}
 use Rattle.fp_small.specs.Clear.{IsWithin}
 use Rattle.fp_small.specs.Places.{repo, tmp}
 use Rattle.fp_small.specs.declared.state.State.{State}
-use Rattle.fp_small.proofs.Emptying.{above_longer, below_child}
+use Rattle.fp_small.proofs.Emptying.{above_longer, below_child, within_child}
+use Rattle.fp_small.proofs.Keeping.{files_same}
 use Rattle.ost_model.specs.Objects.{Have, object_path, object_at, store}
 use Rattle.ost_model.specs.Order.{In, order}
+use Rattle.ost_model.specs.Stores.{objects_folder}
 use Rattle.ost_refs.specs.Places.{remotes, place_path}
 use Rattle.ost_refs.specs.declared.place.RefPlace.{RefPlace}
+use Rattle.ost_store.specs.Created.{Creates, NoObject}
+use Rattle.ost_store.proofs.Creating.{creates_refl, creates_none}
 use Rattle.ost_store.proofs.Staying.{shown_stays}
 use Rattle.ost_description.specs.Commits.{IsRead}
 use Rattle.ost_description.specs.Descriptions.{described}
 use Rattle.ost_export.specs.Storing.{IsNoWork, IsWork}
-use Rattle.ost_export.specs.Exports.{ref_path, IsExportFolder, ExportsName, Exports, ExportsSynced, IsSpared, WasExported}
+use Rattle.ost_export.specs.Exports.{ref_path, IsExportFolder, ExportsName, Exports, ExportsSynced, IsSpared, IsExported, WasExported}
 use Rattle.ost_export.proofs.Paths.{none_below}
 use Rattle.ost_export.proofs.Spared.{not_put, off_ref, other_ref, other_object}
+use Rattle.dep_states.specs.Lasting.{IsLasting}
+use Rattle.dep_states.specs.Lasting.IsLasting.{a_made_one}
 use Rattle.dep_states.specs.Names.{config, remotes_conf, pins_file, branch_dir, active, text_dir, commit_dir, deploy, ref_file}
 use Rattle.dep_states.specs.Shown.{Shows, ref_seen}
-use Rattle.dep_states.specs.Sound.{Keeps, IsOld, is_remotes, is_pins, IsSound, Opens}
+use Rattle.dep_states.specs.Sound.{Keeps, IsSound, Opens}
 use Rattle.dep_states.specs.Settled.{Settled, Used, HasBytes}
 use Rattle.dep_states.specs.Zones.{outward}
 use Rattle.dep_states.proofs.Deployed.{top, outward_append}
+use Rattle.dep_states.proofs.Lasting.{above_rest}
 use Rattle.dep_states.proofs.Law.{frame_law, ref_same}
+use Rattle.dep_states.proofs.Linked.{links_still, links_lasting}
 use Rattle.dep_states.proofs.Rows.{head_of, text_apart}
-use Rattle.dep_states.proofs.Sparing.{settled_opens, word_apart}
+use Rattle.dep_states.proofs.Sparing.{settled_opens}
 use Rattle.dep_states.proofs.Switching.{second, word_no_repo}
 use Rattle.std.specs.List.{AllByRecursion, list_all}
 use Rattle.std.proofs.lemmas.Bool.{and_parts}
@@ -53,10 +61,11 @@ spared_same {q = q} same = record { name = ap (λ (v : View). v.names q) same; o
 pub makes_same : {remote : List ℕ} {r : Ref} {bytes : List ℕ} {u w : View} → w ≡ u → Makes remote r bytes u w
 makes_same same = record {
   printed = ap (λ (v : View). v.printed) same;
-  files = record { rows = λ id f is. ap (λ (v : View). v.files id) same ∙ is };
+  files = files_same same;
   names = λ q. inl (ap (λ (v : View). v.names q) same);
   refs = λ place other. spared_same same;
   objects = λ d kind there. spared_same same;
+  links = links_still (λ q. ap (λ (v : View). v.names q) same);
   good = inl same;
   opens = λ sound s is. inl same;
 }
@@ -93,10 +102,23 @@ work_above {q = q} work = elim work.within [
   | inr above ↦ below_child _ tmp q (subst (λ (t : Elements). IsAbove t q) work.staging.is above)
 ]
 
+-- what an export makes stays in the store
+pub kept_within : (remote : List ℕ) (r : Ref) (q : Elements) → IsExported (made remote) r q → IsAbove (made remote) q
+kept_within remote r q (inl name) = subst (IsAbove (made remote)) (sym name.at) (inr (inr (inl refl)))
+kept_within remote r q (inr (inl is)) = subst (IsAbove (made remote)) (sym is) (inl refl)
+kept_within remote r q (inr (inr is)) = subst (IsAbove (made remote)) (sym is) (inr (inr (inr (inr (inr (inl refl))))))
+
 data FolderPlace (remote : List ℕ) (p : Elements) : Type 0 where
   f_store : IsWithin (made remote) p → FolderPlace remote p
   f_above : IsAbove p (made remote) → FolderPlace remote p
   f_work : (p ≡ repo) ⊎ (p ≡ tmp) → FolderPlace remote p
+
+-- a file comes to a name below `made`, or to work
+where_files : (remote : List ℕ) (r : Ref) (q : Elements) (id : ℕ) → MayMake remote r q (file id) → IsLasting q ⊎ IsWithin tmp q
+where_files remote r q id (in_store within off) = inl (a_made_one (within_child remote (codes "made" ∷ []) q within))
+where_files remote r q id (in_work above) = inr (inr above)
+where_files remote r q id (above_store above is) = absurd (cc is)
+where_files remote r q id (of_work at is) = absurd (cc is)
 
 module _ (remote : List ℕ) (r : Ref) where
   folder_place : (q : Elements) → IsExportFolder (made remote) r q → FolderPlace remote q
@@ -142,10 +164,11 @@ module _ (remote : List ℕ) (r : Ref) where
     makes_exports : Exports have (made remote) r commit (done syncs u) w → Makes remote r bytes u w
     makes_exports e = record {
       printed = e.keeps.printed;
-      files = record { rows = λ id f is. e.files.rows id f is };
+      files = record { rows = λ id f is. e.files.rows id f is; stood = e.files.stood };
       names = λ q. elim (e.keeps.names q) [ inl same ↦ inl same | inr put ↦ inr (may_make q (w.names q) put) ];
       refs = λ place other. spared_since (other_ref (outer remote) place other e);
       objects = λ d kind there. spared_since (other_object (outer remote) d kind there e);
+      links = links_lasting (MayMake remote r) (λ q. elim (e.keeps.names q) [ inl same ↦ inl same | inr put ↦ inr (may_make q (w.names q) put) ]) (where_files remote r);
       good = inr read;
       opens = λ sound s is. inr (frame_law (export_spares remote r have commit (done syncs u) (done syncs u)) e.keeps.follows (opens_synced tree sound is));
     }
@@ -297,6 +320,21 @@ module _ (remote : List ℕ) (r : Ref) {have : Have} {commit : List ℕ} {u w : 
   pub settled_made : ExportsSynced have (made remote) r commit u w → Settled (shows u) → Settled (shows w)
   settled_made (inl same) settled = subst (λ (v : View). Settled (shows v)) (sym same) settled
   settled_made (inr e) settled = by_step e settled
+
+-- ---- no object comes to the installation's own store
+
+-- nothing that is made stands below its objects
+object_no_place : (q : Elements) → IsAbove (objects_folder repo) q → IsPlace q → ⊥
+object_no_place q below = in_repo_off {p = q} {x = codes "objects"} (ap top (below_is q below).1 ∙ ap head_of (outward_append (below_is q below).0 (objects_folder repo) []))
+    (ap (λ (p : Elements). second (outward p)) (below_is q below).1 ∙ ap second (outward_append (below_is q below).0 (objects_folder repo) [])) (λ e. cc e) (text_apart (codes "objects") (codes "tmp") refl)
+  where
+    below_is : (q : Elements) → IsAbove (objects_folder repo) q → (rest : Elements) × (q ≡ rest ++ objects_folder repo)
+    below_is q below = above_rest (objects_folder repo) q below
+
+pub creates_made : (remote : List ℕ) (r : Ref) {have : Have} {commit : List ℕ} {u w : View} → ExportsSynced have (made remote) r commit u w → Creates repo NoObject u w
+creates_made remote r {u = u} (inl same) = subst (Creates repo NoObject u) (sym same) creates_refl
+creates_made remote r (inr e) = creates_none (MayMake remote r) (λ x had. elim (e.keeps.puts x had) [ inl before ↦ inl before | inr put ↦ inr (may_make remote r x.0 x.1 put) ])
+    (λ q id below put. object_no_place q below (place_of q put))
 
 -- ---- objects that a store may keep
 

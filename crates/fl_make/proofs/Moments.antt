@@ -7,6 +7,7 @@ use Rattle.fp_host.proofs.Ending.{goes_known}
 use Rattle.fp_host.proofs.Framed.{IsTold}
 use Rattle.fp_host.proofs.Goes.{begins, ends_tree}
 use Rattle.fp_name.specs.Refs.{Ref}
+use Rattle.fp_small.proofs.Sharing.{shares_to}
 use Rattle.ost_commit.specs.declared.built.Built.{Built}
 use Rattle.ost_commit.specs.Objects.{have_of}
 use Rattle.ost_description.specs.Commits.{IsDescribed, IsRead}
@@ -14,7 +15,7 @@ use Rattle.ost_description.specs.Descriptions.{described}
 use Rattle.ost_export.specs.Exports.{ExportsSynced, WasExported}
 use Rattle.fl_lines.specs.Lines.{made_text}
 use Rattle.fl_make.specs.Making.{made, Makes, WasMade}
-use Rattle.fl_make.proofs.Kept.{makes, settled_made}
+use Rattle.fl_make.proofs.Kept.{kept_within, makes, settled_made, creates_made}
 
 module _ (remote : List ℕ) (r : Ref) (bytes : List ℕ) (built : Built) (d : IsDescribed bytes r built) where
   read : IsRead (described bytes)
@@ -31,5 +32,5 @@ module _ (remote : List ℕ) (r : Ref) (bytes : List ℕ) (built : Built) (d : I
       let both : Goes a b E (λ u w. IsTree w × (E u w × W u w)) = ends_tree told' (goes_known goes was) (λ u w tree q. (tree, q)) in
       record {
         goes = begins told both (λ u w tree p. tt)
-            (λ u w tree p q. record { built = built; described_by = d; line_is = is; exported = q.1.1; settled = settled_made remote r tree q.0 q.1.1 q.1.0 });
+            (λ u w tree p q. record { built = built; described_by = d; line_is = is; exported = q.1.1; settled = settled_made remote r tree q.0 q.1.1 q.1.0; shares = shares_to (kept_within remote r) q.1.1.shares; creates = creates_made remote r q.1.0 });
       }

@@ -1,14 +1,13 @@
 -- What is given where a remote is made spares what an installation shows.
-use Rattle.std.proofs.Common.{◌≡◌, ◌≢◌, ◌⊎◌, ◌≤◌, inl, inr, ℕ, List, [], ◌∷◌, ◌++◌, Bool, true, false, Option, Some, None, codes, length, refl, sym, ◌∙◌, ap, subst, arith}
+use Rattle.std.proofs.Common.{◌≡◌, ◌≢◌, ◌⊎◌, ◌≤◌, inl, inr, ℕ, List, [], ◌∷◌, ◌++◌, Bool, true, false, Some, codes, length, refl, sym, ◌∙◌, ap, subst, arith}
 use Rattle.std.specs.Prelude.{if◌then◌else◌, is_some, take, drop}
 use Rattle.fp_name.specs.Grammar.{is_id, is_arch, is_branch}
 use Rattle.fp_name.specs.Hex.{hex}
 use Rattle.ost_model.specs.Stores.{is_prefix}
 use Rattle.fp_host.specs.Paths.{Elements, IsAbove}
 use Rattle.fp_host.specs.View.{View}
-use Rattle.fp_host.specs.Outcome.{Spot, Disk, Leaves, gone, folder, holds, points}
+use Rattle.fp_host.specs.Outcome.{Spot, Disk, gone, folder, holds, points}
 use Rattle.fp_name.specs.declared.kind.RefKind.{RefKind}
-use Rattle.fp_name.specs.declared.kind.RefKind.TheVariants.{App, Runtime}
 use Rattle.fp_name.specs.Kinds.{kind_of, kind_word}
 use Rattle.fp_name.specs.Refs.{Ref}
 use Rattle.fp_base.specs.declared.object.ObjKind.{ObjKind}
@@ -19,13 +18,11 @@ use Rattle.fp_small.specs.Move.{IsNew}
 use Rattle.ost_model.specs.declared.object.Object.{Object}
 use Rattle.ost_model.specs.Objects.{Have, kind_text, object_path, object_at}
 use Rattle.ost_refs.specs.Places.{remotes}
-use Rattle.ost_export.specs.Staging.{IsAboveObject}
-use Rattle.ost_export.specs.Placing.{IsTheObject}
-use Rattle.ost_export.specs.Storing.{IsWork, IsNewObject, IsStoreFolder}
+use Rattle.ost_export.specs.Storing.{IsWork}
 use Rattle.ost_export.specs.Exports.{config_path, config_text, ref_path, IsExportFolder, ExportsAt}
-use Rattle.dep_states.specs.Names.{commit_dir, deploy}
-use Rattle.dep_states.specs.Zones.{Zone, anything, a_folder, a_leaf, a_file, here, Fits, Allowed, IsLeafOrGone, IsFileOrGone, is_object_name, zone, outward, outward_onto}
-use Rattle.dep_states.specs.Sound.{IsOld, is_remotes, is_pins, Fixed, is_config, is_old, is_active, is_deploy, is_layer, is_inside, is_object, Keeps, Permits, Spares}
+use Rattle.dep_states.specs.Names.{commit_dir}
+use Rattle.dep_states.specs.Zones.{Zone, anything, a_folder, a_leaf, a_file, Fits, Allowed, IsLeafOrGone, IsFileOrGone, is_object_name, zone, outward, outward_onto}
+use Rattle.dep_states.specs.Sound.{IsOld, is_remotes, is_pins, Fixed, is_config, is_old, is_active, is_deploy, is_layer, is_inside, is_object, Permits, Spares}
 use Rattle.dep_states.proofs.Deployed.{outward_append, top}
 use Rattle.dep_states.proofs.Rows.{head_of, text_apart}
 use Rattle.dep_states.proofs.Sparing.{none_in_repo, word_apart}

@@ -1,5 +1,5 @@
 -- What making a remote does to a host, and what it leaves.
-use Rattle.std.specs.Prelude.{Bool, true, ◌≡◌, ◌≢◌, ◌⊎◌, ℕ, List, [], ◌∷◌, Ok, Err, codes}
+use Rattle.std.specs.Prelude.{Bool, true, ◌≡◌, ◌≢◌, ◌⊎◌, ℕ, List, [], ◌∷◌, Err, codes}
 use Rattle.fp_host.specs.Paths.{Elements, Slot, absent, dir, is_link_text, IsAbove}
 use Rattle.fp_host.specs.View.{View}
 use Rattle.fp_host.specs.Outcome.{shows}
@@ -8,11 +8,13 @@ use Rattle.fp_base.specs.declared.object.ObjKind.{ObjKind}
 use Rattle.fp_small.specs.Clear.{IsWithin}
 use Rattle.fp_small.specs.Files.{KeepsFiles}
 use Rattle.fp_small.specs.Places.{repo, tmp}
+use Rattle.fp_small.specs.Shares.{Shares}
 use Rattle.fp_small.specs.declared.state.State.{State}
 use Rattle.ost_model.specs.Contents.{is_permission}
 use Rattle.ost_model.specs.declared.object.Object.{Object}
 use Rattle.ost_model.specs.declared.object.Object.TheVariants as objects
 use Rattle.ost_model.specs.Objects.{object_path}
+use Rattle.ost_store.specs.Created.{Creates, NoObject}
 use Rattle.ost_refs.specs.Places.{place_path}
 use Rattle.ost_refs.specs.declared.place.RefPlace.{RefPlace}
 use Rattle.ost_commit.specs.declared.built.Built.{Built}
@@ -20,6 +22,7 @@ use Rattle.ost_commit.specs.Objects.{have_of}
 use Rattle.ost_description.specs.Descriptions.{described}
 use Rattle.ost_description.specs.Commits.{IsDescribed, IsRead}
 use Rattle.ost_export.specs.Exports.{ref_path, CanExport, IsSpared, WasExported}
+use Rattle.dep_states.specs.Links.{Links}
 use Rattle.dep_states.specs.Settled.{Settled}
 use Rattle.dep_states.specs.Shown.{Shows}
 use Rattle.dep_states.specs.Sound.{IsSound, Opens}
@@ -42,26 +45,30 @@ pub data MayMake (remote : List ℕ) (r : Ref) (q : Elements) (e : Slot) : Type 
   of_work : (q ≡ repo) ⊎ (q ≡ tmp) → e ≡ dir → MayMake remote r q e
 
 -- Nothing is printed, each file that was there is as it was, and names change only so. Of the store each other ref stays, and each
--- object that was there. Nothing changes of bytes that describe no tree. Over a sound installation nothing changed yet, or every stop
--- leaves the state that was shown, and is sound.
+-- object that was there. No file came to a commit's folder. Nothing changes of bytes that describe no tree. Over a sound
+-- installation nothing changed yet, or every stop leaves the state that was shown, and is sound.
 pub record Makes (remote : List ℕ) (r : Ref) (bytes : List ℕ) (u w : View) : Type 0 where
   pub printed : w.printed ≡ u.printed
   pub files : KeepsFiles u w
   pub names : (q : Elements) → (w.names q ≡ u.names q) ⊎ MayMake remote r q (w.names q)
   pub refs : (place : RefPlace) → place_path (made remote) place ≢ ref_path (made remote) r → IsSpared (place_path (made remote) place) u w
   pub objects : (d : List ℕ) (kind : ObjKind) → u.names (object_path (made remote) d kind) ≢ absent → IsSpared (object_path (made remote) d kind) u w
+  pub links : Links u w
   pub good : (w ≡ u) ⊎ IsRead (described bytes)
   pub opens : IsSound u → (s : State) → Shows (shows u) s → (w ≡ u) ⊎ Opens s w
 
 -- ---- in the end
 
 -- This is the line of the commit of what the bytes describe. It was exported into the store. What was settled is settled.
+-- Each new file that has bytes came to a name in the store. The installation's own store got no object.
 pub record WasMade (remote : List ℕ) (r : Ref) (bytes line : List ℕ) (u w : View) : Type 0 where
   pub built : Built
   pub described_by : IsDescribed bytes r built
   pub line_is : line ≡ made_text built.commit
   pub exported : WasExported (have_of built.objects) (made remote) r built.commit u w
   pub settled : Settled (shows u) → Settled (shows w)
+  pub shares : Shares (IsAbove (made remote)) u w
+  pub creates : Creates repo NoObject u w
 
 -- the first bad line of the bytes
 abbrev pub IsMakeFault : List ℕ → MakeEnd → Type 0

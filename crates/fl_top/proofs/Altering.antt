@@ -6,6 +6,7 @@ use Rattle.fp_small.specs.Files.{KeepsFiles}
 use Rattle.fp_small.proofs.Keeping.{files_on}
 use Rattle.fp_small.specs.declared.op.Op.{Op}
 use Rattle.fp_small.specs.declared.state.State.{State}
+use Rattle.dep_states.proofs.Linked.{links_still, links_on}
 use Rattle.fl_export.specs.Steps.{Refreshes}
 use Rattle.fl_change.specs.Answer.{Answer}
 use Rattle.fl_change.specs.Changes.{MayHold, operated, tidied, Changes, OnlyTidied, IsUntouched}
@@ -13,7 +14,7 @@ use Rattle.fl_change.proofs.Changing.{keeps_files, not_touched}
 use Rattle.fl_top.specs.Exports.{MayCome, changed, refreshed, made_by, NoMaking, Alters, MayRest, tidied_at, refreshed_at, OnlyRests}
 
 pub alter_none : {May : Op → Type 0} {Make : Elements → Slot → Type 0} {u w : View} → ((q : Elements) → w.names q ≡ u.names q) → KeepsFiles u w → Alters May Make u w
-alter_none names files = record { names = λ q. inl (names q); files = files }
+alter_none names files = record { names = λ q. inl (names q); files = files; links = links_still names }
 
 pub alter_untouched : {May : Op → Type 0} {Make : Elements → Slot → Type 0} {u w : View} → IsUntouched u w → Alters May Make u w
 alter_untouched same = alter_none same.names (keeps_files same)
@@ -29,6 +30,7 @@ alter_on {May = May} {Make = Make} u v w first second = record {
     | inr may ↦ inr may
   ];
   files = files_on first.files second.files;
+  links = links_on first.links second.links second.files;
 }
 
 hold_to : {A B : Op → Type 0} {q : Elements} {e : Slot} → ((op : Op) → A op → B op) → MayHold A q e → MayHold B q e
@@ -42,13 +44,13 @@ come_to wider (made_by none) = absurd none
 
 -- by more operations
 pub alter_to : {A B : Op → Type 0} {Make : Elements → Slot → Type 0} {u w : View} → ((op : Op) → A op → B op) → Alters A NoMaking u w → Alters B Make u w
-alter_to wider alters = record { names = λ q. elim (alters.names q) [ inl same ↦ inl same | inr may ↦ inr (come_to wider may) ]; files = alters.files }
+alter_to wider alters = record { names = λ q. elim (alters.names q) [ inl same ↦ inl same | inr may ↦ inr (come_to wider may) ]; files = alters.files; links = alters.links }
 
 pub alter_changes : {May : Op → Type 0} {Make : Elements → Slot → Type 0} {u w : View} → Changes May u w → Alters May Make u w
-alter_changes changes = record { names = λ q. elim (changes.names q) [ inl same ↦ inl same | inr may ↦ inr (changed may) ]; files = changes.files }
+alter_changes changes = record { names = λ q. elim (changes.names q) [ inl same ↦ inl same | inr may ↦ inr (changed may) ]; files = changes.files; links = changes.links }
 
 pub alter_refreshes : {May : Op → Type 0} {Make : Elements → Slot → Type 0} {s : State} {u w : View} → Refreshes s u w → Alters May Make u w
-alter_refreshes refreshes = record { names = λ q. elim (refreshes.names q) [ inl same ↦ inl same | inr may ↦ inr (refreshed may) ]; files = refreshes.files }
+alter_refreshes refreshes = record { names = λ q. elim (refreshes.names q) [ inl same ↦ inl same | inr may ↦ inr (refreshed may) ]; files = refreshes.files; links = refreshes.links }
 
 -- ---- where no operation is done
 

@@ -47,6 +47,7 @@ use Rattle.fl_top.proofs.Starting.{look_not_open, halted_look}
 use Rattle.fl_top.proofs.Over.{over_is, counts_shown, not_shown}
 use Rattle.fl_top.proofs.Listed.{reads_opened, keeping, looks, telling, tells}
 use Rattle.fl_top.proofs.Finishing.{is_end, closed, given_by, made_where}
+use Rattle.fp_host.specs.Remote.{Holdings}
 
 -- ---- the state is read first
 
@@ -79,7 +80,7 @@ module _ (s : State) where
 
   -- the host failed, or there was no memory
   no_report : (e : HostEnd) {u w : View} → w ≡ u → CheckedOver (Err (end_of_host e)) u w
-  no_report host.Fault same = record { ended = λ report finds shown counts. tt; given = λ report by. absurd by; found = λ by. absurd by }
+  no_report host.Fault same = record { ended = λ report finds shown counts held. tt; given = λ report by. absurd by; found = λ by. absurd by }
   no_report host.NoMemory same = record {
     ended = λ report finds. (halted_look (checked report) (keeping same)).ended;
     given = λ report. (halted_look (checked report) (keeping same)).given;
@@ -125,14 +126,14 @@ module _ (s : State) where
 
     was_told : {u v w : View} → HasChecked u v → WasSaid text v w → CheckedOver (Ok tt) u w
     was_told {u = u} {w = w} q said_it = record {
-      ended = λ report finds shown counts. subst (λ (a : Answer). Ended a (Ok tt) u w) (answer_is q report finds shown counts) (refl, tells text (subst (λ (x : View). WasSaid text x w) q.same said_it));
+      ended = λ report finds shown counts held. subst (λ (a : Answer). Ended held a (Ok tt) u w) (answer_is q report finds shown counts) (refl, tells held text (subst (λ (x : View). WasSaid text x w) q.same said_it));
       given = λ report by. counts_shown (over (checked report)) (shows u) s q.shown;
       found = λ by. (q.read.report, inl q.read.reports);
     }
 
     not_told : (e : HostError) (u v w : View) → Step (says text) (Err e) v w → CheckedOver (Err (end_of_host (end_of e))) u w
-    not_told error.Failed u v w step = record { ended = λ report finds shown counts. tt; given = λ report by. absurd by; found = λ by. absurd by }
-    not_told error.Clash u v w step = record { ended = λ report finds shown counts. tt; given = λ report by. absurd by; found = λ by. absurd by }
+    not_told error.Failed u v w step = record { ended = λ report finds shown counts held. tt; given = λ report by. absurd by; found = λ by. absurd by }
+    not_told error.Clash u v w step = record { ended = λ report finds shown counts held. tt; given = λ report by. absurd by; found = λ by. absurd by }
     not_told error.NoMemory u v w step = absurd step.how
 
     pub goes_not_told : {a b c d : Option Moments} (e : HostError) (r : Result (Unit {0}) RunEnd) → IsTold a → IsTold b → IsTold c → Unchanged a b → AtEnd (λ u w. Reads u (Ok s)) a b → Unchanged b c → AtEnd (λ u w. IsReportText (shows u) text) b c
@@ -165,9 +166,9 @@ runs_checked t u w found p = record {
   untouched = λ why. p.untouched;
 }
 
-ended_checked : (t : Told) (r : Result (Unit {0}) RunEnd) (s : Result (Unit {0}) CommandEnd) (u w : View) → ((a : Answer) → Ended a r u w → Closed a s u w) → (IsClosedBy s → IsGivenBy r) → IsFoundIn t u → CheckedOver r u w → EndedOn Fsck t s u w
+ended_checked : (t : Told) (r : Result (Unit {0}) RunEnd) (s : Result (Unit {0}) CommandEnd) (u w : View) → ((held : Holdings) (a : Answer) → Ended held a r u w → Closed held a s u w) → (IsClosedBy s → IsGivenBy r) → IsFoundIn t u → CheckedOver r u w → EndedOn Fsck t s u w
 ended_checked t r s u w close give found q = record {
-  ended = λ given gave shown counts may. close (over (checked given.report) shown) (q.ended given.report (found given gave) shown counts);
+  ended = λ given gave shown counts may. close given.held (over (checked given.report) shown) (q.ended given.report (found given gave) shown counts given.held);
   given = λ given gave by. q.given given.report (give by);
   made = made_where s Fsck t.left u w tt;
 }
@@ -175,14 +176,14 @@ ended_checked t r s u w close give found q = record {
 pub goes_check : {a b : Option Moments} (t : Told) → t.moments ≡ a → Goes a b ChecksOver (CheckedOver (Ok tt)) → Goes a b (RunsOn Fsck t) (EndedOn Fsck t (Ok tt))
 goes_check {a = a} t at goes = knowing {P = IsFoundIn t} (λ m is. found_in t m (at ∙ is)) goes
     (λ u w found p. runs_checked t u w found p)
-    (λ u w found q. ended_checked t (Ok tt) (Ok tt) u w (λ x e. e) (λ by. by) found q)
+    (λ u w found q. ended_checked t (Ok tt) (Ok tt) u w (λ held x e. e) (λ by. by) found q)
 
 pub goes_not_check : {a b : Option Moments} (t : Told) (e : RunEnd) (r : Result (Unit {0}) CommandEnd) → t.moments ≡ a → Goes a b ChecksOver (CheckedOver (Err e)) → IsErrAnd r (λ end. end ≡ end_of_run e) → Goes a b (RunsOn Fsck t) (EndedOn Fsck t r)
 goes_not_check {a = a} {b = b} t e r at goes err =
     subst (λ (x : Result (Unit {0}) CommandEnd). Goes a b (RunsOn Fsck t) (EndedOn Fsck t x)) (sym (is_end r (end_of_run e) err))
     (knowing {P = IsFoundIn t} (λ m is. found_in t m (at ∙ is)) goes
     (λ u w found p. runs_checked t u w found p)
-    (λ u w found q. ended_checked t (Err e) (Err (end_of_run e)) u w (λ x k. closed x e u w k) (given_by e) found q))
+    (λ u w found q. ended_checked t (Err e) (Err (end_of_run e)) u w (λ held x k. closed held x e u w k) (given_by e) found q))
 
 -- ---- what is found, and by which command
 

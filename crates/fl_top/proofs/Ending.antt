@@ -135,8 +135,8 @@ with_last a r u v w is first more =
 pub untouched_on : {text : List ℕ} {u v w : View} → IsUntouched u v → Says text v w → IsUntouched u w
 untouched_on is says = untouched_both is says.untouched
 
-pub refusing : (a : Answer) (r : Refusal) {u v w : View} → a.refusal ≡ Some r → Runs a u v → Completes a u v → Says (refusal_text r) v w → Runs a u w
-refusing a r {u = u} {v = v} {w = w} is runs done says = elim (says.printed) [
+pub refusing : (held : Holdings) (a : Answer) (r : Refusal) {u v w : View} → a.refusal ≡ Some r → Runs a u v → Completes held a u v → Says (refusal_text r) v w → Runs a u w
+refusing held a r {u = u} {v = v} {w = w} is runs done says = elim (says.printed) [
   | inl none ↦ record {
     said = a.pieces;
     so_far = before_last a (none ∙ done.printed);
@@ -155,35 +155,39 @@ refusing a r {u = u} {v = v} {w = w} is runs done says = elim (says.printed) [
 
 -- ---- at the return
 
-stands_before : (a : Answer) {u w : View} → Completes a u w → Stands a u w
-stands_before a done = record { said = a.pieces; so_far = before_last a done.printed; just = done.just }
+stands_before : (held : Holdings) (a : Answer) {u w : View} → Completes held a u w → Stands a u w
+stands_before held a done = record { said = a.pieces; so_far = before_last a done.printed; just = done.just }
 
-stands_all : (a : Answer) (r : Refusal) {u v w : View} → a.refusal ≡ Some r → Completes a u v → WasSaid (refusal_text r) v w → Stands a u w
-stands_all a r {u = u} {v = v} {w = w} is done said = record {
+stands_all : (held : Holdings) (a : Answer) (r : Refusal) {u v w : View} → a.refusal ≡ Some r → Completes held a u v → WasSaid (refusal_text r) v w → Stands a u w
+stands_all held a r {u = u} {v = v} {w = w} is done said = record {
   said = lines_of a;
   so_far = all_lines a (with_last a r u v w is done.printed said.printed);
   just = λ sound disk left. subst (λ (ops : List Done). IsJust ops u disk) (sym (ops_lines a)) (just_on (ops_of a) said.follows (done.just sound) disk left);
 }
 
-answers_all : (a : Answer) (r : Refusal) (status : ℕ) {u v w : View} → a.refusal ≡ Some r → status ≡ status_of r → Completes a u v → WasSaid (refusal_text r) v w → Answers a status u w
-answers_all a r status {u = u} {v = v} {w = w} is status_is done said = record {
+answers_all : (held : Holdings) (a : Answer) (r : Refusal) (status : ℕ) {u v w : View} → a.refusal ≡ Some r → status ≡ status_of r → Completes held a u v → WasSaid (refusal_text r) v w → Answers held a status u w
+answers_all held a r status {u = u} {v = v} {w = w} is status_is done said = record {
   status_is = status_is ∙ ap status_by (sym is);
   printed = with_last a r u v w is done.printed said.printed;
   shown = λ sound s at. same_shown said.shown (done.shown sound s at);
   tidied = λ sound why. same_settled said.shown (done.tidied sound why);
   text = λ some s at. text_on (said.untouched.names config) (keeps_files said.untouched) (done.text some s at);
+  shares = λ none. absurd (cc (sym none ∙ is));
+  creates = λ none. absurd (cc (sym none ∙ is));
 }
 
-pub ran_done : (a : Answer) {u w : View} → Runs a u w → Ended a (Ok tt) u w → Ran a 0 u w
-ran_done a {u = u} runs ended = record {
+pub ran_done : (held : Holdings) (a : Answer) {u w : View} → Runs a u w → Ended held a (Ok tt) u w → Ran held a 0 u w
+ran_done held a {u = u} runs ended = record {
   answers = λ answered. record {
     status_is = ap status_by (sym ended.0);
     printed = ended.1.printed ∙ ap (λ (t : List Piece). u.printed ++ joined t) (sym (append-nil a.pieces) ∙ ap (λ (o : Option Refusal). a.pieces ++ last_of o) (sym ended.0));
     shown = ended.1.shown;
     tidied = ended.1.tidied;
     text = ended.1.text;
+    shares = ended.1.shares;
+    creates = ended.1.creates;
   };
-  stands = λ three. stands_before a ended.1;
+  stands = λ three. stands_before held a ended.1;
   sound = runs_sound runs;
 }
 
@@ -193,27 +197,27 @@ not_answered n high answered = elim answered [
   | inr more ↦ elim more [ inl is ↦ omega (arith, high, is) | inr is ↦ omega (arith, high, is) ]
 ]
 
-pub ran_fault : (a : Answer) {u w : View} → Runs a u w → Ran a 3 u w
-ran_fault a runs = record { answers = λ answered. absurd (not_answered 3 (omega arith) answered); stands = λ three. absurd (three refl); sound = runs_sound runs }
+pub ran_fault : (held : Holdings) (a : Answer) {u w : View} → Runs a u w → Ran held a 3 u w
+ran_fault held a runs = record { answers = λ answered. absurd (not_answered 3 (omega arith) answered); stands = λ three. absurd (three refl); sound = runs_sound runs }
 
 -- the input failed, and nothing was done
-pub ran_input : (a : Answer) {u w : View} → Runs a u w → w ≡ u → Ran a 5 u w
-ran_input a {u = u} runs same = record { answers = λ answered. absurd (not_answered 5 (omega arith) answered); stands = λ three. subst (λ (x : View). Stands a u x) (sym same) (stood a unchanged); sound = runs_sound runs }
+pub ran_input : (held : Holdings) (a : Answer) {u w : View} → Runs a u w → w ≡ u → Ran held a 5 u w
+ran_input held a {u = u} runs same = record { answers = λ answered. absurd (not_answered 5 (omega arith) answered); stands = λ three. subst (λ (x : View). Stands a u x) (sym same) (stood a unchanged); sound = runs_sound runs }
 
 -- the remotes failed, or there was no memory
-pub ran_halted : (a : Answer) (status : ℕ) {u w : View} → 4 ≤ status → Runs a u w → Stands a u w → Ran a status u w
-ran_halted a status high runs stands = record { answers = λ answered. absurd (not_answered status (omega (arith, high)) answered); stands = λ three. stands; sound = runs_sound runs }
+pub ran_halted : (held : Holdings) (a : Answer) (status : ℕ) {u w : View} → 4 ≤ status → Runs a u w → Stands a u w → Ran held a status u w
+ran_halted held a status high runs stands = record { answers = λ answered. absurd (not_answered status (omega (arith, high)) answered); stands = λ three. stands; sound = runs_sound runs }
 
-pub ran_refused : (a : Answer) (r : Refusal) (status result : ℕ) {u v w : View} → a.refusal ≡ Some r → status ≡ status_of r → Completes a u v → Runs a u w → Refuses (refusal_text r) status result v w → Ran a result u w
-ran_refused a r status result {u = u} {w = w} is status_is done runs refuses = elim refuses [
-  | inl said ↦ subst (λ (n : ℕ). Ran a n u w) (sym said.0) (record {
-    answers = λ answered. answers_all a r status is status_is done said.1;
-    stands = λ three. stands_all a r is done said.1;
+pub ran_refused : (held : Holdings) (a : Answer) (r : Refusal) (status result : ℕ) {u v w : View} → a.refusal ≡ Some r → status ≡ status_of r → Completes held a u v → Runs a u w → Refuses (refusal_text r) status result v w → Ran held a result u w
+ran_refused held a r status result {u = u} {w = w} is status_is done runs refuses = elim refuses [
+  | inl said ↦ subst (λ (n : ℕ). Ran held a n u w) (sym said.0) (record {
+    answers = λ answered. answers_all held a r status is status_is done said.1;
+    stands = λ three. stands_all held a r is done said.1;
     sound = runs_sound runs;
   })
   | inr other ↦ elim other [
-    | inl three ↦ subst (λ (n : ℕ). Ran a n u w) (sym three) (ran_fault a runs)
-    | inr six ↦ subst (λ (n : ℕ). Ran a n u w) (sym six.0) (ran_halted a 6 (omega arith) runs (subst (λ (x : View). Stands a u x) (sym six.1) (stands_before a done)))
+    | inl three ↦ subst (λ (n : ℕ). Ran held a n u w) (sym three) (ran_fault held a runs)
+    | inr six ↦ subst (λ (n : ℕ). Ran held a n u w) (sym six.0) (ran_halted held a 6 (omega arith) runs (subst (λ (x : View). Stands a u x) (sym six.1) (stands_before held a done)))
   ]
 ]
 

@@ -1,5 +1,5 @@
 -- The remotes that a command is run over.
-use Rattle.std.proofs.Common.{◌≡◌, inl, inr, ℕ, List, true, false, Option, Some, None, refl, sym, ◌∙◌, ap, subst, arith}
+use Rattle.std.proofs.Common.{◌≡◌, inl, inr, ℕ, List, true, false, Option, Some, None, refl, sym, subst, arith}
 use Rattle.fp_host.specs.Causes.{IsCaused}
 use Rattle.fp_host.specs.Frame.{AtEnd, Unchanged}
 use Rattle.fp_host.specs.Moments.{Moments, Goes}
@@ -14,7 +14,7 @@ use Rattle.fl_words.specs.declared.command.Command.{Command}
 use Rattle.fl_words.specs.declared.command.Command.TheVariants.{Change as Changing, List as Listed, Show as Showing, Filter as Filtering, Batch, Fsck, Export as Exporting, Exercise as Exercising}
 use Rattle.fl_gen.specs.Generator.{IsGenerated}
 use Rattle.fl_top.specs.Asked.{OpsBy, AsksFor, AreToldFor, AsksRemotes}
-use Rattle.fl_top.specs.Exercises.{is_exercise, IsRunOver, IsUnmade, RunsWith, IsRun, IsExercised}
+use Rattle.fl_top.specs.Exercises.{is_exercise, IsRunOver, IsUnmade, IsRun, IsExercised}
 use Rattle.fl_top.specs.Fsck.{HasReport}
 use Rattle.fl_top.specs.Runs.{RunsBy, RanBy, Checks, HasCauses, WasTaken, told}
 use Rattle.fl_top.specs.RunsOver.{RunsOn, RanOn}

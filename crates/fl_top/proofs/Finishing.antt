@@ -60,11 +60,11 @@ pub is_end : (r : Result (Unit {0}) CommandEnd) (e : CommandEnd) → IsErrAnd r 
 is_end r e is = let p = err_from_is_err_and r is in p.1 ∙ ap (λ (x : CommandEnd). Err x) p.2
 
 -- an end of the work on the installation is one of the command
-pub closed : (a : Answer) (e : RunEnd) (u w : View) → Ended a (Err e) u w → Closed a (Err (end_of_run e)) u w
-closed a (run.Refused refusal) u w is = is
-closed a run.Fault u w is = tt
-closed a run.RemoteFault u w is = is
-closed a run.NoMemory u w is = is
+pub closed : (held : Holdings) (a : Answer) (e : RunEnd) (u w : View) → Ended held a (Err e) u w → Closed held a (Err (end_of_run e)) u w
+closed held a (run.Refused refusal) u w is = is
+closed held a run.Fault u w is = tt
+closed held a run.RemoteFault u w is = is
+closed held a run.NoMemory u w is = is
 
 pub given_by : (e : RunEnd) → IsClosedBy (Err (end_of_run e)) → IsGivenBy (Err e)
 given_by (run.Refused refusal) by = tt
@@ -156,11 +156,11 @@ runs_change command t May f u w known p = record {
 }
 
 ended_change : (command : Command) (t : Told) (May : Op → Type 0) (f : Holdings → World → Answer) (r : Result (Unit {0}) RunEnd) (s : Result (Unit {0}) CommandEnd) (u w : View) → IsChanging command t May f
-    → ((a : Answer) → Ended a r u w → Closed a s u w) → (IsClosedBy s → IsGivenBy r) → EndedOver t.holds f r u w → EndedOn command t s u w
+    → ((held : Holdings) (a : Answer) → Ended held a r u w → Closed held a s u w) → (IsClosedBy s → IsGivenBy r) → EndedOver t.holds f r u w → EndedOn command t s u w
 ended_change command t May f r s u w known close give q = record {
   ended = λ given gave shown counts may.
       let is = known.is given gave in
-      subst (λ (x : Answer). Closed x s u w) (is shown) (close (over (f given.held) shown)
+      subst (λ (x : Answer). Closed given.held x s u w) (is shown) (close given.held (over (f given.held) shown)
       (q.ended (ready_for command (f given.held) given u shown known.changes (known.late given.held) (is shown) may) given.held (holds_told command t given known.asks gave) shown (counts_for command (f given.held) given u shown is counts)));
   given = λ given gave by. counts_same (answer_over command given) (over (f given.held)) (shows u) (λ r. sym (known.is given gave r)) (q.given given.held (give by));
   made = made_where s command t.left u w (made_none command t.left u w known.changes);
@@ -171,13 +171,13 @@ pub goes_change : {a b : Option Moments} (command : Command) (t : Told) (May : O
     → Goes a b (RunsOver t.holds May f) (EndedOver t.holds f (Ok tt)) → Goes a b (RunsOn command t) (EndedOn command t (Ok tt))
 goes_change command t May f known is goes = begins known goes
     (λ u w tree p. runs_change command t May f u w is p)
-    (λ u w tree p q. ended_change command t May f (Ok tt) (Ok tt) u w is (λ a e. e) (λ by. by) q)
+    (λ u w tree p q. ended_change command t May f (Ok tt) (Ok tt) u w is (λ held a e. e) (λ by. by) q)
 
 pub goes_not_changed : {a b : Option Moments} (command : Command) (t : Told) (May : Op → Type 0) (f : Holdings → World → Answer) (e : RunEnd) (r : Result (Unit {0}) CommandEnd) → IsTold a → IsChanging command t May f
     → Goes a b (RunsOver t.holds May f) (EndedOver t.holds f (Err e)) → IsErrAnd r (λ end. end ≡ end_of_run e) → Goes a b (RunsOn command t) (EndedOn command t r)
 goes_not_changed {a = a} {b = b} command t May f e r known is goes err =
     subst (λ (x : Result (Unit {0}) CommandEnd). Goes a b (RunsOn command t) (EndedOn command t x)) (sym (is_end r (end_of_run e) err))
-    (begins known goes (λ u w tree p. runs_change command t May f u w is p) (λ u w tree p q. ended_change command t May f (Err e) (Err (end_of_run e)) u w is (λ a x. closed a e u w x) (given_by e) q))
+    (begins known goes (λ u w tree p. runs_change command t May f u w is p) (λ u w tree p q. ended_change command t May f (Err e) (Err (end_of_run e)) u w is (λ held a x. closed held a e u w x) (given_by e) q))
 
 -- the answer of a command that looks is this over the world
 abbrev pub IsLook : Command → (World → Answer) → Type 0
@@ -191,9 +191,9 @@ runs_look command t f u w is p = record {
 }
 
 ended_look : (command : Command) (t : Told) (f : World → Answer) (r : Result (Unit {0}) RunEnd) (s : Result (Unit {0}) CommandEnd) (u w : View) → only_looks command ≡ true → IsLook command f
-    → ((a : Answer) → Ended a r u w → Closed a s u w) → (IsClosedBy s → IsGivenBy r) → LookedOver f r u w → EndedOn command t s u w
+    → ((held : Holdings) (a : Answer) → Ended held a r u w → Closed held a s u w) → (IsClosedBy s → IsGivenBy r) → LookedOver f r u w → EndedOn command t s u w
 ended_look command t f r s u w looks is close give q = record {
-  ended = λ given gave shown counts may. subst (λ (x : Answer). Closed x s u w) (is given shown) (close (over f shown) (q.ended shown (counts_for command f given u shown (is given) counts)));
+  ended = λ given gave shown counts may. subst (λ (x : Answer). Closed given.held x s u w) (is given shown) (close given.held (over f shown) (q.ended shown (counts_for command f given u shown (is given) counts) given.held));
   given = λ given gave by. counts_same (answer_over command given) (over f) (shows u) (λ r. sym (is given r)) (q.given (give by));
   made = made_where s command t.left u w (look_made command t.left u w looks);
 }
@@ -203,13 +203,13 @@ pub goes_look : {a b : Option Moments} (command : Command) (t : Told) (f : World
     → Goes a b (LooksOver f) (LookedOver f (Ok tt)) → Goes a b (RunsOn command t) (EndedOn command t (Ok tt))
 goes_look command t f known looks is goes = begins known goes
     (λ u w tree p. runs_look command t f u w is p)
-    (λ u w tree p q. ended_look command t f (Ok tt) (Ok tt) u w looks is (λ a e. e) (λ by. by) q)
+    (λ u w tree p q. ended_look command t f (Ok tt) (Ok tt) u w looks is (λ held a e. e) (λ by. by) q)
 
 pub goes_not_looked : {a b : Option Moments} (command : Command) (t : Told) (f : World → Answer) (e : RunEnd) (r : Result (Unit {0}) CommandEnd) → IsTold a → only_looks command ≡ true → IsLook command f
     → Goes a b (LooksOver f) (LookedOver f (Err e)) → IsErrAnd r (λ end. end ≡ end_of_run e) → Goes a b (RunsOn command t) (EndedOn command t r)
 goes_not_looked {a = a} {b = b} command t f e r known looks is goes err =
     subst (λ (x : Result (Unit {0}) CommandEnd). Goes a b (RunsOn command t) (EndedOn command t x)) (sym (is_end r (end_of_run e) err))
-    (begins known goes (λ u w tree p. runs_look command t f u w is p) (λ u w tree p q. ended_look command t f (Err e) (Err (end_of_run e)) u w looks is (λ a x. closed a e u w x) (given_by e) q))
+    (begins known goes (λ u w tree p. runs_look command t f u w is p) (λ u w tree p q. ended_look command t f (Err e) (Err (end_of_run e)) u w looks is (λ held a x. closed held a e u w x) (given_by e) q))
 
 -- a fault of the command is one of the work
 pub run_fault : (r : Result (Unit {0}) RunEnd) (s : Result (Unit {0}) CommandEnd) (e : RunEnd) → r ≡ Err e → IsErrAnd s (λ end. end ≡ end_of_run e) → IsErrOf s Fault → IsErrOf r run.Fault
@@ -282,7 +282,7 @@ not_begun command t u = record { runs = λ given gave shown counts may. begun (a
 
 -- What ends a command before the installation is looked at: so it ends whatever the image gives.
 pub record EndsEarly (command : Command) (given : Given) (e : CommandEnd) : Type 0 where
-  pub closed : (shown : Result World Elements) (u : View) → Closed (answer_over command given shown) (Err e) u u
+  pub closed : (shown : Result World Elements) (u : View) → Closed given.held (answer_over command given shown) (Err e) u u
   pub same : IsClosedBy (Err e) → IsConstant (answer_over command given)
 
 pub goes_none : {a : Option Moments} (command : Command) (t : Told) (e : CommandEnd) (r : Result (Unit {0}) CommandEnd) → IsTold a → IsErrAnd r (λ end. end ≡ e)
@@ -306,7 +306,7 @@ input_failed {a = a} left before now e r known err stops is = of_input e stops (
 -- it is refused
 pub refused_early : (command : Command) (given : Given) (refusal : Refusal) → ((shown : Result World Elements) → refusal_answer refusal ≡ answer_over command given shown) → EndsEarly command given (Refused refusal)
 refused_early command given refusal is = record {
-  closed = λ shown u. subst (λ (y : Answer). Closed y (Err (Refused refusal)) u u) (is shown) (refl, refused_at_once refusal u);
+  closed = λ shown u. subst (λ (y : Answer). Closed given.held y (Err (Refused refusal)) u u) (is shown) (refl, refused_at_once given.held refusal u);
   same = λ by shown other. sym (is other) ∙ is shown;
 }
 
@@ -420,35 +420,35 @@ taken_at command r status old new takes drained = (λ reads answered. drained (t
 
 pub goes_done : {a b : Option Moments} (command : Command) (t : Told) → IsTold a → Goes a b (RunsOn command t) (EndedOn command t (Ok tt)) → Goes a b (RunsOn command t) (RanOn command t 0)
 goes_done command t known goes = begins known goes (λ u w tree r. r) (λ u w tree r q. record {
-  ran = λ given gave shown counts may. ran_done (answer_over command given shown) (r.runs given gave shown counts may) (q.ended given gave shown counts may);
+  ran = λ given gave shown counts may. ran_done given.held (answer_over command given shown) (r.runs given gave shown counts may) (q.ended given gave shown counts may);
   given = λ given gave answered. q.given given gave tt;
   made = λ done. q.made;
 })
 
 pub goes_fault : {a b : Option Moments} (command : Command) (t : Told) → IsTold a → Goes a b (RunsOn command t) (EndedOn command t (Err Fault)) → Goes a b (RunsOn command t) (RanOn command t 3)
 goes_fault command t known goes = begins known goes (λ u w tree r. r) (λ u w tree r q. record {
-  ran = λ given gave shown counts may. ran_fault (answer_over command given shown) (r.runs given gave shown counts may);
+  ran = λ given gave shown counts may. ran_fault given.held (answer_over command given shown) (r.runs given gave shown counts may);
   given = λ given gave answered. absurd (not_answered 3 (omega arith) answered);
   made = λ done. absurd (let is : 3 ≡ 0 = done in omega (arith, is));
 })
 
 pub goes_input : {a b : Option Moments} (command : Command) (t : Told) → IsTold a → Goes a b (RunsOn command t) (EndedOn command t (Err InputFault)) → Goes a b (RunsOn command t) (RanOn command t 5)
 goes_input command t known goes = begins known goes (λ u w tree r. r) (λ u w tree r q. record {
-  ran = λ given gave shown counts may. ran_input (answer_over command given shown) (r.runs given gave shown counts may) (q.ended given gave shown counts may);
+  ran = λ given gave shown counts may. ran_input given.held (answer_over command given shown) (r.runs given gave shown counts may) (q.ended given gave shown counts may);
   given = λ given gave answered. absurd (not_answered 5 (omega arith) answered);
   made = λ done. absurd (let is : 5 ≡ 0 = done in omega (arith, is));
 })
 
 pub goes_remote : {a b : Option Moments} (command : Command) (t : Told) → IsTold a → Goes a b (RunsOn command t) (EndedOn command t (Err RemoteFault)) → Goes a b (RunsOn command t) (RanOn command t 4)
 goes_remote command t known goes = begins known goes (λ u w tree r. r) (λ u w tree r q. record {
-  ran = λ given gave shown counts may. ran_halted (answer_over command given shown) 4 (omega arith) (r.runs given gave shown counts may) (q.ended given gave shown counts may);
+  ran = λ given gave shown counts may. ran_halted given.held (answer_over command given shown) 4 (omega arith) (r.runs given gave shown counts may) (q.ended given gave shown counts may);
   given = λ given gave answered. absurd (not_answered 4 (omega arith) answered);
   made = λ done. absurd (let is : 4 ≡ 0 = done in omega (arith, is));
 })
 
 pub goes_memory : {a b : Option Moments} (command : Command) (t : Told) → IsTold a → Goes a b (RunsOn command t) (EndedOn command t (Err NoMemory)) → Goes a b (RunsOn command t) (RanOn command t 6)
 goes_memory command t known goes = begins known goes (λ u w tree r. r) (λ u w tree r q. record {
-  ran = λ given gave shown counts may. ran_halted (answer_over command given shown) 6 (omega arith) (r.runs given gave shown counts may) (q.ended given gave shown counts may);
+  ran = λ given gave shown counts may. ran_halted given.held (answer_over command given shown) 6 (omega arith) (r.runs given gave shown counts may) (q.ended given gave shown counts may);
   given = λ given gave answered. absurd (not_answered 6 (omega arith) answered);
   made = λ done. absurd (let is : 6 ≡ 0 = done in omega (arith, is));
 })
@@ -465,7 +465,7 @@ pub goes_refused : {a b c : Option Moments} (command : Command) (t : Told) (r : 
 goes_refused command t r result known_b first second =
     goes_on known_b first second
     (λ u v w tree p q s. record {
-      runs = λ given gave shown counts may. let e = q.ended given gave shown counts may in refusing (answer_over command given shown) r e.0 (p.runs given gave shown counts may) e.1 s;
+      runs = λ given gave shown counts may. let e = q.ended given gave shown counts may in refusing given.held (answer_over command given shown) r e.0 (p.runs given gave shown counts may) e.1 s;
       changes = λ known. alter_on u v w (p.changes known) (alter_untouched s.untouched);
       untouched = λ why. untouched_on (p.untouched why) s;
     })
@@ -473,7 +473,7 @@ goes_refused command t r result known_b first second =
       ran = λ given gave shown counts may.
           let e = q.ended given gave shown counts may in
           let a = answer_over command given shown in
-          ran_refused a r 1 result e.0 (command_plain command given shown r e.0) e.1 (refusing a r e.0 (p.runs given gave shown counts may) e.1 s) last;
+          ran_refused given.held a r 1 result e.0 (command_plain command given shown r e.0) e.1 (refusing given.held a r e.0 (p.runs given gave shown counts may) e.1 s) last;
       given = λ given gave answered. q.given given gave tt;
       made = λ done. absurd (not_refused (refusal_text r) 1 result (omega arith) v w last done);
     })
@@ -501,7 +501,7 @@ goes_command words t command status known is goes = begins known goes
       untouched = λ why. r.untouched (elim why [ inl looks ↦ inl (subst Looks is looks) | inr none ↦ inr (subst MakesNone is none.0, none.1) ]);
     })
     (λ u w tree r q. record {
-      ran = λ given gave shown counts may. subst (λ (a : Answer). Ran a status u w) (answer_is words command given is shown) (q.ran given (given_to words command t given is gave) shown (counted u given shown counts) (may_answer words command u given shown is may));
+      ran = λ given gave shown counts may. subst (λ (a : Answer). Ran given.held a status u w) (answer_is words command given is shown) (q.ran given (given_to words command t given is gave) shown (counted u given shown counts) (may_answer words command u given shown is may));
       given = λ given gave answered. counts_same (answer words given) (answer_over command given) (shows u) (λ r. sym (answer_is words command given is r)) (q.given given (given_to words command t given is gave) answered);
       made = λ done. subst (λ (o : Option Command). MadeFor o t.left u w) (sym is) (q.made done);
     })
@@ -512,25 +512,25 @@ goes_command words t command status known is goes = begins known goes
 pub goes_no_command : {a b : Option Moments} (words : List (List ℕ)) (t : Told) (index result : ℕ) → IsTold a → command_of words ≡ None → index ≡ bad_index words → Goes a b (Says (refusal_text (BadWords index))) (Refuses (refusal_text (BadWords index)) 2 result) → Goes a b (RunsBy words t) (RanBy words t result)
 goes_no_command words t index result known none is goes = begins known goes
     (λ u w tree s. record {
-      runs = λ given gave shown counts may. subst (λ (a : Answer). Runs a u w) (no_answer words index given none is shown) (runs u w s);
+      runs = λ given gave shown counts may. subst (λ (a : Answer). Runs a u w) (no_answer words index given none is shown) (runs given.held u w s);
       changes = λ known. alter_untouched s.untouched;
       untouched = λ why. s.untouched;
     })
     (λ u w tree s e. record {
-      ran = λ given gave shown counts may. subst (λ (a : Answer). Ran a result u w) (no_answer words index given none is shown) (ran_refused (refusal_answer (BadWords index)) (BadWords index) 2 result refl refl (refused_at_once (BadWords index) u) (runs u w s) e);
+      ran = λ given gave shown counts may. subst (λ (a : Answer). Ran given.held a result u w) (no_answer words index given none is shown) (ran_refused given.held (refusal_answer (BadWords index)) (BadWords index) 2 result refl refl (refused_at_once given.held (BadWords index) u) (runs given.held u w s) e);
       given = λ given gave answered. counts_constant (answer words given) (shows u) (λ shown other. sym (no_answer words index given none is other) ∙ no_answer words index given none is shown);
       made = λ done. subst (λ (o : Option Command). MadeFor o t.left u w) (sym none) tt;
     })
   where
-    runs : (u w : View) → Says (refusal_text (BadWords index)) u w → Runs (refusal_answer (BadWords index)) u w
-    runs u w s = refusing (refusal_answer (BadWords index)) (BadWords index) refl (begun (refusal_answer (BadWords index)) unchanged (λ why. not_touched)) (refused_at_once (BadWords index) u) s
+    runs : (held : Holdings) (u w : View) → Says (refusal_text (BadWords index)) u w → Runs (refusal_answer (BadWords index)) u w
+    runs held u w s = refusing held (refusal_answer (BadWords index)) (BadWords index) refl (begun (refusal_answer (BadWords index)) unchanged (λ why. not_touched)) (refused_at_once held (BadWords index) u) s
 
 -- out of memory for the words
 pub goes_unread : {a : Option Moments} (words : List (List ℕ)) (t : Told) → IsTold a → Goes a a (RunsBy words t) (RanBy words t 6)
 goes_unread words t known = stays known
     (λ u. record { runs = λ given gave shown counts may. begun (answer words given shown) unchanged (λ why. not_touched); changes = λ known. alter_not; untouched = λ why. not_touched })
     (λ u tree. record {
-      ran = λ given gave shown counts may. ran_halted (answer words given shown) 6 (omega arith) (begun (answer words given shown) unchanged (λ why. not_touched)) (stood (answer words given shown) unchanged);
+      ran = λ given gave shown counts may. ran_halted given.held (answer words given shown) 6 (omega arith) (begun (answer words given shown) unchanged (λ why. not_touched)) (stood (answer words given shown) unchanged);
       given = λ given gave answered. absurd (not_answered 6 (omega arith) answered);
       made = λ done. absurd (let is : 6 ≡ 0 = done in omega (arith, is));
     })

@@ -25,13 +25,13 @@ use Rattle.fl_filter.specs.declared.end.FilterEnd.TheVariants as filter
 use Rattle.fl_words.specs.declared.command.Command.{Command}
 use Rattle.fl_words.specs.declared.command.Command.TheVariants.{Filter as Filtering}
 use Rattle.fl_words.specs.declared.command.PolicySource.{PolicySource}
-use Rattle.fl_change.specs.World.{World}
+use Rattle.fl_change.specs.World.{World, world_at}
 use Rattle.fl_change.specs.Answer.{Answer, Piece, joined, ops_in, ops_of, set_config, refusal_answer, last_of}
 use Rattle.fl_change.specs.Changes.{IsUntouched}
 use Rattle.fl_change.specs.Performs.{Printed as SaysPieces}
 use Rattle.fl_change.specs.declared.end.RunEnd.{RunEnd}
 use Rattle.fl_change.specs.declared.end.RunEnd.TheVariants as run
-use Rattle.fl_change.proofs.Changing.{same_untouched}
+use Rattle.fl_change.proofs.Changing.{none_made, same_untouched, keeps_files}
 use Rattle.fl_top.proofs.Altering.{alter_untouched, rest_none}
 use Rattle.fl_change.proofs.Same.{same_shown, same_settled}
 use Rattle.fl_change.proofs.Working.{is_err}
@@ -40,12 +40,14 @@ use Rattle.fl_top.specs.Answer.{Given, piece_of, forwarding, rules_over, by_rule
 use Rattle.fl_top.specs.Ends.{end_of_run}
 use Rattle.fl_top.specs.Input.{IsWhole}
 use Rattle.fl_top.specs.Runs.{IsPrefix, IsJust, Runs, Stands, Told, IsGivenTo}
-use Rattle.fl_top.specs.RunsOver.{Completes, Ended, RunsOn, EndedOn, Closed, IsGivenBy, IsClosedBy}
+use Rattle.fl_top.specs.RunsOver.{Completes, Ended, RunsOn, EndedOn, Closed, IsGivenBy, IsClosedBy, EndsAnyway}
 use Rattle.fl_top.specs.Telling.{Tells, IsRecording, IsFound, Finds, LooksBy, LookedBy, end_of_filter}
 use Rattle.fl_top.specs.declared.command_end.CommandEnd.{CommandEnd}
 use Rattle.fl_top.proofs.Over.{Counts, counts_constant, over_given, over_same, counts_same}
 use Rattle.fl_top.proofs.Starting.{begun, unchanged, stood, refused_at_once, shows_before}
 use Rattle.fl_top.proofs.Finishing.{is_end, closed, given_by, ByInput, read_is, made_where, look_made}
+use Rattle.fp_host.specs.Remote.{Holdings}
+use Rattle.fl_change.proofs.Created.{none_created, no_ops_created}
 
 -- ---- lines as pieces
 
@@ -60,7 +62,7 @@ joined_is (line ∷ lines) = ap (λ (l : List ℕ). line ++ l) (joined_is lines)
 -- ---- views with lines printed
 
 untouched_by : (said : List (List ℕ)) {u w : View} → w ≡ with_lines said u → IsUntouched u w
-untouched_by said {u = u} is = subst (IsUntouched u) (sym is) (record { names = λ q. refl; earlier = λ q. refl; files = λ id. refl; dirty = λ id. refl })
+untouched_by said {u = u} is = subst (IsUntouched u) (sym is) (record { names = λ q. refl; earlier = λ q. refl; files = λ id. refl; dirty = λ id. refl; stood = refl })
 
 follows_by : (said : List (List ℕ)) {u w : View} → w ≡ with_lines said u → Follows Nothing u w
 follows_by said {u = u} is = subst (Follows Nothing u) (sym is) (follows_say u (u.printed ++ concat said))
@@ -105,13 +107,16 @@ module _ (f : Filtered) where
     just = λ sound disk left. subst (λ (ops : List Done). IsJust ops u disk) (sym (ops_none p.said)) (shows_before (follows_by p.said p.is) sound disk left);
   }
 
-  completes_all : {u w : View} → w ≡ with_lines f.lines u → Completes a u w
-  completes_all {u = u} {w = w} is = record {
+  completes_all : (held : Holdings) {u w : View} → w ≡ with_lines f.lines u → Completes held a u w
+  completes_all held {u = u} {w = w} is = record {
     printed = printed_by f.lines u w is;
     just = λ sound disk left. subst (λ (ops : List Done). IsJust ops u disk) (sym (ops_none f.lines)) (shows_before (follows_by f.lines is) sound disk left);
     shown = λ sound s at. subst (λ (ops : List Done). Shows (shows w) (after_all s ops)) (sym (ops_none f.lines)) (same_shown (seen_by f.lines u w is) at);
     tidied = λ sound why. elim why [ inl settled ↦ same_settled (seen_by f.lines u w is) settled | inr some ↦ absurd (some (ops_none f.lines)) ];
     text = λ some s at. absurd (false≢true (sym (ap set_config (ops_none f.lines)) ∙ some));
+    files = keeps_files (untouched_by f.lines is);
+    shares = λ none. none_made (untouched_by f.lines is);
+    creates = λ none s at. no_ops_created held (world_at s u) (ops_of a) (ops_none f.lines) (none_created (untouched_by f.lines is));
   }
 
   -- the end of a filter, as one of a run
@@ -119,13 +124,13 @@ module _ (f : Filtered) where
   ended_as (Ok t) = Ok t
   ended_as (Err e) = Err (end_of_filter e)
 
-  ended : (r : Result (Unit {0}) FilterEnd) (u w : View) → Printed f r u w → Ended a (ended_as r) u w
-  ended (Ok t) u w p = (p.0, completes_all p.1)
-  ended (Err (filter.Refused refusal)) u w p = (p.0, completes_all p.1)
-  ended (Err filter.Fault) u w p = tt
-  ended (Err filter.NoMemory) u w p = stands_first p
+  ended : (r : Result (Unit {0}) FilterEnd) (u w : View) → Printed f r u w → EndsAnyway a (ended_as r) u w
+  ended (Ok t) u w p held = (p.0, completes_all held p.1)
+  ended (Err (filter.Refused refusal)) u w p held = (p.0, completes_all held p.1)
+  ended (Err filter.Fault) u w p held = tt
+  ended (Err filter.NoMemory) u w p held = stands_first p
 
-  pub goes_forwarded : {m n : Option Moments} (r : Result (Unit {0}) FilterEnd) → IsTold m → Goes m n (PrintsFirst f.lines) (Printed f r) → Goes m n (Tells a) (Ended a (ended_as r))
+  pub goes_forwarded : {m n : Option Moments} (r : Result (Unit {0}) FilterEnd) → IsTold m → Goes m n (PrintsFirst f.lines) (Printed f r) → Goes m n (Tells a) (EndsAnyway a (ended_as r))
   goes_forwarded r told goes = begins told goes (λ u w t p. record { runs = runs_first p; untouched = untouched_by p.said p.is }) (λ u w t p q. ended r u w q)
 
 -- ---- what is found over the image
@@ -155,11 +160,11 @@ looks_same : (by : Result World Elements → Answer) {u w : View} → w ≡ u �
 looks_same by {u = u} same = subst (LooksBy by u) (sym same) (looks_none by u)
 
 halted : (by : Result World Elements → Answer) (u : View) → LookedBy by (Err run.NoMemory) u u
-halted by u = record { ended = λ shown counts. stood (by shown) unchanged; given = λ why. absurd why }
+halted by u = record { ended = λ shown counts held. stood (by shown) unchanged; given = λ why. absurd why }
 
 refused : (by : Result World Elements → Answer) (refusal : Refusal) (u : View) → ((shown : Result World Elements) → IsOver by (shows u) shown → by shown ≡ refusal_answer refusal) → Counts by (shows u) → LookedBy by (Err (run.Refused refusal)) u u
 refused by refusal u is counts = record {
-  ended = λ shown over. subst (λ (x : Answer). Ended x (Err (run.Refused refusal)) u u) (sym (is shown over)) (refl, refused_at_once refusal u);
+  ended = λ shown over held. subst (λ (x : Answer). Ended held x (Err (run.Refused refusal)) u u) (sym (is shown over)) (refl, refused_at_once held refusal u);
   given = λ why. counts;
 }
 
@@ -204,7 +209,7 @@ module _ (source : PolicySource) (bytes : List ℕ) (recording : Recording) (rea
   no_rules (run.Refused refusal) {u = u} same found =
       subst (LookedBy by (Err (run.Refused refusal)) u) (sym same)
       (refused by refusal u (λ shown over. found_is (rules_over source) to (Err refusal) (shows u) shown found over ∙ to_is (Err refusal)) (found_counts (rules_over source) to (Err refusal) (shows u) found))
-  no_rules run.Fault same found = record { ended = λ shown counts. tt; given = λ why. absurd why }
+  no_rules run.Fault same found = record { ended = λ shown counts held. tt; given = λ why. absurd why }
   no_rules run.RemoteFault same found = absurd found
   no_rules run.NoMemory {u = u} same found = subst (LookedBy by (Err run.NoMemory) u) (sym same) (halted by u)
 
@@ -229,15 +234,15 @@ module _ (source : PolicySource) (bytes : List ℕ) (recording : Recording) (rea
           untouched = from.untouched;
         }
 
-    looked_on : (r : Result (Unit {0}) RunEnd) {u v w : View} → v ≡ u → IsFound (rules_over source) (Ok rules) (shows u) → Ended given r v w → LookedBy by r u w
+    looked_on : (r : Result (Unit {0}) RunEnd) {u v w : View} → v ≡ u → IsFound (rules_over source) (Ok rules) (shows u) → EndsAnyway given r v w → LookedBy by r u w
     looked_on r {u = u} {w = w} same found ended =
-        let from : Ended given r u w = subst (λ (x : View). Ended given r x w) same ended in
+        let from : EndsAnyway given r u w = subst (λ (x : View). EndsAnyway given r x w) same ended in
         record {
-          ended = λ shown counts. subst (λ (x : Answer). Ended x r u w) (sym (answer_is u shown found counts)) from;
+          ended = λ shown counts. subst (λ (x : Answer). EndsAnyway x r u w) (sym (answer_is u shown found counts)) from;
           given = λ why. found_counts (rules_over source) to (Ok rules) (shows u) found;
         }
 
-    pub goes_found : {a b c : Option Moments} (r : Result (Unit {0}) RunEnd) → IsTold a → IsTold b → Looking (rules_over source) (Ok rules) a b → Goes b c (Tells given) (Ended given r) → Goes a c (LooksBy by) (LookedBy by r)
+    pub goes_found : {a b c : Option Moments} (r : Result (Unit {0}) RunEnd) → IsTold a → IsTold b → Looking (rules_over source) (Ok rules) a b → Goes b c (Tells given) (EndsAnyway given r) → Goes a c (LooksBy by) (LookedBy by r)
     goes_found r told told_b looking goes =
         goes_on told_b (begins told looking.goes (λ u w t same. looks_same by same) (λ u w t same q. q)) goes (λ u v w t p q s. looks_on q.0 q.1 s) (λ u v w t p q s last. looked_on r q.0 q.1 last)
 
@@ -277,18 +282,18 @@ runs_told command t by is u w looks = record {
 }
 
 ended_told : (command : Command) (t : Told) (by : Result World Elements → Answer) (r : Result (Unit {0}) RunEnd) (s : Result (Unit {0}) CommandEnd) → only_looks command ≡ true → IsAnswerTo command t by → (u w : View)
-    → ((x : Answer) → Ended x r u w → Closed x s u w) → (IsClosedBy s → IsGivenBy r) → LookedBy by r u w → EndedOn command t s u w
+    → ((held : Holdings) (x : Answer) → Ended held x r u w → Closed held x s u w) → (IsClosedBy s → IsGivenBy r) → LookedBy by r u w → EndedOn command t s u w
 ended_told command t by r s quiet is u w turned give looked = record {
-  ended = λ given gave shown counts may. subst (λ (x : Answer). Closed x s u w) (is given gave shown) (turned (by shown) (looked.ended shown (over_same by (answer_over command given) (shows u) shown (is given gave) counts)));
+  ended = λ given gave shown counts may. subst (λ (x : Answer). Closed given.held x s u w) (is given gave shown) (turned given.held (by shown) (looked.ended shown (over_same by (answer_over command given) (shows u) shown (is given gave) counts) given.held));
   given = λ given gave why. counts_same (answer_over command given) by (shows u) (λ x. sym (is given gave x)) (looked.given (give why));
   made = made_where s command t.left u w (look_made command t.left u w quiet);
 }
 
 pub goes_told : {m n : Option Moments} (command : Command) (t : Told) (by : Result World Elements → Answer) → IsTold m → only_looks command ≡ true → IsAnswerTo command t by → Goes m n (LooksBy by) (LookedBy by (Ok tt)) → Goes m n (RunsOn command t) (EndedOn command t (Ok tt))
-goes_told command t by told quiet is goes = begins told goes (λ u w tree p. runs_told command t by is u w p) (λ u w tree p q. ended_told command t by (Ok tt) (Ok tt) quiet is u w (λ x e. e) (λ why. why) q)
+goes_told command t by told quiet is goes = begins told goes (λ u w tree p. runs_told command t by is u w p) (λ u w tree p q. ended_told command t by (Ok tt) (Ok tt) quiet is u w (λ held x e. e) (λ why. why) q)
 
 pub goes_not_told : {m n : Option Moments} (command : Command) (t : Told) (by : Result World Elements → Answer) (e : RunEnd) (s : Result (Unit {0}) CommandEnd) → IsTold m → only_looks command ≡ true → IsAnswerTo command t by → IsErrAnd s (λ end. end ≡ end_of_run e)
     → Goes m n (LooksBy by) (LookedBy by (Err e)) → Goes m n (RunsOn command t) (EndedOn command t s)
 goes_not_told {m = m} {n = n} command t by e s told quiet is err goes =
     subst (λ (x : Result (Unit {0}) CommandEnd). Goes m n (RunsOn command t) (EndedOn command t x)) (sym (is_end s (end_of_run e) err))
-    (begins told goes (λ u w tree p. runs_told command t by is u w p) (λ u w tree p q. ended_told command t by (Err e) (Err (end_of_run e)) quiet is u w (λ x k. closed x e u w k) (given_by e) q))
+    (begins told goes (λ u w tree p. runs_told command t by is u w p) (λ u w tree p q. ended_told command t by (Err e) (Err (end_of_run e)) quiet is u w (λ held x k. closed held x e u w k) (given_by e) q))

@@ -20,7 +20,7 @@ use Rattle.dep_states.specs.Shown.{Shows}
 use Rattle.dep_open.specs.Open.{Opened, Reads}
 use Rattle.dep_open.specs.declared.open_end.OpenEnd.{OpenEnd}
 use Rattle.dep_open.specs.declared.open_end.OpenEnd.TheVariants as open_end
-use Rattle.fl_change.specs.World.{World, world_in}
+use Rattle.fl_change.specs.World.{World, world_in, world_at}
 use Rattle.fl_words.specs.declared.command.Listing.{Listing}
 use Rattle.fl_change.specs.Answer.{Answer, Piece, text_answer, refusal_answer}
 use Rattle.fl_top.specs.Answer.{over, listed}
@@ -34,12 +34,14 @@ use Rattle.fl_change.specs.declared.end.RunEnd.{RunEnd}
 use Rattle.fl_change.specs.declared.end.RunEnd.TheVariants as run
 use Rattle.fl_change.proofs.Saying.{says_step, was_said}
 use Rattle.fl_change.proofs.Same.{same_shown, same_settled}
-use Rattle.fl_change.proofs.Changing.{keeps_files, same_untouched}
+use Rattle.fl_change.proofs.Changing.{keeps_files, none_made, same_untouched}
 use Rattle.fl_top.proofs.Altering.{rest_none}
 use Rattle.fl_top.proofs.Starting.{Keeping, begun, unchanged, look_not_open, halted_look, shows_before, refused_at_once}
 use Rattle.fl_top.proofs.Described.{listed_world}
 use Rattle.fl_top.proofs.Over.{over_is, counts_shown}
 use Rattle.fl_change.proofs.Working.{is_err}
+use Rattle.fp_host.specs.Remote.{Holdings}
+use Rattle.fl_change.proofs.Created.{none_created, no_ops_created}
 
 -- ---- a text that acknowledges nothing
 
@@ -51,7 +53,7 @@ told_printed text u w more = record { left = []; pieces = refl; printed = more �
 
 pub telling : (text : List ℕ) {u w : View} → Says text u w → Runs (text_answer text) u w
 telling text {u = u} {w = w} says_it = elim (says_it.printed) [
-  | inl none ↦ begun (text_answer text) (record { printed = none; follows = says_it.follows; names = says_it.untouched.names; files = keeps_files says_it.untouched }) (λ why. says_it.untouched)
+  | inl none ↦ begun (text_answer text) (record { printed = none; follows = says_it.follows; names = says_it.untouched.names; files = keeps_files says_it.untouched; empty = none_made says_it.untouched; creates = none_created says_it.untouched }) (λ why. says_it.untouched)
   | inr more ↦ record {
     said = piece_of text ∷ [];
     so_far = told_printed text u w more;
@@ -61,13 +63,16 @@ telling text {u = u} {w = w} says_it = elim (says_it.printed) [
   }
 ]
 
-pub tells : (text : List ℕ) {u w : View} → WasSaid text u w → Completes (text_answer text) u w
-tells text {u = u} {w = w} said_it = record {
+pub tells : (held : Holdings) (text : List ℕ) {u w : View} → WasSaid text u w → Completes held (text_answer text) u w
+tells held text {u = u} {w = w} said_it = record {
   printed = (told_printed text u w said_it.printed).printed;
   just = λ sound disk left. shows_before said_it.follows sound disk left;
   shown = λ sound s at. same_shown said_it.shown at;
   tidied = λ sound why. elim why [ inl settled ↦ same_settled said_it.shown settled | inr some ↦ absurd (some refl) ];
   text = λ some s at. absurd (cc some);
+  files = keeps_files said_it.untouched;
+  shares = λ none. none_made said_it.untouched;
+  creates = λ none s at. no_ops_created held (world_at s u) [] refl (none_created said_it.untouched);
 }
 
 -- ---- what was read
@@ -128,11 +133,11 @@ module _ (listing : Listing) (s : State) where
   -- it is refused, or comes to no end
   no_text : (e : RunEnd) {u w : View} → HasTold listing s (Err e) u w → LookedOver f (Err e) u w
   no_text (run.Refused refusal) {u = u} {w = w} q = record {
-    ended = λ shown counts. subst (λ (a : Answer). Ended a (Err (run.Refused refusal)) u w) (sym q.tells ∙ sym (over_is f (shows u) shown s q.shown counts))
-        (refl, subst (Completes (refusal_answer refusal) u) (sym q.same) (refused_at_once refusal u));
+    ended = λ shown counts held. subst (λ (a : Answer). Ended held a (Err (run.Refused refusal)) u w) (sym q.tells ∙ sym (over_is f (shows u) shown s q.shown counts))
+        (refl, subst (Completes held (refusal_answer refusal) u) (sym q.same) (refused_at_once held refusal u));
     given = λ by. counts_shown (over f) (shows u) s q.shown;
   }
-  no_text run.Fault q = record { ended = λ shown counts. tt; given = λ by. absurd by }
+  no_text run.Fault q = record { ended = λ shown counts held. tt; given = λ by. absurd by }
   no_text run.RemoteFault q = absurd q.tells
   no_text run.NoMemory q = halted_look f (keeping q.same)
 
@@ -154,13 +159,13 @@ module _ (listing : Listing) (s : State) where
 
     was_told : {u v w : View} → HasTold listing s (Ok text) u v → WasSaid text v w → LookedOver f (Ok tt) u w
     was_told {u = u} {w = w} q said_it = record {
-      ended = λ shown counts. subst (λ (a : Answer). Ended a (Ok tt) u w) (sym q.tells ∙ sym (over_is f (shows u) shown s q.shown counts)) (refl, tells text (subst (λ (x : View). WasSaid text x w) q.same said_it));
+      ended = λ shown counts held. subst (λ (a : Answer). Ended held a (Ok tt) u w) (sym q.tells ∙ sym (over_is f (shows u) shown s q.shown counts)) (refl, tells held text (subst (λ (x : View). WasSaid text x w) q.same said_it));
       given = λ by. counts_shown (over f) (shows u) s q.shown;
     }
 
     not_told : (e : HostError) (u v w : View) → Step (says text) (Err e) v w → LookedOver f (Err (end_of_host (end_of e))) u w
-    not_told error.Failed u v w step = record { ended = λ shown counts. tt; given = λ by. absurd by }
-    not_told error.Clash u v w step = record { ended = λ shown counts. tt; given = λ by. absurd by }
+    not_told error.Failed u v w step = record { ended = λ shown counts held. tt; given = λ by. absurd by }
+    not_told error.Clash u v w step = record { ended = λ shown counts held. tt; given = λ by. absurd by }
     not_told error.NoMemory u v w step = absurd step.how
 
     pub goes_not_told : {a b c d : Option Moments} (e : HostError) (r : Result (Unit {0}) RunEnd) → IsTold a → IsTold b → IsTold c → Unchanged a b → AtEnd (λ u w. Reads u (Ok s)) a b → Unchanged b c → TellsOver listing s b (Ok text)

@@ -1,5 +1,5 @@
 -- A command that makes a remote.
-use Rattle.std.proofs.Common.{◌≡◌, inl, inr, ℕ, List, [], ◌∷◌, ◌++◌, Option, None, Result, Ok, Err, IsErrAnd, IsErrOf, refl, sym, ◌∙◌, ap, subst}
+use Rattle.std.proofs.Common.{◌≡◌, inl, inr, ℕ, List, [], ◌∷◌, ◌++◌, codes, Option, None, Result, Ok, Err, IsErrAnd, IsErrOf, refl, sym, ◌∙◌, ap, subst}
 use Rattle.std.proofs.lemmas.List.{append-nil}
 use Rattle.fp_host.specs.Paths.{Elements}
 use Rattle.fp_host.specs.View.{View}
@@ -12,12 +12,15 @@ use Rattle.fp_host.proofs.Ending.{ends_looks, goes_known}
 use Rattle.fp_host.proofs.Framed.{IsTold}
 use Rattle.fp_host.proofs.Goes.{begins, goes_on}
 use Rattle.fp_name.specs.Refs.{Ref}
+use Rattle.fp_small.proofs.Emptying.{below_child}
+use Rattle.fp_small.proofs.Sharing.{shares_on, shares_to}
 use Rattle.fp_small.specs.declared.refusal.Refusal.TheVariants.{BadRecord}
 use Rattle.fp_small.specs.declared.state.State.{State}
 use Rattle.ost_commit.specs.Objects.{have_of}
 use Rattle.ost_description.specs.Commits.{IsDescribed, IsRead}
 use Rattle.ost_description.specs.Descriptions.{described}
 use Rattle.ost_export.specs.Exports.{IsOffered}
+use Rattle.dep_states.specs.Lasting.IsLasting.{a_made_one}
 use Rattle.dep_states.specs.Shown.{Shows}
 use Rattle.dep_states.specs.Sound.{IsSound}
 use Rattle.fl_lines.specs.Lines.{made_text}
@@ -25,12 +28,12 @@ use Rattle.fl_words.specs.declared.command.Command.TheVariants.{Export as Export
 use Rattle.fl_make.specs.Making.{made, Makes, WasMade, IsMakeFault}
 use Rattle.fl_make.specs.declared.end.MakeEnd.{MakeEnd}
 use Rattle.fl_make.specs.declared.end.MakeEnd.TheVariants as make
-use Rattle.fl_change.specs.World.{World}
+use Rattle.fl_change.specs.World.{World, world_at}
 use Rattle.fl_change.specs.Answer.{Answer, Piece, text_answer, refusal_answer}
 use Rattle.fl_change.specs.Ends.{end_of_host}
 use Rattle.fl_change.specs.Performs.{Printed}
 use Rattle.fl_change.specs.Says.{Says, WasSaid, SaidBy}
-use Rattle.fl_change.proofs.Changing.{same_untouched}
+use Rattle.fl_change.proofs.Changing.{keeps_files, none_made, same_untouched}
 use Rattle.fl_change.proofs.Doing.{none_yet}
 use Rattle.fl_change.proofs.Same.{unmoved, same_shown, same_settled, now_left}
 use Rattle.fl_top.specs.Answer.{Given, of_description, commit_made, answer_over}
@@ -49,6 +52,10 @@ use Rattle.fl_top.proofs.Finishing.{is_end, ByInput, read_is, given_all}
 use Rattle.fl_top.proofs.Listed.{keeping}
 use Rattle.fl_top.proofs.Over.{counts_constant}
 use Rattle.fl_top.proofs.Starting.{begun, refused_at_once}
+use Rattle.fp_host.specs.Remote.{Holdings}
+use Rattle.fl_change.proofs.Created.{none_created, no_ops_created}
+use Rattle.ost_store.proofs.Creating.{creates_on}
+use Rattle.fp_small.proofs.Keeping.{files_on}
 
 -- ---- its answer
 
@@ -96,7 +103,7 @@ module _ (remote : List ℕ) (r : Ref) (t : Told) (bytes : List ℕ) (whole : Is
       before l = let was = sound.shown disk l in record { shown = (disk, l, was.state, was.shows, was.shows); sound = sound.sound disk l }
 
   alter_made : {u w : View} → Makes remote r bytes u w → Alters (OpsBy (Exporting remote r) t.left) (MakesBy (Exporting remote r)) u w
-  alter_made makes = record { names = λ q. elim (makes.names q) [ inl same ↦ inl same | inr may ↦ inr (made_by may) ]; files = makes.files }
+  alter_made makes = record { names = λ q. elim (makes.names q) [ inl same ↦ inl same | inr may ↦ inr (made_by may) ]; files = makes.files; links = makes.links }
 
   rest_made : (commit : List ℕ) (s : State) {u w : View} → Makes remote r bytes u w → OnlyRests (text_answer (made_text commit)) s u w
   rest_made commit s makes = record { names = λ q. elim (makes.names q) [ inl same ↦ inl same | inr may ↦ inr (made_at remote r (record { commit = commit; is = refl }) may) ] }
@@ -128,10 +135,10 @@ module _ (remote : List ℕ) (r : Ref) (t : Told) (bytes : List ℕ) (whole : Is
   stands_made : (a : Answer) {u w : View} → Makes remote r bytes u w → Stands a u w
   stands_made a makes = record { said = []; so_far = none_yet a makes.printed; just = λ sound disk left. just_made makes sound disk left }
 
-  bad_closed : (line : ℕ) → described bytes ≡ Err line → {u w : View} → w ≡ u → (given : Given) → IsGivenTo (Exporting remote r) t given → (shown : Result World Elements) → Closed (answer_over (Exporting remote r) given shown) (Err (end_of_make (make.BadRecord line))) u w
+  bad_closed : (line : ℕ) → described bytes ≡ Err line → {u w : View} → w ≡ u → (given : Given) → IsGivenTo (Exporting remote r) t given → (shown : Result World Elements) → Closed given.held (answer_over (Exporting remote r) given shown) (Err (end_of_make (make.BadRecord line))) u w
   bad_closed line bad {u = u} same given gave shown =
-      subst (λ (v : View). Closed (answer_over (Exporting remote r) given shown) (Err (end_of_make (make.BadRecord line))) u v) (sym same)
-      (subst (λ (a : Answer). Closed a (Err (end_of_make (make.BadRecord line))) u u) (bad_answer given.commit bytes line bad ∙ answer_is given gave shown) (refl, refused_at_once (BadRecord line) u))
+      subst (λ (v : View). Closed given.held (answer_over (Exporting remote r) given shown) (Err (end_of_make (make.BadRecord line))) u v) (sym same)
+      (subst (λ (a : Answer). Closed given.held a (Err (end_of_make (make.BadRecord line))) u u) (bad_answer given.commit bytes line bad ∙ answer_is given gave shown) (refl, refused_at_once given.held (BadRecord line) u))
 
   ended_not : (e : MakeEnd) → IsMakeFault bytes e → {u w : View} → ((line : ℕ) → e ≡ make.BadRecord line → w ≡ u) → Makes remote r bytes u w → EndedOn (Exporting remote r) t (Err (end_of_make e)) u w
   ended_not (make.BadRecord line) bad {u = u} same makes = record {
@@ -207,13 +214,16 @@ module _ (remote : List ℕ) (r : Ref) (t : Told) (bytes : List ℕ) (whole : Is
       | inr opens ↦ opens.shown (shows v) (now_left v)
     ]
 
-    completes_said : {u v w : View} → HasMade u v → WasSaid line v w → Completes (text_answer line) u w
-    completes_said {u = u} {v = v} {w = w} h said = record {
+    completes_said : (held : Holdings) {u v w : View} → HasMade u v → WasSaid line v w → Completes held (text_answer line) u w
+    completes_said held {u = u} {v = v} {w = w} h said = record {
       printed = (said_line line u w (said.printed ∙ ap (λ (p : List ℕ). p ++ line) h.makes.printed)).printed;
       just = λ sound disk left. just_on [] said.follows (just_made h.makes sound) disk left;
       shown = λ sound s at. same_shown said.shown (shown_made h sound s at);
       tidied = λ sound why. elim why [ inl settled ↦ same_settled said.shown (h.was.settled settled) | inr some ↦ absurd (some refl) ];
       text = λ some s at. absurd (cc some);
+      shares = λ none. shares_on (shares_to (λ q above. a_made_one (below_child remote (codes "made" ∷ []) q above)) h.was.shares) (none_made said.untouched) (keeps_files said.untouched);
+      files = files_on h.makes.files (keeps_files said.untouched);
+      creates = λ none s at. no_ops_created held (world_at s u) [] refl (creates_on h.was.creates (none_created said.untouched) h.makes.files (keeps_files said.untouched));
     }
 
     leaves : {u v w : View} → HasMade u v → WasSaid line v w → MadeBy (Exporting remote r) t.left u w
@@ -235,7 +245,7 @@ module _ (remote : List ℕ) (r : Ref) (t : Told) (bytes : List ℕ) (whole : Is
     goes_made known known_b makes was says = goes_on known_b (first known makes was) says
         (λ u v w tree p h s. said_on h s)
         (λ u v w tree p h s said. record {
-          ended = λ given gave shown counts may. subst (λ (a : Answer). Closed a (Ok tt) u w) (said_answer h given gave shown) (refl, completes_said h said);
+          ended = λ given gave shown counts may. subst (λ (a : Answer). Closed given.held a (Ok tt) u w) (said_answer h given gave shown) (refl, completes_said given.held h said);
           given = λ given gave by. counts_constant (answer_over (Exporting remote r) given) (shows u) (λ shown other. refl);
           made = leaves h said;
         })

@@ -7,7 +7,7 @@ use Rattle.fp_host.specs.Remote.{Holdings}
 use Rattle.fp_host.specs.View.{View, IsTree}
 use Rattle.fp_host.specs.Outcome.{Nothing, shows}
 use Rattle.fp_host.specs.Moments.{Moments, Since, Goes, Always, views}
-use Rattle.fp_host.specs.Frame.{Frame, AtEnd, NoPath}
+use Rattle.fp_host.specs.Frame.{Frame, AtEnd, NoPath, NoName}
 use Rattle.fp_host.proofs.Cause.{Rose-later}
 use Rattle.fp_host.proofs.Framed.{IsTold}
 use Rattle.fp_host.proofs.Goes.{begins, goes_on}
@@ -18,7 +18,7 @@ use Rattle.ost_walk.specs.Ends.{Outside}
 use Rattle.dep_states.specs.Sound.{IsSound, Opens}
 use Rattle.dep_states.specs.Shown.{Shows}
 use Rattle.dep_states.specs.After.{after_all}
-use Rattle.dep_open.specs.Open.{Opened, NoName, IsOpened, StaysUnread}
+use Rattle.dep_open.specs.Open.{Opened, IsOpened, StaysUnread}
 use Rattle.dep_open.specs.declared.open_end.OpenEnd.{OpenEnd}
 use Rattle.dep_open.specs.declared.open_end.OpenEnd.TheVariants as open_ends
 use Rattle.fl_change.specs.World.{World}
@@ -113,7 +113,7 @@ pub goes_failed : {a : Option Moments} (May : Op → Type 0) (f : Holdings → W
     → Acts (Opens s) May f s (Err e) u w → IsErrAnd r (λ end. end ≡ e) → Goes a w.told (RunsOver u.holdings May f) (EndedOver u.holdings f r)
 goes_failed {a = a} May f s e r {u = u} {w = w} late known known_b frame unread tells works is =
     subst (λ (x : Result (Unit {0}) RunEnd). Goes a w.told (RunsOver u.holdings May f) (EndedOver u.holdings f x)) (sym (is_err r e is))
-    (goes_on known_b (opening u.holdings May f late known frame unread tells) (worked May f s works) (λ x y z t p q step. runs_over u.holdings May f s late (begun q) t step) (λ x y z t p q step last. failed_over u.holdings f s e z (begun q) t last.0))
+    (goes_on known_b (opening u.holdings May f late known frame unread tells) (worked May f s works) (λ x y z t p q step. runs_over u.holdings May f s late (begun q) t step) (λ x y z t p q step last. failed_over u.holdings f s e z (begun q) t step.performs last.0))
 
 -- ---- what the changes left
 
@@ -144,12 +144,12 @@ ends_where {T = T} F one two = record {
       );
 }
 
-changed_over : (holds : Option Holdings) (May : Op → Type 0) (f : Holdings → World → Answer) (s t : State) {u v : View} (w : View) → Begun s u v → IsTree v → PerformedOver (Opens s) holds f s (Ok t) v w
+changed_over : (holds : Option Holdings) (May : Op → Type 0) (f : Holdings → World → Answer) (s t : State) {u v : View} (w : View) → Begun s u v → IsTree v → PerformsOver (Opens s) holds f s v w → PerformedOver (Opens s) holds f s (Ok t) v w
     → (AreToldFor May holds → OpensBy s (Ok t) v w) → Changed holds May f t u w
-changed_over holds May f s t {u = u} {v = v} w begun tree is opens = record {
+changed_over holds May f s t {u = u} {v = v} w begun tree work is opens = record {
   before = s;
   at = begun.opened.shown;
-  ended = done_over holds f s t w begun tree is;
+  ended = done_over holds f s t w begun tree work is;
   after = λ ready held told shown counts.
       let opened = begun.opened.opens (ready_sound begun.opened.shown ready) in
       subst (λ (a : Answer). t ≡ after_all s (ops_of a)) (ap (f held) (begun_world s begun tree) ∙ sym (over_is (f held) (shows u) shown s begun.opened.shown counts)) (is.performed held told opened).1;
@@ -161,7 +161,7 @@ pub goes_changed : {a : Option Moments} (May : Op → Type 0) (f : Holdings → 
 goes_changed May f s t {u = u} late known known_b frame unread tells works =
     goes_on known_b (opening u.holdings May f late known frame unread tells) (ends_where (AreToldFor May u.holdings) (worked May f s works) works.opens)
     (λ x y z tree p q step. runs_over u.holdings May f s late (begun q) tree step)
-    (λ x y z tree p q step last. changed_over u.holdings May f s t z (begun q) tree last.0.0 last.1)
+    (λ x y z tree p q step last. changed_over u.holdings May f s t z (begun q) tree step.performs last.0.0 last.1)
 
 -- ---- the cause of a fault
 

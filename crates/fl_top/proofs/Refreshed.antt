@@ -20,11 +20,13 @@ use Rattle.fp_name.specs.Kinds.{kind_word}
 use Rattle.fp_name.specs.Refs.{Ref}
 use Rattle.fp_small.specs.Places.{repo, tmp}
 use Rattle.fp_small.specs.Clear.{IsWithin}
+use Rattle.fp_small.proofs.Sharing.{shares_on, shares_to}
 use Rattle.fp_small.specs.declared.op.Op.{Op}
 use Rattle.fp_small.specs.declared.state.State.{State}
 use Rattle.ost_model.specs.Objects.{object_path, object_at, store}
 use Rattle.ost_model.specs.Order.{In, order}
 use Rattle.ost_walk.specs.Ends.{Outside}
+use Rattle.dep_states.specs.Lasting.IsLasting.{an_export}
 use Rattle.dep_states.specs.Names.{config, remotes_conf, pins_file, branch_dir, active, text_dir, commit_dir, deploy, ref_file}
 use Rattle.dep_states.specs.Shown.{Shows, ref_seen}
 use Rattle.dep_states.specs.Sound.{Keeps, IsOld, is_remotes, is_pins, IsSound, Opens}
@@ -61,6 +63,8 @@ use Rattle.fl_top.proofs.Ending.{prefix_all, before_last}
 use Rattle.fl_top.proofs.Opening.{Changed}
 use Rattle.fl_top.proofs.Over.{counts_shown}
 use Rattle.fl_top.proofs.Starting.{shown_after, ready_sound}
+use Rattle.ost_store.proofs.Creating.{creates_on}
+use Rattle.fp_small.proofs.Keeping.{files_on}
 
 -- ---- where exported files are brought in step
 
@@ -171,7 +175,7 @@ exports_left {t = t} {w = w} tree opens was disk left = subst HasExports (λ k q
 
 -- ---- the answer that was given
 
-module _ (a : Answer) (before t : State) {u v w : View} (at : Shows (shows u) before) (after : t ≡ after_all before (ops_of a)) (none : a.refusal ≡ None) (done : Completes a u v) (step : Refreshes t v w) (opens : IsSound u → Opens t w) where
+module _ (held : Holdings) (a : Answer) (before t : State) {u v w : View} (at : Shows (shows u) before) (after : t ≡ after_all before (ops_of a)) (none : a.refusal ≡ None) (done : Completes held a u v) (step : Refreshes t v w) (opens : IsSound u → Opens t w) where
   just_left : IsSound u → (disk : Disk) → Leaves w disk → IsJust (ops_of a) u disk
   just_left sound disk left = record {
     shown = shown_after u before (ops_of a) disk at (subst (λ (z : State). Shows disk z) after ((opens sound).shown disk left));
@@ -190,7 +194,7 @@ module _ (a : Answer) (before t : State) {u v w : View} (at : Shows (shows u) be
   stands_left : Stands a u w
   stands_left = record { said = a.pieces; so_far = before_last a (step.printed ∙ done.printed); just = just_left }
 
-  completes_left : IsTree v → IsTree w → WasRefreshed t v w → Completes a u w
+  completes_left : IsTree v → IsTree w → WasRefreshed t v w → Completes held a u w
   completes_left tree next was = record {
     printed = step.printed ∙ done.printed;
     just = just_left;
@@ -199,6 +203,9 @@ module _ (a : Answer) (before t : State) {u v w : View} (at : Shows (shows u) be
         subst (λ (z : State). Shows (shows w) z) (after ∙ ap (λ (z : State). after_all z (ops_of a)) one) ((opens sound).shown (shows w) (now_left w));
     tidied = λ sound why. settled_refreshed tree next step was (done.tidied sound why);
     text = λ some s is. text_on (config_same step) step.files (done.text some s is);
+    shares = λ ok. shares_on (done.shares ok) (shares_to (λ q above. an_export above) was.shares) step.files;
+    files = files_on done.files step.files;
+    creates = λ ok s is. creates_on (done.creates ok s is) was.creates done.files step.files;
   }
 
 -- ---- over each answer that counts
@@ -211,7 +218,7 @@ module _ (holds : Option Holdings) (May : Op → Type 0) (f : Holdings → World
   runs_on runs = record {
     runs = λ ready held is shown counts.
         let e = changed.ended.ended ready held is shown counts in
-        runs_left (over (f held) shown) changed.before t changed.at (changed.after ready held is shown counts) e.0 e.1 step (opened held is) (runs.runs ready held is shown counts);
+        runs_left held (over (f held) shown) changed.before t changed.at (changed.after ready held is shown counts) e.0 e.1 step (opened held is) (runs.runs ready held is shown counts);
     changes = λ known. alter_on u v w (runs.changes known) (alter_refreshes step);
     untouched = λ none. absurd (none changed.before changed.at);
   }
@@ -220,7 +227,7 @@ module _ (holds : Option Holdings) (May : Op → Type 0) (f : Holdings → World
   ended_on tree next was = record {
     ended = λ ready held is shown counts.
         let e = changed.ended.ended ready held is shown counts in
-        (e.0, completes_left (over (f held) shown) changed.before t changed.at (changed.after ready held is shown counts) e.0 e.1 step (opened held is) tree next was);
+        (e.0, completes_left held (over (f held) shown) changed.before t changed.at (changed.after ready held is shown counts) e.0 e.1 step (opened held is) tree next was);
     given = λ held by. counts_shown (over (f held)) (shows u) changed.before changed.at;
   }
 
@@ -230,7 +237,7 @@ module _ (holds : Option Holdings) (May : Op → Type 0) (f : Holdings → World
   halted_on host.NoMemory = record {
     ended = λ ready held is shown counts.
         let e = changed.ended.ended ready held is shown counts in
-        stands_left (over (f held) shown) changed.before t changed.at (changed.after ready held is shown counts) e.0 e.1 step (opened held is);
+        stands_left held (over (f held) shown) changed.before t changed.at (changed.after ready held is shown counts) e.0 e.1 step (opened held is);
     given = λ held by. absurd by;
   }
 

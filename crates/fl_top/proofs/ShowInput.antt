@@ -30,6 +30,7 @@ use Rattle.fl_top.proofs.Starting.{unchanged, stood}
 use Rattle.fl_top.proofs.Listed.{telling, tells}
 use Rattle.fl_top.proofs.Over.{counts_constant}
 use Rattle.fl_top.proofs.Finishing.{is_end, EndsEarly, refused_early, halted_early, ByInput, read_is}
+use Rattle.fp_host.specs.Remote.{Holdings}
 
 -- ---- its answer
 
@@ -71,16 +72,16 @@ runs_shown thing t bytes text whole shown u w said = record {
   untouched = λ why. said.untouched;
 }
 
-closed_said : (text : List ℕ) (a : Answer) (r : Result (Unit {0}) HostEnd) (e : HostEnd) (u w : View) → r ≡ Err e → SaidBy text r u w → Closed a (Err (end_of_run (end_of_host e))) u w
-closed_said text a r host.Fault u w is said = tt
-closed_said text a r host.NoMemory u w is said = let same : w ≡ u = subst (λ (x : Result (Unit {0}) HostEnd). SaidBy text x u w) is said in subst (λ (x : View). Stands a u x) (sym same) (stood a unchanged)
+closed_said : (held : Holdings) (text : List ℕ) (a : Answer) (r : Result (Unit {0}) HostEnd) (e : HostEnd) (u w : View) → r ≡ Err e → SaidBy text r u w → Closed held a (Err (end_of_run (end_of_host e))) u w
+closed_said held text a r host.Fault u w is said = tt
+closed_said held text a r host.NoMemory u w is said = let same : w ≡ u = subst (λ (x : Result (Unit {0}) HostEnd). SaidBy text x u w) is said in subst (λ (x : View). Stands a u x) (sym same) (stood a unchanged)
 
 pub goes_shown : {a b : Option Moments} (thing : Shown) (t : Told) (bytes text : List ℕ) → IsTold a → IsWhole t.left bytes → shown_by thing bytes ≡ text_answer text
     → Goes a b (Says text) (SaidBy text (Ok tt)) → Goes a b (RunsOn (Showing thing) t) (EndedOn (Showing thing) t (Ok tt))
 goes_shown thing t bytes text known whole shown goes = begins known goes
     (λ u w tree says. runs_shown thing t bytes text whole shown u w says)
     (λ u w tree says said. record {
-      ended = λ given gave image counts may. subst (λ (a : Answer). Closed a (Ok tt) u w) (sym shown ∙ shown_is thing t bytes whole given gave image) (refl, tells text said);
+      ended = λ given gave image counts may. subst (λ (a : Answer). Closed given.held a (Ok tt) u w) (sym shown ∙ shown_is thing t bytes whole given gave image) (refl, tells given.held text said);
       given = λ given gave by. counts_constant (answer_over (Showing thing) given) (shows u) (λ image other. refl);
       made = tt;
     })
@@ -92,7 +93,7 @@ goes_not_shown {a = a} {b = b} thing t bytes text s e r known whole shown was go
     (begins known goes
     (λ u w tree says. runs_shown thing t bytes text whole shown u w says)
     (λ u w tree says said. record {
-      ended = λ given gave image counts may. closed_said text (answer_over (Showing thing) given image) s e u w was said;
+      ended = λ given gave image counts may. closed_said given.held text (answer_over (Showing thing) given image) s e u w was said;
       given = λ given gave by. counts_constant (answer_over (Showing thing) given) (shows u) (λ image other. refl);
       made = tt;
     }))

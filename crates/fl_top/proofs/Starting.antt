@@ -5,12 +5,14 @@ use Rattle.fp_host.specs.Paths.{Elements}
 use Rattle.fp_host.specs.Remote.{Holdings}
 use Rattle.fp_host.specs.View.{View, IsTree}
 use Rattle.fp_host.specs.Outcome.{Disk, Leaves, Follows, Nothing, shows}
-use Rattle.fp_host.specs.Frame.{Keeps, NoPath}
+use Rattle.fp_host.specs.Frame.{Keeps, NoPath, NoName}
 use Rattle.fp_host.proofs.Follow.{follows_refl}
 use Rattle.fp_small.specs.Files.{KeepsFiles}
+use Rattle.fp_small.specs.Shares.{Shares}
+use Rattle.fp_small.proofs.Sharing.{shares_refl, shares_empty, shares_on, shares_to}
 use Rattle.fp_small.specs.Places.{repo}
 use Rattle.ost_model.specs.Objects.{object_path}
-use Rattle.fp_small.proofs.Keeping.{files_stay, files_kept}
+use Rattle.fp_small.proofs.Keeping.{files_stay, files_kept, files_on}
 use Rattle.fp_small.specs.declared.state.State.{State}
 use Rattle.fp_small.specs.declared.op.Op.{Op}
 use Rattle.fp_small.specs.declared.refusal.Refusal.{Refusal}
@@ -19,7 +21,7 @@ use Rattle.dep_states.specs.Shown.{Shows}
 use Rattle.dep_states.specs.Sound.{IsSound, Opens}
 use Rattle.dep_states.specs.After.{Done, after_all}
 use Rattle.dep_states.proofs.Single.{one_state}
-use Rattle.dep_open.specs.Open.{NotShown, NoName, IsOpened, Opened, StaysUnread}
+use Rattle.dep_open.specs.Open.{NotShown, IsOpened, Opened, StaysUnread}
 use Rattle.dep_open.specs.declared.open_end.OpenEnd.{OpenEnd}
 use Rattle.dep_open.specs.declared.open_end.OpenEnd.TheVariants as open_end
 use Rattle.fl_change.specs.World.{World, world, world_at}
@@ -39,17 +41,22 @@ use Rattle.fl_top.proofs.Altering.{alter_none, alter_changes, rest_none, rest_ti
 use Rattle.fl_top.proofs.Over.{over_is, over_damaged, not_shown, counts_shown, counts_damaged}
 use Rattle.fl_change.proofs.Worlds.{store_same, shows_same, worlds_state}
 use Rattle.fl_change.proofs.Doing.{none_yet}
+use Rattle.ost_store.specs.Created.{Creates, NoObject}
+use Rattle.ost_store.proofs.Creating.{creates_refl, creates_frame, creates_after}
+use Rattle.fl_change.specs.Created.{IsCreated}
 
--- ---- nothing is printed and nothing shown changes
+-- ---- nothing is printed and nothing shown changes, no new file gets a byte, and no object is made
 
 pub record Keeping (u w : View) : Type 0 where
   pub printed : w.printed ≡ u.printed
   pub follows : Follows Nothing u w
   pub names : (q : Elements) → w.names q ≡ u.names q
   pub files : KeepsFiles u w
+  pub empty : Shares NoPath u w
+  pub creates : Creates repo NoObject u w
 
 pub kept : {u w : View} → Keeps Nothing NoName NoPath u w → Keeping u w
-kept keeps = record { printed = keeps.printed; follows = keeps.follows; names = λ q. elim (keeps.names q) [ inl same ↦ same | inr put ↦ absurd put ]; files = files_kept keeps }
+kept keeps = record { printed = keeps.printed; follows = keeps.follows; names = λ q. elim (keeps.names q) [ inl same ↦ same | inr put ↦ absurd put ]; files = files_kept keeps; empty = shares_empty keeps; creates = creates_frame NoName keeps (λ q id below put. put) }
 
 -- a step that gives nothing leaves what some stop before would have left
 pub shows_before : {u w : View} → Follows Nothing u w → IsSound u → (disk : Disk) → Leaves w disk → IsJust [] u disk
@@ -153,8 +160,8 @@ runs_over holds May f s {u = u} {v = v} {w = w} late begun tree work = record {
   untouched = λ none. absurd (none s begun.opened.shown);
 }
 
-completes : (held : Holdings) (a : Answer) (s : State) (x : World) {u v w : View} → x.state ≡ s → ((q : Elements) → shows v q ≡ shows u q) → IsOpened s u v → Keeping u v → IsDone held a x v w → Completes a u w
-completes held a s x {u = u} {w = w} same seen opened keeping is = record {
+completes : (held : Holdings) (a : Answer) (s : State) (x : World) {u v w : View} → x.state ≡ s → ((q : Elements) → shows v q ≡ shows u q) → IsOpened s u v → Keeping u v → KeepsFiles v w → world_at s u ≡ x → IsDone held a x v w → Completes held a u w
+completes held a s x {u = u} {w = w} same seen opened keeping files here is = record {
   printed = is.printed ∙ ap (λ (p : List ℕ). p ++ joined a.pieces) keeping.printed;
   just = λ sound disk left. record { shown = shown_after u s (ops_of a) disk opened.shown (opens.shown disk left); sound = opens.sound disk left };
   shown = λ sound t at.
@@ -164,6 +171,11 @@ completes held a s x {u = u} {w = w} same seen opened keeping is = record {
   text = λ some t at.
       let one : s ≡ t = one_state (shows u) s t opened.shown at in
       subst (λ (z : State). HasText (after_all z (ops_of a)) w) (same ∙ one) (is.text some);
+  files = files_on keeping.files files;
+  shares = λ none. shares_on (shares_to (λ q no. absurd no) keeping.empty) (is.shares none) files;
+  creates = λ none t at.
+      let one : s ≡ t = one_state (shows u) s t opened.shown at in
+      subst (λ (z : World). Creates repo (IsCreated held z (ops_of a)) u w) (sym here ∙ ap (λ (z : State). world_at z u) one) (creates_after keeping.creates (is.creates none) keeping.files files);
 }
   where
     opens : Opens (after_all s (ops_of a)) w
@@ -176,71 +188,77 @@ stands a s {u = u} opened keeping is = record {
   just = λ sound disk left. record { shown = shown_after u s (ops_in is.said) disk opened.shown (is.opens.shown disk left); sound = is.opens.sound disk left };
 }
 
-ended : (held : Holdings) (a : Answer) (s : State) (e : RunEnd) {u v : View} (w : View) → Begun s u v → IsTree v → Performed held a (world_at s v) (Err e) v w → Ended a (Err e) u w
-ended held a s (Refused refusal) {v = v} w begun tree is = (is.0, completes held a s (world_at s v) refl (begun_seen begun tree) begun.opened begun.keeping is.1)
-ended held a s Fault w begun tree is = tt
-ended held a s RemoteFault {v = v} w begun tree is = stands a s begun.opened begun.keeping is
-ended held a s NoMemory w begun tree is = stands a s begun.opened begun.keeping is
+ended : (held : Holdings) (a : Answer) (s : State) (e : RunEnd) {u v : View} (w : View) → Begun s u v → IsTree v → KeepsFiles v w → Performed held a (world_at s v) (Err e) v w → Ended held a (Err e) u w
+ended held a s (Refused refusal) {v = v} w begun tree files is = (is.0, completes held a s (world_at s v) refl (begun_seen begun tree) begun.opened begun.keeping files (sym (begun_world s begun tree)) is.1)
+ended held a s Fault w begun tree files is = tt
+ended held a s RemoteFault {v = v} w begun tree files is = stands a s begun.opened begun.keeping is
+ended held a s NoMemory w begun tree files is = stands a s begun.opened begun.keeping is
 
-pub failed_over : (holds : Option Holdings) (f : Holdings → World → Answer) (s : State) (e : RunEnd) {u v : View} (w : View) → Begun s u v → IsTree v → PerformedOver (Opens s) holds f s (Err e) v w → EndedOver holds f (Err e) u w
-failed_over holds f s e {u = u} {v = v} w begun tree is = record {
+pub failed_over : (holds : Option Holdings) (f : Holdings → World → Answer) (s : State) (e : RunEnd) {u v : View} (w : View) → Begun s u v → IsTree v → PerformsOver (Opens s) holds f s v w → PerformedOver (Opens s) holds f s (Err e) v w → EndedOver holds f (Err e) u w
+failed_over holds f s e {u = u} {v = v} w begun tree work is = record {
   ended = λ ready held told shown counts.
       let opens = begun.opened.opens (ready_sound begun.opened.shown ready) in
-      subst (λ (a : Answer). Ended a (Err e) u w) (ap (f held) (begun_world s begun tree) ∙ sym (over_is (f held) (shows u) shown s begun.opened.shown counts))
-      (ended held (f held (world_at s v)) s e w begun tree (is.performed held told opens));
+      subst (λ (a : Answer). Ended held a (Err e) u w) (ap (f held) (begun_world s begun tree) ∙ sym (over_is (f held) (shows u) shown s begun.opened.shown counts))
+      (ended held (f held (world_at s v)) s e w begun tree (work.performs held told opens).files (is.performed held told opens));
   given = λ held by. counts_shown (over (f held)) (shows u) s begun.opened.shown;
 }
 
-pub done_over : (holds : Option Holdings) (f : Holdings → World → Answer) (s t : State) {u v : View} (w : View) → Begun s u v → IsTree v → PerformedOver (Opens s) holds f s (Ok t) v w → EndedOver holds f (Ok tt) u w
-done_over holds f s t {u = u} {v = v} w begun tree is = record {
+pub done_over : (holds : Option Holdings) (f : Holdings → World → Answer) (s t : State) {u v : View} (w : View) → Begun s u v → IsTree v → PerformsOver (Opens s) holds f s v w → PerformedOver (Opens s) holds f s (Ok t) v w → EndedOver holds f (Ok tt) u w
+done_over holds f s t {u = u} {v = v} w begun tree work is = record {
   ended = λ ready held told shown counts.
       let opens = begun.opened.opens (ready_sound begun.opened.shown ready) in
       let done = is.performed held told opens in
-      subst (λ (a : Answer). Ended a (Ok tt) u w) (ap (f held) (begun_world s begun tree) ∙ sym (over_is (f held) (shows u) shown s begun.opened.shown counts))
-      (done.0, completes held (f held (world_at s v)) s (world_at s v) refl (begun_seen begun tree) begun.opened begun.keeping done.2);
+      subst (λ (a : Answer). Ended held a (Ok tt) u w) (ap (f held) (begun_world s begun tree) ∙ sym (over_is (f held) (shows u) shown s begun.opened.shown counts))
+      (done.0, completes held (f held (world_at s v)) s (world_at s v) refl (begun_seen begun tree) begun.opened begun.keeping (work.performs held told opens).files (sym (begun_world s begun tree)) done.2);
   given = λ held by. counts_shown (over (f held)) (shows u) s begun.opened.shown;
 }
 
 -- ---- where it wasn't opened
 
-damaged : (path : Elements) {u w : View} → Keeping u w → NotShown (shows u) → Completes (refusal_answer (Damaged path)) u w
-damaged path {u = u} keeping none = record {
+damaged : (held : Holdings) (path : Elements) {u w : View} → Keeping u w → NotShown (shows u) → Completes held (refusal_answer (Damaged path)) u w
+damaged held path {u = u} keeping none = record {
   printed = keeping.printed ∙ sym (append-nil u.printed);
   just = shows_before keeping.follows;
   shown = λ sound s at. absurd (none s at);
   tidied = λ sound why. let is = sound.shown (shows u) (now_left u) in absurd (none is.state is.shows);
   text = λ some s at. absurd (none s at);
+  files = keeping.files;
+  shares = λ none. absurd (cc none);
+  creates = λ none. absurd (cc none);
 }
 
 -- want of memory before anything is done
 pub halted_look : (f : World → Answer) {u w : View} → Keeping u w → LookedOver f (Err NoMemory) u w
-halted_look f keeping = record { ended = λ shown counts. stood (over f shown) keeping; given = λ by. absurd by }
+halted_look f keeping = record { ended = λ shown counts held. stood (over f shown) keeping; given = λ by. absurd by }
 
 pub look_not_open : (f : World → Answer) (e : OpenEnd) {u w : View} → Keeping u w → Opened (Err e) u w → LookedOver f (Err (end_of_open e)) u w
 look_not_open f (open_end.Damaged path) {u = u} {w = w} keeping is = record {
-  ended = λ shown counts. subst (λ (a : Answer). Ended a (Err (Refused (Damaged path))) u w) (sym (over_damaged f (shows u) shown path is counts)) (refl, damaged path keeping (not_shown is));
+  ended = λ shown counts held. subst (λ (a : Answer). Ended held a (Err (Refused (Damaged path))) u w) (sym (over_damaged f (shows u) shown path is counts)) (refl, damaged held path keeping (not_shown is));
   given = λ by. counts_damaged (over f) (shows u) path is;
 }
-look_not_open f open_end.Fault keeping is = record { ended = λ shown counts. tt; given = λ by. absurd by }
+look_not_open f open_end.Fault keeping is = record { ended = λ shown counts held. tt; given = λ by. absurd by }
 look_not_open f open_end.NoMemory keeping is = halted_look f keeping
 
 -- so it ends for a command that changes something
 pub looked_ends : (holds : Option Holdings) (f : Holdings → World → Answer) (r : Result (Unit {0}) RunEnd) {u w : View} → ((held : Holdings) → LookedOver (f held) r u w) → EndedOver holds f r u w
-looked_ends holds f r looked = record { ended = λ ready held is. (looked held).ended; given = λ held. (looked held).given }
+looked_ends holds f r looked = record { ended = λ ready held is shown counts. (looked held).ended shown counts held; given = λ held. (looked held).given }
 
 pub ended_open : (holds : Option Holdings) (f : Holdings → World → Answer) (e : OpenEnd) {u w : View} → Keeping u w → Opened (Err e) u w → EndedOver holds f (Err (end_of_open e)) u w
 ended_open holds f e keeping is = looked_ends holds f (Err (end_of_open e)) (λ held. look_not_open (f held) e keeping is)
 
 -- nothing changes
 pub unchanged : {u : View} → Keeping u u
-unchanged = record { printed = refl; follows = follows_refl; names = λ q. refl; files = files_stay }
+unchanged = record { printed = refl; follows = follows_refl; names = λ q. refl; files = files_stay; empty = shares_refl; creates = creates_refl }
 
 -- a refusal without a look at the installation
-pub refused_at_once : (refusal : Refusal) (u : View) → Completes (refusal_answer refusal) u u
-refused_at_once refusal u = record {
+pub refused_at_once : (held : Holdings) (refusal : Refusal) (u : View) → Completes held (refusal_answer refusal) u u
+refused_at_once held refusal u = record {
   printed = sym (append-nil u.printed);
   just = shows_before follows_refl;
   shown = λ sound s at. at;
   tidied = λ sound why. elim why [ inl tidy ↦ tidy | inr some ↦ absurd (some refl) ];
   text = λ some s at. absurd (cc some);
+  files = files_stay;
+  shares = λ none. absurd (cc none);
+  creates = λ none. absurd (cc none);
 }

@@ -8,6 +8,7 @@ use Rattle.fp_small.specs.Places.{repo}
 use Rattle.fp_small.specs.declared.op.Op.{Op}
 use Rattle.fp_small.specs.declared.state.State.{State}
 use Rattle.ost_model.specs.Objects.{store}
+use Rattle.dep_states.specs.Links.{Links}
 use Rattle.dep_states.specs.Shown.{Shows}
 use Rattle.dep_tidy.specs.Tidy.{MayTidy}
 use Rattle.fl_export.specs.Exported.{exported}
@@ -54,10 +55,11 @@ abbrev pub NoMaking : Elements → Slot → Type 0
 NoMaking q e = ⊥
 
 -- Each name holds what it held, or what it may. Each file that was there keeps its mode and its bytes: what is new is in new
--- files.
+-- files. What came to a commit's folder is its record, or a file of the store.
 pub record Alters (May : Op → Type 0) (Make : Elements → Slot → Type 0) (u w : View) : Type 0 where
   pub names : (q : Elements) → (w.names q ≡ u.names q) ⊎ MayCome May Make q (w.names q)
   pub files : KeepsFiles u w
+  pub links : Links u w
 
 -- the answer is the line of a commit that was made, which no other command prints
 pub record IsMadeLine (a : Answer) : Type 0 where

@@ -5,8 +5,12 @@ use Rattle.fp_host.specs.Remote.{Holdings}
 use Rattle.fp_host.specs.View.{View}
 use Rattle.fp_host.specs.Moments.{Moments}
 use Rattle.fp_host.specs.Outcome.{Disk, Leaves, shows}
+use Rattle.fp_small.specs.Places.{repo}
+use Rattle.fp_small.specs.Shares.{Shares}
 use Rattle.fp_small.specs.declared.state.State.{State}
+use Rattle.ost_store.specs.Created.{Creates}
 use Rattle.ost_fsck.specs.declared.report.Report.{Report}
+use Rattle.dep_states.specs.Lasting.{IsLasting}
 use Rattle.dep_states.specs.Shown.{Shows}
 use Rattle.dep_states.specs.Sound.{Sound, IsSound}
 use Rattle.dep_states.specs.After.{Done, after_all}
@@ -15,11 +19,12 @@ use Rattle.dep_states.specs.Settled.{Settled}
 use Rattle.fl_words.specs.declared.command.Command.{Command}
 use Rattle.fl_words.specs.declared.command.Command.TheVariants.{Change as Changing, List as Listed, Show as Showing, Filter as Filtering, Batch, Fsck, Export as Exporting, Exercise as Exercising}
 use Rattle.fl_words.specs.Forms.{command_of}
-use Rattle.fl_change.specs.World.{World}
+use Rattle.fl_change.specs.World.{World, world_at}
 use Rattle.fl_change.specs.Answer.{Answer, Piece, lines_of, joined, ops_in, ops_of, set_config, IsIdle}
 use Rattle.fl_top.specs.Answer.{Given, answer, IsOver, IsAtOnce}
 use Rattle.fl_top.specs.Input.{IsDrained}
 use Rattle.fl_change.specs.Changes.{IsUntouched, HasText}
+use Rattle.fl_change.specs.Created.{IsCreated}
 use Rattle.fl_top.specs.Fsck.{Finds, IsListable}
 use Rattle.fl_top.specs.Exports.{Alters, OnlyRests}
 use Rattle.fl_top.specs.Status.{status_at, IsAnswered, only_looks, changes_state, makes_remote, reads_input, asks_remotes, checks_store}
@@ -72,17 +77,21 @@ pub record Stands (a : Answer) (u w : View) : Type 0 where
   pub just : IsSound u → (disk : Disk) → Leaves w disk → IsJust (ops_in said) u disk
 
 -- The whole answer was printed; what stands now is the state after its operations. Where one was done, or all was settled before,
--- all is settled. Where one of them set it, `config` has exactly its text, and the permission bits 0644.
-pub record Answers (a : Answer) (status : ℕ) (u w : View) : Type 0 where
+-- all is settled. Where one of them set it, `config` has exactly its text, and the permission bits 0644. Without
+-- a refusal each new file that has bytes came to a lasting name, and just the objects were made that the operations lacked, by what
+-- the remotes hold.
+pub record Answers (held : Holdings) (a : Answer) (status : ℕ) (u w : View) : Type 0 where
   pub status_is : status ≡ status_at a
   pub printed : w.printed ≡ u.printed ++ joined (lines_of a)
   pub shown : IsSound u → (s : State) → Shows (shows u) s → Shows (shows w) (after_all s (ops_of a))
   pub tidied : IsSound u → Settled (shows u) ⊎ (ops_of a ≢ []) → Settled (shows w)
   pub text : set_config (ops_of a) ≡ true → (s : State) → Shows (shows u) s → HasText (after_all s (ops_of a)) w
+  pub shares : a.refusal ≡ None → Shares IsLasting u w
+  pub creates : a.refusal ≡ None → (s : State) → Shows (shows u) s → Creates repo (IsCreated held (world_at s u) (ops_of a)) u w
 
 -- At the return. 3 says that the host failed, 4 that the remotes did, 5 that the input did, and 6 that there was no memory.
-pub record Ran (a : Answer) (status : ℕ) (u w : View) : Type 0 where
-  pub answers : IsAnswered status → Answers a status u w
+pub record Ran (held : Holdings) (a : Answer) (status : ℕ) (u w : View) : Type 0 where
+  pub answers : IsAnswered status → Answers held a status u w
   pub stands : (status ≡ 3 → ⊥) → Stands a u w
   pub sound : IsSound u → IsSound w
 
@@ -190,9 +199,9 @@ abbrev pub MayAnswer : Option Command → View → Answer → Type 0
 MayAnswer command v a = Serves command v ⊎ IsAtOnce a.refusal
 
 -- At every moment the run is that of each answer that counts. Whatever the source tells, no name changed but those that the
--- command's operations, tidying and a refresh of the exported files change, or where a remote is made what that changes, and each file
--- that was there keeps its mode and its bytes: where a commit may be brought, over remotes that tell what they hold and an installation
--- that is ready. Words that are no command, a command that only looks, and one that sees no state change nothing, but one that makes a
+-- command's operations, tidying and a refresh of the exported files change, or where a remote is made what that changes, each file
+-- that was there keeps its mode and its bytes, and each that came to a commit's folder is its record or a file of the store: where a
+-- commit may be brought, over remotes that tell what they hold and an installation that is ready. Words that are no command, a command that only looks, and one that sees no state change nothing, but one that makes a
 -- remote, which doesn't look.
 pub record RunsBy (words : List (List ℕ)) (t : Told) (u w : View) : Type 0 where
   pub changes : IsKnown (OpsFor (command_of words) t.left) t.holds u → Alters (OpsFor (command_of words) t.left) (MakesFor (command_of words)) u w
@@ -204,7 +213,7 @@ pub record RunsBy (words : List (List ℕ)) (t : Told) (u w : View) : Type 0 whe
 -- that this isn't said of nothing). Where a remote was to be made, it is there.
 pub record RanBy (words : List (List ℕ)) (t : Told) (status : ℕ) (u w : View) : Type 0 where
   pub ran : (given : Given) → IsGiven t (command_of words) given → (shown : Result World Elements)
-      → IsOver (answer words given) (shows u) shown → MayAnswer (command_of words) u (answer words given shown) → Ran (answer words given shown) status u w
+      → IsOver (answer words given) (shows u) shown → MayAnswer (command_of words) u (answer words given shown) → Ran given.held (answer words given shown) status u w
   pub given : (given : Given) → IsGiven t (command_of words) given → IsAnswered status
       → (shown : Result World Elements) × IsOver (answer words given) (shows u) shown
   pub made : status ≡ 0 → MadeFor (command_of words) t.left u w

@@ -4,15 +4,20 @@ use Rattle.fp_host.specs.Paths.{Elements}
 use Rattle.fp_host.specs.Remote.{Holdings}
 use Rattle.fp_host.specs.View.{View}
 use Rattle.fp_host.specs.Outcome.{Disk, Leaves, shows}
+use Rattle.fp_small.specs.Files.{KeepsFiles}
+use Rattle.fp_small.specs.Places.{repo}
+use Rattle.fp_small.specs.Shares.{Shares}
 use Rattle.fp_small.specs.declared.state.State.{State}
+use Rattle.ost_store.specs.Created.{Creates}
 use Rattle.ost_fsck.specs.declared.report.Report.{Report}
+use Rattle.dep_states.specs.Lasting.{IsLasting}
 use Rattle.dep_states.specs.Shown.{Shows}
 use Rattle.dep_states.specs.Sound.{IsSound}
 use Rattle.dep_states.specs.After.{after_all}
 use Rattle.dep_open.specs.Open.{NotShown}
 use Rattle.dep_states.specs.Settled.{Settled}
 use Rattle.fl_words.specs.declared.command.Command.{Command}
-use Rattle.fl_change.specs.World.{World}
+use Rattle.fl_change.specs.World.{World, world_at}
 use Rattle.fl_change.specs.Answer.{Answer, joined, ops_of, set_config}
 use Rattle.fp_small.specs.declared.op.Op.{Op}
 use Rattle.fl_top.specs.Answer.{Given, over, answer_over, checked, IsOver}
@@ -20,6 +25,7 @@ use Rattle.fl_top.specs.Fsck.{Finds, HasReport}
 use Rattle.fl_top.specs.Asked.{OpsBy}
 use Rattle.fl_top.specs.Runs.{Runs, Ran, Stands, IsJust, Told, IsGivenTo, IsReady, IsKnown, MayAnswer}
 use Rattle.fl_change.specs.Changes.{IsUntouched, HasText}
+use Rattle.fl_change.specs.Created.{IsCreated}
 use Rattle.fl_top.specs.Exports.{Alters, NoMaking}
 use Rattle.fl_top.specs.Remotes.{MakesBy, MadeBy}
 use Rattle.fl_top.specs.Input.{IsDrained}
@@ -44,20 +50,29 @@ pub record LooksOver (f : World → Answer) (u w : View) : Type 0 where
   pub runs : OverView f u (λ a. Runs a u w)
   pub untouched : IsUntouched u w
 
--- all that isn't the line of a refusal was printed, and what stands is the state after the operations
-pub record Completes (a : Answer) (u w : View) : Type 0 where
+-- All that isn't the line of a refusal was printed, and what stands is the state after the operations. Each file that was there is
+-- as it was. Without a refusal each new file that has bytes came to a lasting name, and just the objects were made that the operations
+-- lacked, by what the remotes hold.
+pub record Completes (held : Holdings) (a : Answer) (u w : View) : Type 0 where
   pub printed : w.printed ≡ u.printed ++ joined a.pieces
   pub just : IsSound u → (disk : Disk) → Leaves w disk → IsJust (ops_of a) u disk
   pub shown : IsSound u → (s : State) → Shows (shows u) s → Shows (shows w) (after_all s (ops_of a))
   pub tidied : IsSound u → Settled (shows u) ⊎ (ops_of a ≢ []) → Settled (shows w)
   pub text : set_config (ops_of a) ≡ true → (s : State) → Shows (shows u) s → HasText (after_all s (ops_of a)) w
+  pub files : KeepsFiles u w
+  pub shares : a.refusal ≡ None → Shares IsLasting u w
+  pub creates : a.refusal ≡ None → (s : State) → Shows (shows u) s → Creates repo (IsCreated held (world_at s u) (ops_of a)) u w
 
-abbrev pub Ended : Answer → Result (Unit {0}) RunEnd → View → View → Type 0
-Ended a (Ok t) u w = (a.refusal ≡ None) × Completes a u w
-Ended a (Err (Refused refusal)) u w = (a.refusal ≡ Some refusal) × Completes a u w
-Ended a (Err Fault) u w = Unit {0}
-Ended a (Err RemoteFault) u w = Stands a u w
-Ended a (Err NoMemory) u w = Stands a u w
+abbrev pub Ended : Holdings → Answer → Result (Unit {0}) RunEnd → View → View → Type 0
+Ended held a (Ok t) u w = (a.refusal ≡ None) × Completes held a u w
+Ended held a (Err (Refused refusal)) u w = (a.refusal ≡ Some refusal) × Completes held a u w
+Ended held a (Err Fault) u w = Unit {0}
+Ended held a (Err RemoteFault) u w = Stands a u w
+Ended held a (Err NoMemory) u w = Stands a u w
+
+-- whatever the remotes hold
+abbrev pub EndsAnyway : Answer → Result (Unit {0}) RunEnd → View → View → Type 0
+EndsAnyway a result u w = (held : Holdings) → Ended held a result u w
 
 -- the whole answer was given, but for the line of a refusal
 abbrev pub IsGivenBy : Result (Unit {0}) RunEnd → Type 0
@@ -73,12 +88,12 @@ HasOver f result u = IsGivenBy result → (shown : Result World Elements) × IsO
 
 -- So it ended for each answer that counts.
 pub record EndedOver (holds : Option Holdings) (f : Holdings → World → Answer) (result : Result (Unit {0}) RunEnd) (u w : View) : Type 0 where
-  pub ended : IsReady u → (held : Holdings) → holds ≡ Some held → OverView (f held) u (λ a. Ended a result u w)
+  pub ended : IsReady u → (held : Holdings) → holds ≡ Some held → OverView (f held) u (λ a. Ended held a result u w)
   pub given : (held : Holdings) → HasOver (f held) result u
 
 -- and a command that looks, whatever the installation
 pub record LookedOver (f : World → Answer) (result : Result (Unit {0}) RunEnd) (u w : View) : Type 0 where
-  pub ended : OverView f u (λ a. Ended a result u w)
+  pub ended : OverView f u (λ a. EndsAnyway a result u w)
   pub given : HasOver f result u
 
 -- ---- what is found in the store
@@ -90,16 +105,16 @@ pub record ChecksOver (u w : View) : Type 0 where
 
 -- So it ended for each; and there is one, where the whole answer was given.
 pub record CheckedOver (result : Result (Unit {0}) RunEnd) (u w : View) : Type 0 where
-  pub ended : (report : Report) → Finds (shows u) report → OverView (checked report) u (λ a. Ended a result u w)
+  pub ended : (report : Report) → Finds (shows u) report → OverView (checked report) u (λ a. EndsAnyway a result u w)
   pub given : (report : Report) → HasOver (checked report) result u
   pub found : IsGivenBy result → HasReport (shows u)
 
 -- ---- the same for a command and what it is given
 
 -- so it is for all that the command is given, and each answer that counts
-abbrev pub OverAll : Command → Told → View → (Answer → Type 0) → Type 0
+abbrev pub OverAll : Command → Told → View → (Holdings → Answer → Type 0) → Type 0
 OverAll asked t u Is = (given : Given) → IsGivenTo asked t given → (shown : Result World Elements)
-    → IsOver (answer_over asked given) (shows u) shown → MayAnswer (Some asked) u (answer_over asked given shown) → Is (answer_over asked given shown)
+    → IsOver (answer_over asked given) (shows u) shown → MayAnswer (Some asked) u (answer_over asked given shown) → Is given.held (answer_over asked given shown)
 
 -- where this is so, there is an answer that counts for all such
 abbrev pub HasAnswer : Command → Told → View → Type 0 → Type 0
@@ -110,17 +125,17 @@ HasAnswer asked t u Where = (given : Given) → IsGivenTo asked t given → Wher
 -- nothing, but one that makes a remote, which doesn't look.
 pub record RunsOn (asked : Command) (t : Told) (u w : View) : Type 0 where
   pub changes : IsKnown (OpsBy asked t.left) t.holds u → Alters (OpsBy asked t.left) (MakesBy asked) u w
-  pub runs : OverAll asked t u (λ a. Runs a u w)
+  pub runs : OverAll asked t u (λ held a. Runs a u w)
   pub untouched : (only_looks asked ≡ true) ⊎ ((makes_remote asked ≡ false) × NotShown (shows u)) → IsUntouched u w
 
 -- so a command ends; where the input failed, nothing was done
-abbrev pub Closed : Answer → Result (Unit {0}) CommandEnd → View → View → Type 0
-Closed a (Ok t) u w = (a.refusal ≡ None) × Completes a u w
-Closed a (Err (command.Refused refusal)) u w = (a.refusal ≡ Some refusal) × Completes a u w
-Closed a (Err command.Fault) u w = Unit {0}
-Closed a (Err command.RemoteFault) u w = Stands a u w
-Closed a (Err command.InputFault) u w = w ≡ u
-Closed a (Err command.NoMemory) u w = Stands a u w
+abbrev pub Closed : Holdings → Answer → Result (Unit {0}) CommandEnd → View → View → Type 0
+Closed held a (Ok t) u w = (a.refusal ≡ None) × Completes held a u w
+Closed held a (Err (command.Refused refusal)) u w = (a.refusal ≡ Some refusal) × Completes held a u w
+Closed held a (Err command.Fault) u w = Unit {0}
+Closed held a (Err command.RemoteFault) u w = Stands a u w
+Closed held a (Err command.InputFault) u w = w ≡ u
+Closed held a (Err command.NoMemory) u w = Stands a u w
 
 -- a command that reads the input reads it to its end, unless that was too long, failed, or the run came to no end
 abbrev pub TakenBy : Result (Unit {0}) CommandEnd → Option (List ℕ) → Option (List ℕ) → Type 0
@@ -150,11 +165,11 @@ MadeWhere (Ok t) asked left u w = MadeBy asked left u w
 MadeWhere (Err e) asked left u w = Unit {0}
 
 pub record EndedOn (asked : Command) (t : Told) (result : Result (Unit {0}) CommandEnd) (u w : View) : Type 0 where
-  pub ended : OverAll asked t u (λ a. Closed a result u w)
+  pub ended : OverAll asked t u (λ held a. Closed held a result u w)
   pub given : HasAnswer asked t u (IsClosedBy result)
   pub made : MadeWhere result asked t.left u w
 
 pub record RanOn (asked : Command) (t : Told) (status : ℕ) (u w : View) : Type 0 where
-  pub ran : OverAll asked t u (λ a. Ran a status u w)
+  pub ran : OverAll asked t u (λ held a. Ran held a status u w)
   pub given : HasAnswer asked t u (IsAnswered status)
   pub made : status ≡ 0 → MadeBy asked t.left u w

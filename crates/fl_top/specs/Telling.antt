@@ -15,7 +15,7 @@ use Rattle.fl_filter.specs.declared.end.FilterEnd.{FilterEnd}
 use Rattle.fl_filter.specs.declared.end.FilterEnd.TheVariants as filter
 use Rattle.fl_top.specs.Answer.{GivesWorld, IsOver}
 use Rattle.fl_top.specs.Runs.{Runs}
-use Rattle.fl_top.specs.RunsOver.{Ended, IsGivenBy}
+use Rattle.fl_top.specs.RunsOver.{EndsAnyway, IsGivenBy}
 
 -- the first pieces of the answer were printed, and nothing else changed
 pub record Tells (a : Answer) (u w : View) : Type 0 where
@@ -57,5 +57,5 @@ pub record LooksBy (by : Result World Elements → Answer) (u w : View) : Type 0
 
 -- So it ended for each answer that counts, and there is one where the whole answer was given.
 pub record LookedBy (by : Result World Elements → Answer) (result : Result (Unit {0}) RunEnd) (u w : View) : Type 0 where
-  pub ended : (shown : Result World Elements) → IsOver by (shows u) shown → Ended (by shown) result u w
+  pub ended : (shown : Result World Elements) → IsOver by (shows u) shown → EndsAnyway (by shown) result u w
   pub given : IsGivenBy result → (shown : Result World Elements) × IsOver by (shows u) shown

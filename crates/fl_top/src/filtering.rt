@@ -10,7 +10,7 @@ ghost use Rattle.bus_stream.specs.Recordings.{recording_of as recording_in};
 ghost use Rattle.fl_filter.specs.Filtered.{filtered};
 ghost use Rattle.fl_words.specs.declared.command.PolicySource.TheVariants as sources;
 ghost use Rattle.fl_top.specs.Answer.{launch_over, rules_over, filter_by, forwarding};
-ghost use Rattle.fl_top.specs.RunsOver.{Ended};
+ghost use Rattle.fl_top.specs.RunsOver.{EndsAnyway};
 ghost use Rattle.fl_top.specs.Telling.{Tells, IsRecording, Finds, LooksBy, LookedBy, end_of_filter as run_end_of};
 
 use bus_policy::Policy;
@@ -128,7 +128,7 @@ fn forward<H: Host>(
     requires client { ForSome recording.now.client (λ name. IsTrue (is_unique name)) }
     ensures any_moment { Goes (H.moments host.old) (H.moments host.new)
         (Tells (forwarding (filtered policy recording.now)))
-        (Ended (forwarding (filtered policy recording.now)) result) }
+        (EndsAnyway (forwarding (filtered policy recording.now)) result) }
     ensures fault_has_cause { IsCounted (IsErrOf result RunEnd.Fault)
         (H.moments host.old) (H.faults host.old) (H.faults host.new) }
     ensures no_remote_fault { IsErrOf result RunEnd.RemoteFault → ⊥ }

@@ -1,10 +1,12 @@
 -- What a call leaves of the files that were there.
-use Rattle.std.proofs.Common.{◌≡◌, ◌≢◌, ◌⊎◌, inl, inr, ℕ, List, [], Option, Some, None, refl, sym, ◌∙◌, ap, subst}
+use Rattle.std.proofs.Common.{◌≡◌, ◌≢◌, ◌⊎◌, inl, inr, ℕ, List, [], ◌∷◌, ◌++◌, Option, Some, None, refl, sym, ◌∙◌, ap, subst, Contains}
 use Rattle.std.proofs.lemmas.Bool.{cases_eq}
+use Rattle.std.proofs.lemmas.List.Elements.{Contains-push_cases}
 use Rattle.fp_host.specs.Paths.{Elements, Slot, absent, dir, file, link, set_at}
 use Rattle.fp_host.specs.View.{View, Inode}
 use Rattle.fp_host.specs.Calls.{Change, makes_dir, creates, appends, links, makes_link, renames, unlinks, removes_dir, syncs, says, Can, put, grow, grown, set_file, done, half, Went, Called}
 use Rattle.fp_host.specs.Frame.{ComesFrom}
+use Rattle.fp_host.proofs.Keep.{grow_stood, stood_half}
 use Rattle.fp_host.proofs.Separate.{path_cases, set_same, set_other, file_same, file_other}
 
 -- the file that gets bytes
@@ -120,6 +122,54 @@ module _ (v : View) (id : ℕ) where
 -- no file goes
 pub rows_kept : {change : Change} {v w : View} → Called change v w → (id : ℕ) → w.files id ≡ None → v.files id ≡ None
 rows_kept {change = change} {v = v} {w = w} call id none = rows_of v id change w call.went none
+
+module _ (v : View) (id : ℕ) (f : Inode) (none : v.files id ≡ None) where
+  no_file : v.files id ≡ Some f → f.bytes ≡ []
+  no_file some = absurd (cc (none, some))
+
+  new_empty : (i mode : ℕ) → set_file v.files i (Some (record { mode = mode; bytes = [] })) id ≡ Some f → f.bytes ≡ []
+  new_empty i mode some = elim (cases_eq id i) [
+    | inl here ↦
+        let is : Some (record { mode = mode; bytes = [] }) ≡ Some f = sym (file_same v.files i (Some (record { mode = mode; bytes = [] })) id here) ∙ some in
+        let same : record { mode = mode; bytes = [] } ≡ f = cc is in
+        sym (ap (λ (x : Inode). x.bytes) same)
+    | inr off ↦ no_file (sym (file_other v.files i (Some (record { mode = mode; bytes = [] })) id off) ∙ some)
+  ]
+
+  empty_done : (change : Change) → (Fills change v id → ⊥) → (done change v).files id ≡ Some f → f.bytes ≡ []
+  empty_done (makes_dir p) off some = no_file some
+  empty_done (creates p mode i) off some = new_empty i mode some
+  empty_done (appends p bytes) off some = no_file (sym (grow_other (v.names p) bytes v id off) ∙ some)
+  empty_done (links from to) off some = no_file some
+  empty_done (makes_link text p) off some = no_file some
+  empty_done (renames from to) off some = no_file some
+  empty_done (unlinks p) off some = no_file some
+  empty_done (removes_dir p) off some = no_file some
+  empty_done syncs off some = no_file some
+  empty_done (says piece) off some = no_file some
+
+  empty_half : (change : Change) → (half change v).files id ≡ Some f → f.bytes ≡ []
+  empty_half (makes_dir p) some = no_file some
+  empty_half (creates p mode i) some = new_empty i mode some
+  empty_half (appends p bytes) some = no_file some
+  empty_half (links from to) some = no_file some
+  empty_half (makes_link text p) some = no_file some
+  empty_half (renames from to) some = no_file some
+  empty_half (unlinks p) some = no_file some
+  empty_half (removes_dir p) some = no_file some
+  empty_half syncs some = no_file some
+  empty_half (says piece) some = no_file some
+
+  empty_of : (change : Change) (w : View) → Went change v w → (Fills change v id → ⊥) → w.files id ≡ Some f → f.bytes ≡ []
+  empty_of change w (inl same) off some = no_file (sym (ap (λ (x : View). x.files id) same) ∙ some)
+  empty_of change w (inr went) off some = elim went.1 [
+    | inl is ↦ empty_half change (sym (ap (λ (x : View). x.files id) is) ∙ some)
+    | inr is ↦ empty_done change off (sym (ap (λ (x : View). x.files id) is) ∙ some)
+  ]
+
+-- a new file that a call doesn't fill is empty
+pub empty_kept : {change : Change} {v w : View} → Called change v w → (id : ℕ) (f : Inode) → v.files id ≡ None → w.files id ≡ Some f → (Fills change v id → ⊥) → f.bytes ≡ []
+empty_kept {change = change} {v = v} {w = w} call id f none some off = empty_of v id f none change w call.went off some
 
 -- A name of A that a call gives a file gets it from another name of A, or the file is new.
 abbrev pub Passes : (Elements → Type 0) → Change → Type 0
@@ -249,3 +299,35 @@ module _ (v : View) (q : Elements) where
 -- a name holds what it held, or what the call puts there
 pub puts_call : {change : Change} {v w : View} → Called change v w → (q : Elements) → (w.names q ≡ v.names q) ⊎ PutsOf change v q (w.names q)
 puts_call {change = change} {v = v} {w = w} call q = puts_of v q change w call.went
+
+-- ---- what a call remembers
+
+pushed : (l : List (Elements × Slot)) (p : Elements) (e : Slot) (x : Elements × Slot) → Contains (l ++ (p, e) ∷ []) x → Contains l x ⊎ ((x.0 ≡ p) × (x.1 ≡ e))
+pushed l p e x had = elim (Contains-push_cases l (p, e) x had) [ inl old ↦ inl old | inr is ↦ inr (ap (λ (y : Elements × Slot). y.0) (sym is), ap (λ (y : Elements × Slot). y.1) (sym is)) ]
+
+module _ (v : View) (x : Elements × Slot) where
+  new_done : (change : Change) → Contains (done change v).stood x → Contains v.stood x ⊎ PutsOf change v x.0 x.1
+  new_done (makes_dir p) had = pushed v.stood p dir x had
+  new_done (creates p mode id) had = pushed v.stood p (file id) x had
+  new_done (appends p bytes) had = inl (subst (λ (l : List (Elements × Slot)). Contains l x) (grow_stood (v.names p) bytes v) had)
+  new_done (links from to) had = pushed v.stood to (v.names from) x had
+  new_done (makes_link text p) had = pushed v.stood p (link text) x had
+  new_done (renames from to) had = elim (pushed (v.stood ++ (to, v.names from) ∷ []) from absent x had) [
+    | inl before ↦ elim (pushed v.stood to (v.names from) x before) [ inl old ↦ inl old | inr is ↦ inr (inl is) ]
+    | inr is ↦ inr (inr is)
+  ]
+  new_done (unlinks p) had = pushed v.stood p absent x had
+  new_done (removes_dir p) had = pushed v.stood p absent x had
+  new_done syncs had = inl had
+  new_done (says piece) had = inl had
+
+  new_of : (change : Change) (w : View) → Went change v w → Contains w.stood x → Contains v.stood x ⊎ PutsOf change v x.0 x.1
+  new_of change w (inl same) had = inl (subst (λ (y : View). Contains y.stood x) same had)
+  new_of change w (inr went) had = elim went.1 [
+    | inl is ↦ inl (subst (λ (l : List (Elements × Slot)). Contains l x) (stood_half v change) (subst (λ (y : View). Contains y.stood x) is had))
+    | inr is ↦ new_done change (subst (λ (y : View). Contains y.stood x) is had)
+  ]
+
+-- what was put at a name was put there before, or the call puts it there
+pub put_call : {change : Change} {v w : View} → Called change v w → (x : Elements × Slot) → Contains w.stood x → Contains v.stood x ⊎ PutsOf change v x.0 x.1
+put_call {change = change} {v = v} {w = w} call x had = new_of v x change w call.went had

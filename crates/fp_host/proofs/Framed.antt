@@ -1,7 +1,7 @@
 -- One lemma for each kind of call, for any frame; each takes the call's clause first.
-use Rattle.std.proofs.Common.{◌≡◌, inl, inr, ℕ, List, Option, Some, Result, refl, sym, ◌∙◌, ap, subst}
+use Rattle.std.proofs.Common.{◌≡◌, ◌⊎◌, inl, inr, ℕ, List, [], Option, Some, None, Result, refl, sym, ◌∙◌, ap, subst}
 use Rattle.fp_host.specs.Paths.{Elements, Slot, absent, dir, file, link, at}
-use Rattle.fp_host.specs.View.{View, IsTree}
+use Rattle.fp_host.specs.View.{View, Inode, IsTree}
 use Rattle.fp_host.specs.Calls.{Change, makes_dir, appends, links, makes_link, renames, unlinks, removes_dir, syncs, Step, Creates, Called, IsSilent}
 use Rattle.fp_host.specs.Outcome.{Spot, folder, gone, holds, points, GivesOf, Gives, Disk, Leaves, spot_of}
 use Rattle.fp_host.specs.Moments.{Moments, Goes, Makes}
@@ -10,8 +10,8 @@ use Rattle.fp_host.specs.Frame.{Keeps, Frame, AtEnd, Observes}
 use Rattle.fp_host.specs.declared.host.HostError.{HostError}
 use Rattle.fp_host.specs.declared.host.Stat.{Stat}
 use Rattle.fp_host.proofs.Follow.{follows_refl, follows_on, follows_to, follows_call, called, called_create}
-use Rattle.fp_host.proofs.Keep.{printed_kept}
-use Rattle.fp_host.proofs.Filed.{Fills, Passes, PutsOf, files_kept, rows_kept, held_call, puts_call}
+use Rattle.fp_host.proofs.Keep.{printed_kept, stood_kept}
+use Rattle.fp_host.proofs.Filed.{Fills, Passes, PutsOf, files_kept, rows_kept, empty_kept, held_call, puts_call, put_call}
 use Rattle.fp_host.proofs.Goes.{goes_on, stays, makes_goes}
 use Rattle.fp_host.proofs.Settled.{at_tree}
 
@@ -27,13 +27,20 @@ keeps_refl = record {
   rows = λ id none. none;
   held = λ q id at is. inr (q, at, is);
   printed = refl;
+  stood = λ x had. had;
+  puts = λ x had. inl had;
+  empty = λ none id f was some. absurd (cc (was, some));
 }
 
 pub keeps_same : {G : Elements → Spot → Type 0} {W : Elements → Slot → Type 0} {A : Elements → Type 0} {v w : View} → w ≡ v → Keeps G W A v w
 keeps_same {G = G} {W = W} {A = A} {v = v} same = subst (Keeps G W A v) (sym same) keeps_refl
 
+row_cases : (row : Option Inode) → (row ≡ None) ⊎ ((f : Inode) × (row ≡ Some f))
+row_cases None = inl refl
+row_cases (Some f) = inr (f, refl)
+
 pub keeps_on : {G : Elements → Spot → Type 0} {W : Elements → Slot → Type 0} {A : Elements → Type 0} {u v w : View} → Keeps G W A u v → Keeps G W A v w → Keeps G W A u w
-keeps_on {W = W} first second = record {
+keeps_on {W = W} {v = v} first second = record {
   follows = follows_on first.follows second.follows;
   names = λ q. elim (second.names q) [
     | inl same ↦ elim (first.names q) [ inl s ↦ inl (same ∙ s) | inr put ↦ inr (subst (W q) (sym same) put) ]
@@ -43,6 +50,15 @@ keeps_on {W = W} first second = record {
   rows = λ id none. first.rows id (second.rows id none);
   held = λ q id at is. elim (second.held q id at is) [ inl none ↦ inl (first.rows id none) | inr had ↦ first.held had.0 id had.1 had.2 ];
   printed = second.printed ∙ first.printed;
+  stood = λ x had. second.stood x (first.stood x had);
+  puts = λ x had. elim (second.puts x had) [ inl before ↦ first.puts x before | inr put ↦ inr put ];
+  empty = λ none id f was some. elim (row_cases (v.files id)) [
+    | inl new ↦ second.empty none id f new some
+    | inr old ↦
+        let same : Some old.0 ≡ Some f = sym (second.files id old.0 old.1 (λ q at is. none q at)) ∙ some in
+        let is : old.0 ≡ f = cc same in
+        subst (λ (g : Inode). g.bytes ≡ []) is (first.empty none id old.0 was old.1)
+  ];
 }
 
 -- A frame within a wider one. A file that it may put at a name of the wider A is one of its own A.
@@ -58,6 +74,9 @@ keeps_to {V = V} given put fills back k = record {
     | inr h ↦ elim (k.held q id (back q id at (subst (V q) is h)) is) [ inl none ↦ inl none | inr had ↦ inr (had.0, fills had.0 had.1, had.2) ]
   ];
   printed = k.printed;
+  stood = k.stood;
+  puts = λ x had. elim (k.puts x had) [ inl before ↦ inl before | inr h ↦ inr (put x.0 x.1 h) ];
+  empty = λ none. k.empty (λ q at. none q (fills q at));
 }
 
 at_one : (G : Elements → Spot → Type 0) (p : Elements) (n : Spot) → G p n → (q : Elements) (spot : Spot) → (q ≡ p) × (spot ≡ n) → G q spot
@@ -92,6 +111,9 @@ module _ {G : Elements → Spot → Type 0} {W : Elements → Slot → Type 0} {
     rows = λ id none. rows_kept call id none;
     held = λ q id at is. held_call A call passes q id at is;
     printed = printed_kept call silent;
+    stood = stood_kept call;
+    puts = λ x had. elim (put_call call x had) [ inl before ↦ inl before | inr h ↦ inr (put x.0 x.1 h) ];
+    empty = λ none id f was some. empty_kept call id f was some (λ h. let q = fills v id h in none q.0 q.1);
   }
 
   keeps_create : {p : Elements} {mode : ℕ} {r : Result (Unit {0}) HostError} {v w : View} → IsTree v → ((id : ℕ) (bytes : List ℕ) → G p (holds id mode bytes)) → ((id : ℕ) → W p (file id)) → Creates p mode r v w → Keeps G W A v w

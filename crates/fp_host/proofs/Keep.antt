@@ -1,5 +1,6 @@
 -- What a call leaves as it was, in the present view.
-use Rattle.std.proofs.Common.{◌≡◌, inl, inr, ℕ, List, refl, ◌∙◌, ap}
+use Rattle.std.proofs.Common.{◌≡◌, inl, inr, ℕ, List, [], ◌∷◌, ◌++◌, refl, sym, ◌∙◌, ap, subst, Contains}
+use Rattle.std.proofs.lemmas.List.Elements.{Contains-append_left}
 use Rattle.fp_host.specs.Paths.{Elements, Slot, absent, dir, file, link}
 use Rattle.fp_host.specs.View.{View}
 use Rattle.fp_host.specs.Calls.{Change, makes_dir, creates, appends, links, makes_link, renames, unlinks, removes_dir, syncs, says, put, grow, done, half, Went, Called, Touches, IsSilent}
@@ -86,3 +87,50 @@ printed_of v change w (inr went) silent = elim went.1 [
 
 pub printed_kept : {change : Change} {v w : View} → Called change v w → IsSilent change → w.printed ≡ v.printed
 printed_kept {change = change} {v = v} {w = w} call silent = printed_of v change w call.went silent
+
+-- ---- what was put at names
+
+pub grow_stood : (e : Slot) (bytes : List ℕ) (v : View) → (grow e bytes v).stood ≡ v.stood
+grow_stood absent bytes v = refl
+grow_stood dir bytes v = refl
+grow_stood (file id) bytes v = refl
+grow_stood (link text) bytes v = refl
+
+module _ (v : View) (x : Elements × Slot) (had : Contains v.stood x) where
+  more : (p : Elements) (e : Slot) → Contains (v.stood ++ (p, e) ∷ []) x
+  more p e = Contains-append_left v.stood ((p, e) ∷ []) x had
+
+  stood_done : (change : Change) → Contains (done change v).stood x
+  stood_done (makes_dir p) = more p dir
+  stood_done (creates p mode id) = more p (file id)
+  stood_done (appends p bytes) = subst (λ (l : List (Elements × Slot)). Contains l x) (sym (grow_stood (v.names p) bytes v)) had
+  stood_done (links from to) = more to (v.names from)
+  stood_done (makes_link text p) = more p (link text)
+  stood_done (renames from to) = Contains-append_left (v.stood ++ (to, v.names from) ∷ []) ((from, absent) ∷ []) x (more to (v.names from))
+  stood_done (unlinks p) = more p absent
+  stood_done (removes_dir p) = more p absent
+  stood_done syncs = had
+  stood_done (says piece) = had
+
+pub stood_half : (v : View) (change : Change) → (half change v).stood ≡ v.stood
+stood_half v (makes_dir p) = refl
+stood_half v (creates p mode id) = refl
+stood_half v (appends p bytes) = refl
+stood_half v (links from to) = refl
+stood_half v (makes_link text p) = refl
+stood_half v (renames from to) = refl
+stood_half v (unlinks p) = refl
+stood_half v (removes_dir p) = refl
+stood_half v syncs = refl
+stood_half v (says piece) = refl
+
+stood_of : (v : View) (x : Elements × Slot) (change : Change) (w : View) → Went change v w → Contains v.stood x → Contains w.stood x
+stood_of v x change w (inl same) had = subst (λ (y : View). Contains y.stood x) (sym same) had
+stood_of v x change w (inr went) had = elim went.1 [
+  | inl is ↦ subst (λ (y : View). Contains y.stood x) (sym is) (subst (λ (l : List (Elements × Slot)). Contains l x) (sym (stood_half v change)) had)
+  | inr is ↦ subst (λ (y : View). Contains y.stood x) (sym is) (stood_done v x had change)
+]
+
+-- what was put at a name stays remembered
+pub stood_kept : {change : Change} {v w : View} → Called change v w → (x : Elements × Slot) → Contains v.stood x → Contains w.stood x
+stood_kept {change = change} {v = v} {w = w} call x had = stood_of v x change w call.went had

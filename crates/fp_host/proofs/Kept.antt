@@ -52,6 +52,7 @@ tree_may_put v p e tree come = record {
   known = λ q id m. elim ((Grows-may_put v p e).may q (file id) m) [ inl old ↦ tree.known q id old | inr new ↦ come.known id (sym new.1) ];
   known_dirty = tree.known_dirty;
   linked = λ q text m. elim ((Grows-may_put v p e).may q (link text) m) [ inl old ↦ tree.linked q text old | inr new ↦ come.linked text (sym new.1) ];
+  remembered = tree.remembered;
   bits = tree.bits;
 }
 
@@ -79,6 +80,17 @@ tree_put v p e tree come below = record {
   known = λ q id m. elim ((Grows-put v p e).may q (file id) m) [ inl old ↦ tree.known q id old | inr new ↦ come.known id (sym new.1) ];
   known_dirty = tree.known_dirty;
   linked = λ q text m. elim ((Grows-put v p e).may q (link text) m) [ inl old ↦ tree.linked q text old | inr new ↦ come.linked text (sym new.1) ];
+  remembered = λ x up. elim (path_cases (x ∷ up) p) [
+    | inl here ↦
+        let there : Contains (v.stood ++ (p, e) ∷ []) (x ∷ up, e) = subst (λ (q : Elements). Contains (v.stood ++ (p, e) ∷ []) (q, e)) (sym here) (Contains-push v.stood (p, e)) in
+        inr (subst (λ (s : Slot). Contains (v.stood ++ (p, e) ∷ []) (x ∷ up, s)) (sym (set_same v.names p e (x ∷ up) here)) there)
+    | inr off ↦
+        let same = set_other v.names p e (x ∷ up) off in
+        elim (tree.remembered x up) [
+          | inl gone ↦ inl (same ∙ gone)
+          | inr had ↦ inr (subst (λ (s : Slot). Contains (v.stood ++ (p, e) ∷ []) (x ∷ up, s)) (sym same) (Contains-append_left v.stood ((p, e) ∷ []) (x ∷ up, v.names (x ∷ up)) had))
+        ]
+  ];
   bits = tree.bits;
 }
 
@@ -97,6 +109,7 @@ tree_file v id mode small tree = record {
     | inr off ↦ row i (tree.known_dirty i (sym (file_other v.dirty id true i off) ∙ d))
   ];
   linked = tree.linked;
+  remembered = tree.remembered;
   bits = λ i f is. elim (cases_eq i id) [
     | inl here ↦ let same : record { mode = mode; bytes = [] } ≡ f = cc (sym (file_same v.files id (Some (record { mode = mode; bytes = [] })) i here) ∙ is) in subst (λ (g : Inode). g.mode ≤ 4095) same small
     | inr off ↦ tree.bits i f (sym (file_other v.files id (Some (record { mode = mode; bytes = [] })) i off) ∙ is)
@@ -129,6 +142,7 @@ tree_grow v (file id) bytes tree = record {
   known = λ q i m. row i (tree.known q i m);
   known_dirty = λ i d. row i (tree.known_dirty i d);
   linked = tree.linked;
+  remembered = tree.remembered;
   bits = λ i f is. elim (cases_eq i id) [
     | inl here ↦ grown_bits (v.files id) bytes f (λ g was. tree.bits id g was) (sym (file_same v.files id (grown (v.files id) bytes) i here) ∙ is)
     | inr off ↦ tree.bits i f (sym (file_other v.files id (grown (v.files id) bytes) i off) ∙ is)
@@ -153,6 +167,7 @@ tree_sync v tree = record {
   known = λ q id m. tree.known q id (now q (file id) m);
   known_dirty = λ id d. absurd (false≢true d);
   linked = λ q text m. tree.linked q text (now q (link text) m);
+  remembered = tree.remembered;
   bits = tree.bits;
 }
   where
@@ -210,7 +225,7 @@ module _ (v : View) (tree : IsTree v) where
   tree_done (unlinks p) can = let no_dir = leaf_no_dir (v.names p) can in tree_put v p absent tree (goes p (leaf_no_root v p tree no_dir)) (inr (leaf_empty v p tree no_dir))
   tree_done (removes_dir p) can = tree_put v p absent tree (goes p can.1) (inr (λ x. can.2 (x ∷ p) (inl refl)))
   tree_done syncs can = tree_sync v tree
-  tree_done (says piece) can = record { root = tree.root; only_root = tree.only_root; above = tree.above; may_above = tree.may_above; known = tree.known; known_dirty = tree.known_dirty; linked = tree.linked; bits = tree.bits }
+  tree_done (says piece) can = record { root = tree.root; only_root = tree.only_root; above = tree.above; may_above = tree.may_above; known = tree.known; known_dirty = tree.known_dirty; linked = tree.linked; remembered = tree.remembered; bits = tree.bits }
 
   pub tree_half : (change : Change) → Can change v → IsTree (half change v)
   tree_half (makes_dir p) can = tree_may_put v p dir tree (comes p dir can.0 (λ id is. absurd (cc is)) (λ text is. absurd (cc is)))

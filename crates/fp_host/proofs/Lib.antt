@@ -6,6 +6,7 @@ pub mod Frame
 pub mod Framed
 pub mod Goes
 pub mod Keep
+pub mod Remembered
 pub mod Kept
 pub mod LinkTexts
 pub mod Looking

@@ -64,9 +64,9 @@ Can (removes_dir p) v = (v.names p ≡ dir) × (p ≢ []) × ((q : Elements) →
 Can syncs v = Unit {0}
 Can (says piece) v = Unit {0}
 
--- the name holds this now, and a stop may bring back what it held
+-- the name holds this now, which is remembered, and a stop may bring back what it held
 abbrev pub put : Elements → Slot → View → View
-put p e v = record v { names = set_at v.names p e; earlier = set_at v.earlier p (v.earlier p ++ v.names p ∷ []) }
+put p e v = record v { names = set_at v.names p e; earlier = set_at v.earlier p (v.earlier p ++ v.names p ∷ []); stood = v.stood ++ (p, e) ∷ [] }
 
 -- the name holds what it held, and a stop may leave this
 abbrev pub may_put : Elements → Slot → View → View

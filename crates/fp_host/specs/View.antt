@@ -19,6 +19,8 @@ pub record View : Type 0 where
   pub dirty : ℕ → Bool
   -- the bytes printed so far
   pub printed : List ℕ
+  -- what was put at which name so far, the oldest first; what stood there at the start counts
+  pub stood : List (Elements × Slot)
 
 -- a stop may leave this at the name
 abbrev pub MayBe : View → Elements → Slot → Type 0
@@ -39,5 +41,7 @@ pub record IsTree (v : View) : Type 0 where
   pub known_dirty : (id : ℕ) → v.dirty id ≡ true → v.files id ≢ None
   -- each link's text is one
   pub linked : (p : Elements) (text : List ℕ) → MayBe v p (link text) → is_link_text text ≡ true
+  -- what stands at a name was put there
+  pub remembered : (x : List ℕ) (up : Elements) → (v.names (x ∷ up) ≡ absent) ⊎ Contains v.stood (x ∷ up, v.names (x ∷ up))
   -- permission bits are within 07777
   pub bits : (id : ℕ) (f : Inode) → v.files id ≡ Some f → f.mode ≤ 4095

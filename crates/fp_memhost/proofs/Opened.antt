@@ -1,6 +1,7 @@
 -- An image that is opened again.
-use Rattle.std.proofs.Common.{◌≡◌, ◌⊎◌, inl, inr, ℕ, ◌+◌, ◌<◌, ◌≤◌, ◌&&◌, List, [], ◌∷◌, ◌++◌, length, get_or, drop, Bool, true, false, eqb, cond, Option, Some, None, refl, sym, ◌∙◌, ap, arith, add-one}
+use Rattle.std.proofs.Common.{◌≡◌, ◌⊎◌, inl, inr, ℕ, ◌+◌, ◌<◌, ◌≤◌, ◌&&◌, List, [], ◌∷◌, ◌++◌, length, get_or, drop, Bool, true, false, eqb, cond, Option, Some, None, refl, sym, ◌∙◌, ap, subst, arith, add-one, append_assoc, append-nil, map, suc, Contains}
 use Rattle.std.proofs.Math.Seq.{drop-cons}
+use Rattle.std.proofs.lemmas.List.{map_push}
 use Rattle.std.proofs.lemmas.Bool.{cases_Bool, cond-true, cond-false, and_from, false_from_ne_true}
 use Rattle.std.specs.Str.{bytes_eq}
 use Rattle.fp_host.proofs.PathTexts.{same_paths}
@@ -16,7 +17,9 @@ use Rattle.fp_memhost.specs.Names.{slot_of, names_of, ForgetsNames}
 use Rattle.fp_memhost.specs.Files.{has_id, file_at, inode_in, new_in, files_of, dirty_of}
 use Rattle.fp_memhost.specs.Scenes.{view_from}
 use Rattle.fp_memhost.specs.Start.{root_alone, empty_view}
-use Rattle.fp_memhost.specs.Images.{listed, slots_of, rows_of, opened, IsImage}
+use Rattle.fp_memhost.specs.declared.stood.Stood.{Stood}
+use Rattle.fp_memhost.specs.Stood.{stood_of}
+use Rattle.fp_memhost.specs.Images.{listed, slots_of, rows_of, put_of, opened, IsImage}
 use Rattle.fp_memhost.specs.Opening.{is_folder, is_open, may_stand, built, AddsName, AddsNames, OpensFiles}
 use Rattle.fp_memhost.proofs.Quiet.{quiet_tree}
 
@@ -188,15 +191,52 @@ files_end i rows files so none = record {
   dirty = so.dirty;
 }
 
+-- what is remembered so far, and the names that are left
+pub record StoodFrom (i : ℕ) (names : List (Elements × Entry)) (stood : List Stood) : Type 0 where
+  pub all : map stood_of stood ++ map put_of (drop i names) ≡ map put_of names
+
+pub stood_none : (names : List (Elements × Entry)) → StoodFrom 0 names []
+stood_none names = record { all = refl }
+
+pub stood_more : (i : ℕ) (names : List (Elements × Entry)) (stood : List Stood) (x : Elements × Entry) (s : Stood) → StoodFrom i names stood → i < length names → x ≡ get_or names i x → stood_of s ≡ put_of x → StoodFrom (i + 1) names (stood ++ s ∷ [])
+stood_more i names stood x s so low is same =
+    let cut : drop i names ≡ x ∷ drop (i + 1) names = drop-cons names i x low ∙ (λ j. sym is j ∷ drop (sym (add-one i) j) names) in
+    let rest = map put_of (drop (i + 1) names) in
+    record {
+      all = ap (λ (l : List (Elements × Slot)). l ++ rest) (map_push stood_of stood s)
+          ∙ append_assoc (map stood_of stood) (stood_of s ∷ []) rest
+          ∙ ap (λ (y : Elements × Slot). map stood_of stood ++ y ∷ rest) same
+          ∙ sym (ap (λ (l : List (Elements × Entry)). map stood_of stood ++ map put_of l) cut)
+          ∙ so.all;
+    }
+
+pub stood_end : (i : ℕ) (names : List (Elements × Entry)) (stood : List Stood) → StoodFrom i names stood → drop i names ≡ [] → map stood_of stood ≡ map put_of names
+stood_end i names stood so none = sym (append-nil (map stood_of stood)) ∙ ap (λ (l : List (Elements × Entry)). map stood_of stood ++ map put_of l) (sym none) ∙ so.all
+
 -- the scene that was made
-pub opened_scene : (image : Image) (root added now : List Name) (empty files : List Content) (printed : List ℕ) → view_from root empty printed ≡ empty_view → AddsNames image.names root added → ForgetsNames added now → OpensFiles image.files files
-    → view_from now files printed ≡ opened image
-opened_scene image root added now empty files printed start adds forgets opens =
+pub opened_scene : (image : Image) (root added now : List Name) (empty files : List Content) (printed : List ℕ) (none stood : List (Elements × Slot)) → view_from root empty printed none ≡ empty_view → AddsNames image.names root added → ForgetsNames added now → OpensFiles image.files files
+    → stood ≡ map put_of image.names → view_from now files printed stood ≡ opened image
+opened_scene image root added now empty files printed nothing stood start adds forgets opens put =
     let begin : (q : Elements) → names_of root q ≡ root_alone q = λ q. ap (λ (v : View). v.names q) start in
     let names : (q : Elements) → names_of now q ≡ at (slots_of image.names) q =
     λ q. forgets.names q ∙ adds.names q ∙ built_on image.names (names_of root) root_alone begin image.names q ∙ built_all image.names q in
     let none : printed ≡ [] = ap (λ (v : View). v.printed) start in
-    λ i. record { names = λ q. names q i; files = λ id. opens.files id i; earlier = λ q. forgets.earlier q i; dirty = λ id. opens.dirty id i; printed = none i }
+    λ i. record { names = λ q. names q i; files = λ id. opens.files id i; earlier = λ q. forgets.earlier q i; dirty = λ id. opens.dirty id i; printed = none i; stood = put i }
+
+-- what a list says of a path is remembered
+listed_put : (names : List (Elements × Entry)) (q : Elements) → (listed names q ≡ absent) ⊎ Contains (map put_of names) (q, listed names q)
+listed_put [] q = inl refl
+listed_put (x ∷ xs) q = elim (path_cases q x.0) [
+  | inl here ↦
+      let is : listed (x ∷ xs) q ≡ slot_of (Some x.1) = cond-true (path_eq q x.0) (slot_of (Some x.1)) (listed xs q) ((path_decides q x.0).1 here) in
+      inr (0, omega arith, λ i. (sym here i, sym is i))
+  | inr off ↦
+      let is : listed (x ∷ xs) q ≡ listed xs q = cond-false (path_eq q x.0) (slot_of (Some x.1)) (listed xs q) (false_from_ne_true (path_eq q x.0) (λ t. off ((path_decides q x.0).0 t))) in
+      elim (listed_put xs q) [
+        | inl none ↦ inl (is ∙ none)
+        | inr had ↦ inr (subst (λ (s : Slot). Contains (map put_of (x ∷ xs)) (q, s)) (sym is) (suc had.0, omega (arith, had.1), had.2))
+      ]
+]
 
 -- what is opened is a tree
 pub opened_tree : (image : Image) → IsImage image → IsTree (opened image)
@@ -207,6 +247,13 @@ opened_tree image good = quiet_tree (opened image) (record {
   above = λ x up. elim (under_cases (at (slots_of image.names) up) (slots_of image.names (x ∷ up))) [ inl h ↦ inr h.0 | inr none ↦ inl none ];
   known = λ p id is. good.known p id (stands p (file id) (λ e. cc) is);
   linked = λ p text is. good.linked p text (stands p (link text) (λ e. cc) is);
+  remembered = λ x up. elim (at_cases (slots_of image.names) (x ∷ up)) [
+    | inl same ↦ elim (listed_put image.names (x ∷ up)) [
+      | inl none ↦ inl (same ∙ none)
+      | inr had ↦ inr (subst (λ (s : Slot). Contains (map put_of image.names) (x ∷ up, s)) (sym same) had)
+    ]
+    | inr none ↦ inl none
+  ];
   bits = good.bits;
 })
   where
@@ -221,4 +268,4 @@ pub opened_empty : (image : Image) → image.names ≡ [] → image.files ≡ []
 opened_empty image names files =
     let stand : (q : Elements) → at (slots_of image.names) q ≡ root_alone q = λ q. ap (λ (l : List (Elements × Entry)). at (slots_of l) q) names ∙ empty_slots q in
     let rows : (id : ℕ) → rows_of image.files id ≡ None = λ id. ap (λ (l : List FileRow). rows_of l id) files in
-    λ i. record { names = λ q. stand q i; files = λ id. rows id i; earlier = λ q. []; dirty = λ id. false; printed = [] }
+    λ i. record { names = λ q. stand q i; files = λ id. rows id i; earlier = λ q. []; dirty = λ id. false; printed = []; stood = map put_of (names i) }

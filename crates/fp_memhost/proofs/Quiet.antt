@@ -1,5 +1,5 @@
 -- Views in which nothing stood earlier.
-use Rattle.std.proofs.Common.{◌≡◌, ◌≢◌, ◌⊎◌, ◌≤◌, inl, inr, ℕ, List, [], ◌∷◌, true, false, Some, None, refl, sym, ◌∙◌}
+use Rattle.std.proofs.Common.{◌≡◌, ◌≢◌, ◌⊎◌, ◌≤◌, inl, inr, ℕ, List, [], ◌∷◌, true, false, Some, None, refl, sym, ◌∙◌, Contains}
 use Rattle.std.proofs.lemmas.Bool.{false≢true}
 use Rattle.fp_host.specs.Paths.{Elements, Slot, absent, dir, file, link, is_link_text}
 use Rattle.fp_host.specs.View.{View, Inode, MayBe, IsTree}
@@ -13,6 +13,7 @@ pub record Quiet (v : View) : Type 0 where
   pub above : (x : List ℕ) (up : Elements) → (v.names (x ∷ up) ≡ absent) ⊎ (v.names up ≡ dir)
   pub known : (p : Elements) (id : ℕ) → v.names p ≡ file id → v.files id ≢ None
   pub linked : (p : Elements) (text : List ℕ) → v.names p ≡ link text → is_link_text text ≡ true
+  pub remembered : (x : List ℕ) (up : Elements) → (v.names (x ∷ up) ≡ absent) ⊎ Contains v.stood (x ∷ up, v.names (x ∷ up))
   pub bits : (id : ℕ) (f : Inode) → v.files id ≡ Some f → f.mode ≤ 4095
 
 module _ (v : View) (quiet : Quiet v) where
@@ -29,6 +30,7 @@ module _ (v : View) (quiet : Quiet v) where
     known = λ p id m. quiet.known p id (sym (now p (file id) m));
     known_dirty = λ id d. absurd (false≢true (sym (quiet.dirty id) ∙ d));
     linked = λ p text m. quiet.linked p text (sym (now p (link text) m));
+    remembered = quiet.remembered;
     bits = quiet.bits;
   }
 
@@ -40,6 +42,7 @@ empty_tree = quiet_tree empty_view (record {
   above = λ x up. inl refl;
   known = no_file;
   linked = no_link;
+  remembered = λ x up. inl refl;
   bits = λ id f is. absurd (cc is);
 })
   where

@@ -1,5 +1,5 @@
 -- Images: what is found on a disk, and which of those that a stop may leave a choice picks.
-use Rattle.std.specs.Prelude.{◌≡◌, ◌≢◌, ◌≤◌, ◌==◌, ◌&&◌, ℕ, zero, suc, Bool, true, false, leb, List, [], ◌∷◌, length, slice_index_or, Option, Some, None, if◌then◌else◌}
+use Rattle.std.specs.Prelude.{◌≡◌, ◌≢◌, ◌≤◌, ◌==◌, ◌&&◌, ℕ, zero, suc, Bool, true, false, leb, List, [], ◌∷◌, length, map, slice_index_or, Option, Some, None, if◌then◌else◌}
 use Rattle.std.specs.List.{list_all}
 use Rattle.std.specs.Ordering.{nat_cmp, is_lt}
 use Rattle.std.specs.Cmp.Lexicographic.{slice_cmp}
@@ -27,10 +27,14 @@ abbrev pub rows_of : List FileRow → ℕ → Option Inode
 rows_of [] id = None
 rows_of (f ∷ fs) id = if id == f.id then Some (record { mode = f.mode; bytes = f.bytes }) else rows_of fs id
 
+-- what a list says of a name is remembered as put there
+abbrev pub put_of : Elements × Entry → Elements × Slot
+put_of x = (x.0, slot_of (Some x.1))
+
 -- The image as it is found when it is opened again: a name counts where each folder above it is one. Nothing stood
--- earlier, and nothing was printed.
+-- earlier, nothing was printed, and what is listed is remembered.
 abbrev pub opened : Image → View
-opened image = record { names = at (slots_of image.names); files = rows_of image.files; earlier = λ q. []; dirty = λ id. false; printed = [] }
+opened image = record { names = at (slots_of image.names); files = rows_of image.files; earlier = λ q. []; dirty = λ id. false; printed = []; stood = map put_of image.names }
 
 -- the disk that an image is
 abbrev pub disk_of : Image → Disk

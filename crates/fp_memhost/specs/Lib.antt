@@ -16,6 +16,7 @@ pub mod Soundness
 pub mod Sources
 pub mod Start
 pub mod Stats
+pub mod Stood
 pub mod Stories
 pub mod Story
 pub mod Supply

@@ -1,14 +1,16 @@
 -- What the names and files that are kept stand for.
-use Rattle.std.specs.Prelude.{ℕ, List}
+use Rattle.std.specs.Prelude.{ℕ, List, map}
+use Rattle.fp_host.specs.Paths.{Elements, Slot}
 use Rattle.fp_host.specs.View.{View}
 use Rattle.fp_memhost.specs.declared.names.Name.{Name}
 use Rattle.fp_memhost.specs.declared.files.Content.{Content}
 use Rattle.fp_memhost.specs.declared.scene.Scene.{Scene}
+use Rattle.fp_memhost.specs.Stood.{stood_of}
 use Rattle.fp_memhost.specs.Names.{names_of, earlier_of}
 use Rattle.fp_memhost.specs.Files.{files_of, dirty_of}
 
-abbrev pub view_from : List Name → List Content → List ℕ → View
-view_from names files printed = record { names = names_of names; files = files_of files; earlier = earlier_of names; dirty = dirty_of files; printed = printed }
+abbrev pub view_from : List Name → List Content → List ℕ → List (Elements × Slot) → View
+view_from names files printed stood = record { names = names_of names; files = files_of files; earlier = earlier_of names; dirty = dirty_of files; printed = printed; stood = stood }
 
 abbrev pub seen : Scene → View
-seen s = view_from s.names.items s.files.items s.printed.items
+seen s = view_from s.names.items s.files.items s.printed.items (map stood_of s.stood.items)

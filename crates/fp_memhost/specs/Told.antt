@@ -10,7 +10,7 @@ use mathlib.Core.HLevel.{⊥_prop}
 use Rattle.fp_host.specs.Paths.{Elements, Slot, absent, dir, file, link}
 use Rattle.fp_host.specs.View.{View, MayBe, IsTree}
 use Rattle.fp_host.specs.Moments.{Moments}
-use Rattle.fp_host.proofs.Separate.{absent_cases}
+use Rattle.fp_host.proofs.Separate.{absent_cases, path_cases}
 use Rattle.fp_memhost.specs.declared.mem.MemHost.{MemHost}
 use Rattle.fp_memhost.specs.Images.{opened}
 use Rattle.fp_memhost.specs.Replay.{view_now}
@@ -43,24 +43,31 @@ slot_cases (link text) dir = inr (λ e. cc)
 slot_cases (link text) (file id) = inr (λ e. cc)
 slot_cases (link s) (link t) = elim (bytes_cases s t) [ inl e ↦ inl (ap link e) | inr ne ↦ inr (λ e. ne (cc)) ]
 
-had_cases : (l : List Slot) (e : Slot) → Decided (Contains l e)
-had_cases [] e = inr (λ c. omega (arith, c.1))
-had_cases (x ∷ xs) e = elim (slot_cases x e) [
-  | inl is ↦ inl (0, omega arith, is)
-  | inr ne ↦ elim (had_cases xs e) [
-    | inl c ↦ inl (suc c.0, omega (arith, c.1), c.2)
-    | inr none ↦ inr (λ c. later c.0 c.1 c.2 ne none)
+module _ {A : Type 0} (decide : (a b : A) → (a ≡ b) ⊎ (a ≢ b)) where
+  had_cases : (l : List A) (e : A) → Decided (Contains l e)
+  had_cases [] e = inr (λ c. omega (arith, c.1))
+  had_cases (x ∷ xs) e = elim (decide x e) [
+    | inl is ↦ inl (0, omega arith, is)
+    | inr ne ↦ elim (had_cases xs e) [
+      | inl c ↦ inl (suc c.0, omega (arith, c.1), c.2)
+      | inr none ↦ inr (λ c. later c.0 c.1 c.2 ne none)
+    ]
   ]
+    where
+      later : (k : ℕ) → k < length (x ∷ xs) → slice_index_or (x ∷ xs) k e ≡ e → x ≢ e → (Contains xs e → ⊥) → ⊥
+      later zero low is ne none = ne is
+      later (suc k) low is ne none = none (k, omega arith, is)
+
+put_cases : (a b : Elements × Slot) → (a ≡ b) ⊎ (a ≢ b)
+put_cases a b = elim (path_cases a.0 b.0) [
+  | inl path ↦ elim (slot_cases a.1 b.1) [ inl slot ↦ inl (λ i. (path i, slot i)) | inr ne ↦ inr (λ e. ne (ap (λ (x : Elements × Slot). x.1) e)) ]
+  | inr ne ↦ inr (λ e. ne (ap (λ (x : Elements × Slot). x.0) e))
 ]
-  where
-    later : (k : ℕ) → k < length (x ∷ xs) → slice_index_or (x ∷ xs) k e ≡ e → x ≢ e → (Contains xs e → ⊥) → ⊥
-    later zero low is ne none = ne is
-    later (suc k) low is ne none = none (k, omega arith, is)
 
 may_cases : (v : View) (p : Elements) (e : Slot) → Decided (MayBe v p e)
 may_cases v p e = elim (slot_cases e (v.names p)) [
   | inl is ↦ inl (inl is)
-  | inr ne ↦ elim (had_cases (v.earlier p) e) [ inl had ↦ inl (inr had) | inr none ↦ inr (λ m. elim m [ inl is ↦ ne is | inr had ↦ none had ]) ]
+  | inr ne ↦ elim (had_cases slot_cases (v.earlier p) e) [ inl had ↦ inl (inr had) | inr none ↦ inr (λ m. elim m [ inl is ↦ ne is | inr had ↦ none had ]) ]
 ]
 
 -- what is decided and not denied
@@ -83,6 +90,10 @@ told_tree v t = record {
   known = λ p id m none. ∥∥₁_elim t ⊥_prop (λ tree. tree.known p id m none);
   known_dirty = λ id d none. ∥∥₁_elim t ⊥_prop (λ tree. tree.known_dirty id d none);
   linked = λ p text m. ∥∥₁_elim t (search props) (λ tree. tree.linked p text m);
+  remembered = λ x up. elim (absent_cases (v.names (x ∷ up))) [
+    | inl gone ↦ inl gone
+    | inr some ↦ inr (settle (had_cases put_cases v.stood (x ∷ up, v.names (x ∷ up))) t (λ tree. elim (tree.remembered x up) [ inl gone ↦ absurd (some gone) | inr had ↦ had ]))
+  ];
   bits = λ id f is. ∥∥₁_elim t (search props) (λ tree. tree.bits id f is);
 }
 

@@ -18,6 +18,7 @@ mod reads;
 mod remotes;
 mod scene;
 mod source;
+mod stood;
 mod story;
 
 pub use image::{Choice, FileRow, Image};

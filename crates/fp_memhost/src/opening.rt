@@ -1,11 +1,12 @@
 // A scene that begins with an image.
-ghost use Rattle.std.specs.Prelude.{◌≡◌, ◌↔◌, ℕ, Some, true, IfOk, OnOk, IsTrue, length};
+ghost use Rattle.std.specs.Prelude.{◌≡◌, ◌↔◌, ℕ, Some, true, IfOk, OnOk, IsTrue, length, map};
 ghost use Rattle.std.specs.List.{list_all};
 ghost use Rattle.std.specs.Option.{option_copied};
 ghost use Rattle.fp_host.specs.Paths.{Elements, elements_of, is_element};
 ghost use Rattle.fp_memhost.specs.Names.{IsAscending, slot_of};
 ghost use Rattle.fp_memhost.specs.Scenes.{seen};
-ghost use Rattle.fp_memhost.specs.Images.{listed, slots_of, opened};
+ghost use Rattle.fp_memhost.specs.Images.{listed, slots_of, opened, put_of};
+ghost use Rattle.fp_memhost.specs.Stood.{stood_of};
 ghost use Rattle.fp_memhost.specs.Opening.{is_folder, is_open, may_stand, AddsName, AddsNames, OpensFiles};
 
 use crate::conditions::is_dir;
@@ -15,6 +16,7 @@ use crate::folders::above;
 use crate::image::{FileRow, Image};
 use crate::names::{Name, forget, put, ready};
 use crate::scene::Scene;
+use crate::stood::Stood;
 use fp_host::{Entry, Path};
 use std::alloc::{AllocError, Global};
 
@@ -116,6 +118,17 @@ fn open_files(alloc: Global, rows: &[FileRow]) -> Result<Vec<Content>, AllocErro
     Ok(files)
 }
 
+// What is remembered of these names.
+fn remembered(alloc: Global, names: &[(Path, Entry)]) -> Result<Vec<Stood>, AllocError>
+    ensures { IfOk result (λ v. map stood_of v.items ≡ map put_of names.now) }
+{
+    let mut stood = Vec::new(alloc);
+    for (path, entry) in names {
+        stood.push(Stood::new(path, Some(entry))?)?;
+    }
+    Ok(stood)
+}
+
 /// The image as it is found when it is opened again.
 pub fn open_image(alloc: Global, image: &Image) -> Result<Scene, AllocError>
     ensures { IfOk result (λ s. seen s ≡ opened image.now) }
@@ -124,5 +137,6 @@ pub fn open_image(alloc: Global, image: &Image) -> Result<Scene, AllocError>
     add_names(&mut scene.names, image.names.as_slice())?;
     forget(&mut scene.names);
     scene.files = open_files(alloc, image.files.as_slice())?;
+    scene.stood = remembered(alloc, image.names.as_slice())?;
     Ok(scene)
 }

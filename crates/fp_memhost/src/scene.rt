@@ -6,15 +6,17 @@ use crate::entry::copy_entry;
 use crate::event::{Event, Noted};
 use crate::files::{Content, add_file, grow, settle};
 use crate::names::{Name, entry, forget, may_put, put, ready};
+use crate::stood::Stood;
 use fp_host::{Entry, Path};
 use std::alloc::{AllocError, Global};
 
-/// The names, the files and what was printed.
+/// The names, the files, what was printed, and what was put at which name, the oldest first.
 #[derive(Drop)]
 pub struct Scene {
     pub names: Vec<Name>,
     pub files: Vec<Content>,
     pub printed: Vec<u8>,
+    pub stood: Vec<Stood>,
     ghost ascending: { IsAscending names.items },
 }
 
@@ -42,6 +44,7 @@ impl Scene {
             names,
             files: Vec::new(alloc),
             printed: Vec::new(alloc),
+            stood: Vec::new(alloc),
         })
     }
 
@@ -51,6 +54,8 @@ impl Scene {
         ensures err { OnErr result (seen self.new ≡ seen self.old) }
     {
         ready(&mut self.names, path)?;
+        let stood = Stood::new(path, entry.as_ref())?;
+        self.stood.push(stood)?;
         put(&mut self.names, path, entry);
         Ok(())
     }
@@ -73,7 +78,10 @@ impl Scene {
         ensures err { OnErr result (seen self.new ≡ seen self.old) }
     {
         ready(&mut self.names, path)?;
+        let stood = Stood::new(path, Some(&Entry::File(id)))?;
+        self.stood.try_reserve(1)?;
         add_file(&mut self.files, id, mode)?;
+        self.stood.push(stood).unwrap();
         put(&mut self.names, path, Some(Entry::File(id)));
         Ok(())
     }
@@ -113,6 +121,11 @@ impl Scene {
         let moved = copy_entry(entry(&self.names, from.text()))?;
         ready(&mut self.names, to)?;
         ready(&mut self.names, from)?;
+        let at_to = Stood::new(to, moved.as_ref())?;
+        let at_from = Stood::new(from, None)?;
+        self.stood.try_reserve(2)?;
+        self.stood.push(at_to).unwrap();
+        self.stood.push(at_from).unwrap();
         put(&mut self.names, to, moved);
         put(&mut self.names, from, None);
         Ok(())

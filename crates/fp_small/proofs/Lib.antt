@@ -1,6 +1,7 @@
 pub mod Making
 pub mod Unsynced
 pub mod Keeping
+pub mod Sharing
 pub mod Emptying
 pub mod NamingLemmas
 pub mod Remoting

@@ -267,5 +267,5 @@ was_replaced p place bytes {u = u} {w = w} staging ready moved made same = recor
   new = moved.new bytes ready;
   settled = moved.settled;
   work = λ q is. ap w.names (one_staging is staging) ∙ moved.left;
-  made = made_moved made moved.name same;
+  made = made_moved made moved.name moved.stood same;
 }

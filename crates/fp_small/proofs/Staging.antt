@@ -1,6 +1,7 @@
 -- A new file on its way, and to its name.
-use Rattle.std.proofs.Common.{◌≡◌, inl, inr, ℕ, List, [], true, Option, Some, None, Result, Ok, refl, sym, ◌∙◌, ap, subst}
+use Rattle.std.proofs.Common.{◌≡◌, inl, inr, ℕ, List, [], ◌∷◌, ◌++◌, Contains, true, Option, Some, None, Result, Ok, refl, sym, ◌∙◌, ap, subst}
 use Rattle.std.proofs.lemmas.Bool.{false≢true}
+use Rattle.std.proofs.lemmas.List.Elements.{Contains-push, Contains-append_left}
 use Rattle.fp_host.specs.Paths.{Elements, Slot, absent, file, set_at}
 use Rattle.fp_host.specs.View.{View, Inode, IsTree}
 use Rattle.fp_host.specs.Calls.{IsDirty, IsLeaf, Can, appends, syncs, renames, grow, grown, put, Step, Creates}
@@ -21,6 +22,7 @@ use Rattle.fp_small.proofs.Unsynced.{one_on, step_none, create_one}
 pub record Written (t : Elements) (bytes : List ℕ) (old new : View) : Type 0 where
   pub id : ℕ
   pub name : new.names t ≡ file id
+  pub stood : Contains new.stood (t, file id)
   pub row : new.files id ≡ Some (record { mode = 420; bytes = bytes })
   pub dirty : new.dirty id ≡ true
 
@@ -31,6 +33,7 @@ written_create {t = t} {v = v} step =
     record {
       id = id;
       name = ap (λ (x : View). x.names t) is ∙ set_same v.names t (file id) t refl;
+      stood = subst (λ (x : View). Contains x.stood (t, file id)) (sym is) (Contains-push v.stood (t, file id));
       row = ap (λ (x : View). x.files id) is ∙ file_same v.files id (Some (record { mode = 420; bytes = [] })) id refl;
       dirty = ap (λ (x : View). x.dirty id) is ∙ file_same v.dirty id true id refl;
     }
@@ -42,6 +45,7 @@ written_append {t = t} {bytes = bytes} {v = v} {w = w} first step =
     record {
       id = id;
       name = ap (λ (x : View). x.names t) is ∙ first.name;
+      stood = subst (λ (x : View). Contains x.stood (t, file id)) (sym is) first.stood;
       row = ap (λ (x : View). x.files id) is ∙ file_same v.files id (grown (v.files id) bytes) id refl ∙ ap (λ (r : Option Inode). grown r bytes) first.row;
       dirty = ap (λ (x : View). x.dirty id) is ∙ first.dirty;
     }
@@ -79,13 +83,14 @@ begun_append first step = record { written = written_append first.written step; 
 pub made_synced : {t : Elements} {bytes : List ℕ} {u v w : View} → Begun t bytes u v → Step syncs (Ok tt) v w → MakesFile t bytes u w
 made_synced {t = t} {bytes = bytes} first step =
     let is = step.how.1 in
-    let file = first.written in
+    let made = first.written in
     record {
-      id = file.id;
+      id = made.id;
       free = first.free;
-      name = ap (λ (x : View). x.names t) is ∙ file.name;
-      row = ap (λ (x : View). x.files file.id) is ∙ file.row;
-      only = λ j f n s. first.one.one j file.id f (record { mode = 420; bytes = bytes }) n (sym (ap (λ (x : View). x.files j) is) ∙ s) first.free file.row;
+      name = ap (λ (x : View). x.names t) is ∙ made.name;
+      stood = subst (λ (x : View). Contains x.stood (t, file made.id)) (sym is) made.stood;
+      row = ap (λ (x : View). x.files made.id) is ∙ made.row;
+      only = λ j f n s. first.one.one j made.id f (record { mode = 420; bytes = bytes }) n (sym (ap (λ (x : View). x.files j) is) ∙ s) first.free made.row;
     }
 
 pub can_append : {t : Elements} {u v : View} → Written t [] u v → IsDirty v (v.names t)
@@ -122,6 +127,7 @@ moves_sync tree first step = record {
 pub record Renamed (from to : Elements) (u v : View) : Type 0 where
   pub ready : (bytes : List ℕ) → IsReady from bytes u → IsReady to bytes v
   pub name : v.names to ≡ u.names from
+  pub stood : Contains v.stood (to, u.names from)
   pub left : v.names from ≡ absent
 
 pub renamed : {from to : Elements} {v w : View} → Step (renames from to) (Ok tt) v w → Renamed from to v w
@@ -133,6 +139,7 @@ renamed {from = from} {to = to} {v = v} {w = w} step = record {
     clean = ap (λ (x : View). x.dirty ready.id) step.how.1 ∙ ready.clean;
   };
   name = moved;
+  stood = subst (λ (x : View). Contains x.stood (to, v.names from)) (sym step.how.1) (Contains-append_left (v.stood ++ (to, v.names from) ∷ []) ((from, absent) ∷ []) (to, v.names from) (Contains-push v.stood (to, v.names from)));
   left = ap (λ (x : View). x.names from) step.how.1 ∙ set_same (put to (v.names from) v).names from absent from refl;
 }
   where
@@ -146,7 +153,7 @@ has_new {to = to} {w = w} tree settled ready = record {
 }
 
 pub was_moved : {from to : Elements} {u v w : View} → IsTree w → Renamed from to u v → Step syncs (Ok tt) v w → WasMoved from to u w
-was_moved {from = from} {to = to} tree first step =
+was_moved {from = from} {to = to} {u = u} tree first step =
     let is = step.how.1 in
     record {
       new = λ bytes ready. let r = first.ready bytes ready in has_new tree (synced step) (record {
@@ -156,6 +163,7 @@ was_moved {from = from} {to = to} tree first step =
         clean = ap (λ (x : View). x.dirty r.id) is;
       });
       name = ap (λ (x : View). x.names to) is ∙ first.name;
+      stood = subst (λ (x : View). Contains x.stood (to, u.names from)) (sym is) first.stood;
       left = ap (λ (x : View). x.names from) is ∙ first.left;
       settled = synced step;
     }

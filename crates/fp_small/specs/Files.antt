@@ -1,24 +1,27 @@
 -- Files that stay as they are, and files that are made.
-use Rattle.std.specs.Prelude.{◌≡◌, ℕ, List, Some, None}
-use Rattle.fp_host.specs.Paths.{Elements, file}
+use Rattle.std.specs.Prelude.{◌≡◌, ℕ, List, Some, None, Contains}
+use Rattle.fp_host.specs.Paths.{Elements, Slot, file}
 use Rattle.fp_host.specs.View.{View, Inode}
 
--- each file that was there keeps its mode and its bytes
+-- each file that was there keeps its mode and its bytes, and what was put at a name stays remembered
 pub record KeepsFiles (u w : View) : Type 0 where
   pub rows : (id : ℕ) (f : Inode) → u.files id ≡ Some f → w.files id ≡ Some f
+  pub stood : (x : Elements × Slot) → Contains u.stood x → Contains w.stood x
 
--- the files are those that were there, as they were
+-- the files are those that were there, as they were, and what was put at a name stays remembered
 pub record SameFiles (u w : View) : Type 0 where
   pub rows : (id : ℕ) → w.files id ≡ u.files id
+  pub stood : (x : Elements × Slot) → Contains u.stood x → Contains w.stood x
 
 -- no two files were made
 pub record MakesOneAtMost (u w : View) : Type 0 where
   pub one : (i j : ℕ) (f g : Inode) → u.files i ≡ None → w.files i ≡ Some f → u.files j ≡ None → w.files j ≡ Some g → i ≡ j
 
--- One file was made. It stands at the path, with these bytes and the permission bits 0644.
+-- One file was made. It stands at the path, where it was put, with these bytes and the permission bits 0644.
 pub record MakesFile (p : Elements) (bytes : List ℕ) (u w : View) : Type 0 where
   pub id : ℕ
   pub free : u.files id ≡ None
   pub name : w.names p ≡ file id
+  pub stood : Contains w.stood (p, file id)
   pub row : w.files id ≡ Some (record { mode = 420; bytes = bytes })
   pub only : (j : ℕ) (f : Inode) → u.files j ≡ None → w.files j ≡ Some f → j ≡ id

@@ -1,5 +1,6 @@
 pub mod Places
 pub mod Files
+pub mod Shares
 pub mod Load
 pub mod Naming
 pub mod Walks

@@ -1,5 +1,5 @@
 -- A file that comes to its name.
-use Rattle.std.specs.Prelude.{◌≡◌, ◌≢◌, ◌⊎◌, ℕ, List}
+use Rattle.std.specs.Prelude.{◌≡◌, ◌≢◌, ◌⊎◌, ℕ, List, Contains}
 use Rattle.fp_host.specs.Paths.{Elements, Slot, absent}
 use Rattle.fp_host.specs.View.{View}
 use Rattle.fp_host.specs.Calls.{HasFolder, IsFile, IsNoDir}
@@ -28,6 +28,7 @@ pub record HasNew (p : Elements) (bytes : List ℕ) (v : View) : Type 0 where
 pub record WasMoved (from to : Elements) (u w : View) : Type 0 where
   pub new : (bytes : List ℕ) → IsReady from bytes u → HasNew to bytes w
   pub name : w.names to ≡ u.names from
+  pub stood : Contains w.stood (to, u.names from)
   pub left : w.names from ≡ absent
   pub settled : IsSettled w
 

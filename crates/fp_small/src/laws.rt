@@ -9,13 +9,15 @@ ghost use Rattle.std.specs.Str.{bytes_eq};
 ghost use Rattle.fp_host.specs.Paths.{Elements, absent, IsAbove};
 ghost use Rattle.fp_host.specs.Outcome.{IsSettled};
 ghost use Rattle.fp_host.specs.View.{View, IsTree};
-ghost use Rattle.fp_host.specs.Calls.{makes_dir, creates, appends, syncs, done, CanCreate};
+ghost use Rattle.fp_host.specs.Calls.{makes_dir, creates, appends, renames, syncs, done, CanCreate};
+ghost use Rattle.fp_host.specs.Frame.{Keeps, Only, NoPath};
 ghost use Rattle.fp_host.specs.Reads.{is_ascending};
 ghost use Rattle.fp_keyfile.specs.KeyFile.{are_distinct};
 ghost use Rattle.fp_name.specs.Pins.{is_pin};
 ghost use Rattle.fp_small.specs.Order.{inserted, removed, replaced, has_name, sorted_by};
 ghost use Rattle.fp_small.specs.Unsynced.{Unsynced, MakesNoFile, MakesOneFile};
-ghost use Rattle.fp_small.specs.Files.{MakesFile};
+ghost use Rattle.fp_small.specs.Files.{KeepsFiles, SameFiles, MakesFile};
+ghost use Rattle.fp_small.specs.Shares.{Shares};
 ghost use Rattle.fp_small.specs.Stage.{IsReady};
 ghost use Rattle.fp_small.specs.Folders.{AreFree};
 ghost use Rattle.fp_small.specs.Places.{IsBare};
@@ -115,6 +117,30 @@ pub fn made_files()
     ensures ready { (v : View) (p : Elements) (bytes : List ℕ) (id : ℕ) → CanCreate p 420 v
         → v.files id ≡ None
         → IsReady p bytes (done syncs (done (appends p bytes) (done (creates p 420 id) v))) }
+{}
+
+/// Where no file is made, or none gets bytes, each file that is new and has bytes came to a name of any kind. After two steps it
+/// did if it did in each, where the second gives bytes to no file that was there. The one file that is made came to its name.
+pub fn shared_files()
+    ensures same { (p : Elements) (v w : View) → SameFiles v w → Shares (Only p) v w }
+    ensures empty { (p : Elements) (v w : View) →
+        Keeps (λ q spot. Unit {0}) (λ q e. Unit {0}) NoPath v w → Shares (Only p) v w }
+    ensures on { (p : Elements) (u v w : View) → Shares (Only p) u v → Shares (Only p) v w
+        → KeepsFiles v w → Shares (Only p) u w }
+    ensures wider { (p q : Elements) (u w : View) → Shares (Only p) u w
+        → Shares (λ x. (x ≡ p) ⊎ (x ≡ q)) u w }
+    ensures made { (p : Elements) (bytes : List ℕ) (u w : View) → MakesFile p bytes u w
+        → Shares (Only p) u w }
+{}
+
+/// A file that is created, written and renamed came to its new name. One that is not renamed did so only if it is empty.
+pub fn shared_file()
+    ensures renamed { (v : View) (p q : Elements) (bytes : List ℕ) (id : ℕ) → CanCreate p 420 v
+        → v.files id ≡ None → p ≢ q → Shares (Only q) v (done (renames p q)
+        (done syncs (done (appends p bytes) (done (creates p 420 id) v)))) }
+    ensures left { (v : View) (p q : Elements) (bytes : List ℕ) (id : ℕ) → CanCreate p 420 v
+        → v.files id ≡ None → v.stood ≡ [] → p ≢ q
+        → Shares (Only q) v (done (appends p bytes) (done (creates p 420 id) v)) → bytes ≡ [] }
 {}
 
 /// Where nothing stands but the root, folders may be made, a file may be written anew in the root, and each path may be

@@ -17,20 +17,12 @@ use Rattle.ost_checkout.specs.Checkout.{IsApart as IsApartFolder}
 use Rattle.dep_states.specs.Names.{branch_dir, commit_dir}
 use Rattle.dep_states.specs.Zones.{outward}
 use Rattle.dep_states.proofs.Deployed.{outward_append, top}
+use Rattle.dep_states.proofs.Lasting.{above_rest, within_rest}
 use Rattle.dep_states.proofs.Rows.{text_apart}
 use Rattle.dep_states.proofs.Switching.{second, word_no_repo}
 use Rattle.dep_switch.proofs.Spots.{same_shown}
 
 -- ---- below a path
-
-pub above_rest : (t q : Elements) → IsAbove t q → (rest : Elements) × (q ≡ rest ++ t)
-above_rest t [] above = absurd above
-above_rest t (x ∷ up) (inl same) = (x ∷ [], ap (λ (l : Elements). x ∷ l) (sym same))
-above_rest t (x ∷ up) (inr above) = let more = above_rest t up above in (x ∷ more.0, ap (λ (l : Elements). x ∷ l) more.1)
-
-pub within_rest : (t q : Elements) → IsWithin t q → (rest : Elements) × (q ≡ rest ++ t)
-within_rest t q (inl same) = ([], same)
-within_rest t q (inr above) = above_rest t q above
 
 pub rest_within : (t rest : Elements) → IsWithin t (rest ++ t)
 rest_within t [] = inl refl

@@ -10,6 +10,7 @@ use Rattle.fp_host.specs.Remote.{Holdings}
 use Rattle.fp_host.specs.View.{View, IsTree}
 use Rattle.fp_name.specs.Refs.{Ref, is_ref}
 use Rattle.fp_small.specs.Places.{repo}
+use Rattle.fp_small.proofs.Sharing.{shares_on}
 use Rattle.fp_small.specs.declared.refusal.Refusal.{Refusal}
 use Rattle.fp_small.specs.declared.state.State.{State}
 use Rattle.fp_small.specs.declared.state.RefRow.{RefRow}
@@ -34,6 +35,7 @@ use Rattle.op_bring.specs.Bringing.{Brings, WasBrought, WasLeft, LeavesNames}
 use Rattle.op_bring.specs.Brought.{brought_refusal, refusal_in, time_of, row_brought, state_brought, brought, supply_at}
 use Rattle.op_bring.specs.Fetching.{Fetches, WasFetched, WasTurnedDown}
 use Rattle.op_bring.specs.Headed.{IsHeaded}
+use Rattle.ost_store.proofs.Creating.{creates_on}
 use Rattle.op_bring.proofs.Changing.{changes_none, changes_on, deploy_changes, deploy_store}
 use Rattle.op_bring.proofs.Headed.{head_ok}
 use Rattle.op_bring.proofs.Settling.{settled_left}
@@ -137,6 +139,8 @@ module _ (s : State) (origin : RemoteRow) (name : Ref) (commit : List ℕ) (hold
             stood = λ d kind digits some. object_same d kind ∙ o.stood d kind digits some;
             others = λ d kind digits none. object_same d kind ∙ o.others d kind digits none;
           };
+      shares = λ held told opens. shares_on (p.was.shares held told opens) deploys.shares deploys.files;
+      creates = λ held told opens. creates_on (p.was.creates held told opens) deploys.creates (p.fetches.changes opens).files deploys.files;
       settled = done.settled;
     }
       where

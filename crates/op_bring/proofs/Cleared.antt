@@ -21,7 +21,7 @@ use Rattle.dep_states.proofs.Sparing.{dir_spares}
 use Rattle.dep_states.proofs.Switching.{none_in_tmp, permits_gone}
 use Rattle.dep_switch.proofs.Spots.{now_left, gone_absent}
 use Rattle.op_bring.specs.Rooms.{RoomAt, RoomName, HasRoom, CanMakeRoom}
-use Rattle.op_bring.proofs.Apart.{above_rest, within_rest}
+use Rattle.dep_states.proofs.Lasting.{above_rest, within_rest}
 
 -- what is too deep was gone before
 short_follows : {s : State} {G : Elements → Spot → Type 0} {u w : View} → ((q : Elements) (spot : Spot) → G q spot → spot ≡ gone) → Opens s u → Follows G u w → Follows (λ q spot. G q spot × (length q ≤ 128)) u w

@@ -10,9 +10,11 @@ use Rattle.fp_name.specs.Hex.{is_digest}
 use Rattle.fp_name.specs.Refs.{Ref}
 use Rattle.fp_small.specs.Clear.{IsWithin}
 use Rattle.fp_small.specs.Places.{repo, tmp, new_name}
+use Rattle.fp_small.specs.Shares.{Shares}
 use Rattle.fp_small.specs.declared.state.State.{State}
 use Rattle.fp_small.proofs.Emptying.{above_longer}
 use Rattle.fp_small.proofs.Replacement.{ancestors_above}
+use Rattle.fp_small.proofs.Sharing.{shares_empty, shares_on, shares_to}
 use Rattle.ost_model.specs.Objects.{Have, object_path, object_at, store, supply}
 use Rattle.ost_model.specs.Order.{Agree, order, first_fault}
 use Rattle.ost_model.specs.Remotes.{remote}
@@ -20,12 +22,14 @@ use Rattle.ost_model.specs.Standing.{deploy_name}
 use Rattle.ost_model.proofs.Looked.{look_same}
 use Rattle.ost_model.proofs.Places.{first_same}
 use Rattle.ost_checkout.specs.Checkout.{HasReserved}
-use Rattle.ost_pull.specs.Pulls.{Pulls, PullsName, PullsSoundly, WasPulled, WasRefused}
+use Rattle.ost_pull.specs.Pulls.{Pulls, PullsName, PullsSoundly, IsLackedName, WasPulled, WasRefused}
 use Rattle.ost_pull.specs.Work.{WorksName}
 use Rattle.dep_states.specs.Frames.{KeptIn}
+use Rattle.dep_states.specs.Lasting.{IsLasting}
 use Rattle.dep_states.specs.Names.{commit_dir}
 use Rattle.dep_states.specs.Sound.{Opens}
 use Rattle.dep_states.proofs.Deployed.{top}
+use Rattle.dep_states.proofs.Lasting.{lasting_object}
 use Rattle.dep_states.proofs.Rows.{text_apart, head_of}
 use Rattle.dep_states.proofs.Switching.{word_no_repo}
 use Rattle.dep_switch.specs.Writing.{new_link}
@@ -38,8 +42,11 @@ use Rattle.op_bring.specs.LayingOut.{MakesAbove, LaysOut, folders_come, paths_co
 use Rattle.op_bring.specs.Places.{pull_work}
 use Rattle.op_bring.specs.Readying.{ReadiesStore}
 use Rattle.op_bring.specs.Rooms.{RoomAt, RoomName, HasRoom}
+use Rattle.fp_small.proofs.Keeping.{files_kept, files_on}
+use Rattle.ost_store.proofs.Creating.{creates_to, creates_on, creates_after}
+use Rattle.op_bring.proofs.Creating.{room_creates, furnish_creates}
 use Rattle.op_bring.proofs.Apart.{rest_within, dir_apart, work_in_tmp, object_off_tmp, store_by}
-use Rattle.op_bring.proofs.Changing.{changes_on, room_changes, room_store, pull_changes, ready_object, furnish_changes, furnish_store}
+use Rattle.op_bring.proofs.Changing.{changes_on, room_changes, room_store, pull_changes, ready_object, furnish_changes, furnish_files, furnish_store}
 use Rattle.op_bring.proofs.Folders.{lays_opens}
 use Rattle.op_bring.proofs.Pulling.{pull_opens, true_names}
 use Rattle.op_bring.proofs.Cleared.{room_opens}
@@ -158,6 +165,10 @@ dir_pulled name commit u e (inl (inr (inr away))) = elim away.0 [ inl at ↦ cc 
 dir_pulled name commit u e (inr (inl object)) = cc object.at
 dir_pulled name commit u e (inr (inr above)) = omega (arith, above_longer (commit_dir name commit) (object_path repo above.0.digest above.0.kind) above.0.above)
 
+-- what a pull made lasts
+pulled_lasts : {have : Have} {commit : List ℕ} {u v w : View} → Shares (IsLackedName repo have commit u) v w → Shares IsLasting v w
+pulled_lasts shares = shares_to (λ q is. subst IsLasting (sym is.at) (lasting_object is.digest is.kind)) shares
+
 -- ---- step by step
 
 abbrev pub RoomMade : Ref → List ℕ → Bool → View → View → Type 0
@@ -255,13 +266,19 @@ module _ (s : State) (name : Ref) (commit url : List ℕ) (kept : Bool) (holds :
         ])
 
         pub was_fetched : WasFurnished commit (commit_dir name commit) kept v w → WasFetched s name commit kept url holds u w
-        was_fetched laid = record {
+        was_fetched furnished = record {
           fetched = λ held told opens. record {
             clean = (was_pulled held told).pulled.clean;
             objects = has_objects held told opens;
             link_free = link_after held told opens;
-            laid = λ is. laid is (dir_apart name commit);
+            laid = λ is. furnished.laid is (dir_apart name commit);
           };
+          shares = λ held told opens. shares_on (shares_on (shares_empty p.room) (pulled_lasts (was_pulled held told).shares) (pulls_of p.room p.pull opens).files) furnished.shares (furnish_files s name commit furnish);
+          creates = λ held told opens.
+              let pulled = (pulls_of p.room p.pull opens).files in
+              let before = files_on (files_kept p.room) pulled in
+              creates_to (λ o l. record { digits = l.digits; ordered = l.ordered; lacked = sym (object_before o.0 o.1) ∙ l.lacked }) (λ o l. record { digits = l.digits; ordered = l.ordered; lacked = object_before o.0 o.1 ∙ l.lacked })
+              (creates_on (creates_after (room_creates name commit kept p.room) (was_pulled held told).creates (files_kept p.room) pulled) (furnish_creates name commit furnish) before (furnish_files s name commit furnish));
         }
 
         -- the commit's root has no entry `deploy`

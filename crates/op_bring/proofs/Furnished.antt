@@ -1,17 +1,19 @@
 -- A store that is made ready, and a commit that is laid out after it, call by call.
-use Rattle.std.proofs.Common.{◌≡◌, ℕ, List, Bool, false, Option, Err, refl, sym, ◌∙◌, ap, subst}
+use Rattle.std.proofs.Common.{◌≡◌, ℕ, List, Bool, true, false, Option, Err, refl, sym, ◌∙◌, ap, subst}
 use Rattle.std.specs.Prelude.{IsErrOf}
+use Rattle.std.proofs.lemmas.Bool.{false≢true}
 use Rattle.fp_host.specs.Causes.{IsCaused}
 use Rattle.fp_host.specs.Frame.{AtEnd}
 use Rattle.fp_host.specs.Moments.{Moments, Always}
 use Rattle.fp_host.specs.Paths.{Elements}
 use Rattle.fp_host.specs.View.{View, IsTree}
-use Rattle.fp_host.proofs.Ending.{ends_goes, ends_on, ends_in_tree}
+use Rattle.fp_host.proofs.Ending.{ends_both, ends_goes, ends_on, ends_to, ends_in_tree}
 use Rattle.fp_host.proofs.Framed.{IsTold}
 use Rattle.fp_host.proofs.Goes.{begins, goes_on}
 use Rattle.fp_name.specs.Refs.{Ref}
 use Rattle.fp_small.specs.Places.{repo}
 use Rattle.fp_small.specs.declared.refusal.Refusal.{Refusal}
+use Rattle.fp_small.proofs.Sharing.{shares_on}
 use Rattle.ost_checkout.specs.Checkout.{HasReserved}
 use Rattle.ost_checkout.specs.declared.ends.CheckoutEnd.{CheckoutEnd}
 use Rattle.ost_checkout.specs.declared.ends.CheckoutEnd.TheVariants as checkouts
@@ -21,8 +23,9 @@ use Rattle.dep_states.specs.Names.{commit_dir}
 use Rattle.op_bring.specs.Ends.{of_checkout}
 use Rattle.op_bring.specs.Furnishing.{Furnishes, readies, lays, WasFurnished, CanFurnish}
 use Rattle.op_bring.specs.LayingOut.{LaysOut, WasLaidOut, CanLayOut}
-use Rattle.op_bring.specs.Readying.{ReadiesStore}
+use Rattle.op_bring.specs.Readying.{ReadiesStore, WasReadied}
 use Rattle.op_bring.proofs.Able.{can_lay_next}
+use Rattle.op_bring.proofs.Changing.{lays_files, lays_shares}
 
 module _ {commit : List ℕ} {to : Elements} {kept : Bool} where
   pub goes_ready : {a b : Option Moments} → IsTold a → Always ReadiesStore a b → Always (Furnishes commit to kept) a b
@@ -32,8 +35,11 @@ module _ {commit : List ℕ} {to : Elements} {kept : Bool} where
   goes_lays is told mid first second =
       goes_on {Q = ReadiesStore} mid (begins told first (λ u w t r. readies r) (λ u w t r e. e)) second (λ u v w t r q x. lays v t q is x) (λ u v w t r q x e. lays v t q is e)
 
-  pub end_lays : {a b c : Option Moments} → IsTold a → IsTold b → Always ReadiesStore a b → AtEnd (WasLaidOut commit to) b c → AtEnd (WasFurnished commit to kept) a c
-  end_lays told mid first done = ends_on done (ends_goes told first) mid (λ u v w t r d off. d)
+  pub end_kept : kept ≡ true → {a b : Option Moments} → AtEnd WasReadied a b → AtEnd (WasFurnished commit to kept) a b
+  end_kept is done = ends_to done (λ u w r. record { laid = λ off. absurd (false≢true (sym off ∙ is)); shares = r.shares })
+
+pub end_lays : (name : Ref) (commit : List ℕ) {kept : Bool} {a b c : Option Moments} → IsTold b → AtEnd WasReadied a b → Always (LaysOut commit (commit_dir name commit)) b c → AtEnd (WasLaidOut commit (commit_dir name commit)) b c → AtEnd (WasFurnished commit (commit_dir name commit) kept) a c
+end_lays name commit mid first second done = ends_on (ends_both (ends_goes mid second) done) first mid (λ u v w t r d. record { laid = λ off. d.1; shares = shares_on r.shares (lays_shares name commit d.0) (lays_files name commit d.0) })
 
 pub reserved_after : {commit : List ℕ} {a b c : Option Moments} → IsTold a → IsTold b → Always ReadiesStore a b → AtEnd (λ u w. HasReserved repo commit w) b c → AtEnd (λ u w. HasReserved repo commit w) a c
 reserved_after told mid first reserved = ends_on reserved (ends_goes told first) mid (λ u v w t r d. d)

@@ -9,6 +9,7 @@ pub mod Plain
 pub mod Pulling
 pub mod Folders
 pub mod Changing
+pub mod Creating
 pub mod Fetched
 pub mod Able
 pub mod Standing

@@ -23,7 +23,7 @@ use Rattle.dep_states.proofs.Pulling.{new_spares}
 use Rattle.dep_states.proofs.Sparing.{fixed_in_repo}
 use Rattle.dep_states.proofs.Switching.{none_in_tmp, permits_gone}
 use Rattle.dep_states.proofs.Usual.{tmp_spares, sound_store}
-use Rattle.op_bring.proofs.Apart.{within_rest}
+use Rattle.dep_states.proofs.Lasting.{within_rest}
 use Rattle.op_bring.proofs.Plain.{IsPlain, plain_spared, plain_permitted}
 use Rattle.op_bring.proofs.Sparing.{a_folder}
 

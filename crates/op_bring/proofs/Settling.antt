@@ -23,7 +23,8 @@ use Rattle.dep_states.proofs.Rows.{text_apart, head_of}
 use Rattle.dep_states.proofs.Switching.{second, word_no_repo}
 use Rattle.dep_switch.proofs.Spots.{now_left, shown_at, same_shown}
 use Rattle.op_bring.specs.Bringing.{LeftName, work_gone, work_folder, unkept_gone}
-use Rattle.op_bring.proofs.Apart.{above_rest, within_rest, object_off_tmp, object_off_dir, store_by}
+use Rattle.dep_states.proofs.Lasting.{above_rest, within_rest}
+use Rattle.op_bring.proofs.Apart.{object_off_tmp, object_off_dir, store_by}
 
 -- two images that show one state see the same refs
 seen_same : (i j : Disk) {s : State} → Shows i s → Shows j s → (name : Ref) → ref_seen j name ≡ ref_seen i name

@@ -11,13 +11,18 @@ use Rattle.fp_name.specs.Refs.{Ref}
 use Rattle.fp_small.specs.Clear.{IsWithin}
 use Rattle.fp_small.specs.Files.{KeepsFiles}
 use Rattle.fp_small.specs.Places.{repo, tmp}
+use Rattle.fp_small.specs.Shares.{Shares}
 use Rattle.fp_small.specs.declared.refusal.Refusal.{Refusal}
 use Rattle.fp_small.specs.declared.state.State.{State}
 use Rattle.fp_small.specs.declared.state.RemoteRow.{RemoteRow}
 use Rattle.ost_model.specs.Objects.{object_path}
+use Rattle.ost_pull.specs.Pulls.{IsLacked}
+use Rattle.ost_store.specs.Created.{Creates}
 use Rattle.ost_head.specs.declared.ends.PullEnd.{PullEnd}
 use Rattle.ost_head.specs.declared.ends.PullEnd.TheVariants as ends
 use Rattle.dep_states.specs.Frames.{KeptIn}
+use Rattle.dep_states.specs.Lasting.{IsLasting}
+use Rattle.dep_states.specs.Links.{Links}
 use Rattle.dep_states.specs.Names.{active, commit_dir, deploy}
 use Rattle.dep_states.specs.Settled.{Settled}
 use Rattle.dep_states.specs.Sound.{Opens}
@@ -47,12 +52,13 @@ pub data BringsName (s : State) (name : Ref) (commit : List ℕ) (q : Elements) 
   a_folder : IsFolderFor name commit q → e ≡ dir → BringsName s name commit q e
 
 -- No other names change, an object's name that held something holds it still, each file that was there keeps its mode and its
--- bytes, and nothing is printed.
+-- bytes, one that comes to a commit's folder is a record or was put below the store's objects, and nothing is printed.
 pub record ChangesFor (s : State) (name : Ref) (commit : List ℕ) (u w : View) : Type 0 where
   pub names : (q : Elements) → (w.names q ≡ u.names q) ⊎ BringsName s name commit q (w.names q)
   pub objects : (d : List ℕ) (kind : ObjKind) → is_digest d ≡ true → u.names (object_path repo d kind) ≢ absent
       → w.names (object_path repo d kind) ≡ u.names (object_path repo d kind)
   pub files : KeepsFiles u w
+  pub links : Links u w
   pub printed : w.printed ≡ u.printed
 
 -- ---- from a state to another
@@ -68,10 +74,13 @@ pub record Brings (s : State) (origin : RemoteRow) (name : Ref) (commit : List �
   pub refused : (held : Holdings) → holds ≡ Some held → (r : Refusal) → brought_refusal (supply_at held (Some origin.url) u) name commit ≡ Some r → Opens s u → Opens s w
   pub changes : Opens s u → ChangesFor s name commit u w
 
--- in the end the one after, the commit's objects, and every stop leaves what stands
+-- In the end the one after, the commit's objects, and every stop leaves what stands. Each new file that has bytes came to a lasting
+-- name.
 pub record WasBrought (s : State) (origin : RemoteRow) (name : Ref) (commit : List ℕ) (holds : Option Holdings) (u w : View) : Type 0 where
   pub opens : (held : Holdings) → holds ≡ Some held → Opens s u → Opens (state_brought (supply_at held (Some origin.url) u) s name origin.name commit) w
   pub objects : (held : Holdings) → holds ≡ Some held → Opens s u → HasObjects (supply_at held (Some origin.url) u) commit u w
+  pub shares : (held : Holdings) → holds ≡ Some held → Opens s u → Shares IsLasting u w
+  pub creates : (held : Holdings) → holds ≡ Some held → Opens s u → Creates repo (IsLacked repo (supply_at held (Some origin.url) u) commit u) u w
   pub settled : IsSettled w
 
 -- or the state of before, where it was given up

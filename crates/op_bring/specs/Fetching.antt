@@ -5,12 +5,16 @@ use Rattle.fp_host.specs.Remote.{Holdings}
 use Rattle.fp_host.specs.View.{View}
 use Rattle.fp_name.specs.Refs.{Ref}
 use Rattle.fp_small.specs.Places.{repo}
+use Rattle.fp_small.specs.Shares.{Shares}
 use Rattle.fp_small.specs.declared.state.State.{State}
 use Rattle.ost_model.specs.Look.{nothing, look}
 use Rattle.ost_model.specs.Objects.{Have}
 use Rattle.ost_model.specs.Order.{first_fault}
 use Rattle.ost_model.specs.Standing.{deploy_name}
 use Rattle.ost_checkout.specs.Checkout.{IsCheckedOut}
+use Rattle.ost_pull.specs.Pulls.{IsLacked}
+use Rattle.ost_store.specs.Created.{Creates}
+use Rattle.dep_states.specs.Lasting.{IsLasting}
 use Rattle.dep_states.specs.Names.{commit_dir}
 use Rattle.dep_states.specs.Sound.{Opens}
 use Rattle.dep_switch.specs.Writing.{new_link}
@@ -30,8 +34,11 @@ pub record IsFetched (name : Ref) (commit : List ℕ) (kept : Bool) (have : Have
   pub link_free : w.names new_link ≡ absent
   pub laid : kept ≡ false → IsCheckedOut repo commit (commit_dir name commit) w
 
+-- so it is; each new file that has bytes came to a lasting name
 pub record WasFetched (s : State) (name : Ref) (commit : List ℕ) (kept : Bool) (url : List ℕ) (holds : Option Holdings) (u w : View) : Type 0 where
   pub fetched : (held : Holdings) → holds ≡ Some held → Opens s u → IsFetched name commit kept (supply_at held (Some url) u) u w
+  pub shares : (held : Holdings) → holds ≡ Some held → Opens s u → Shares IsLasting u w
+  pub creates : (held : Holdings) → holds ≡ Some held → Opens s u → Creates repo (IsLacked repo (supply_at held (Some url) u) commit u) u w
 
 -- the root of the commit has no entry `deploy`
 abbrev pub HasNoDeploy : Have → List ℕ → Type 0

@@ -2,6 +2,8 @@
 use Rattle.std.specs.Prelude.{◌≡◌, ℕ, List, Bool, false}
 use Rattle.fp_host.specs.Paths.{Elements}
 use Rattle.fp_host.specs.View.{View, IsTree}
+use Rattle.fp_small.specs.Shares.{Shares}
+use Rattle.dep_states.specs.Lasting.{IsLasting}
 use Rattle.op_bring.specs.LayingOut.{LaysOut, WasLaidOut, CanLayOut}
 use Rattle.op_bring.specs.Readying.{ReadiesStore, CanReady}
 
@@ -10,8 +12,10 @@ pub data Furnishes (commit : List ℕ) (to : Elements) (kept : Bool) (u w : View
   readies : ReadiesStore u w → Furnishes commit to kept u w
   lays : (between : View) → IsTree between → ReadiesStore u between → kept ≡ false → LaysOut commit to between w → Furnishes commit to kept u w
 
-abbrev pub WasFurnished : List ℕ → Elements → Bool → View → View → Type 0
-WasFurnished commit to kept u w = kept ≡ false → WasLaidOut commit to u w
+-- It is laid out where it isn't kept. A new file that has bytes came to a lasting name.
+pub record WasFurnished (commit : List ℕ) (to : Elements) (kept : Bool) (u w : View) : Type 0 where
+  pub laid : kept ≡ false → WasLaidOut commit to u w
+  pub shares : Shares IsLasting u w
 
 pub record CanFurnish (commit : List ℕ) (to : Elements) (kept : Bool) (v : View) : Type 0 where
   pub store : CanReady v

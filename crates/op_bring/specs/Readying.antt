@@ -7,8 +7,10 @@ use Rattle.fp_host.specs.Outcome.{Spot}
 use Rattle.fp_host.specs.Frame.{Keeps}
 use Rattle.fp_small.specs.Places.{repo}
 use Rattle.fp_small.specs.Files.{KeepsFiles}
+use Rattle.fp_small.specs.Shares.{Shares}
 use Rattle.fp_small.specs.Folders.{ancestors, FoldersAt, DirsAt, AreFree, AreDirs}
 use Rattle.fp_small.specs.Replace.{IsStaging, ReplacesAt, ReplacesName, CanReplace, IsFreeFile}
+use Rattle.dep_states.specs.Lasting.{IsLasting}
 
 -- `config` of the store, and what it says
 abbrev pub store_config : Elements
@@ -42,9 +44,10 @@ pub record ReadiesStore (u w : View) : Type 0 where
   pub keeps : Keeps (ReadiesAt u) (ReadiesName u) (IsStaging u) u w
   pub files : KeepsFiles u w
 
--- a file stands there afterwards
-abbrev pub HasConfigured : View → View → Type 0
-HasConfigured u w = IsFreeFile store_config u → IsFile (w.names store_config)
+-- A file stands there afterwards. A new one that has bytes came to a lasting name.
+pub record HasConfigured (u w : View) : Type 0 where
+  pub there : IsFreeFile store_config u → IsFile (w.names store_config)
+  pub shares : Shares IsLasting u w
 
 -- where it can be made ready
 pub record CanReady (v : View) : Type 0 where
@@ -55,6 +58,7 @@ pub record HasStore (w : View) : Type 0 where
   pub config : IsFile (w.names store_config)
   pub heads : AreDirs heads_folders w
 
--- after it
-abbrev pub WasReadied : View → View → Type 0
-WasReadied u w = CanReady u → HasStore w
+-- After it the store is there. A new file that has bytes came to a lasting name.
+pub record WasReadied (u w : View) : Type 0 where
+  pub store : CanReady u → HasStore w
+  pub shares : Shares IsLasting u w

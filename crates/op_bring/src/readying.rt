@@ -39,7 +39,8 @@ fn write_config<H: Host>(alloc: Global, host: &mut H, config: &Path) -> Result<(
     }
 }
 
-/// Makes `repo/config` and the folder `repo/refs/heads`, each where it is absent.
+/// Makes the folder `repo/refs/heads`, and then `repo/config`, each where it is absent. So where the store has a `config`, it has
+/// the folder of its refs.
 pub(crate) fn ready_store<H: Host>(alloc: Global, host: &mut H) -> Result<(), HostEnd>
     ensures any_moment { Always ReadiesStore (H.moments host.old) (H.moments host.new) }
     ensures on_success { OnOk result (AtEnd WasReadied
@@ -48,6 +49,6 @@ pub(crate) fn ready_store<H: Host>(alloc: Global, host: &mut H) -> Result<(), Ho
         CanReady (H.faults host.old) (H.faults host.new) }
 {
     let (config, head) = store_paths(alloc)?;
-    write_config(alloc, host, &config)?;
-    make_above(alloc, host, &head)
+    make_above(alloc, host, &head)?;
+    write_config(alloc, host, &config)
 }

@@ -39,7 +39,10 @@ use Rattle.dep_switch.specs.Rows.{IsAt, with_row}
 use Rattle.op_bring.specs.Bringing.{AreTold, BringsName, WasBrought, WasGivenUp}
 use Rattle.op_bring.specs.Bringing as bring
 use Rattle.op_bring.specs.Brought.{row_brought, left_at, brought_refusal, commit_time, state_brought, brought, supply_at, HasObjects}
-use Rattle.op_change.specs.Applied.{Brings, MayChange, url_in, url_for, done_with, op_refusal, Applies, WasApplied, IsStarved, AppliesWith, HasObjectsFor, have_for}
+use Rattle.ost_store.specs.Created.{Creates}
+use Rattle.ost_store.proofs.Creating.{creates_to}
+use Rattle.ost_pull.specs.Pulls.{IsLacked}
+use Rattle.op_change.specs.Applied.{Brings, MayChange, url_in, url_for, done_with, op_refusal, Applies, WasApplied, IsStarved, AppliesWith, HasObjectsFor, IsBroughtFor, have_for}
 use Rattle.op_change.specs.Ends.{EndsAs, of_pull}
 use Rattle.op_change.specs.declared.ending.ApplyEnd.{ApplyEnd}
 use Rattle.op_change.specs.declared.ending.ApplyEnd.TheVariants as ends
@@ -98,6 +101,7 @@ pub record IsBringing (s : State) (op : Op) (name : Ref) (commit : List ℕ) (ro
   pub made : (time : ℕ) → with_row s (row_brought s name row.name commit time) ≡ after_op s time op
   pub may : (u : View) (q : Elements) (e : Slot) → BringsName s name commit q e → MayChange s op u q e
   pub objects : (have : Have) (u w : View) → HasObjects have commit u w → HasObjectsFor have op u w
+  pub created : (have : Have) (u w : View) → Creates repo (IsLacked repo have commit u) u w → Creates repo (IsBroughtFor have op u) u w
 
 pub is_install : (s : State) (name : Ref) (origin commit : List ℕ) (row : RemoteRow) → row_at s name ≡ None → at_name name_of s.remotes origin ≡ Some row → IsBringing s (Install name origin commit) name commit row
 is_install s name origin commit row none from = record {
@@ -109,6 +113,7 @@ is_install s name origin commit row none from = record {
   made = λ time. installed s name origin row.name commit time none (row_named name_of s.remotes origin row from);
   may = λ u q e put. put;
   objects = λ have u w o. o;
+  created = λ have u w made. creates_to (λ o is. is) (λ o is. is) made;
 }
 
 pub is_update : (s : State) (name : Ref) (origin commit : List ℕ) (row : RemoteRow) (ref : RefRow) → row_at s name ≡ Some ref → at_name name_of s.remotes origin ≡ Some row → IsBringing s (Update name origin commit) name commit row
@@ -121,6 +126,7 @@ is_update s name origin commit row ref there from = record {
   made = λ time. updated_to s name origin row.name commit time ref there (row_named name_of s.remotes origin row from);
   may = λ u q e put. put;
   objects = λ have u w o. o;
+  created = λ have u w made. creates_to (λ o is. is) (λ o is. is) made;
 }
 
 pub bringing_as : {s : State} {name : Ref} {commit : List ℕ} {row : RemoteRow} (op x : Op) → op ≡ x → IsBringing s x name commit row → IsBringing s op name commit row
@@ -144,7 +150,7 @@ module _ {s : State} {op : Op} {name : Ref} {commit : List ℕ} {row : RemoteRow
     either = λ held is opens. subst (λ (t : State). OpensEither s t w) (state_as held u) (brings.either held (is b.brings) opens);
     refused = λ held is r refused opens. brings.refused held (is b.brings) r (refusal_as held u r refused) opens;
     changes = λ opens. let changes = brings.changes (opens b.brings) in
-        record { names = λ q. elim (changes.names q) [ inl same ↦ inl same | inr put ↦ inr (b.may u q _ put) ]; files = changes.files; printed = changes.printed };
+        record { names = λ q. elim (changes.names q) [ inl same ↦ inl same | inr put ↦ inr (b.may u q _ put) ]; files = changes.files; links = changes.links; printed = changes.printed };
   }
 
   pub goes_applied : {holds : Option Holdings} {a c : Option Moments} → IsTold a → Always (bring.Brings s row name commit holds) a c → Always (Applies s op holds) a c
@@ -154,6 +160,8 @@ module _ {s : State} {op : Op} {name : Ref} {commit : List ℕ} {row : RemoteRow
   end_applied done = ends_to done (λ u w d. record {
     opens = λ held is opens. subst (λ (t : State). Opens t w) (state_as held u) (d.opens held (is b.brings) opens);
     objects = λ held is opens. b.objects (supply_at held (url_for s op) u) u w (subst (λ (url : Option (List ℕ)). HasObjects (supply_at held url u) commit u w) (sym b.url) (d.objects held (is b.brings) (opens b.brings)));
+    shares = λ held is opens. d.shares held (is b.brings) (opens b.brings);
+    creates = λ held is opens. b.created (supply_at held (url_for s op) u) u w (subst (λ (url : Option (List ℕ)). Creates repo (IsLacked repo (supply_at held url u) commit u) u w) (sym b.url) (d.creates held (is b.brings) (opens b.brings)));
     settled = d.settled;
     settings = λ on. absurd (b.off on);
   })

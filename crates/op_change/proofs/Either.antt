@@ -4,13 +4,15 @@ use Rattle.std.specs.Prelude.{map}
 use Rattle.std.specs.List.{AllByRecursion}
 use Rattle.std.proofs.lemmas.Bool.{le-leb}
 use Rattle.std.proofs.lemmas.List.Elements.{Contains-push_cases}
-use Rattle.fp_host.specs.Paths.{Elements, Slot, absent, dir, file, link}
+use Rattle.fp_host.specs.Paths.{Elements, Slot, absent, dir, file, link, IsAbove}
 use Rattle.fp_host.specs.View.{View, Inode, IsTree}
 use Rattle.fp_host.specs.Reads.{is_ascending}
 use Rattle.fp_host.specs.Outcome.{Spot, Disk, Leaves, gone, folder, holds, spot_of, holding, shows}
 use Rattle.fp_host.proofs.Settled.{at_tree}
 use Rattle.fp_name.specs.Refs.{Ref}
+use Rattle.fp_small.specs.Clear.{IsWithin}
 use Rattle.fp_small.specs.Places.{repo, tmp}
+use Rattle.ost_model.specs.Stores.{objects_folder}
 use Rattle.fp_small.specs.Folders.{IsFree}
 use Rattle.fp_small.specs.Move.{IsNew, HasNew}
 use Rattle.fp_small.specs.Replace.{IsStaging, folders_of, ReplacesAt, ReplacesName, Replaces, WasReplaced, CanReplace}
@@ -41,8 +43,12 @@ use Rattle.fp_base.specs.declared.object.ObjKind.{ObjKind}
 use Rattle.dep_states.specs.Switch.{OpensEither}
 use Rattle.fp_small.proofs.Pinning.{added, dropped}
 use Rattle.fp_small.proofs.Remoting as remotes
+use Rattle.fp_small.proofs.Sharing.{shares_made}
+use Rattle.dep_states.specs.Lasting.IsLasting.{the_settings}
 use Rattle.op_deploy.specs.Applied.{Does}
 use Rattle.op_deploy.proofs.Objects.{same_objects}
+use Rattle.ost_store.proofs.Creating.{creates_frame}
+use Rattle.dep_states.proofs.Elsewhere.{off_settings, off_work}
 use Rattle.op_change.specs.Applied.{SettingsDone}
 use Rattle.op_change.proofs.Sizes.{config_fits}
 
@@ -255,12 +261,20 @@ no_object u d kind e put = elim put [
   | inr other ↦ elim other [ inl made ↦ elim (which (object_path repo d kind) made.0) [ inl is ↦ cc is | inr is ↦ cc is ] | inr work ↦ cc work.is ]
 ]
 
+-- nor one below the store's objects
+no_stored : (u : View) (q : Elements) (id : ℕ) → IsAbove (objects_folder repo) q → ReplacesName config u q (file id) → ⊥
+no_stored u q id below (inl new) = off_settings q below new.0
+no_stored u q id below (inr (inl made)) = cc made.1
+no_stored u q id below (inr (inr work)) = off_work q below (subst (IsWithin tmp) (sym work.is) (inr (inl refl)))
+
 pub was_applied : {s : State} {t : State} {u w : View} (op : Op) → IsTree u → IsTree w → t ≡ after s (plain op) → IsNext s t → ReadsBack t → Replaces config (config_text (settings_of t)) u w → WasReplaced config (config_text (settings_of t)) u w → SettingsDone s (after s (plain op)) u w
 was_applied {t = t} {u = u} {w = w} op start after_ is next reads replaces put = record {
   done = record {
     opens = λ opens. subst (λ x. Opens x w) is (opens_after next reads replaces opens put);
     settled = put.settled;
     objects = same_objects (ReplacesName config u) start after_ replaces.files replaces.keeps.names (no_object u);
+    shares = shares_made (the_settings refl) put.made;
+    creates = creates_frame (ReplacesName config u) replaces.keeps (no_stored u);
   };
   settings = record {
     text = subst (λ x. HasNew config (config_text (settings_of x)) w) is put.new;

@@ -47,10 +47,10 @@ module _ (s : State) (op : Op) where
   goes_applies told may goes = begins told goes (λ u w t r. does_applies may r) (λ u w t r e. does_applies may e)
 
   pub ends_done : {a b : Option Moments} → (IsOnConfig op → ⊥) → AtEnd (WasDone s (after s (plain op))) a b → AtEnd (WasDonePlainly s op) a b
-  ends_done off done = ends_to done (λ u w d. record { opens = d.opens; settled = d.settled; objects = d.objects; settings = λ on. absurd (off on) })
+  ends_done off done = ends_to done (λ u w d. record { opens = d.opens; settled = d.settled; objects = d.objects; shares = d.shares; creates = d.creates; settings = λ on. absurd (off on) })
 
   pub ends_settings : {a b : Option Moments} → AtEnd (SettingsDone s (after s (plain op))) a b → AtEnd (WasDonePlainly s op) a b
-  ends_settings done = ends_to done (λ u w d. record { opens = d.done.opens; settled = d.done.settled; objects = d.done.objects; settings = λ on. d.settings })
+  ends_settings done = ends_to done (λ u w d. record { opens = d.done.opens; settled = d.done.settled; objects = d.done.objects; shares = d.done.shares; creates = d.done.creates; settings = λ on. d.settings })
 
   pub starved_same : {a b : Option Moments} → AtEnd (λ u w. w ≡ u) a b → AtEnd (IsStarvedPlainly s op) a b
   starved_same same = ends_to same (λ u w e. record { opens = λ opens. subst (Opens s) (sym e) opens; settings = λ on. e })

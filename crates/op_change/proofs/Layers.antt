@@ -6,7 +6,7 @@ use Rattle.std.proofs.lemmas.Bool.{le-leb, or_cases, cond-true}
 use Rattle.std.proofs.lemmas.List.Elements.{Contains-push_cases}
 use Rattle.std.proofs.lemmas.Slice.Eq.{bytes_eq-Decides}
 use Rattle.fp_base.specs.declared.object.ObjKind.{ObjKind}
-use Rattle.fp_host.specs.Paths.{Elements, Slot, absent, is_element}
+use Rattle.fp_host.specs.Paths.{Elements, Slot, absent, is_element, IsAbove}
 use Rattle.fp_host.specs.View.{View, IsTree}
 use Rattle.fp_host.specs.Calls.{syncs, Step, IsNoDir}
 use Rattle.fp_host.specs.Outcome.{Spot, gone, folder, holds, spot_of, Disk, Leaves, Follows, shows}
@@ -24,19 +24,22 @@ use Rattle.fp_keyfile.proofs.Read.{file_of-text_of}
 use Rattle.fp_name.specs.FileNames.{is_file_name}
 use Rattle.fp_name.specs.Grammar.{is_id}
 use Rattle.fp_name.proofs.Files.{file_id}
-use Rattle.fp_small.specs.Clear.{GoneAt, AbsentAt}
+use Rattle.fp_small.specs.Clear.{GoneAt, AbsentAt, IsWithin}
 use Rattle.fp_small.specs.Folders.{IsFree}
 use Rattle.fp_small.specs.Move.{IsNew}
 use Rattle.fp_small.specs.Places.{repo, tmp}
+use Rattle.ost_model.specs.Stores.{objects_folder}
 use Rattle.fp_small.specs.Replace.{IsFreeFile, folders_of, ReplacesAt, ReplacesName, Replaces, WasReplaced, CanReplace}
 use Rattle.fp_small.specs.declared.op.Op.TheVariants.{SetOverride, DropOverride}
 use Rattle.fp_small.specs.declared.state.OverrideRow.{OverrideRow}
 use Rattle.fp_small.specs.declared.state.State.{State}
 use Rattle.fp_small.proofs.Keeping.{files_kept}
 use Rattle.fp_small.proofs.Ordered.{bytes_eq-itself}
+use Rattle.fp_small.proofs.Sharing.{shares_empty, shares_made}
 use Rattle.fp_small.proofs.Staging.{synced}
 use Rattle.ost_model.specs.Objects.{object_path}
 use Rattle.dep_states.specs.After.{after, plain}
+use Rattle.dep_states.specs.Lasting.IsLasting.{an_override}
 use Rattle.dep_states.specs.Names.{is_override, overrides_folder, override_path, commit_dir, deploy}
 use Rattle.dep_states.specs.Shown.{away, bad, there, seen_of, read_of, if_file, named_override, override_at, override_seen, at_name, override_key, small_most, Shows}
 use Rattle.dep_states.specs.Small.{IsLayered}
@@ -52,6 +55,8 @@ use Rattle.dep_states.proofs.Switching.{none_in_tmp, word_no_repo, permits_gone}
 use Rattle.dep_switch.proofs.Spots.{now_left, folder_free, file_free}
 use Rattle.op_deploy.specs.Applied.{Does, WasDone}
 use Rattle.op_deploy.proofs.Objects.{same_objects}
+use Rattle.ost_store.proofs.Creating.{creates_frame}
+use Rattle.dep_states.proofs.Elsewhere.{off_override, off_work}
 use Rattle.op_change.specs.Overriding.{AbsentAtPath}
 
 -- ---- the name
@@ -230,11 +235,18 @@ module _ (s : State) (row : OverrideRow) (name_good : is_override row.name ≡ t
     ]
   ]
 
+  no_stored_set : (u : View) (q : Elements) (id : ℕ) → IsAbove (objects_folder repo) q → ReplacesName (path_for row) u q (Slot.file id) → ⊥
+  no_stored_set u q id below (inl new) = off_override q below row.name new.0
+  no_stored_set u q id below (inr (inl made)) = cc made.1
+  no_stored_set u q id below (inr (inr work)) = off_work q below (subst (IsWithin tmp) (sym work.is) (inr (inl refl)))
+
   was_set : {u w : View} → IsTree u → IsTree w → Replaces (path_for row) (bytes_for row) u w → WasReplaced (path_for row) (bytes_for row) u w → WasDone s (set_state s row) u w
   was_set {u = u} start last replaces done = record {
     opens = λ opens. record { shown = λ disk left. set_new replaces opens disk left (done.new.each disk left); sound = λ disk left. set_sound replaces opens disk left };
     settled = done.settled;
     objects = same_objects (ReplacesName (path_for row) u) start last replaces.files replaces.keeps.names (no_object_set u);
+    shares = shares_made (an_override row.name refl) done.made;
+    creates = creates_frame (ReplacesName (path_for row) u) replaces.keeps (no_stored_set u);
   }
 
   pub set_goes : {a b : Option Moments} → IsTold a → Goes a b (Replaces (path_for row) (bytes_for row)) (Replaces (path_for row) (bytes_for row)) → Goes a b (Does s (set_state s row) (ReplacesName (path_for row))) (Does s (set_state s row) (ReplacesName (path_for row)))
@@ -339,6 +351,8 @@ module _ (s : State) (name : List ℕ) (name_good : is_override name ≡ true) w
     };
     settled = synced step;
     objects = same_objects (AbsentAt (override_path name)) start last (files_kept keeps) keeps.names (λ d kind e put. cc put.0);
+    shares = shares_empty keeps;
+    creates = creates_frame (AbsentAt (override_path name)) keeps (λ q id below put. cc put.1);
   }
 
   pub drop_end : {a b c : Option Moments} → IsTold a → IsTold b → IsTold c → Frame (GoneAt (override_path name)) (AbsentAt (override_path name)) NoPath a b → AtEnd (λ u w. w.names (override_path name) ≡ absent) a b

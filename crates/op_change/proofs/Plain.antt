@@ -1,8 +1,10 @@
 -- An operation that brings no commit, among all.
-use Rattle.std.proofs.Common.{◌≡◌, Option, None, Result, Ok, Err, refl, sym, ◌∙◌, ap, subst, Some}
+use Rattle.std.proofs.Common.{◌≡◌, ◌⊎◌, inl, inr, ℕ, List, Option, None, Result, Ok, Err, refl, sym, ◌∙◌, ap, subst, Some}
 use Rattle.std.specs.Prelude.{IsErrOf}
 use Rattle.fp_host.specs.Frame.{AtEnd}
 use Rattle.fp_host.specs.Moments.{Moments, Always}
+use Rattle.fp_base.specs.declared.object.ObjKind.{ObjKind}
+use Rattle.fp_host.specs.Paths.{Elements, file, IsAbove}
 use Rattle.fp_host.specs.Remote.{Holdings}
 use Rattle.fp_host.specs.View.{View}
 use Rattle.fp_host.specs.declared.host.HostEnd.{HostEnd}
@@ -10,16 +12,26 @@ use Rattle.fp_host.specs.declared.host.HostEnd.TheVariants as host_ends
 use Rattle.fp_host.proofs.Ending.{ends_to}
 use Rattle.fp_host.proofs.Framed.{IsTold}
 use Rattle.fp_host.proofs.Goes.{begins}
+use Rattle.fp_small.specs.Clear.{IsWithin}
+use Rattle.fp_small.specs.Places.{tmp}
+use Rattle.fp_small.specs.Replace.{ReplacesName}
 use Rattle.fp_small.specs.declared.op.Op.{Op}
 use Rattle.fp_small.specs.declared.op.Op.TheVariants.{Install, Update, Uninstall, AddPin, DropPin, AddRemote, ModifyRemote, DropRemote, SetOverride, DropOverride, Migrate, Rollback}
 use Rattle.fp_small.specs.declared.refusal.Refusal.{Refusal}
 use Rattle.fp_small.specs.declared.state.State.{State}
 use Rattle.ost_model.specs.Objects.{Have}
 use Rattle.dep_states.specs.After.{after, plain}
+use Rattle.dep_states.specs.Lasting.{IsLasting}
+use Rattle.dep_states.specs.Lasting.IsLasting.{the_settings, an_override}
+use Rattle.dep_states.specs.Links.{Links}
+use Rattle.dep_states.specs.Names.{config, override_path}
 use Rattle.dep_states.specs.Sound.{Opens}
 use Rattle.dep_states.specs.Switch.{OpensEither}
+use Rattle.dep_states.proofs.Linked.{links_lasting}
 use Rattle.op_deploy.specs.Applied.{SameObjects}
-use Rattle.op_change.specs.Applied.{Brings, have_for, done_with, op_refusal, Applies, WasApplied, IsStarved, AppliesWith, AppliesPlainly, HasObjectsFor}
+use Rattle.op_deploy.proofs.Deployed.{deploys_file}
+use Rattle.ost_store.proofs.Creating.{creates_to}
+use Rattle.op_change.specs.Applied.{Brings, MayChange, have_for, done_with, op_refusal, Applies, WasApplied, IsStarved, AppliesWith, AppliesPlainly, HasObjectsFor, IsBroughtFor}
 use Rattle.op_change.specs.Ends.{of_host}
 use Rattle.op_change.specs.Plainly.{DoesPlainly, WasDonePlainly, IsStarvedPlainly}
 use Rattle.op_change.specs.declared.ending.ApplyEnd.{ApplyEnd}
@@ -70,6 +82,51 @@ same_for have (DropOverride name) u w off same = same
 same_for have Migrate u w off same = same
 same_for have (Rollback name commit) u w off same = same
 
+-- ---- files
+
+-- a file comes to the name that is replaced, or is work
+replaces_file : (p : Elements) → IsLasting p → (u : View) (q : Elements) (id : ℕ) → ReplacesName p u q (file id) → IsLasting q ⊎ IsWithin tmp q
+replaces_file p lasts u q id (inl new) = inl (subst IsLasting (sym new.0) lasts)
+replaces_file p lasts u q id (inr (inl made)) = absurd (cc made.1)
+replaces_file p lasts u q id (inr (inr work)) = inr (inr (subst (IsAbove tmp) (sym work.is) (inl refl)))
+
+config_file : (u : View) (q : Elements) (id : ℕ) → ReplacesName config u q (file id) → IsLasting q ⊎ IsWithin tmp q
+config_file = replaces_file config (the_settings refl)
+
+may_file : (s : State) (op : Op) → (Brings op → ⊥) → (u : View) (q : Elements) (id : ℕ) → MayChange s op u q (file id) → IsLasting q ⊎ IsWithin tmp q
+may_file s (Install name origin commit) off u q id put = absurd (off tt)
+may_file s (Update name origin commit) off u q id put = absurd (off tt)
+may_file s (Uninstall name) off u q id put = absurd (cc put.1)
+may_file s (AddPin pin) off u q id put = config_file u q id put
+may_file s (DropPin pin) off u q id put = config_file u q id put
+may_file s (AddRemote row) off u q id put = config_file u q id put
+may_file s (ModifyRemote row) off u q id put = config_file u q id put
+may_file s (DropRemote name) off u q id put = config_file u q id put
+may_file s (SetOverride row) off u q id put = replaces_file (override_path row.name) (an_override row.name refl) u q id put
+may_file s (DropOverride name) off u q id put = absurd (cc put.1)
+may_file s Migrate off u q id put = config_file u q id put
+may_file s (Rollback name commit) off u q id put = deploys_file name commit q id put
+
+may_links : (s : State) (op : Op) → (Brings op → ⊥) → {u w : View} → ((q : Elements) → (w.names q ≡ u.names q) ⊎ MayChange s op u q (w.names q)) → Links u w
+may_links s op off {u = u} names = links_lasting (MayChange s op u) names (may_file s op off u)
+
+-- no object is brought
+brings_none : (have : Have) (op : Op) (u : View) (o : List ℕ × ObjKind) → (Brings op → ⊥) → IsBroughtFor have op u o → ⊥
+brings_none have (Install name origin commit) u o off is = off tt
+brings_none have (Update name origin commit) u o off is = off tt
+brings_none have (Uninstall name) u o off is = is
+brings_none have (AddPin pin) u o off is = is
+brings_none have (DropPin pin) u o off is = is
+brings_none have (AddRemote row) u o off is = is
+brings_none have (ModifyRemote row) u o off is = is
+brings_none have (DropRemote name) u o off is = is
+brings_none have (SetOverride row) u o off is = is
+brings_none have (DropOverride name) u o off is = is
+brings_none have Migrate u o off is = is
+brings_none have (Rollback name commit) u o off is = is
+
+-- ---- so it is applied
+
 module _ (s : State) (op : Op) (off : Brings op → ⊥) where
   after_is : (have : Have) → after s (plain op) ≡ after s (done_with have op)
   after_is have = sym (ap (after s) (done_plain have op off))
@@ -78,7 +135,7 @@ module _ (s : State) (op : Op) (off : Brings op → ⊥) where
   applies {u = u} {w = w} does = record {
     either = λ held is opens. subst (λ (t : State). OpensEither s t w) (after_is (have_for s op held u)) (does.either opens);
     refused = λ held is r refused opens. absurd (none_some (sym (none_refused (have_for s op held u) op off) ∙ refused));
-    changes = λ opens. record { names = does.names; files = does.files; printed = does.printed };
+    changes = λ opens. record { names = does.names; files = does.files; links = may_links s op off does.names; printed = does.printed };
   }
 
   pub goes_plain : {holds : Option Holdings} {a b : Option Moments} → IsTold a → Always (DoesPlainly s op) a b → Always (Applies s op holds) a b
@@ -88,6 +145,8 @@ module _ (s : State) (op : Op) (off : Brings op → ⊥) where
   end_plain done = ends_to done (λ u w d. record {
     opens = λ held is opens. subst (λ (t : State). Opens t w) (after_is (have_for s op held u)) (d.opens opens);
     objects = λ held is opens. same_for (have_for s op held u) op u w off d.objects;
+    shares = λ held is opens. d.shares;
+    creates = λ held is opens. creates_to (λ o none. absurd none) (λ o brought. brings_none (have_for s op held u) op u o off brought) d.creates;
     settled = d.settled;
     settings = d.settings;
   })

@@ -10,13 +10,20 @@ use Rattle.fp_small.specs.Config.{config_text, name_of}
 use Rattle.fp_small.specs.Files.{KeepsFiles}
 use Rattle.fp_small.specs.Move.{HasNew}
 use Rattle.fp_small.specs.Replace.{IsStaging, ReplacesName}
+use Rattle.fp_small.specs.Shares.{Shares}
 use Rattle.fp_small.specs.declared.refusal.Refusal.{Refusal}
 use Rattle.fp_small.specs.declared.state.RemoteRow.{RemoteRow}
 use Rattle.fp_small.specs.declared.state.State.{State}
 use Rattle.fp_small.specs.declared.op.Op.{Op}
 use Rattle.fp_small.specs.declared.op.Op.TheVariants.{Install, Update, Uninstall, AddPin, DropPin, AddRemote, ModifyRemote, DropRemote, SetOverride, DropOverride, Migrate, Rollback}
+use Rattle.fp_base.specs.declared.object.ObjKind.{ObjKind}
+use Rattle.fp_small.specs.Places.{repo}
 use Rattle.ost_model.specs.Objects.{Have}
+use Rattle.ost_pull.specs.Pulls.{IsLacked}
+use Rattle.ost_store.specs.Created.{Creates}
 use Rattle.dep_states.specs.After.{Done, after, plain, IsOnConfig}
+use Rattle.dep_states.specs.Lasting.{IsLasting}
+use Rattle.dep_states.specs.Links.{Links}
 use Rattle.dep_states.specs.Names.{config, override_path, active}
 use Rattle.dep_states.specs.Shown.{at_name, settings_of, small_most}
 use Rattle.dep_states.specs.Sound.{Opens, HasConfig}
@@ -121,10 +128,12 @@ MayChange s (DropOverride name) u q e = AbsentAt (override_path name) q e
 MayChange s Migrate u q e = ReplacesName config u q e
 MayChange s (Rollback name commit) u q e = DeploysName name commit q e
 
--- No name changes but these, each file that was there keeps its mode and its bytes, and nothing is printed.
+-- No name changes but these, each file that was there keeps its mode and its bytes, one that comes to a commit's folder is a record
+-- or was put below the store's objects, and nothing is printed.
 pub record ChangesBy (s : State) (op : Op) (u w : View) : Type 0 where
   pub names : (q : Elements) → (w.names q ≡ u.names q) ⊎ MayChange s op u q (w.names q)
   pub files : KeepsFiles u w
+  pub links : Links u w
   pub printed : w.printed ≡ u.printed
 
 -- an operation that brings a commit knows what the remotes hold
@@ -155,10 +164,28 @@ HasObjectsFor have (Install name origin commit) u w = HasObjects have commit u w
 HasObjectsFor have (Update name origin commit) u w = HasObjects have commit u w
 HasObjectsFor have op u w = SameObjects u w
 
--- the state after, its objects, and what stands
+-- the object is one of the commit that the operation brings, and the store lacked it
+abbrev pub IsBroughtFor : Have → Op → View → List ℕ × ObjKind → Type 0
+IsBroughtFor have (Install name origin commit) u o = IsLacked repo have commit u o
+IsBroughtFor have (Update name origin commit) u o = IsLacked repo have commit u o
+IsBroughtFor have (Uninstall name) u o = ⊥
+IsBroughtFor have (AddPin pin) u o = ⊥
+IsBroughtFor have (DropPin pin) u o = ⊥
+IsBroughtFor have (AddRemote row) u o = ⊥
+IsBroughtFor have (ModifyRemote row) u o = ⊥
+IsBroughtFor have (DropRemote name) u o = ⊥
+IsBroughtFor have (SetOverride row) u o = ⊥
+IsBroughtFor have (DropOverride name) u o = ⊥
+IsBroughtFor have Migrate u o = ⊥
+IsBroughtFor have (Rollback name commit) u o = ⊥
+
+-- The state after, its objects, and what stands. Each new file that has bytes came to a lasting name, and just the objects were
+-- made that were brought and that the store lacked.
 pub record WasApplied (s : State) (op : Op) (holds : Option Holdings) (u w : View) : Type 0 where
   pub opens : (held : Holdings) → IsHeldFor op holds held → Opens s u → Opens (after s (done_with (have_for s op held u) op)) w
   pub objects : (held : Holdings) → IsHeldFor op holds held → (Brings op → Opens s u) → HasObjectsFor (have_for s op held u) op u w
+  pub shares : (held : Holdings) → IsHeldFor op holds held → (Brings op → Opens s u) → Shares IsLasting u w
+  pub creates : (held : Holdings) → IsHeldFor op holds held → (Brings op → Opens s u) → Creates repo (IsBroughtFor (have_for s op held u) op u) u w
   pub settled : IsSettled w
   pub settings : IsOnConfig op → HasSettings (after s (plain op)) u w
 

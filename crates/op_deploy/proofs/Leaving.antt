@@ -1,6 +1,6 @@
 -- A ref that is uninstalled.
 use Rattle.std.proofs.Common.{◌≡◌, ◌≢◌, inl, inr, Option, None, sym, ◌∙◌, ap, subst}
-use Rattle.fp_host.specs.Paths.{Elements, Slot}
+use Rattle.fp_host.specs.Paths.{Elements, Slot, absent}
 use Rattle.fp_host.specs.View.{View, IsTree}
 use Rattle.fp_host.specs.Frame.{AtEnd}
 use Rattle.fp_host.specs.Moments.{Moments, Goes}
@@ -11,6 +11,8 @@ use Rattle.fp_name.specs.Refs.{Ref}
 use Rattle.fp_small.specs.Clear.{AbsentAt}
 use Rattle.fp_small.specs.Files.{KeepsFiles}
 use Rattle.fp_small.specs.declared.state.State.{State}
+use Rattle.fp_small.proofs.Sharing.{shares_none}
+use Rattle.ost_store.proofs.Creating.{creates_none}
 use Rattle.dep_states.specs.After.{row_at}
 use Rattle.dep_states.specs.Names.{active}
 use Rattle.dep_states.specs.Sound.{Opens}
@@ -29,7 +31,7 @@ module _ {s : State} {name : Ref} {plan : RetirePlan} (planned : IsPlanOf name p
   leaves {w = w} retires = record {
     either = λ opens. subst (λ (n : Ref). OpensEither s (without_row s n) w) planned.name (retires.either (its_own planned) opens);
     names = λ q. elim (retires.names q) [ inl same ↦ inl same | inr gone ↦ inr (gone.0 ∙ planned.link, gone.1) ];
-    files = record { rows = λ id f some. retires.files id ∙ some };
+    files = record { rows = λ id f some. retires.files id ∙ some; stood = retires.stood };
     printed = retires.printed;
   }
 
@@ -41,6 +43,8 @@ module _ {s : State} {name : Ref} {plan : RetirePlan} (planned : IsPlanOf name p
     opens = λ opens. subst (λ (n : Ref). Opens (without_row s n) w) planned.name (done.opens (its_own planned) opens);
     settled = done.settled;
     objects = same_objects (AbsentAt (active name)) before after ((leaves retires).files) ((leaves retires).names) (λ d kind e put. cc put.0);
+    shares = shares_none (λ id none. retires.files id ∙ none);
+    creates = creates_none (λ q e. (q ≡ plan.link) × (e ≡ absent)) retires.puts (λ q id below gone. cc gone.1);
   }
 
   pub left_end : {a b : Option Moments} → IsTold a → IsTold b → Goes a b (Retires s plan) (Retires s plan) → AtEnd (WasRetired s plan) a b → AtEnd (WasDone s (without_row s name)) a b

@@ -7,19 +7,21 @@ use Rattle.fp_host.specs.Paths.{Elements, is_link_text, absent}
 use Rattle.fp_host.specs.View.{View}
 use Rattle.fp_host.specs.Moments.{Moments, Always}
 use Rattle.fp_host.specs.Outcome.{Nothing}
-use Rattle.fp_host.specs.Frame.{AtEnd, Frame, Keeps, Only}
+use Rattle.fp_host.specs.Frame.{AtEnd, Frame, Keeps, Only, NoName}
 use Rattle.fp_host.specs.Remote.{Held, nothing, directory, contents, target, Holdings, bytes_of}
 use Rattle.fp_host.specs.declared.host.HostEnd.{HostEnd}
 use Rattle.fp_host.specs.declared.host.HostEnd.TheVariants as host_ends
 use Rattle.fp_host.proofs.Framed.{IsTold, keeps_refl, keeps_on, keeps_to}
 use Rattle.fp_host.proofs.Goes.{stays, begins, goes_on}
-use Rattle.fp_host.proofs.Ending.{ends_on, goes_known}
+use Rattle.fp_host.proofs.Ending.{ends_on, ends_both, ends_frame, goes_known}
 use Rattle.fp_base.specs.declared.object.ObjKind.TheVariants as kinds
 use Rattle.ost_model.specs.declared.object.Object.{Object}
 use Rattle.ost_model.specs.declared.object.Object.TheVariants as objects
 use Rattle.ost_model.specs.Objects.{Fault, or_else, object_path, object_at, object_fault, name_fault, dir_mode_fault}
 use Rattle.ost_model.specs.Remotes.{as_spot, remote_at}
-use Rattle.ost_store.specs.Stage.{Stages, WasStaged, NoName, CanStage}
+use Rattle.fp_small.proofs.Keeping.{files_stay}
+use Rattle.ost_store.specs.Stage.{Stages, WasStaged, CanStage}
+use Rattle.ost_store.proofs.Staged.{gathers_piece}
 use Rattle.ost_walk.specs.declared.ends.WalkEnd.{WalkEnd}
 use Rattle.ost_walk.specs.declared.ends.WalkEnd.TheVariants as ends
 use Rattle.ost_walk.specs.declared.ends.WalkFault.{WalkFault}
@@ -32,7 +34,7 @@ use Rattle.ost_copy.specs.Copies.{IsCopied, IsCopiedAnew, IsNewFile}
 -- ---- what may come
 
 pub come_refl : {t : Elements} {v : View} → Comes t v v
-come_refl = record { keeps = keeps_refl; files = record { rows = λ id f some. some } }
+come_refl = record { keeps = keeps_refl; files = files_stay }
 
 stages_come : {t : Elements} {object : Object} {u w : View} → Stages t object u w → Comes t u w
 stages_come s = record {
@@ -57,7 +59,7 @@ always_comes told stages = begins told stages (λ u w tree s. stages_come s) (λ
 stages_piece : {t : Elements} {mode : ℕ} {u v w : View} (bytes : List ℕ) → Stages t (objects.File mode []) u v → u.names t ≡ absent → Keeps Nothing NoName (Only t) v w → Stages t (objects.File mode bytes) u w
 stages_piece {t = t} {u = u} {v = v} bytes so_far free more = record {
   keeps = keeps_on so_far.keeps (keeps_to (λ q spot h. absurd h) (λ q e h. absurd h) (λ q h. h) (λ q id a h. absurd h) more);
-  files = record { rows = λ id f some. more.files id f (so_far.files.rows id f some) (λ q at is. elim (so_far.keeps.held q id at is) [ inl none ↦ cc (some, none) | inr had ↦ cc (free, sym (ap u.names had.1) ∙ had.2) ]) };
+  files = record { rows = λ id f some. more.files id f (so_far.files.rows id f some) (λ q at is. elim (so_far.keeps.held q id at is) [ inl none ↦ cc (some, none) | inr had ↦ cc (free, sym (ap u.names had.1) ∙ had.2) ]); stood = λ x had. more.stood x (so_far.files.stood x had) };
 }
 
 -- with other bytes of the file
@@ -131,7 +133,7 @@ copied_anew p url holds size (Ok digest) told told' stages was frame copied = re
   short = copied.short;
   whole = copied.whole;
   stages = writing copied.bytes told stages was told' frame;
-  staged = ends_on copied.appended was told' (λ u v w tree q s. record { free = q.free; there = s.grown _ [] q.there });
+  staged = ends_on (ends_both copied.appended (ends_frame told' frame)) was told' (λ u v w tree q s. record { free = q.free; there = s.0.grown _ [] q.there; gathers = gathers_piece q.there q.gathers s.1 s.0.none });
   digest_is = copied.digest_is;
 }
 copied_anew p url holds size (Err end) told told' stages was frame copied = tt

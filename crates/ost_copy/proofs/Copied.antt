@@ -1,5 +1,5 @@
 -- Files of a remote that are copied piece by piece.
-use Rattle.std.proofs.Common.{◌≡◌, ◌≤◌, ◌+◌, ◌++◌, ℕ, List, [], length, take, Option, Some, refl, sym, ◌∙◌, ap, subst, arith, append_assoc, append-nil, length-append}
+use Rattle.std.proofs.Common.{◌≡◌, ◌≤◌, ◌+◌, ◌++◌, ℕ, List, [], length, take, Option, Some, None, refl, sym, ◌∙◌, ap, subst, arith, append_assoc, append-nil, length-append}
 use Rattle.sha2.specs.declared.Sha256.{Sha256}
 use Rattle.fp_host.specs.Paths.{Elements}
 use Rattle.fp_host.specs.View.{View}
@@ -16,12 +16,14 @@ use Rattle.ost_model.specs.Contents.{file_digest}
 use Rattle.ost_copy.specs.Copies.{Appends, IsNewFile, CopiesFile, IsCopied}
 
 appends_none : {t : Elements} {u w : View} → w ≡ u → Appends t [] u w
-appends_none {t = t} {w = w} same = record {
+appends_none {t = t} {u = u} {w = w} same = record {
+  none = λ id none. subst (λ (x : View). x.files id ≡ None) (sym same) none;
   grown = λ mode had is. subst (λ (l : List ℕ). IsOpen t mode l w) (sym (append-nil had)) (subst (IsOpen t mode had) (sym same) is);
 }
 
 appends_on : {t : Elements} {xs ys : List ℕ} {u v w : View} → Appends t xs u v → Appends t ys v w → Appends t (xs ++ ys) u w
 appends_on {t = t} {xs = xs} {ys = ys} {w = w} first second = record {
+  none = λ id none. second.none id (first.none id none);
   grown = λ mode had is. subst (λ (l : List ℕ). IsOpen t mode l w) (append_assoc had xs ys) (second.grown mode (had ++ xs) (first.grown mode had is));
 }
 

@@ -1,5 +1,5 @@
 -- Files of a remote that are copied piece by piece.
-use Rattle.std.specs.Prelude.{◌≡◌, ◌≤◌, ℕ, List, ◌++◌, length, Option, Some}
+use Rattle.std.specs.Prelude.{◌≡◌, ◌≤◌, ℕ, List, ◌++◌, length, Option, Some, None}
 use Rattle.sha2.specs.declared.Sha256.{Sha256}
 use Rattle.fp_host.specs.Paths.{Elements}
 use Rattle.fp_host.specs.View.{View}
@@ -11,8 +11,9 @@ use Rattle.ost_model.specs.declared.object.Object.TheVariants as objects
 use Rattle.ost_store.specs.Stage.{IsOpen, Stages, WasStaged}
 use Rattle.ost_copy.specs.Pieces.{TakesIn}
 
--- these bytes came to the end of the file at t, where it was created since the last sync
+-- these bytes came to the end of the file at t, where it was created since the last sync, and no file was made
 pub record Appends (t : Elements) (bytes : List ℕ) (u w : View) : Type 0 where
+  pub none : (id : ℕ) → u.files id ≡ None → w.files id ≡ None
   pub grown : (mode : ℕ) (had : List ℕ) → IsOpen t mode had u → IsOpen t mode (had ++ bytes) w
 
 -- a file that was created since the last sync stands at t

@@ -1,11 +1,10 @@
 //! A file of the remote that is copied piece by piece while its digest is taken.
 ghost use Rattle.std.specs.Prelude.{◌≡◌, ◌<◌, ◌≤◌, length, take, true, IfOk, OnOk, IsErrOf, Some};
 ghost use Rattle.fp_host.specs.Causes.{IsCaused};
-ghost use Rattle.fp_host.specs.Frame.{AtEnd, Frame, Only};
+ghost use Rattle.fp_host.specs.Frame.{AtEnd, Frame, Only, NoName};
 ghost use Rattle.fp_host.specs.Outcome.{Nothing};
 ghost use Rattle.fp_host.specs.Remote.{Holdings, CameFrom, bytes_of};
 ghost use Rattle.ost_model.specs.Contents.{is_permission};
-ghost use Rattle.ost_store.specs.Stage.{NoName};
 ghost use Rattle.ost_walk.specs.Ends.{IsRemotes};
 ghost use Rattle.ost_walk.specs.declared.ends.WalkFault.{WalkFault};
 ghost use Rattle.ost_copy.specs.Pieces.{TakesIn};

@@ -16,7 +16,9 @@ use Rattle.fp_small.specs.Clear.{IsWithin}
 use Rattle.fp_small.specs.Files.{KeepsFiles}
 use Rattle.fp_small.specs.Folders.{ancestors, AreFree, FoldersAt, DirsAt}
 use Rattle.fp_small.specs.Replace.{IsStaging, folders_of, Replaces, WasReplaced, CanReplace}
+use Rattle.fp_small.specs.Shares.{Shares}
 use Rattle.fp_small.proofs.Keeping.{files_stay, files_on, files_kept}
+use Rattle.fp_small.proofs.Sharing.{shares_on, shares_to, shares_empty, shares_made}
 use Rattle.fp_small.proofs.Replacement.{ancestors_above}
 use Rattle.fp_name.specs.Refs.{Ref}
 use Rattle.fp_base.specs.declared.object.ObjKind.{ObjKind}
@@ -33,7 +35,7 @@ use Rattle.ost_refs.specs.Changes.{CanWrite}
 use Rattle.ost_refs.specs.declared.place.RefPlace.TheVariants.{Head}
 use Rattle.ost_export.specs.Staging.{IsApart}
 use Rattle.ost_export.specs.Storing.{IsNoWork, IsWork, StoresObjects, IsFitFor, HasStored, CanStoreAll}
-use Rattle.ost_export.specs.Exports.{config_path, config_text, ref_path, a_remote, IsExportFolder, Furnishes, ExportsAt, ExportsName, Exports, ExportsSynced, FurnishesSynced, AreFit, IsOffered, WasExported, CanExport, CanExportAll}
+use Rattle.ost_export.specs.Exports.{config_path, config_text, ref_path, a_remote, IsExportFolder, Furnishes, ExportsAt, ExportsName, Exports, ExportsSynced, FurnishesSynced, AreFit, IsOffered, IsExported, WasExported, CanExport, CanExportAll}
 use Rattle.ost_export.proofs.Paths.{IsBranch, two_branches, object_within, apart_of, branch_off, branch_under, objects_branch, config_branch, refs_branch, one_work, none_below}
 use Rattle.ost_export.proofs.Placed.{to_tree}
 use Rattle.ost_export.proofs.Furnished.{refs_within, remotes_within, folder_cases, FurnishStep, furnishes_on, furnishes_objects, staging_on, work_of, staging_depth, step_config, step_remotes, can_config, can_remotes, can_write}
@@ -57,6 +59,7 @@ pub record Known (have : Have) (root : Elements) (r : Ref) (u v : View) : Type 0
   pub furnishes : Furnishes have root r u v
   pub gone : v.names place ≡ absent
   pub stored : (d : List ℕ) (kind : ObjKind) (object : Object) → have d kind ≡ Some object → IsFitFor root d kind object u → store root (shows v) d kind ≡ Some object
+  pub shares : Shares (IsExported root r) u v
 
 -- `config` is there
 pub record HasConfig (root : Elements) (v : View) : Type 0 where
@@ -116,7 +119,7 @@ config_stays stays config = record { id = config.id; name = stays.name ∙ confi
 -- ---- the steps
 
 pub known_objects : {have : Have} {root : Elements} {r : Ref} {u v : View} → StoresObjects have root u v → HasStored have root u v → Known have root r u v
-known_objects stores has = record { place = has.place; staging = has.staging; furnishes = furnishes_objects stores; gone = has.gone; stored = has.stored }
+known_objects stores has = record { place = has.place; staging = has.staging; furnishes = furnishes_objects stores; gone = has.gone; stored = has.stored; shares = shares_to (λ q h. inl h) has.shares }
 
 module _ {have : Have} {root : Elements} {r : Ref} (outer : IsNoWork root) {u v : View} (tree : IsTree v) where
   pub config_step : (known : Known have root r u v) {w : View} → Replaces (config_path root) config_text v w → FurnishStep have root r u v w
@@ -132,6 +135,7 @@ module _ {have : Have} {root : Elements} {r : Ref} (outer : IsNoWork root) {u v 
           furnishes = furnishes_on known.furnishes (config_step known writes);
           gone = was.work known.place (staging_on apart known.staging known.furnishes known.gone);
           stored = λ d kind object is fit. stored_stays d kind object tree tree' (replaced_stays outer apart (codes "objects") (codes "config") (object_path root d kind) (config_path root) config_text objects_branch (λ same. cc same) (object_within root d kind) (inl refl) writes) (known.stored d kind object is fit);
+          shares = shares_on known.shares (shares_made (inr (inl refl)) was.made) writes.files;
         };
         config = record { id = was.made.id; name = was.made.name; row = was.made.row };
       }
@@ -151,6 +155,7 @@ module _ {have : Have} {root : Elements} {r : Ref} (outer : IsNoWork root) {u v 
             | inr put ↦ absurd (branch_off apart (codes "refs") refs_branch (a_remote root) (inr (inr (inl refl))) (inr (ancestors_above (a_remote root) known.place put.0)))
           ];
           stored = λ d kind object is fit. stored_stays d kind object tree tree' (remotes_stays outer apart (codes "objects") (object_path root d kind) objects_branch (λ same. cc same) (object_within root d kind) keeps) (known.stored d kind object is fit);
+          shares = shares_on known.shares (shares_empty keeps) (files_kept keeps);
         };
         config = config_stays (remotes_stays outer apart (codes "config") (config_path root) config_branch (λ same. cc same) (inl refl) keeps) k.config;
         remotes = λ can none. elim (known.furnishes.keeps.names (remotes root)) [
@@ -261,6 +266,7 @@ module _ {have : Have} {root : Elements} {r : Ref} (commit : List ℕ) (outer : 
       ]
     ];
     work = λ q work. none_below w tree' k.known.place q gone_there (one_work k.known.staging work);
+    shares = shares_on k.known.shares (shares_made (inr (inr refl)) was.made) writes.files;
   }
 
 -- ---- over the moments
@@ -320,7 +326,13 @@ can_before : {root : Elements} {r : Ref} {u : View} → CanExport root r u → C
 can_before can = record { config = can.config; ref = can.ref; folders = can.folders }
 
 exported_since : {have : Have} {root : Elements} {r : Ref} {commit : List ℕ} {u w : View} → WasExported have root r commit (done syncs u) w → WasExported have root r commit u w
-exported_since was = record { settled = was.settled; offered = λ fit. was.offered (fit_before fit); remotes = λ can. was.remotes (can_before can); work = λ q work. was.work q (work_before work) }
+exported_since was = record {
+  settled = was.settled;
+  offered = λ fit. was.offered (fit_before fit);
+  remotes = λ can. was.remotes (can_before can);
+  work = λ q work. was.work q (work_before work);
+  shares = record { each = was.shares.each };
+}
 
 pub sync_exports : {have : Have} {root : Elements} {r : Ref} {commit : List ℕ} {a b : Option Moments} {result : Result (Unit {0}) HostError} → IsTold a → Makes (Step syncs result) a b → Always (ExportsSynced have root r commit) a b
 sync_exports told call = begins told (makes_goes call) (λ u w tree step. started step) (λ u w tree step again. started step)

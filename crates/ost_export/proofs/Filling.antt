@@ -17,6 +17,7 @@ use Rattle.ost_commit.proofs.Holding.{all_also, all_push}
 use Rattle.ost_export.specs.Staging.{Named, name_of, IsApart, AreStaged, StagesOne, IsCovered, StagesSome, Works, IsKeepableObject, CanStageOne, CanStageAll}
 use Rattle.ost_export.proofs.Listed.{in_at, all_here}
 use Rattle.ost_export.proofs.Paths.{below_work}
+use Rattle.ost_export.proofs.Staged.{gathers_same}
 use Rattle.ost_export.proofs.Works.{works_stays, works_open}
 
 -- ---- none yet
@@ -26,7 +27,7 @@ none_staged {t = t} cleared = record { each = λ o none. absurd none; once = tt;
 
 pub stages_start : {have : Have} {root t : Elements} {a : Option Moments} (staged : List Named) → staged ≡ [] → IsTold a → AtEnd (StagesSome have root t [] staged) a a
 stages_start {have = have} {root = root} {t = t} staged none told = ends_to (ends_start told) (λ u w same. subst (λ (l : List Named). StagesSome have root t [] l u w) (sym none) (λ cleared. (
-  record { are = none_staged (subst (IsCleared t) (sym same) cleared); new = λ o has. absurd has },
+  record { are = none_staged (subst (IsCleared t) (sym same) cleared); new = λ o has. absurd has; gathers = gathers_same same },
   tt,
 )))
 
@@ -46,6 +47,7 @@ module _ {root t : Elements} (apart : IsApart root t) (objects : List BuiltObjec
             | inl had ↦ b.0.new p had
             | inr this ↦ ap (λ (n : Named). u.names (object_path root n.0 n.1)) this.0 ∙ sym same ∙ this.1
           ];
+          gathers = one.gathers u b.0.gathers;
         },
         subst (AllByRecursion (IsCovered root after u)) (sym (take_more objects i o low ∙ ap (λ (x : BuiltObject). take i objects ++ x ∷ []) (sym is)))
             (all_push (IsCovered root after u) (take i objects) o

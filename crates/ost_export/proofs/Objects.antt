@@ -1,8 +1,8 @@
 -- The objects of a commit come into a store: staged, placed, and nothing is left of the work.
-use Rattle.std.proofs.Common.{◌≡◌, ◌≤◌, inl, inr, ℕ, List, length, true, Option, Some, None, refl, sym, ◌∙◌, ap, subst, arith}
+use Rattle.std.proofs.Common.{◌≡◌, ◌≤◌, ◌⊎◌, inl, inr, ℕ, List, [], length, true, Option, Some, None, refl, sym, ◌∙◌, ap, subst, Contains, arith}
 use Rattle.std.specs.List.{AllByRecursion}
-use Rattle.fp_host.specs.Paths.{Elements, absent}
-use Rattle.fp_host.specs.View.{View, IsTree}
+use Rattle.fp_host.specs.Paths.{Elements, Slot, absent, file}
+use Rattle.fp_host.specs.View.{View, Inode, IsTree}
 use Rattle.fp_host.specs.Outcome.{gone, shows, spot_of}
 use Rattle.fp_host.specs.Frame.{Keeps, AtEnd, Unchanged}
 use Rattle.fp_host.specs.Moments.{Moments, Always}
@@ -147,20 +147,43 @@ gone_none kinds.File = refl
 absent_none : (root : Elements) (d : List ℕ) (kind : ObjKind) (v : View) → IsTree v → v.names (object_path root d kind) ≡ absent → store root (shows v) d kind ≡ None
 absent_none root d kind v tree none = ap (object_at kind) (ap (spot_of v.files) (at_tree v tree (object_path root d kind) ∙ none)) ∙ gone_none kind
 
-module _ {root t : Elements} (apart : IsApart root t) (objects : List BuiltObject) (staged : List Named) {u w x : View} (f : Filled (have_of objects) root t objects staged u w) (tree_w : IsTree w) (tree_x : IsTree x) (was : WasStored root t staged w x) where
+module _ {root t : Elements} (apart : IsApart root t) (objects : List BuiltObject) (staged : List Named) {u w x : View} (f : Filled (have_of objects) root t objects staged u w) (tree_w : IsTree w) (tree_x : IsTree x) (puts : Puts (have_of objects) root t staged w x) (was : WasStored root t staged w x) where
   shown_before : (d : List ℕ) (kind : ObjKind) → shows w (object_path root d kind) ≡ shows u (object_path root d kind)
   shown_before d kind = shown_stays (object_path root d kind) u w (works_stays apart f.works d kind) f.tree tree_w
 
   from_work : (d : List ℕ) (kind : ObjKind) (object : Object) → have_of objects d kind ≡ Some object → In staged (d, kind) → store root (shows x) d kind ≡ Some object
   from_work d kind object is has =
       let k = f.has.are.each (d, kind) has in
-      ap (object_at kind) (was.places.came (d, kind) has) ∙ held_object d kind (object_path t d kind) k.object w tree_w k.held k.named ∙ sym k.is ∙ is
+      ap (object_at kind) (was.places.came (d, kind) has).shown ∙ held_object d kind (object_path t d kind) k.object w tree_w k.held k.named ∙ sym k.is ∙ is
 
   from_store : (d : List ℕ) (kind : ObjKind) (object : Object) → is_digest d ≡ true → store root (shows u) d kind ≡ Some object → store root (shows x) d kind ≡ Some object
   from_store d kind object digits there =
       let p = object_path root d kind in
       let not_new : In staged (d, kind) → ⊥ = λ has. cc (sym (absent_none root d kind u f.tree (f.has.new (d, kind) has)) ∙ there) in
       ap (object_at kind) (shown_stays p w x (was.places.others d kind digits not_new) tree_w tree_x ∙ shown_before d kind) ∙ there
+
+  -- what stood at an object's name in the work folder came to its name
+  came_there : (q : Elements) (id : ℕ) → IsObjectName t q → w.names q ≡ file id → (p : Elements) × IsObjectName root p × Contains x.stood (p, file id)
+  came_there q id name at =
+      let held : w.names (object_path t name.digest name.kind) ≡ file id = ap w.names (sym name.at) ∙ at in
+      elim (f.has.are.only name.digest name.kind name.digits) [
+        | inl none ↦ absurd (cc (sym none ∙ held))
+        | inr has ↦ (
+          object_path root name.digest name.kind,
+          record { digest = name.digest; kind = name.kind; digits = name.digits; at = refl },
+          subst (λ (e : Slot). Contains x.stood (object_path root name.digest name.kind, e)) held (was.places.came (name.digest, name.kind) has).stood,
+        )
+      ]
+
+  shared : (id : ℕ) (g : Inode) (row : Option Inode) → w.files id ≡ row → u.files id ≡ None → x.files id ≡ Some g → (g.bytes ≡ []) ⊎ ((p : Elements) × IsObjectName root p × Contains x.stood (p, file id))
+  shared id g None is new some = inl (puts.keeps.empty (λ q none. none) id g is some)
+  shared id g (Some h) is new some =
+      let same : Some h ≡ Some g = sym (puts.keeps.files id h is (λ q none at. none)) ∙ some in
+      let e : h ≡ g = cc same in
+      elim (f.has.gathers.each id h new is) [
+        | inl empty ↦ inl (ap (λ (y : Inode). y.bytes) (sym e) ∙ empty)
+        | inr put ↦ inr (came_there put.0 id put.1 put.2)
+      ]
 
   pub has_stored : HasStored (have_of objects) root u x
   has_stored = record {
@@ -172,6 +195,7 @@ module _ {root t : Elements} (apart : IsApart root t) (objects : List BuiltObjec
     place = t;
     staging = f.begun;
     gone = was.cleared.gone t (inl refl);
+    shares = record { each = λ id g new some. shared id g (w.files id) refl new some };
   }
 
 -- ---- over the moments
@@ -198,8 +222,9 @@ module _ {root t : Elements} (outer : IsNoWork root) (objects : List BuiltObject
       step : {u v w : View} → Filled (have_of objects) root t objects staged u v → PutsStaged (have_of objects) root t staged v w → StoresStep (have_of objects) root u v w
       step f puts = step_puts (apart_of outer f.begun) f.begun staged f.has.new (λ o has. let k = f.has.are.each o has in (k.object, k.is)) (puts f.has.are)
 
-  pub stored_at : {a b c : Option Moments} → IsTold b → IsTold c → AtEnd (Filled (have_of objects) root t objects staged) a b → AtEnd (λ v w. AreStaged (have_of objects) t staged v → WasStored root t staged v w) b c → AtEnd (HasStored (have_of objects) root) a c
-  stored_at told told' known was = ends_on (to_tree told' was) known told (λ u v w tree q s. has_stored (apart_of outer q.begun) objects staged q tree s.0 (s.1 q.has.are))
+  pub stored_at : {a b c : Option Moments} → IsTold b → IsTold c → AtEnd (Filled (have_of objects) root t objects staged) a b → Always (PutsStaged (have_of objects) root t staged) b c → AtEnd (λ v w. AreStaged (have_of objects) t staged v → WasStored root t staged v w) b c
+      → AtEnd (HasStored (have_of objects) root) a c
+  stored_at told told' known puts was = ends_on (to_tree told' (ends_both (ends_goes told puts) was)) known told (λ u v w tree q s. has_stored (apart_of outer q.begun) objects staged q tree s.0 (s.1.0 q.has.are) (s.1.1 q.has.are))
 
   -- ---- where it may be done
 

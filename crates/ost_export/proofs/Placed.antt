@@ -1,6 +1,6 @@
 -- Staged objects that come to their names.
-use Rattle.std.proofs.Common.{◌≡◌, ◌≢◌, inl, inr, ℕ, List, [], ◌∷◌, ◌++◌, true, Option, refl, sym, ◌∙◌, ap, subst, arith}
-use Rattle.fp_host.specs.Paths.{Elements, absent}
+use Rattle.std.proofs.Common.{◌≡◌, ◌≢◌, inl, inr, ℕ, List, [], ◌∷◌, ◌++◌, true, Option, refl, sym, ◌∙◌, ap, subst, Contains, arith}
+use Rattle.fp_host.specs.Paths.{Elements, Slot, absent}
 use Rattle.fp_host.specs.View.{View, IsTree}
 use Rattle.fp_host.specs.Moments.{Moments, Always}
 use Rattle.fp_host.specs.Frame.{AtEnd}
@@ -119,14 +119,18 @@ module _ {have : Have} (root t : Elements) (apart : IsApart root t) (objects lef
           | inl still ↦ inl still
           | inr is ↦ inr (
             λ again. once.1 (subst (In left) (sym is) again),
-            subst (CameTo root t u w) is (placed_there (object_path t o.0 o.1) (object_path root o.0 o.1) v w places was tree_v tree_w
-                ∙ shown_stays (object_path t o.0 o.1) u v (some.still o (in_last left o)).0 tree_u tree_v),
+            subst (CameTo root t u w) is (record {
+              shown = placed_there (object_path t o.0 o.1) (object_path root o.0 o.1) v w places was tree_v tree_w ∙ shown_stays (object_path t o.0 o.1) u v (some.still o (in_last left o)).0 tree_u tree_v;
+              stood = subst (λ (e : Slot). Contains w.stood (object_path root o.0 o.1, e)) (some.still o (in_last left o)).0.name was.stood;
+            }),
           )
         ]
         | inr before ↦ inr (
           λ again. before.0 (in_push left o p again),
-          shown_stays (object_path root p.0 p.1) v w
-              (other_stays root t apart o here.digits places p (ready.each p has).digits (λ same. before.0 (subst (In (left ++ o ∷ [])) (sym same) (in_last left o)))) tree_v tree_w ∙ before.1,
+          record {
+            shown = shown_stays (object_path root p.0 p.1) v w (other_stays root t apart o here.digits places p (ready.each p has).digits (λ same. before.0 (subst (In (left ++ o ∷ [])) (sym same) (in_last left o)))) tree_v tree_w ∙ before.1.shown;
+            stood = places.keeps.stood (object_path root p.0 p.1, u.names (object_path t p.0 p.1)) before.1.stood;
+          },
         )
       ];
       still = λ p has.

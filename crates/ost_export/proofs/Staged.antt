@@ -1,7 +1,7 @@
 -- Objects that are staged in the work folder, one by one.
-use Rattle.std.proofs.Common.{◌≡◌, ◌⊎◌, inl, inr, List, [], ◌∷◌, ◌++◌, Bool, true, false, Some, None, refl, sym, ◌∙◌, ap, subst, arith}
-use Rattle.fp_host.specs.Paths.{Elements, absent}
-use Rattle.fp_host.specs.View.{View}
+use Rattle.std.proofs.Common.{◌≡◌, ◌⊎◌, inl, inr, ℕ, List, [], ◌∷◌, ◌++◌, Bool, true, false, Option, Some, None, refl, sym, ◌∙◌, ap, subst, arith}
+use Rattle.fp_host.specs.Paths.{Elements, absent, file}
+use Rattle.fp_host.specs.View.{View, Inode}
 use Rattle.fp_small.specs.Clear.{IsWithin}
 use Rattle.fp_small.proofs.Emptying.{above_longer}
 use Rattle.fp_small.proofs.Replacement.{ancestors_above}
@@ -11,10 +11,12 @@ use Rattle.ost_model.specs.declared.object.Object.TheVariants as objects
 use Rattle.ost_model.specs.Objects.{Have, object_path, name_fault}
 use Rattle.ost_model.specs.Order.{In}
 use Rattle.ost_model.proofs.Stores.{one_name}
+use Rattle.ost_store.specs.Gathers.{Gathers}
 use Rattle.ost_store.specs.Stage.{Stages, WasStaged, IsHeld, CanStage}
 use Rattle.ost_store.proofs.Staying.{staged_stays, held_stays, staged_held}
 use Rattle.ost_commit.specs.declared.built.BuiltObject.{BuiltObject}
-use Rattle.ost_export.specs.Staging.{Named, name_of, IsOnce, IsStagedObject, AreStaged, IsAbsentSaid, IsLacking, StagesOne, IsIn, CanStageOne, AreOpen}
+use Rattle.ost_export.specs.Staging.{Named, name_of, IsObjectName, IsOnce, IsStagedObject, AreStaged, IsAbsentSaid, IsLacking, StagesOne, IsIn, CanStageOne, AreOpen}
+use Rattle.ost_export.proofs.Paths.{not_both}
 use Rattle.ost_export.proofs.Works.{above_object}
 
 -- ---- lists of objects
@@ -85,6 +87,37 @@ module _ {have : Have} {t : Elements} (o : Named) (object : Object) (staged : Li
     ];
   }
 
+-- ---- new files that have bytes
+
+pub gathers_same : {T : Elements → Type 0} {u w : View} → w ≡ u → Gathers T u w
+gathers_same same = record { each = λ id f new some. absurd (cc (ap (λ (x : View). x.files id) same ∙ new, some)) }
+
+module _ {t : Elements} (o : Named) (object : Object) {u v w : View} (good : is_digest o.0 ≡ true) (stages : Stages (object_path t o.0 o.1) object v w) (was : WasStaged (object_path t o.0 o.1) object v w) (before : Gathers (IsObjectName t) u v) where
+  stays_there : (q : Elements) (id : ℕ) → IsObjectName t q → v.names q ≡ file id → w.names q ≡ file id
+  stays_there q id name at = elim (stages.keeps.names q) [
+    | inl same ↦ same ∙ at
+    | inr put ↦ elim put [
+      | inl here ↦ absurd (cc (sym at ∙ ap v.names here.0 ∙ was.free))
+      | inr made ↦ absurd (not_both t q name (above_object t o.0 o.1 q good made.0))
+    ]
+  ]
+
+  by_row : (id : ℕ) (f : Inode) (row : Option Inode) → v.files id ≡ row → u.files id ≡ None → w.files id ≡ Some f → (f.bytes ≡ []) ⊎ ((q : Elements) × IsObjectName t q × (w.names q ≡ file id))
+  by_row id f None is new some = elim (was.gathers.each id f is some) [
+    | inl empty ↦ inl empty
+    | inr put ↦ inr (put.0, record { digest = o.0; kind = o.1; digits = good; at = put.1 }, put.2)
+  ]
+  by_row id f (Some g) is new some =
+      let same : Some g ≡ Some f = sym (stages.files.rows id g is) ∙ some in
+      let e : g ≡ f = cc same in
+      elim (before.each id g new is) [
+        | inl empty ↦ inl (ap (λ (x : Inode). x.bytes) (sym e) ∙ empty)
+        | inr put ↦ inr (put.0, put.1, stays_there put.0 id put.1 put.2)
+      ]
+
+  pub staged_gathers : Gathers (IsObjectName t) u w
+  staged_gathers = record { each = λ id f new some. by_row id f (v.files id) refl new some }
+
 -- ---- at the end
 
 -- it is there already
@@ -94,6 +127,7 @@ stages_none {have = have} {root = root} {t = t} o staged {u = u} good same there
   more = λ p has. has;
   new = λ p has. inl has;
   waits = λ are none. elim (are.only o.0 o.1 good) [ inl gone ↦ absurd (there none gone) | inr has ↦ has ];
+  gathers = λ x before. subst (Gathers (IsObjectName t) x) (sym same) before;
 }
 
 pub stages_new : {have : Have} {root t : Elements} (o : BuiltObject) (staged after : List Named) {u v w : View} → is_digest o.digest ≡ true → IsIn have o → v ≡ u → IsLacking root t (name_of o) u true
@@ -104,6 +138,7 @@ stages_new {have = have} {root = root} {t = t} o staged after {u = u} {v = v} {w
       more = λ p has. in_push staged (name_of o) p has;
       new = λ p has. elim (in_cases staged (name_of o) p has) [ inl had ↦ inl had | inr here ↦ inr (sym here, lacks.0) ];
       waits = λ are none. in_last staged (name_of o);
+      gathers = λ x before. staged_gathers (name_of o) o.object good stages was (subst (Gathers (IsObjectName t) x) (sym same) before);
     })
 
 pub can_stage : {t : Elements} (o : BuiltObject) {u v : View} → is_digest o.digest ≡ true → v ≡ u → v.names (object_path t o.digest o.kind) ≡ absent → CanStageOne t o.object u → CanStage (object_path t o.digest o.kind) o.object v

@@ -1,6 +1,6 @@
 -- Staged objects come to their names between two syncs.
-use Rattle.std.proofs.Common.{inl, inr, ℕ, List, Option, Result, Ok, ◌∙◌, ap, subst}
-use Rattle.fp_host.specs.Paths.{Elements, IsAbove}
+use Rattle.std.proofs.Common.{inl, inr, ℕ, List, Option, Result, Ok, sym, ◌∙◌, ap, subst, Contains}
+use Rattle.fp_host.specs.Paths.{Elements, Slot, IsAbove}
 use Rattle.fp_host.specs.View.{View, IsTree}
 use Rattle.fp_host.specs.Calls.{syncs, Step}
 use Rattle.fp_host.specs.Moments.{Moments, Always, Makes}
@@ -108,26 +108,32 @@ module _ {root t : Elements} (apart : IsApart root t) (have : Have) (objects : L
     where
       step : (u v w : View) → IsTree u → IsTree v → IsTree w → Synced u v → PlacesAll root t objects v w → PlacesAll root t objects u w
       step u v w tree tree' tree'' synced places = record {
-        came = λ o has. places.came o has ∙ shown_stays (object_path t o.0 o.1) u v (synced_stays (object_path t o.0 o.1) synced) tree tree';
+        came = λ o has. record {
+          shown = (places.came o has).shown ∙ shown_stays (object_path t o.0 o.1) u v (synced_stays (object_path t o.0 o.1) synced) tree tree';
+          stood = subst (λ (e : Slot). Contains w.stood (object_path root o.0 o.1, e)) (synced_stays (object_path t o.0 o.1) synced).name (places.came o has).stood;
+        };
         others = λ d kind digits off. stays_on (synced_stays (object_path root d kind) synced) (places.others d kind digits off);
       }
 
   -- and so it stays where the store's names stay
-  places_stay : {u v w : View} → IsTree v → IsTree w → ((d : List ℕ) (kind : ObjKind) → Stays (object_path root d kind) v w) → PlacesAll root t objects u v → PlacesAll root t objects u w
-  places_stay {v = v} {w = w} tree tree' same places = record {
-    came = λ o has. shown_stays (object_path root o.0 o.1) v w (same o.0 o.1) tree tree' ∙ places.came o has;
+  places_stay : {u v w : View} → IsTree v → IsTree w → ((d : List ℕ) (kind : ObjKind) → Stays (object_path root d kind) v w) → ((x : Elements × Slot) → Contains v.stood x → Contains w.stood x) → PlacesAll root t objects u v → PlacesAll root t objects u w
+  places_stay {u = u} {v = v} {w = w} tree tree' same stood places = record {
+    came = λ o has. record {
+      shown = shown_stays (object_path root o.0 o.1) v w (same o.0 o.1) tree tree' ∙ (places.came o has).shown;
+      stood = stood (object_path root o.0 o.1, u.names (object_path t o.0 o.1)) (places.came o has).stood;
+    };
     others = λ d kind digits off. stays_on (places.others d kind digits off) (same d kind);
   }
 
   pub cleared_at : {a b c : Option Moments} → IsTold b → IsTold c → AtEnd CameAll a b → Frame (GoneWithin t) (AbsentWithin t) NoPath b c → AtEnd (λ v w. IsCleared t w) b c → AtEnd CameCleared a c
   cleared_at told told' placed frame cleared = ends_on (to_tree told' (ends_both (ends_frame told frame) cleared)) placed told (λ u v w tree q s staged. (
-    places_stay tree s.0 (λ d kind. cleared_stays apart d kind s.1.0) (q staged),
+    places_stay tree s.0 (λ d kind. cleared_stays apart d kind s.1.0) s.1.0.stood (q staged),
     s.1.1,
   ))
 
   pub stored_at : {a b c : Option Moments} → IsTold b → IsTold c → AtEnd CameCleared a b → Makes Synced b c → AtEnd (λ u w. AreStaged have t objects u → WasStored root t objects u w) a c
   stored_at told told' placed call = ends_on (to_tree told' (ends_call told call)) placed told (λ u v w tree q s staged. record {
-    places = places_stay tree s.0 (λ d kind. synced_stays (object_path root d kind) s.1) (q staged).0;
+    places = places_stay tree s.0 (λ d kind. synced_stays (object_path root d kind) s.1) (λ x had. subst (λ (y : View). Contains y.stood x) (sym s.1.how.1) had) (q staged).0;
     cleared = record { gone = λ p within. ap (λ (y : View). y.names p) s.1.how.1 ∙ (q staged).1.gone p within };
     settled = synced s.1;
   })

@@ -8,7 +8,7 @@ use Rattle.fp_host.proofs.Framed.{IsTold, keeps_refl, keeps_on, keeps_to}
 use Rattle.fp_host.proofs.Goes.{stays, begins, goes_on}
 use Rattle.fp_small.specs.Clear.{IsWithin}
 use Rattle.fp_small.specs.Folders.{ancestors}
-use Rattle.fp_small.proofs.Keeping.{files_on}
+use Rattle.fp_small.proofs.Keeping.{files_stay, files_on}
 use Rattle.fp_small.proofs.Replacement.{ancestors_above}
 use Rattle.fp_name.specs.Hex.{is_digest}
 use Rattle.fp_base.specs.declared.object.ObjKind.{ObjKind}
@@ -20,7 +20,7 @@ use Rattle.ost_export.specs.Staging.{IsApart, IsAboveObject, Works, AreOpen}
 use Rattle.ost_export.proofs.Paths.{below_work, not_both, off_object, branch_under, objects_branch, object_within, free_at}
 
 pub works_refl : {t : Elements} {v : View} → Works t v v
-works_refl = record { keeps = keeps_refl; files = record { rows = λ id f some. some } }
+works_refl = record { keeps = keeps_refl; files = files_stay }
 
 pub works_same : {t : Elements} {v w : View} → w ≡ v → Works t v w
 works_same {t = t} {v = v} same = subst (Works t v) (sym same) works_refl

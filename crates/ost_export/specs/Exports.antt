@@ -11,6 +11,7 @@ use Rattle.fp_base.specs.declared.object.ObjKind.{ObjKind}
 use Rattle.fp_small.specs.Files.{KeepsFiles}
 use Rattle.fp_small.specs.Folders.{IsFree}
 use Rattle.fp_small.specs.Replace.{IsFreeFile}
+use Rattle.fp_small.specs.Shares.{Shares}
 use Rattle.fp_small.specs.Move.{IsNew}
 use Rattle.ost_model.specs.declared.object.Object.{Object}
 use Rattle.ost_model.specs.Objects.{Have, store}
@@ -19,7 +20,7 @@ use Rattle.ost_commit.specs.declared.built.BuiltObject.{BuiltObject}
 use Rattle.ost_refs.specs.Places.{place_path, remotes}
 use Rattle.ost_refs.specs.Files.{ref_bytes}
 use Rattle.ost_refs.specs.declared.place.RefPlace.TheVariants.{Head}
-use Rattle.ost_export.specs.Staging.{IsKeepableObject}
+use Rattle.ost_export.specs.Staging.{IsObjectName, IsKeepableObject}
 use Rattle.ost_export.specs.Storing.{IsWork, IsWorkAt, IsNewObject, IsNewName, IsStoreFolder, IsFitFor}
 
 -- ---- the files of the store
@@ -104,12 +105,18 @@ pub record CanExport (root : Elements) (r : Ref) (v : View) : Type 0 where
   pub ref : IsFreeFile (ref_path root r) v
   pub folders : (q : Elements) → IsFolderAbove root r q → IsFree v q
 
--- On Ok every stop leaves what stands, the ref is offered, and nothing is left of the work.
+-- where the files stay that are made: objects, `config`, the file of the ref
+abbrev pub IsExported : Elements → Ref → Elements → Type 0
+IsExported root r q = IsObjectName root q ⊎ ((q ≡ config_path root) ⊎ (q ≡ ref_path root r))
+
+-- On Ok every stop leaves what stands, the ref is offered, and nothing is left of the work. Each new file that has bytes
+-- came to such a name.
 pub record WasExported (have : Have) (root : Elements) (r : Ref) (commit : List ℕ) (u w : View) : Type 0 where
   pub settled : IsSettled w
   pub offered : AreFit have root u → (disk : Disk) → Leaves w disk → IsOffered have root r commit disk
   pub remotes : CanExport root r u → u.names (remotes root) ≡ absent → w.names (remotes root) ≡ dir
   pub work : (q : Elements) → IsWork u q → w.names q ≡ absent
+  pub shares : Shares (IsExported root r) u w
 
 -- and a file's permission bits are within 0775, a link's text is one
 pub record CanExportAll (root : Elements) (r : Ref) (objects : List BuiltObject) (v : View) : Type 0 where

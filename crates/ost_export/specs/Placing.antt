@@ -1,5 +1,5 @@
 -- Staged objects that come to their names in the store.
-use Rattle.std.specs.Prelude.{◌≡◌, ◌⊎◌, ℕ, List, true, Some}
+use Rattle.std.specs.Prelude.{◌≡◌, ◌⊎◌, ℕ, List, true, Some, Contains}
 use Rattle.fp_host.specs.Paths.{Elements, Slot, absent, dir}
 use Rattle.fp_host.specs.View.{View}
 use Rattle.fp_host.specs.Outcome.{Spot, folder, gone, shows, IsSettled}
@@ -68,9 +68,10 @@ pub record CanPlaceAll (have : Have) (root t : Elements) (objects : List Named) 
   pub lacking : AreLacking root objects v
   pub open_above : AreOpen root v
 
--- What stood at the object's path in the folder t stands at its name.
-abbrev pub CameTo : Elements → Elements → View → View → Named → Type 0
-CameTo root t u w o = shows w (object_path root o.0 o.1) ≡ shows u (object_path t o.0 o.1)
+-- What stood at the object's path in the folder t stands at its name, and was put there.
+pub record CameTo (root t : Elements) (u w : View) (o : Named) : Type 0 where
+  pub shown : shows w (object_path root o.0 o.1) ≡ shows u (object_path t o.0 o.1)
+  pub stood : Contains w.stood (object_path root o.0 o.1, u.names (object_path t o.0 o.1))
 
 -- all of these came to their names, and the others are as before
 pub record PlacesAll (root t : Elements) (objects : List Named) (u w : View) : Type 0 where

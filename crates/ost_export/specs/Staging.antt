@@ -14,6 +14,7 @@ use Rattle.fp_small.specs.Places.{tmp, new_name}
 use Rattle.ost_model.specs.declared.object.Object.{Object}
 use Rattle.ost_model.specs.Objects.{Have, object_path, name_fault}
 use Rattle.ost_model.specs.Order.{In}
+use Rattle.ost_store.specs.Gathers.{Gathers}
 use Rattle.ost_store.specs.Stage.{IsHeld, IsKeepable}
 use Rattle.ost_commit.specs.declared.built.BuiltObject.{BuiltObject}
 use Rattle.ost_commit.specs.Objects.{IsNamed, AreApart}
@@ -86,17 +87,20 @@ abbrev pub IsLacking : Elements → Elements → Named → View → Bool → Typ
 IsLacking root t o v true = (v.names (object_path root o.0 o.1) ≡ absent) × (v.names (object_path t o.0 o.1) ≡ absent)
 IsLacking root t o v false = v.names (object_path root o.0 o.1) ≡ absent → v.names (object_path t o.0 o.1) ≡ absent → ⊥
 
--- an object that the store lacks was staged, if it wasn't before
+-- An object that the store lacks was staged, if it wasn't before. Where new files that have bytes stood at the objects'
+-- names, they do.
 pub record StagesOne (have : Have) (root t : Elements) (o : Named) (before after : List Named) (v w : View) : Type 0 where
   pub on : AreStaged have t before v → AreStaged have t after w
   pub more : (p : Named) → In before p → In after p
   pub new : (p : Named) → In after p → In before p ⊎ ((p ≡ o) × (v.names (object_path root o.0 o.1) ≡ absent))
   pub waits : AreStaged have t before v → v.names (object_path root o.0 o.1) ≡ absent → In after o
+  pub gathers : (u : View) → Gathers (IsObjectName t) u v → Gathers (IsObjectName t) u w
 
--- the store lacked each that is staged
+-- the store lacked each that is staged, and new files that have bytes stand at the objects' names
 pub record HasStaged (have : Have) (root t : Elements) (staged : List Named) (u w : View) : Type 0 where
   pub are : AreStaged have t staged w
   pub new : (o : Named) → In staged o → u.names (object_path root o.0 o.1) ≡ absent
+  pub gathers : Gathers (IsObjectName t) u w
 
 -- the object is staged where the store lacked it
 pub record IsCovered (root : Elements) (staged : List Named) (u : View) (o : BuiltObject) : Type 0 where

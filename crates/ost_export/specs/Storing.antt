@@ -12,10 +12,11 @@ use Rattle.fp_small.specs.Files.{KeepsFiles}
 use Rattle.fp_small.specs.Folders.{IsFree}
 use Rattle.fp_small.specs.Places.{repo, tmp, new_name}
 use Rattle.fp_small.specs.Replace.{IsStaging}
+use Rattle.fp_small.specs.Shares.{Shares}
 use Rattle.ost_model.specs.declared.object.Object.{Object}
 use Rattle.ost_model.specs.Objects.{Have, object_path, store}
 use Rattle.ost_commit.specs.declared.built.BuiltObject.{BuiltObject}
-use Rattle.ost_export.specs.Staging.{IsAboveObject, IsKeepableObject}
+use Rattle.ost_export.specs.Staging.{IsObjectName, IsAboveObject, IsKeepableObject}
 use Rattle.ost_export.specs.Placing.{IsTheObject}
 
 -- the store is neither repo/tmp nor below it
@@ -77,7 +78,8 @@ pub record StoresObjects (have : Have) (root : Elements) (u w : View) : Type 0 w
 abbrev pub IsFitFor : Elements → List ℕ → ObjKind → Object → View → Type 0
 IsFitFor root d kind object v = (v.names (object_path root d kind) ≡ absent) ⊎ (store root (shows v) d kind ≡ Some object)
 
--- each object is there, where nothing else stood at its name; every stop leaves what stands, and nothing is left of the work
+-- Each object is there, where nothing else stood at its name; every stop leaves what stands, and nothing is left of the work.
+-- Each new file that has bytes came to an object's name.
 pub record HasStored (have : Have) (root : Elements) (u w : View) : Type 0 where
   pub stored : (d : List ℕ) (kind : ObjKind) (object : Object) → have d kind ≡ Some object → IsFitFor root d kind object u → store root (shows w) d kind ≡ Some object
   pub digits : (d : List ℕ) (kind : ObjKind) (object : Object) → have d kind ≡ Some object → is_digest d ≡ true
@@ -85,6 +87,7 @@ pub record HasStored (have : Have) (root : Elements) (u w : View) : Type 0 where
   pub place : Elements
   pub staging : IsStaging u place
   pub gone : w.names place ≡ absent
+  pub shares : Shares (IsObjectName root) u w
 
 -- where they may be written
 pub record CanStoreAll (root : Elements) (objects : List BuiltObject) (v : View) : Type 0 where

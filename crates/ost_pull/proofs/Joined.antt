@@ -16,6 +16,7 @@ use Rattle.ost_walk.specs.Surveys.{first_bad, told_fault}
 use Rattle.ost_pull.specs.Pulls.{IsApart}
 use Rattle.ost_pull.specs.Takes.{AddsAmong, StaysNoted, TakesAll}
 use Rattle.ost_pull.specs.Work.{Adds, Works}
+use Rattle.ost_pull.proofs.Gathered.{gathered_on}
 use Rattle.ost_pull.proofs.Apart.{works_object}
 use Rattle.ost_pull.proofs.Kept.{Named}
 use Rattle.ost_pull.proofs.Taken.{bad_append, in_before}
@@ -67,6 +68,7 @@ module _ (objects : List Named) (i j : ℕ) (le : i ≤ j) (start before after :
           }
       | inr new ↦ next.covered (so_far.taken taken) o new
     ];
+    gathers = gathered_on so_far.gathers next.gathers works.files;
   })
 
   pub added_more : AddsAmong (take i objects) start before → AddsAmong (between i j objects) before after → AddsAmong (take j objects) start after

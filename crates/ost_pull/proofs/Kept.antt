@@ -17,7 +17,7 @@ use Rattle.fp_host.proofs.Goes.{stays, begins, goes_on, makes_goes}
 use Rattle.fp_host.proofs.Ending.{ends_goes, ends_call, ends_to, ends_on, ends_both}
 use Rattle.fp_small.specs.Clear.{IsWithin, GoneWithin, AbsentWithin}
 use Rattle.fp_small.specs.Folders.{ancestors, AreFree}
-use Rattle.fp_small.proofs.Keeping.{files_on, files_kept, files_synced}
+use Rattle.fp_small.proofs.Keeping.{files_on, files_kept, files_stay, files_synced}
 use Rattle.fp_small.proofs.Making.{stat_absent}
 use Rattle.fp_small.proofs.Emptying.{above_longer}
 use Rattle.fp_small.proofs.Replacement.{ancestors_above}
@@ -31,12 +31,13 @@ use Rattle.ost_model.proofs.Stores.{one_name}
 use Rattle.ost_store.specs.Stage.{Stages, WasStaged, IsHeld, IsStaged, CanStage}
 use Rattle.ost_store.proofs.Staying.{staged_stays, held_stays}
 use Rattle.ost_head.specs.Found.{RemoteHas}
+use Rattle.ost_pull.proofs.Gathered.{gathered_same, gathered_staged}
 use Rattle.ost_pull.specs.Work.{IsAboveObject, Works, IsKept, IsOnce, AreKept, KeepsOne, CanKeep}
 
 -- ---- work in the folder
 
 pub works_refl : {t : Elements} {v : View} → Works t v v
-works_refl = record { keeps = keeps_refl; files = record { rows = λ id f some. some } }
+works_refl = record { keeps = keeps_refl; files = files_stay }
 
 works_same : {t : Elements} {v w : View} → w ≡ v → Works t v w
 works_same {t = t} {v = v} same = subst (Works t v) (sym same) works_refl
@@ -84,7 +85,7 @@ cleared_works keeps = record {
 pub synced_works : {t : Elements} {r : Result (Unit {0}) HostError} {u w : View} → IsTree u → Step syncs r u w → Works t u w
 synced_works tree step = record {
   keeps = keeps_call tree (λ q spot h. absurd h) (λ q e h. absurd h) (λ x i h. absurd h) tt tt (called step);
-  files = record { rows = λ id f some. (files_synced step).rows id ∙ some };
+  files = record { rows = λ id f some. (files_synced step).rows id ∙ some; stood = (files_synced step).stood };
 }
 
 -- a look at a path doesn't clash
@@ -167,6 +168,7 @@ kept_already {t = t} {url = url} {holds = holds} o kept s {u = u} good stat off 
     subst (AreKept t url holds kept) (sym stat.same) are,
     elim (are.only o.0 o.1 good) [ inl none ↦ absurd (not_absent u (u.names (object_path t o.0 o.1)) s stat.tells.1 off none) | inr has ↦ has ],
   );
+  gathers = gathered_same stat.same;
 }
 
 -- ---- one object more
@@ -211,6 +213,7 @@ module _ {t : Elements} {url : List ℕ} {holds : Option Holdings} (o : Named) (
       },
       in_last kept o,
     );
+    gathers = gathered_staged t o.0 o.1 object good stages was;
   }
 
 staged_held : (t : Elements) (object : Object) (v : View) → IsStaged t object v → IsHeld t object v

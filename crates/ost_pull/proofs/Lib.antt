@@ -1,3 +1,4 @@
+mod Gathered
 mod Kept
 mod Contents
 mod Ready

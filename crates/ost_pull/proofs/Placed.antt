@@ -1,6 +1,6 @@
 -- Objects that come from the work folder to their names.
-use Rattle.std.proofs.Common.{◌≡◌, ◌≢◌, inl, inr, ℕ, List, [], ◌∷◌, ◌++◌, true, Option, refl, sym, ◌∙◌, ap, subst, arith}
-use Rattle.fp_host.specs.Paths.{Elements, absent}
+use Rattle.std.proofs.Common.{◌≡◌, ◌≢◌, inl, inr, ℕ, List, [], ◌∷◌, ◌++◌, true, Option, refl, sym, ◌∙◌, ap, subst, arith, Contains}
+use Rattle.fp_host.specs.Paths.{Elements, Slot, absent, file}
 use Rattle.fp_host.specs.View.{View, IsTree}
 use Rattle.fp_host.specs.Moments.{Moments, Always}
 use Rattle.fp_host.specs.Frame.{AtEnd}
@@ -10,7 +10,8 @@ use Rattle.fp_host.proofs.Ending.{ends_on, ends_both, ends_goes, ends_in_tree, g
 use Rattle.fp_small.specs.Clear.{IsWithin}
 use Rattle.fp_small.specs.Unsynced.{MakesNoFile}
 use Rattle.fp_small.proofs.Emptying.{above_longer}
-use Rattle.fp_small.proofs.Keeping.{files_kept}
+use Rattle.fp_small.proofs.Keeping.{files_kept, files_on, files_stay}
+use Rattle.fp_small.proofs.Sharing.{shares_refl, shares_empty, shares_on}
 use Rattle.fp_name.specs.Hex.{is_digest}
 use Rattle.fp_base.specs.declared.object.ObjKind.{ObjKind}
 use Rattle.ost_model.specs.Objects.{object_path}
@@ -21,7 +22,7 @@ use Rattle.ost_store.specs.Stays.{Stays}
 use Rattle.ost_store.proofs.Staying.{placed_stays, placed_there, shown_stays, ready_stays}
 use Rattle.ost_pull.proofs.Given.{named_given}
 use Rattle.ost_pull.specs.Pulls.{IsApart, Pulls}
-use Rattle.ost_pull.specs.Placing.{IsReadyIn, AreReady, AreLacking, CanPlaceAll, CameTo, PlacesAll, PlacesSome, PullsReady}
+use Rattle.ost_pull.specs.Placing.{IsReadyIn, AreReady, AreLacking, CanPlaceAll, CameTo, WasPut, PlacesAll, PlacesSome, PullsReady}
 use Rattle.ost_pull.specs.Work.{IsOnce}
 use Rattle.ost_pull.proofs.Apart.{off_object, above_on}
 use Rattle.ost_pull.proofs.Kept.{Named, in_push, in_cases, in_last, below_work, above_object}
@@ -129,6 +130,22 @@ module _ (root t : Elements) (apart : IsApart root t) (objects left : List Named
               (other_stays root t apart o here.digits places p (ready.each p has).digits (λ same. before.0 (subst (In (left ++ o ∷ [])) (sym same) (in_last left o)))) tree_v tree_w ∙ before.1,
         )
       ];
+      put = λ p has. elim (some.put p has) [
+        | inl waits ↦ elim (in_cases left o p waits) [
+          | inl still ↦ inl still
+          | inr is ↦ inr (subst (WasPut root t u w) is (subst (λ (e : Slot). Contains w.stood (object_path root o.0 o.1, e)) (some.still o (in_last left o)).0.name was.stood))
+        ]
+        | inr before ↦ inr (places.keeps.stood (object_path root p.0 p.1, u.names (object_path t p.0 p.1)) before)
+      ];
+      only = λ q id below had. elim (places.keeps.puts (q, file id) had) [
+        | inl before ↦ some.only q id below before
+        | inr put ↦ elim put [
+          | inl at ↦ inr (o, some.among o (in_last left o), at.0, sym (some.still o (in_last left o)).0.name ∙ sym at.1)
+          | inr other ↦ elim other [ inl away ↦ absurd (cc away.1) | inr made ↦ absurd (cc made.1) ]
+        ]
+      ];
+      files = files_on some.files (files_kept places.keeps);
+      empty = shares_on some.empty (shares_empty places.keeps) (files_kept places.keeps);
       still = λ p has.
           let digits = (now.each p (in_push left o p has)).digits in
           let before = some.still p (in_push left o p has) in
@@ -155,6 +172,10 @@ none_placed {root = root} {t = t} {objects = objects} {u = u} {w = w} same ready
   subst (PlacesSome root t objects objects u) (sym same) (record {
     among = λ o has. has;
     came = λ o has. inl has;
+    put = λ o has. inl has;
+    only = λ q id below had. inl had;
+    files = files_stay;
+    empty = shares_refl;
     still = λ o has. (stays_same, stays_same);
     others = λ d kind digits off. stays_same;
   }),
@@ -162,7 +183,14 @@ none_placed {root = root} {t = t} {objects = objects} {u = u} {w = w} same ready
 )
 
 pub all_placed : {root t : Elements} {objects : List Named} {u w : View} → PlacesSome root t objects [] u w → PlacesAll root t objects u w
-all_placed some = record { came = λ o has. elim (some.came o has) [ inl none ↦ absurd none | inr came ↦ came.1 ]; others = some.others }
+all_placed some = record {
+  came = λ o has. elim (some.came o has) [ inl none ↦ absurd none | inr came ↦ came.1 ];
+  put = λ o has. elim (some.put o has) [ inl none ↦ absurd none | inr put ↦ put ];
+  only = some.only;
+  files = some.files;
+  empty = some.empty;
+  others = some.others;
+}
 
 -- ---- over the moments
 

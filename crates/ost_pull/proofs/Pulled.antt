@@ -126,6 +126,9 @@ module _ (root t : Elements) (apart : IsApart root t) {u v : View} (first : Pull
       rows = λ id none. first.keeps.rows id (second.keeps.rows id none);
       held = λ q id at is. elim (second.keeps.held q id at is) [ inl none ↦ inl (first.keeps.rows id none) | inr had ↦ first.keeps.held had.0 id had.1 had.2 ];
       printed = second.keeps.printed ∙ first.keeps.printed;
+      stood = λ x had. second.keeps.stood x (first.keeps.stood x had);
+      puts = λ x had. elim (second.keeps.puts x had) [ inl before ↦ first.keeps.puts x before | inr put ↦ inr (name_before x.0 x.1 put) ];
+      empty = λ none. absurd (none t (inl refl));
     };
     files = files_on first.files second.files;
   }

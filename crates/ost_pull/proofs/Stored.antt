@@ -1,6 +1,6 @@
 -- Objects that are kept come to their names between two syncs.
-use Rattle.std.proofs.Common.{ℕ, List, Option, Result, Ok, ◌∙◌, ap}
-use Rattle.fp_host.specs.Paths.{Elements}
+use Rattle.std.proofs.Common.{inl, inr, ℕ, List, Option, Result, Ok, sym, ◌∙◌, ap, subst, Contains}
+use Rattle.fp_host.specs.Paths.{Elements, Slot, file}
 use Rattle.fp_host.specs.View.{View, IsTree}
 use Rattle.fp_host.specs.Calls.{syncs, Step}
 use Rattle.fp_host.specs.Moments.{Moments, Always, Makes}
@@ -11,6 +11,10 @@ use Rattle.fp_host.proofs.Framed.{IsTold}
 use Rattle.fp_host.proofs.Goes.{begins, goes_on, makes_goes}
 use Rattle.fp_host.proofs.Ending.{ends_call, ends_on, ends_both, ends_frame}
 use Rattle.fp_small.specs.Clear.{GoneWithin, AbsentWithin, IsCleared, CanClear}
+use Rattle.fp_small.specs.Files.{KeepsFiles, SameFiles}
+use Rattle.fp_small.specs.Shares.{Shares}
+use Rattle.fp_small.proofs.Keeping.{files_kept, files_on, files_synced}
+use Rattle.fp_small.proofs.Sharing.{shares_same, shares_empty, shares_on}
 use Rattle.fp_small.proofs.Staging.{synced}
 use Rattle.fp_base.specs.declared.object.ObjKind.{ObjKind}
 use Rattle.ost_model.specs.Objects.{object_path}
@@ -29,11 +33,21 @@ use Rattle.ost_pull.proofs.Pulled.{pulls_on, pulls_work, pulls_clears}
 
 -- ---- a sync
 
+files_of : {v w : View} → SameFiles v w → KeepsFiles v w
+files_of same = record { rows = λ id f some. same.rows id ∙ some; stood = same.stood }
+
 abbrev pub Synced : View → View → Type 0
 Synced v w = Step syncs (Ok tt) v w
 
 synced_stays : {v w : View} (q : Elements) → Synced v w → Stays q v w
 synced_stays q step = record { name = ap (λ (x : View). x.names q) step.how.1; row = λ id f is some. ap (λ (x : View). x.files id) step.how.1 ∙ some }
+
+-- no file was put anywhere
+abbrev PutsBack : View → View → Type 0
+PutsBack v w = (q : Elements) (id : ℕ) → Contains w.stood (q, file id) → Contains v.stood (q, file id)
+
+synced_back : {v w : View} → Synced v w → PutsBack v w
+synced_back step q id had = subst (λ (x : View). Contains x.stood (q, file id)) step.how.1 had
 
 synced_open : {root : Elements} {v w : View} → Synced v w → AreOpen root v → AreOpen root w
 synced_open {v = v} {w = w} step before = record { free = λ q above. free_at v w q (ap (λ (x : View). x.names q) step.how.1) (before.free q above) }
@@ -97,25 +111,36 @@ module _ {root t : Elements} (apart : IsApart root t) (url : List ℕ) (holds : 
       step : (u v w : View) → IsTree u → IsTree v → IsTree w → Synced u v → PlacesAll root t objects v w → PlacesAll root t objects u w
       step u v w tree tree' tree'' synced places = record {
         came = λ o has. places.came o has ∙ shown_stays (object_path t o.0 o.1) u v (synced_stays (object_path t o.0 o.1) synced) tree tree';
+        put = λ o has. subst (λ (e : Slot). Contains w.stood (object_path root o.0 o.1, e)) (synced_stays (object_path t o.0 o.1) synced).name (places.put o has);
+        only = λ q id below had. elim (places.only q id below had) [
+          | inl before ↦ inl (synced_back synced q id before)
+          | inr put ↦ inr (put.0, put.1, put.2, sym (synced_stays (object_path t put.0.0 put.0.1) synced).name ∙ put.3)
+        ];
+        files = files_on (files_of (files_synced synced)) places.files;
+        empty = record { each = λ id f new some. places.empty.each id f ((files_synced synced).rows id ∙ new) some };
         others = λ d kind digits off. stays_on (synced_stays (object_path root d kind) synced) (places.others d kind digits off);
       }
 
   -- and so it stays where the store's names stay
-  places_stay : {u v w : View} → IsTree v → IsTree w → ((d : List ℕ) (kind : ObjKind) → Stays (object_path root d kind) v w) → PlacesAll root t objects u v → PlacesAll root t objects u w
-  places_stay {v = v} {w = w} tree tree' same places = record {
+  places_stay : {u v w : View} → IsTree v → IsTree w → ((d : List ℕ) (kind : ObjKind) → Stays (object_path root d kind) v w) → KeepsFiles v w → Shares NoPath v w → PutsBack v w → PlacesAll root t objects u v → PlacesAll root t objects u w
+  places_stay {u = u} {v = v} {w = w} tree tree' same files empty back places = record {
     came = λ o has. shown_stays (object_path root o.0 o.1) v w (same o.0 o.1) tree tree' ∙ places.came o has;
+    put = λ o has. files.stood (object_path root o.0 o.1, u.names (object_path t o.0 o.1)) (places.put o has);
+    only = λ q id below had. places.only q id below (back q id had);
+    files = files_on places.files files;
+    empty = shares_on places.empty empty files;
     others = λ d kind digits off. stays_on (places.others d kind digits off) (same d kind);
   }
 
   pub cleared_at : {a b c : Option Moments} → IsTold b → IsTold c → AtEnd CameAll a b → Frame (GoneWithin t) (AbsentWithin t) NoPath b c → AtEnd (λ v w. IsCleared t w) b c → AtEnd CameCleared a c
   cleared_at told told' placed frame cleared = ends_on (to_tree told' (ends_both (ends_frame told frame) cleared)) placed told (λ u v w tree q s taken. (
-    places_stay tree s.0 (λ d kind. works_stays root t apart (cleared_works s.1.0) (object_path root d kind) (object_within root d kind)) (q taken),
+    places_stay tree s.0 (λ d kind. works_stays root t apart (cleared_works s.1.0) (object_path root d kind) (object_within root d kind)) (files_kept s.1.0) (shares_empty s.1.0) (λ p id had. elim (s.1.0.puts (p, file id) had) [ inl before ↦ before | inr away ↦ absurd (cc away.1) ]) (q taken),
     s.1.1,
   ))
 
   pub stored_at : {a b c : Option Moments} → IsTold b → IsTold c → AtEnd CameCleared a b → Makes Synced b c → AtEnd (λ u w. AreTaken root t url holds objects u → WasStored root t objects u w) a c
   stored_at told told' placed call = ends_on (to_tree told' (ends_call told call)) placed told (λ u v w tree q s taken. record {
-    places = places_stay tree s.0 (λ d kind. synced_stays (object_path root d kind) s.1) (q taken).0;
+    places = places_stay tree s.0 (λ d kind. synced_stays (object_path root d kind) s.1) (files_of (files_synced s.1)) (shares_same (files_synced s.1)) (synced_back s.1) (q taken).0;
     cleared = record { gone = λ p within. ap (λ (y : View). y.names p) s.1.how.1 ∙ (q taken).1.gone p within };
     settled = synced s.1;
   })

@@ -38,8 +38,9 @@ use Rattle.ost_head.specs.Objects.{IsFaultThere}
 use Rattle.ost_copy.specs.Brings.{JudgesRemote}
 use Rattle.ost_pull.specs.Pulls.{IsApart, CanPull}
 use Rattle.ost_pull.specs.Takes.{IsCovered, AreTaken, AreTakenNow, TakesOne, TakesAll, AddsAmong, CoversOrder}
-use Rattle.ost_pull.specs.Work.{Works, KeepsOne, Adds, CanKeep, AreOpen}
+use Rattle.ost_pull.specs.Work.{Works, Gathered, KeepsOne, Adds, CanKeep, AreOpen}
 use Rattle.ost_pull.proofs.Apart.{works_object}
+use Rattle.ost_pull.proofs.Gathered.{gathered_same, gathered_on}
 use Rattle.ost_pull.proofs.Kept.{Named, in_push, in_cases, in_last, below_work, above_work, above_object}
 
 -- ---- ends
@@ -104,6 +105,7 @@ stored_taken {root = root} {t = t} {url = url} {holds = holds} o object kept goo
       subst (AreTaken root t url holds kept) (sym same.0) taken,
       record { digits = good; there = inl (λ none. absurd (cc (sym none ∙ ap (λ (x : View). store root (shows x) o.0 o.1) same.0 ∙ there))) },
     );
+    gathers = gathered_same same.0;
   });
 }
 
@@ -116,6 +118,7 @@ content_taken {root = root} {t = t} {url = url} {holds = holds} d kept good stil
       subst (AreTaken root t url holds kept) (sym same.0) taken,
       record { digits = good; there = inl (λ none. absurd (cc (sym none ∙ ap (λ (x : View). store root (shows x) d kinds.File) same.0 ∙ there.is))) },
     );
+    gathers = gathered_same same.0;
   });
 }
 
@@ -173,6 +176,7 @@ module _ {root t : Elements} {url : List ℕ} {holds : Option Holdings} (apart :
           },
           record { digits = good; there = inr now.1 },
         );
+    gathers = subst (λ (x : View). Gathered t x w) same keeps.gathers;
   }
 
   pub new_taken : {a b c : Option Moments} → IsTold b → IsTold c → AtEnd (λ u v. (v ≡ u) × (store root (shows u) o.0 o.1 ≡ None)) a b → Always (Works t) b c → AtEnd (KeepsOne t url holds o before after) b c
@@ -216,6 +220,7 @@ pub none_taken : {root t : Elements} {url : List ℕ} {holds : Option Holdings} 
 none_taken {root = root} {t = t} {url = url} {holds = holds} kept same = record {
   taken = λ taken. subst (AreTaken root t url holds kept) (sym same) taken;
   covered = λ taken o none. absurd none;
+  gathers = gathered_same same;
 }
 
 still_covered : {root t : Elements} (apart : IsApart root t) (o : Named) (before after : List Named) → Adds o before after → {v w : View} → IsTree v → IsTree w → Works t v w → (p : Named) → IsCovered root before v p → IsCovered root after w p
@@ -236,6 +241,7 @@ module _ (objects : List Named) (i : ℕ) (o : Named) (low : i < length objects)
       | inl had ↦ still_covered apart o before after adds tree tree' works p (so_far.covered taken p had)
       | inr same ↦ subst (λ (q : Named). IsCovered root after w q) same (one.on (so_far.taken taken)).1
     ];
+    gathers = gathered_on so_far.gathers one.gathers works.files;
   })
 
   pub next_added : AddsAmong (take i objects) start before → AddsAmong (take (i + 1) objects) start after

@@ -1,8 +1,9 @@
 -- A commit that is pulled.
-use Rattle.std.proofs.Common.{◌≡◌, ◌≢◌, inl, inr, ℕ, List, [], ◌∷◌, map, true, Option, Some, None, Err, refl, sym, ◌∙◌, ap}
+use Rattle.std.proofs.Common.{◌≡◌, ◌≢◌, inl, inr, ℕ, List, [], ◌∷◌, map, true, Option, Some, None, Err, refl, sym, ◌∙◌, ap, subst, Contains}
 use Rattle.std.specs.Prelude.{IsErrOf, option_map, if◌then◌else◌}
-use Rattle.fp_host.specs.Paths.{Elements, file, link}
-use Rattle.fp_host.specs.View.{View, IsTree}
+use Rattle.fp_host.specs.Paths.{Elements, Slot, absent, dir, file, link}
+use Rattle.fp_host.specs.View.{View, Inode, IsTree}
+use Rattle.fp_host.specs.Calls.{syncs, done, IsLeaf}
 use Rattle.fp_host.specs.Moments.{Moments, Always}
 use Rattle.fp_host.specs.Outcome.{Disk, Leaves, shows, spot_of, holding, holds, points}
 use Rattle.fp_host.specs.Remote.{Holdings}
@@ -10,6 +11,7 @@ use Rattle.fp_host.specs.Frame.{Frame, AtEnd, NoPath}
 use Rattle.fp_host.specs.declared.host.HostEnd.{HostEnd}
 use Rattle.fp_host.specs.declared.host.HostEnd.TheVariants as host_ends
 use Rattle.fp_host.proofs.Framed.{IsTold}
+use Rattle.fp_host.proofs.Kept.{tree_sync}
 use Rattle.fp_host.proofs.Goes.{begins, goes_on, knowing}
 use Rattle.fp_host.proofs.Settled.{at_tree, settled_disk}
 use Rattle.fp_host.proofs.Ending.{ends_on, ends_both, ends_goes, ends_frame, goes_known}
@@ -20,9 +22,10 @@ use Rattle.fp_base.specs.declared.object.ObjKind.{ObjKind}
 use Rattle.fp_base.specs.declared.object.ObjKind.TheVariants as kinds
 use Rattle.ost_model.specs.declared.object.Object.{Object}
 use Rattle.ost_model.specs.declared.object.Object.TheVariants as objects
-use Rattle.ost_model.specs.Objects.{Have, Fault, object_path, object_at, store, supply, or_else, name_fault}
+use Rattle.ost_model.specs.Objects.{Have, Fault, object_path, object_at, store, supply, or_else, name_fault, Named as NamedAs}
 use Rattle.ost_model.specs.Order.{Place, In, order, first_fault}
 use Rattle.ost_model.specs.Remotes.{Supplies, remote, remote_at}
+use Rattle.ost_store.specs.Created.{MadeFile, WasMade, Creates}
 use Rattle.ost_store.specs.Stage.{IsHeld}
 use Rattle.ost_store.proofs.Staying.{shown_stays}
 use Rattle.ost_walk.specs.declared.ends.WalkFault.{WalkFault}
@@ -35,13 +38,15 @@ use Rattle.ost_walk.specs.Surveys.{named_fault, first_named, told_fault}
 use Rattle.ost_head.specs.Ends.{RefusesBy, of_host, of_walk}
 use Rattle.ost_head.specs.Refusals.{refusal_of}
 use Rattle.ost_head.specs.declared.ends.PullEnd.TheVariants as ends
-use Rattle.ost_pull.specs.Pulls.{IsApart, PullsSoundly, WasPulled, WasRefused, CanPull, first_refusal}
+use Rattle.ost_pull.specs.Pulls.{IsApart, IsLacked, PullsSoundly, WasPulled, WasRefused, CanPull, first_refusal}
 use Rattle.ost_pull.specs.Placing.{PullsKept, WasStored, CanStore}
 use Rattle.ost_pull.specs.Takes.{IsCovered, AreTaken, CoversOrder}
-use Rattle.ost_pull.specs.Work.{Works}
-use Rattle.ost_pull.proofs.Apart.{works_stays, works_object, object_within}
+use Rattle.ost_pull.specs.Work.{GathersAnew, Works}
+use Rattle.ost_pull.proofs.Apart.{works_stays, works_off, works_object, object_within}
+use Rattle.ost_pull.proofs.Gathered.{shares_pulled}
 use Rattle.ost_pull.proofs.Kept.{Named, cleared_works, works_on, above_work, below_work}
 use Rattle.ost_pull.proofs.Placed.{from_tree, to_tree}
+use Rattle.ost_pull.proofs.Ready.{staged_ready}
 use Rattle.ost_pull.proofs.Pulled.{pulls_on, pulls_work, pulls_store, pulls_open, pulls_clears}
 
 -- ---- what a kept object is read as
@@ -80,7 +85,7 @@ in_named (q ∷ ps) p (inr has) = inr (in_named ps p has)
 
 module _ {root t : Elements} (apart : IsApart root t) {url : List ℕ} {holds : Option Holdings} {have : Have} {commit : List ℕ} (kept : List Named) {u v w : View} (tree_u : IsTree u) (tree_v : IsTree v) (tree_w : IsTree w)
     (held : Holdings) (holdings_are : holds ≡ Some held) (have_is : have ≡ supply (store root (shows u)) (remote held (Some url)))
-    (works : Works t u v) (taken : AreTaken root t url holds kept v) (covers : CoversOrder root have commit kept v) (was : WasStored root t kept v w) where
+    (works : Works t u v) (taken : AreTaken root t url holds kept v) (gathers : GathersAnew t u v) (covers : CoversOrder root have commit kept v) (was : WasStored root t kept v w) where
   -- the store's own object
   from_store : (o : Named) → is_digest o.0 ≡ true → store root (shows v) o.0 o.1 ≢ None → store root (shows w) o.0 o.1 ≡ have o.0 o.1
   from_store o digits there =
@@ -102,6 +107,52 @@ module _ {root t : Elements} (apart : IsApart root t) {url : List ℕ} {holds : 
   left : (disk : Disk) → Leaves w disk → (q : Elements) → disk q ≡ shows w q
   left disk l q = settled_disk w tree_w was.settled disk l q ∙ ap (spot_of w.files) (sym (at_tree w tree_w q))
 
+  -- an object that was kept was made
+  made_file : (o : Named) → In kept o → (id : ℕ) (row : Option Inode) → v.names (object_path t o.0 o.1) ≡ file id → v.files id ≡ row → NamedAs o.0 o.1 (shows v (object_path t o.0 o.1)) → WasMade root o u w
+  made_file o has id None is none named = absurd (tree_v.known (object_path t o.0 o.1) id (inl (sym is)) none)
+  made_file o has id (Some f) is some named = inl (record {
+    id = id;
+    mode = f.mode;
+    bytes = f.bytes;
+    new = gathers.new (object_path t o.0 o.1) id (below_work t o.0 o.1 (object_path t o.0 o.1) refl) is;
+    put = subst (λ (e : Slot). Contains w.stood (object_path root o.0 o.1, e)) is (was.places.put o has);
+    row = was.places.files.rows id f some;
+    named = subst (NamedAs o.0 o.1) (held_file v (object_path t o.0 o.1) id f.mode f.bytes tree_v is some) named;
+  })
+
+  made_slot : (o : Named) → In kept o → (e : Slot) → v.names (object_path t o.0 o.1) ≡ e → IsLeaf e → NamedAs o.0 o.1 (shows v (object_path t o.0 o.1)) → WasMade root o u w
+  made_slot o has absent is leaf named = absurd leaf
+  made_slot o has dir is leaf named = absurd leaf
+  made_slot o has (file id) is leaf named = made_file o has id (v.files id) is refl named
+  made_slot o has (link text) is leaf named = inr (text, subst (λ (e : Slot). Contains w.stood (object_path root o.0 o.1, e)) is (was.places.put o has))
+
+  made : (o : Named) → In kept o → WasMade root o u w
+  made o has =
+      let k = taken.are.each o has in
+      let ready = staged_ready (object_path t o.0 o.1) k.object o.0 o.1 v (done syncs v) k.held refl (tree_sync v tree_v) k.named in
+      made_slot o has (v.names (object_path t o.0 o.1)) refl ready.leaf ready.named
+
+  lacked : (o : Named) → is_digest o.0 ≡ true → In kept o → IsLacked root have commit u o
+  lacked o digits has = record { digits = digits; ordered = covers.only o has; lacked = sym (works_object root t apart works o.0 o.1 tree_u tree_v) ∙ taken.new o has }
+
+  all_made : (o : Named) → IsLacked root have commit u o → WasMade root o u w
+  all_made o is = elim (covers.covered o is.ordered).there [
+    | inl there ↦ absurd (there (works_object root t apart works o.0 o.1 tree_u tree_v ∙ is.lacked))
+    | inr has ↦ made o has
+  ]
+
+  creates_lacked : Creates root (IsLacked root have commit u) u w
+  creates_lacked = record {
+    each = all_made;
+    only = λ q id below had. elim (was.places.only q id below had) [
+      | inl before ↦ elim (works.keeps.puts (q, file id) before) [ inl old ↦ inl old | inr put ↦ absurd (works_off root t apart q (file id) (inr below) put) ]
+      | inr put ↦ inr (
+        gathers.new (object_path t put.0.0 put.0.1) id (below_work t put.0.0 put.0.1 (object_path t put.0.0 put.0.1) refl) put.3,
+        (put.0, lacked put.0 (taken.are.each put.0 put.1).digits put.1, put.2),
+      )
+    ];
+  }
+
   pub was_pulled : first_fault have commit ≡ None → WasPulled root t have commit u w
   was_pulled clean = record {
     pulled = record {
@@ -117,6 +168,15 @@ module _ {root t : Elements} (apart : IsApart root t) {url : List ℕ} {holds : 
         after.name ∙ (works_stays root t apart works (object_path root d kind) (object_within root d kind)).name;
     gone = was.cleared.gone;
     settled = was.settled;
+    shares = shares_pulled gathers.gathers taken was.places (λ o digits has. record {
+      digest = o.0;
+      kind = o.1;
+      digits = digits;
+      at = refl;
+      ordered = covers.only o has;
+      lacked = sym (works_object root t apart works o.0 o.1 tree_u tree_v) ∙ taken.new o has;
+    });
+    creates = creates_lacked;
   }
 
 -- the first view gives the objects
@@ -129,11 +189,11 @@ from_supply {root = root} {url = url} {have = have} s first = record {
 }
 
 pub pulled_at : {root t : Elements} (apart : IsApart root t) {url : List ℕ} {holds : Option Holdings} {have : Have} {commit : List ℕ} (kept : List Named) {a b c : Option Moments} → IsTold a → IsTold b → IsTold c → Supplies root (Some url) a holds have
-    → Always (Works t) a b → AtEnd (λ u w. AreTaken root t url holds kept w) a b → AtEnd (λ u w. CoversOrder root have commit kept w) a b → first_fault have commit ≡ None
+    → Always (Works t) a b → AtEnd (λ u w. AreTaken root t url holds kept w) a b → AtEnd (GathersAnew t) a b → AtEnd (λ u w. CoversOrder root have commit kept w) a b → first_fault have commit ≡ None
     → AtEnd (λ u w. AreTaken root t url holds kept u → WasStored root t kept u w) b c → AtEnd (WasPulled root t have commit) a c
-pulled_at apart kept told told' told'' s works taken covers clean was =
-    ends_on (to_tree told'' was) (from_supply s (from_tree told (ends_both (ends_both (ends_goes told works) taken) covers))) told'
-    (λ u v w tree q e. was_pulled apart kept q.1.0 tree e.0 s.held s.holdings_are q.0 q.1.1.0.0 q.1.1.0.1 q.1.1.1 (e.1 q.1.1.0.1) clean)
+pulled_at apart kept told told' told'' s works taken gathers covers clean was =
+    ends_on (to_tree told'' was) (from_supply s (from_tree told (ends_both (ends_both (ends_both (ends_goes told works) taken) gathers) covers))) told'
+    (λ u v w tree q e. was_pulled apart kept q.1.0 tree e.0 s.held s.holdings_are q.0 q.1.1.0.0.0 q.1.1.0.0.1 q.1.1.0.1 q.1.1.1 (e.1 q.1.1.0.0.1) clean)
 
 -- ---- at every moment
 

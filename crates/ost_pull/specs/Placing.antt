@@ -1,14 +1,18 @@
 -- Objects that come from the work folder to their names.
-use Rattle.std.specs.Prelude.{◌≡◌, ◌⊎◌, ◌≤◌, ◌+◌, ℕ, List, length, true, Option}
-use Rattle.fp_host.specs.Paths.{Elements, absent}
+use Rattle.std.specs.Prelude.{◌≡◌, ◌⊎◌, ◌≤◌, ◌+◌, ℕ, List, length, true, Option, Contains}
+use Rattle.fp_host.specs.Paths.{Elements, absent, file, IsAbove}
 use Rattle.fp_host.specs.View.{View}
 use Rattle.fp_host.specs.Outcome.{shows, IsSettled}
 use Rattle.fp_host.specs.Remote.{Holdings}
 use Rattle.fp_name.specs.Hex.{is_digest}
 use Rattle.fp_base.specs.declared.object.ObjKind.{ObjKind}
+use Rattle.fp_host.specs.Frame.{NoPath}
 use Rattle.fp_small.specs.Clear.{IsCleared, CanClear}
+use Rattle.fp_small.specs.Files.{KeepsFiles}
+use Rattle.fp_small.specs.Shares.{Shares}
 use Rattle.ost_model.specs.Objects.{object_path}
 use Rattle.ost_model.specs.Order.{In}
+use Rattle.ost_model.specs.Stores.{objects_folder}
 use Rattle.ost_store.specs.Place.{IsReadyAs, LeavesStore}
 use Rattle.ost_store.specs.Stays.{Stays}
 use Rattle.ost_pull.specs.Work.{IsOnce, AreOpen}
@@ -39,15 +43,32 @@ pub record CanPlaceAll (root t : Elements) (objects : List (List ℕ × ObjKind)
 abbrev pub CameTo : Elements → Elements → View → View → List ℕ × ObjKind → Type 0
 CameTo root t u w o = shows w (object_path root o.0 o.1) ≡ shows u (object_path t o.0 o.1)
 
--- all of these came to their names, and the others are as before
+-- what stood at the object's path in the folder t was put at its name
+abbrev pub WasPut : Elements → Elements → View → View → List ℕ × ObjKind → Type 0
+WasPut root t u w o = Contains w.stood (object_path root o.0 o.1, u.names (object_path t o.0 o.1))
+
+-- Each file that was put below the store's objects was put at the name of one of these, and stood at its path in the folder t.
+abbrev pub PutsOnly : Elements → Elements → List (List ℕ × ObjKind) → View → View → Type 0
+PutsOnly root t objects u w = (q : Elements) (id : ℕ) → IsAbove (objects_folder root) q → Contains w.stood (q, file id)
+    → Contains u.stood (q, file id) ⊎ ((o : List ℕ × ObjKind) × In objects o × (q ≡ object_path root o.0 o.1) × (u.names (object_path t o.0 o.1) ≡ file id))
+
+-- all of these came to their names, and the others are as before; no bytes were written
 pub record PlacesAll (root t : Elements) (objects : List (List ℕ × ObjKind)) (u w : View) : Type 0 where
   pub came : (o : List ℕ × ObjKind) → In objects o → CameTo root t u w o
+  pub put : (o : List ℕ × ObjKind) → In objects o → WasPut root t u w o
+  pub only : PutsOnly root t objects u w
+  pub files : KeepsFiles u w
+  pub empty : Shares NoPath u w
   pub others : (d : List ℕ) (kind : ObjKind) → is_digest d ≡ true → (In objects (d, kind) → ⊥) → Stays (object_path root d kind) u w
 
 -- the same where these are still to come
 pub record PlacesSome (root t : Elements) (objects left : List (List ℕ × ObjKind)) (u w : View) : Type 0 where
   pub among : (o : List ℕ × ObjKind) → In left o → In objects o
   pub came : (o : List ℕ × ObjKind) → In objects o → In left o ⊎ ((In left o → ⊥) × CameTo root t u w o)
+  pub put : (o : List ℕ × ObjKind) → In objects o → In left o ⊎ WasPut root t u w o
+  pub only : PutsOnly root t objects u w
+  pub files : KeepsFiles u w
+  pub empty : Shares NoPath u w
   pub still : (o : List ℕ × ObjKind) → In left o → Stays (object_path t o.0 o.1) u w × Stays (object_path root o.0 o.1) u w
   pub others : (d : List ℕ) (kind : ObjKind) → is_digest d ≡ true → (In objects (d, kind) → ⊥) → Stays (object_path root d kind) u w
 

@@ -8,10 +8,12 @@ use Rattle.fp_name.specs.Hex.{is_digest}
 use Rattle.fp_base.specs.declared.object.ObjKind.{ObjKind}
 use Rattle.fp_small.specs.Clear.{IsWithin, CanClear}
 use Rattle.fp_small.specs.Files.{KeepsFiles}
+use Rattle.fp_small.specs.Shares.{Shares}
 use Rattle.fp_small.specs.declared.refusal.Refusal.{Refusal}
 use Rattle.ost_model.specs.Objects.{Have, Named, object_path, store}
 use Rattle.ost_model.specs.Order.{Agree, In, order, first_fault}
 use Rattle.ost_model.specs.Stores.{objects_folder}
+use Rattle.ost_store.specs.Created.{Creates}
 use Rattle.ost_store.specs.Place.{LeavesStore}
 use Rattle.ost_walk.specs.Steps.{place_name}
 use Rattle.ost_head.specs.Ends.{RefusesBy}
@@ -66,14 +68,32 @@ pub record HasPulled (root : Elements) (have : Have) (commit : List ℕ) (w : Vi
 abbrev pub IsNoneOf : Have → List ℕ → List ℕ × ObjKind → Type 0
 IsNoneOf have commit o = In (map place_name (order have commit)) o → ⊥
 
+-- the name of an object of the commit's order that the store lacked
+pub record IsLackedName (root : Elements) (have : Have) (commit : List ℕ) (u : View) (q : Elements) : Type 0 where
+  pub digest : List ℕ
+  pub kind : ObjKind
+  pub digits : is_digest digest ≡ true
+  pub at : q ≡ object_path root digest kind
+  pub ordered : In (map place_name (order have commit)) (digest, kind)
+  pub lacked : store root (shows u) digest kind ≡ None
+
+-- the object is one of the commit's order that the store lacked
+pub record IsLacked (root : Elements) (have : Have) (commit : List ℕ) (u : View) (o : List ℕ × ObjKind) : Type 0 where
+  pub digits : is_digest o.0 ≡ true
+  pub ordered : In (map place_name (order have commit)) o
+  pub lacked : store root (shows u) o.0 o.1 ≡ None
+
 -- On Ok: it has pulled, each object that stood in the store stands as before, so does what stands at the names of objects that aren't
--- the commit's, nothing is left of the work, and every stop leaves what stands.
+-- the commit's, nothing is left of the work, and every stop leaves what stands. Each file that it made and that has a byte was put
+-- at the name of an object of the commit that the store lacked, and just these objects were made.
 pub record WasPulled (root t : Elements) (have : Have) (commit : List ℕ) (u w : View) : Type 0 where
   pub pulled : HasPulled root have commit w
   pub stood : (d : List ℕ) (kind : ObjKind) → is_digest d ≡ true → store root (shows u) d kind ≢ None → store root (shows w) d kind ≡ store root (shows u) d kind
   pub others : (d : List ℕ) (kind : ObjKind) → is_digest d ≡ true → IsNoneOf have commit (d, kind) → w.names (object_path root d kind) ≡ u.names (object_path root d kind)
   pub gone : (q : Elements) → IsWithin t q → w.names q ≡ absent
   pub settled : IsSettled w
+  pub shares : Shares (IsLackedName root have commit u) u w
+  pub creates : Creates root (IsLacked root have commit u) u w
 
 -- Where it is refused: nothing is left of the work, and names are as before, but for folders above it.
 pub record WasRefused (t : Elements) (u w : View) : Type 0 where

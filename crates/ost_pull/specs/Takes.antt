@@ -10,7 +10,7 @@ use Rattle.fp_base.specs.declared.object.ObjKind.{ObjKind}
 use Rattle.ost_model.specs.Objects.{Have, store}
 use Rattle.ost_model.specs.Order.{In, order}
 use Rattle.ost_walk.specs.Steps.{place_name}
-use Rattle.ost_pull.specs.Work.{AreKept}
+use Rattle.ost_pull.specs.Work.{AreKept, Gathered}
 
 -- the object is the store's, which has it, or it is kept
 pub record IsCovered (root : Elements) (kept : List (List ℕ × ObjKind)) (v : View) (o : List ℕ × ObjKind) : Type 0 where
@@ -26,14 +26,16 @@ pub record AreTaken (root t : Elements) (url : List ℕ) (holds : Option Holding
 pub record AreTakenNow (root t : Elements) (url : List ℕ) (holds : Option Holdings) (kept : List (List ℕ × ObjKind)) (told : Option Moments) : Type 0 where
   pub are : (m : Moments) → told ≡ Some m → AreTaken root t url holds kept m.now
 
--- one object more is the store's or kept
+-- one object more is the store's or kept, and nothing else is written
 pub record TakesOne (root t : Elements) (url : List ℕ) (holds : Option Holdings) (o : List ℕ × ObjKind) (before after : List (List ℕ × ObjKind)) (u w : View) : Type 0 where
   pub on : AreTaken root t url holds before u → AreTaken root t url holds after w × IsCovered root after w o
+  pub gathers : Gathered t u w
 
 -- so are all of these
 pub record TakesAll (root t : Elements) (url : List ℕ) (holds : Option Holdings) (objects before after : List (List ℕ × ObjKind)) (u w : View) : Type 0 where
   pub taken : AreTaken root t url holds before u → AreTaken root t url holds after w
   pub covered : AreTaken root t url holds before u → (o : List ℕ × ObjKind) → In objects o → IsCovered root after w o
+  pub gathers : Gathered t u w
 
 -- no others were noted
 abbrev pub AddsAmong : List (List ℕ × ObjKind) → List (List ℕ × ObjKind) → List (List ℕ × ObjKind) → Type 0
@@ -48,6 +50,7 @@ pub record CoversOrder (root : Elements) (have : Have) (commit : List ℕ) (kept
   pub covered : (o : List ℕ × ObjKind) → In (map place_name (order have commit)) o → IsCovered root kept v o
   pub only : (o : List ℕ × ObjKind) → In kept o → In (map place_name (order have commit)) o
 
--- what is kept goes on to be objects that the store lacks
+-- what is kept goes on to be objects that the store lacks, and nothing else is written
 pub record StaysTaken (root t : Elements) (url : List ℕ) (holds : Option Holdings) (before after : List (List ℕ × ObjKind)) (u w : View) : Type 0 where
   pub on : AreTaken root t url holds before u → AreTaken root t url holds after w
+  pub gathers : Gathered t u w

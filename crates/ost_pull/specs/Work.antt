@@ -1,6 +1,6 @@
 -- Objects that are kept in a work folder, laid out as those of a store, until all of them are judged.
 use Rattle.std.specs.Prelude.{◌≡◌, ◌⊎◌, ℕ, List, [], ◌∷◌, ◌++◌, true, Option, Some, None}
-use Rattle.fp_host.specs.Paths.{Elements, Slot, absent, dir, IsAbove}
+use Rattle.fp_host.specs.Paths.{Elements, Slot, absent, dir, file, IsAbove}
 use Rattle.fp_host.specs.View.{View}
 use Rattle.fp_host.specs.Outcome.{Spot, folder}
 use Rattle.fp_host.specs.Frame.{Keeps}
@@ -13,6 +13,7 @@ use Rattle.fp_small.specs.Folders.{IsFree, ancestors, AreFree}
 use Rattle.ost_model.specs.declared.object.Object.{Object}
 use Rattle.ost_model.specs.Objects.{object_path, name_fault}
 use Rattle.ost_model.specs.Order.{In}
+use Rattle.ost_store.specs.Gathers.{Gathers}
 use Rattle.ost_store.specs.Stage.{IsHeld, IsKeepable}
 use Rattle.ost_head.specs.Found.{RemoteHas}
 
@@ -42,6 +43,16 @@ pub record Works (t : Elements) (u w : View) : Type 0 where
   pub keeps : Keeps (WorksAt t) (WorksName t) (IsWithin t) u w
   pub files : KeepsFiles u w
 
+-- Each file that is new since u and has a byte stands at an object's name in the folder, and what stood at one stays there.
+pub record Gathered (t : Elements) (u w : View) : Type 0 where
+  pub new : Gathers (IsObjectName t) u w
+  pub stay : (q : Elements) (id : ℕ) → IsObjectName t q → u.names q ≡ file id → w.names q ≡ file id
+
+-- Each file that is new since u and has a byte stands at an object's name in the folder, and each file in the folder is new.
+pub record GathersAnew (t : Elements) (u w : View) : Type 0 where
+  pub gathers : Gathers (IsObjectName t) u w
+  pub new : (q : Elements) (id : ℕ) → IsWithin t q → w.names q ≡ file id → u.files id ≡ None
+
 -- each folder above an object's name is there, or it may be made
 pub record AreOpen (root : Elements) (v : View) : Type 0 where
   pub free : (q : Elements) → IsAboveObject root q → IsFree v q
@@ -65,9 +76,10 @@ pub record AreKept (t : Elements) (url : List ℕ) (holds : Option Holdings) (ke
   pub once : IsOnce kept
   pub only : (d : List ℕ) (kind : ObjKind) → is_digest d ≡ true → (v.names (object_path t d kind) ≡ absent) ⊎ In kept (d, kind)
 
--- it goes on keeping what it keeps, and keeps this object
+-- it goes on keeping what it keeps, and keeps this object; nothing else is written
 pub record KeepsOne (t : Elements) (url : List ℕ) (holds : Option Holdings) (o : List ℕ × ObjKind) (before after : List (List ℕ × ObjKind)) (u w : View) : Type 0 where
   pub on : AreKept t url holds before u → AreKept t url holds after w × In after o
+  pub gathers : Gathered t u w
 
 -- the object was noted, or nothing was
 abbrev pub Adds : List ℕ × ObjKind → List (List ℕ × ObjKind) → List (List ℕ × ObjKind) → Type 0

@@ -10,7 +10,7 @@ ghost use Rattle.ost_walk.specs.Ends.{EndsBy, IsRemotes};
 ghost use Rattle.ost_walk.specs.Surveys.{first_bad, first_named, told_fault};
 ghost use Rattle.ost_pull.specs.Pulls.{IsApart, CanPull};
 ghost use Rattle.ost_pull.specs.Takes.{AddsAmong, AreTaken, AreTakenNow, CoversOrder, StaysTaken, TakesAll};
-ghost use Rattle.ost_pull.specs.Work.{Works, AreOpen};
+ghost use Rattle.ost_pull.specs.Work.{Works, GathersAnew, AreOpen};
 
 use crate::taking::walk_end;
 use crate::turns::take_all;
@@ -145,6 +145,8 @@ pub(crate) fn gather<H: Host, R: Remotes, G: Gate + Sync>(
     ensures same { R.holds remotes.new ≡ R.holds remotes.old }
     ensures on_success { OnOk result (AtEnd
         (λ u w. AreTaken root.now work.now url.now (R.holds remotes.old) kept.new.items w)
+        (H.moments host.old) (H.moments host.new)) }
+    ensures gathers { OnOk result (AtEnd (GathersAnew work.now)
         (H.moments host.old) (H.moments host.new)) }
     ensures covers { (have : Have) → Supplies root.now (Some url.now) (H.moments host.old)
         (R.holds remotes.old) have → OnOk result (AtEnd

@@ -1,6 +1,7 @@
 -- Objects that come to their names.
 use Rattle.std.proofs.Common.{◌≡◌, ◌≢◌, ◌⊎◌, inl, inr, ℕ, List, [], ◌∷◌, length, true, Option, Some, None, Result, Ok, refl, sym, ◌∙◌, ap, subst, Contains, arith, codes, take, drop, ◌++◌}
 use Rattle.std.proofs.lemmas.Bool.{cases_eq, cases_Bool, both_ways}
+use Rattle.std.proofs.lemmas.List.Elements.{Contains-push, Contains-append_left}
 use Rattle.fp_host.specs.Paths.{Elements, Slot, absent, dir, file, link, at, set_at}
 use Rattle.fp_host.specs.View.{View, Inode, IsTree}
 use Rattle.fp_host.specs.Calls.{Can, HasFolder, IsFile, IsLeaf, IsNoDir, renames, put, set_file, Step, Called}
@@ -152,9 +153,11 @@ module _ {t p : Elements} {u v : View} (housed : Housed p u v) where
       ]
 
   pub was_placed : {w : View} → Step (renames t p) (Ok tt) v w → WasPlaced t p u w
-  was_placed step = record {
+  was_placed {w = w} step = record {
     leaf = subst IsLeaf (same_name step.how.0.0) step.how.0.0;
     name = ap (λ (x : View). x.names p) step.how.1 ∙ set_other (set_at v.names p (v.names t)) t absent p (λ e. step.how.0.3 (sym e)) ∙ set_same v.names p (v.names t) p refl ∙ same_name step.how.0.0;
+    stood = subst (λ (e : Slot). Contains w.stood (p, e)) (same_name step.how.0.0)
+        (subst (λ (x : View). Contains x.stood (p, v.names t)) (sym step.how.1) (Contains-append_left (v.stood ++ (p, v.names t) ∷ []) ((t, absent) ∷ []) (p, v.names t) (Contains-push v.stood (p, v.names t))));
     left = ap (λ (x : View). x.names t) step.how.1 ∙ set_same (put p (v.names t) v).names t absent t refl;
   }
 

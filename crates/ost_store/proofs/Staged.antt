@@ -1,13 +1,13 @@
 -- Objects that are written on their way to their names.
-use Rattle.std.proofs.Common.{◌≡◌, ◌≤◌, inl, inr, ℕ, List, [], ◌∷◌, true, Option, Some, Result, Ok, refl, sym, ◌∙◌, ap, subst, arith}
+use Rattle.std.proofs.Common.{◌≡◌, ◌≢◌, ◌≤◌, inl, inr, ℕ, List, [], ◌∷◌, true, Option, Some, None, Result, Ok, refl, sym, ◌∙◌, ap, subst, arith}
 use Rattle.std.specs.Prelude.{bit_and}
-use Rattle.std.proofs.lemmas.Bool.{eqb-true}
+use Rattle.std.proofs.lemmas.Bool.{eqb-true, cases_eq}
 use Rattle.std.proofs.lemmas.Nat.{and_le_r}
 use Rattle.fp_host.specs.Paths.{Elements, Slot, absent, dir, file, link}
 use Rattle.fp_host.specs.View.{View, Inode, IsTree}
 use Rattle.fp_host.specs.Calls.{Can, CanCreate, HasFolder, IsDirty, appends, makes_link, grow, grown, Step, Creates}
-use Rattle.fp_host.specs.Outcome.{Nothing}
-use Rattle.fp_host.specs.Frame.{Keeps, Frame, AtEnd, NoPath, Only}
+use Rattle.fp_host.specs.Outcome.{Spot, Nothing}
+use Rattle.fp_host.specs.Frame.{Keeps, Frame, AtEnd, NoPath, Only, NoName}
 use Rattle.fp_host.specs.Moments.{Moments, Goes, Makes}
 use Rattle.fp_host.specs.declared.host.HostError.{HostError}
 use Rattle.fp_host.proofs.Separate.{set_same, file_same}
@@ -16,13 +16,15 @@ use Rattle.fp_host.proofs.Framed.{IsTold, keeps_on, keeps_to, keeps_same, keeps_
 use Rattle.fp_host.proofs.Goes.{begins, goes_on, makes_goes}
 use Rattle.fp_host.proofs.Ending.{goes_known}
 use Rattle.fp_small.specs.Files.{KeepsFiles}
+use Rattle.fp_small.specs.Unsynced.{MakesNoFile}
 use Rattle.fp_small.proofs.Keeping.{files_kept, files_on}
 use Rattle.fp_small.specs.Folders.{ancestors, FoldersAt, DirsAt, AreFree, AreDirs}
 use Rattle.fp_small.proofs.Replacement.{parent_in}
 use Rattle.ost_model.specs.declared.object.Object.{Object}
 use Rattle.ost_model.specs.declared.object.Object.TheVariants as objects
 use Rattle.ost_model.specs.Contents.{is_permission}
-use Rattle.ost_store.specs.Stage.{StagesAt, StagesName, Stages, NoName, meta_mode, IsOpen, WasStaged, Grows, CanStage, CanGrow}
+use Rattle.ost_store.specs.Stage.{StagesAt, StagesName, Stages, meta_mode, IsOpen, WasStaged, Grows, CanStage, CanGrow}
+use Rattle.ost_store.specs.Gathers.{Gathers}
 use Rattle.ost_store.proofs.Placed.{off_own}
 
 -- ---- a file that grows
@@ -44,6 +46,50 @@ grew {t = t} {piece = piece} {v = v} {w = w} step = record {
 pub can_grow : {t : Elements} {mode : ℕ} {bytes : List ℕ} {v : View} → IsOpen t mode bytes v → CanGrow t v
 can_grow {v = v} before = subst (IsDirty v) (sym before.name) before.dirty
 
+-- the steps, whatever files may get bytes
+module _ {t : Elements} {A : Elements → Type 0} {v w : View} (tree : IsTree v) where
+  pub create_keeps : {mode : ℕ} {r : Result (Unit {0}) HostError} → Creates t mode r v w → Keeps (StagesAt t (objects.File mode [])) (StagesName t (objects.File mode [])) A v w
+  create_keeps step = elim (called_create step) [
+    | inl same ↦ keeps_same same
+    | inr call ↦ keeps_call tree (λ q spot h. inl (h.0, (call.0, h.1.0, h.1.1))) (λ q e h. inl (h.0, (call.0, h.1))) (λ x i h. absurd h) tt tt call.1
+  ]
+
+  pub link_keeps : {text : List ℕ} {r : Result (Unit {0}) HostError} → Step (makes_link text t) r v w → Keeps (StagesAt t (objects.Link text)) (StagesName t (objects.Link text)) A v w
+  link_keeps step = keeps_call tree (λ q spot h. inl h) (λ q e h. inl h) (λ x i h. absurd h) tt tt (called step)
+
+-- ---- new files that have bytes
+
+pub gathers_empty : {T : Elements → Type 0} {G : Elements → Spot → Type 0} {W : Elements → Slot → Type 0} {u w : View} → Keeps G W NoPath u w → Gathers T u w
+gathers_empty keeps = record { each = λ id f new some. inl (keeps.empty (λ q no. no) id f new some) }
+
+-- the file at t gets bytes, and none is made
+module _ {t : Elements} {mode : ℕ} {had : List ℕ} {u v w : View} (there : IsOpen t mode had v) (first : Gathers (Only t) u v) (keeps : Keeps Nothing NoName (Only t) v w) (none : (id : ℕ) → v.files id ≡ None → w.files id ≡ None) where
+  stays_at : w.names t ≡ v.names t
+  stays_at = elim (keeps.names t) [ inl same ↦ same | inr put ↦ absurd put ]
+
+  one_held : (id : ℕ) (q : Elements) → id ≢ there.id → q ≡ t → v.names q ≡ file id → ⊥
+  one_held id q off at is =
+      let same : file id ≡ file there.id = sym is ∙ ap v.names at ∙ there.name in
+      off (let e : id ≡ there.id = cc same in e)
+
+  by_row : (id : ℕ) (f : Inode) (row : Option Inode) → v.files id ≡ row → u.files id ≡ None → w.files id ≡ Some f → id ≢ there.id → f.bytes ≡ []
+  by_row id f None is new some off = absurd (cc (none id is, some))
+  by_row id f (Some g) is new some off =
+      let same : Some g ≡ Some f = sym (keeps.files id g is (λ q at held. one_held id q off at held)) ∙ some in
+      let e : g ≡ f = cc same in
+      elim (first.each id g new is) [
+        | inl empty ↦ ap (λ (x : Inode). x.bytes) (sym e) ∙ empty
+        | inr put ↦ absurd (one_held id put.0 off put.1 put.2)
+      ]
+
+  pub gathers_piece : Gathers (Only t) u w
+  gathers_piece = record {
+    each = λ id f new some. elim (cases_eq id there.id) [
+      | inl is ↦ inr (t, refl, stays_at ∙ there.name ∙ ap file (sym is))
+      | inr off ↦ inl (by_row id f (v.files id) refl new some off)
+    ];
+  }
+
 -- ---- after the folders above
 
 module _ {t : Elements} {u v : View} (made : Keeps (FoldersAt (ancestors t)) (DirsAt (ancestors t)) NoPath u v) where
@@ -51,8 +97,12 @@ module _ {t : Elements} {u v : View} (made : Keeps (FoldersAt (ancestors t)) (Di
   was_free : v.names t ≡ absent → u.names t ≡ absent
   was_free none = elim (made.names t) [ inl same ↦ sym same ∙ none | inr put ↦ absurd (cc (put.1, none)) ]
 
-  pub created : {mode : ℕ} {w : View} → Creates t mode (Ok tt) v w → WasStaged t (objects.File mode []) u w
-  created {mode = mode} step =
+  -- the folders gave bytes to no file
+  folders_kept : (object : Object) → Keeps (StagesAt t object) (StagesName t object) NoPath u v
+  folders_kept object = keeps_to (λ q spot h. inr h) (λ q e h. inr h) (λ q h. h) (λ q id a h. a) made
+
+  pub created : {mode : ℕ} {w : View} → IsTree v → Creates t mode (Ok tt) v w → WasStaged t (objects.File mode []) u w
+  created {mode = mode} tree step =
       let id = step.how.0 in
       let is = step.how.1.1 in
       record {
@@ -63,12 +113,14 @@ module _ {t : Elements} {u v : View} (made : Keeps (FoldersAt (ancestors t)) (Di
           row = ap (λ (x : View). x.files id) is ∙ file_same v.files id (Some (record { mode = mode; bytes = [] })) id refl;
           dirty = ap (λ (x : View). x.dirty id) is ∙ file_same v.dirty id true id refl;
         };
+        gathers = gathers_empty (keeps_on (folders_kept (objects.File mode [])) (create_keeps tree step));
       }
 
-  pub linked : {text : List ℕ} {w : View} → Step (makes_link text t) (Ok tt) v w → WasStaged t (objects.Link text) u w
-  linked {text = text} step = record {
+  pub linked : {text : List ℕ} {w : View} → IsTree v → Step (makes_link text t) (Ok tt) v w → WasStaged t (objects.Link text) u w
+  linked {text = text} tree step = record {
     free = was_free step.how.0.2;
     there = ap (λ (x : View). x.names t) step.how.1 ∙ set_same v.names t (link text) t refl;
+    gathers = gathers_empty (keeps_on (folders_kept (objects.Link text)) (link_keeps tree step));
   }
 
   -- where nothing stands at the path, and the folders above are there, it may be made
@@ -102,8 +154,8 @@ can_link tree made dirs can = (can.keepable, above_there made tree can.free (dir
 pub started : {t : Elements} {mode : ℕ} {bytes : List ℕ} {v : View} → CanStage t (objects.File mode bytes) v → CanStage t (objects.File mode []) v
 started can = record { keepable = can.keepable; free = can.free; folders = can.folders }
 
-pub written : {t : Elements} {mode : ℕ} {bytes : List ℕ} {u v w : View} → WasStaged t (objects.File mode []) u v → Grows t bytes v w → WasStaged t (objects.File mode bytes) u w
-written {mode = mode} was grows = record { free = was.free; there = grows.grown mode [] was.there }
+pub written : {t : Elements} {mode : ℕ} {bytes : List ℕ} {u v w : View} → WasStaged t (objects.File mode []) u v → Grows t bytes v w → Keeps Nothing NoName (Only t) v w → MakesNoFile v w → WasStaged t (objects.File mode bytes) u w
+written {mode = mode} was grows keeps none = record { free = was.free; there = grows.grown mode [] was.there; gathers = gathers_piece was.there was.gathers keeps none.none }
 
 -- ---- what stays as it was at each moment
 
@@ -113,17 +165,6 @@ stages_with stages = record { keeps = stages.keeps; files = stages.files }
 
 pub stages_meta : {t : Elements} {bytes : List ℕ} {u w : View} → Stages t (objects.File meta_mode bytes) u w → Stages t (objects.Meta bytes) u w
 stages_meta stages = record { keeps = stages.keeps; files = stages.files }
-
--- the steps, whatever files may get bytes
-module _ {t : Elements} {A : Elements → Type 0} {v w : View} (tree : IsTree v) where
-  create_keeps : {mode : ℕ} {r : Result (Unit {0}) HostError} → Creates t mode r v w → Keeps (StagesAt t (objects.File mode [])) (StagesName t (objects.File mode [])) A v w
-  create_keeps step = elim (called_create step) [
-    | inl same ↦ keeps_same same
-    | inr call ↦ keeps_call tree (λ q spot h. inl (h.0, (call.0, h.1.0, h.1.1))) (λ q e h. inl (h.0, (call.0, h.1))) (λ x i h. absurd h) tt tt call.1
-  ]
-
-  link_keeps : {text : List ℕ} {r : Result (Unit {0}) HostError} → Step (makes_link text t) r v w → Keeps (StagesAt t (objects.Link text)) (StagesName t (objects.Link text)) A v w
-  link_keeps step = keeps_call tree (λ q spot h. inl h) (λ q e h. inl h) (λ x i h. absurd h) tt tt (called step)
 
 module _ {t : Elements} {u v : View} (made : Keeps (FoldersAt (ancestors t)) (DirsAt (ancestors t)) NoPath u v) where
   pub stages_folders : (object : Object) → Stages t object u v
@@ -145,7 +186,7 @@ module _ {t : Elements} {u v : View} (made : Keeps (FoldersAt (ancestors t)) (Di
 pub stages_piece : {t : Elements} {mode : ℕ} {bytes : List ℕ} {u v w : View} → Stages t (objects.File mode bytes) u v → u.names t ≡ absent → Keeps Nothing NoName (Only t) v w → Stages t (objects.File mode bytes) u w
 stages_piece {t = t} {u = u} {v = v} so_far free more = record {
   keeps = keeps_on so_far.keeps (keeps_to (λ q spot h. absurd h) (λ q e h. absurd h) (λ q h. h) (λ q id a h. absurd h) more);
-  files = record { rows = λ id f some. more.files id f (so_far.files.rows id f some) (λ q at is. elim (so_far.keeps.held q id at is) [ inl none ↦ cc (some, none) | inr had ↦ cc (free, sym (ap u.names had.1) ∙ had.2) ]) };
+  files = record { rows = λ id f some. more.files id f (so_far.files.rows id f some) (λ q at is. elim (so_far.keeps.held q id at is) [ inl none ↦ cc (some, none) | inr had ↦ cc (free, sym (ap u.names had.1) ∙ had.2) ]); stood = λ x had. more.stood x (so_far.files.stood x had) };
 }
 
 -- ---- over the moments

@@ -4,7 +4,7 @@ use Rattle.fp_host.specs.Paths.{Elements, Slot, absent, dir, file, link}
 use Rattle.fp_host.specs.View.{View, Inode, IsTree}
 use Rattle.fp_host.specs.Calls.{IsLeaf, IsDirty}
 use Rattle.fp_host.specs.Outcome.{Nothing, holding, spot_of, shows}
-use Rattle.fp_host.specs.Frame.{Keeps, NoPath, Only}
+use Rattle.fp_host.specs.Frame.{Keeps, NoPath, Only, NoName}
 use Rattle.fp_host.proofs.Settled.{at_tree}
 use Rattle.fp_small.specs.Clear.{IsWithin, GoneAt, AbsentAt}
 use Rattle.fp_small.specs.Unsynced.{Unsynced}
@@ -17,7 +17,7 @@ use Rattle.ost_model.specs.declared.object.Object.{Object}
 use Rattle.ost_model.specs.declared.object.Object.TheVariants as objects
 use Rattle.ost_model.specs.Objects.{object_path, object_at, store, Named}
 use Rattle.ost_model.proofs.Stores.{one_name}
-use Rattle.ost_store.specs.Stage.{Stages, NoName, IsOpen, IsStaged, IsHeld}
+use Rattle.ost_store.specs.Stage.{Stages, IsOpen, IsStaged, IsHeld}
 use Rattle.ost_store.specs.Stays.{Stays}
 use Rattle.ost_store.specs.Place.{Places, WasPlaced, IsReadyAs}
 

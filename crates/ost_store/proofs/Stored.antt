@@ -5,7 +5,7 @@ use Rattle.fp_host.specs.Paths.{Elements, Slot, absent, dir, file, link, at, IsA
 use Rattle.fp_host.specs.View.{View, Inode}
 use Rattle.fp_host.specs.Calls.{IsLeaf, IsDirty}
 use Rattle.fp_host.specs.Outcome.{Spot, Disk, Leaves, Nothing, gone, MayHold, Gives, spot_of, holding}
-use Rattle.fp_host.specs.Frame.{Keeps, NoPath, Only}
+use Rattle.fp_host.specs.Frame.{Keeps, NoPath, Only, NoName}
 use Rattle.fp_host.proofs.Separate.{at_cases}
 use Rattle.fp_small.proofs.Emptying.{above_longer}
 use Rattle.fp_small.proofs.Replacement.{ancestors_above}
@@ -15,7 +15,7 @@ use Rattle.ost_model.specs.Objects.{object_path, name_fault, kind_text, Named}
 use Rattle.ost_model.specs.Stores.{objects_folder, is_prefix, MayBePrefix, MayBeObject}
 use Rattle.ost_model.proofs.Stores.{store_goes_on, store_same}
 use Rattle.fp_small.specs.Clear.{GoneAt, AbsentAt}
-use Rattle.ost_store.specs.Stage.{Stages, NoName}
+use Rattle.ost_store.specs.Stage.{Stages}
 use Rattle.ost_store.specs.Place.{PlacesAt, Places, IsReadyAs, LeavesObject, LeavesStore}
 use Rattle.ost_store.proofs.Elements.{prefix_is_one}
 use Rattle.ost_store.proofs.Gets.{none_gone}

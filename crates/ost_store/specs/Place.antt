@@ -1,5 +1,5 @@
 -- Objects that come to their names, and go.
-use Rattle.std.specs.Prelude.{◌≡◌, ◌⊎◌, List, ℕ, true, is_some}
+use Rattle.std.specs.Prelude.{◌≡◌, ◌⊎◌, List, ℕ, true, is_some, Contains}
 use Rattle.fp_host.specs.Paths.{Elements, Slot, absent}
 use Rattle.fp_host.specs.View.{View}
 use Rattle.fp_host.specs.Calls.{IsLeaf, IsDirty}
@@ -28,6 +28,7 @@ pub record Places (t p : Elements) (u w : View) : Type 0 where
 pub record WasPlaced (t p : Elements) (u w : View) : Type 0 where
   pub leaf : IsLeaf (u.names t)
   pub name : w.names p ≡ u.names t
+  pub stood : Contains w.stood (p, u.names t)
   pub left : w.names t ≡ absent
 
 -- a file or link that stood at p is gone

@@ -10,6 +10,7 @@ use Rattle.fp_small.specs.Folders.{ancestors, FoldersAt, DirsAt, AreFree}
 use Rattle.ost_model.specs.declared.object.Object.{Object}
 use Rattle.ost_model.specs.declared.object.Object.TheVariants as objects
 use Rattle.ost_model.specs.Contents.{is_permission}
+use Rattle.ost_store.specs.Gathers.{Gathers}
 
 -- the permission bits of the file that keeps a metadata object: 0644
 abbrev pub meta_mode : ℕ
@@ -44,10 +45,6 @@ pub record Stages (t : Elements) (object : Object) (u w : View) : Type 0 where
   pub keeps : Keeps (StagesAt t object) (StagesName t object) (Only t) u w
   pub files : KeepsFiles u w
 
--- no name changes
-abbrev pub NoName : Elements → Slot → Type 0
-NoName q e = ⊥
-
 -- the path is a file with these permission bits and these bytes, created since the last sync
 pub record IsOpen (t : Elements) (mode : ℕ) (bytes : List ℕ) (v : View) : Type 0 where
   pub id : ℕ
@@ -73,10 +70,11 @@ IsHeld t (objects.Meta bytes) v = IsFileOf t meta_mode bytes v
 IsHeld t (objects.File mode bytes) v = IsFileOf t mode bytes v
 IsHeld t (objects.Link text) v = v.names t ≡ link text
 
--- where nothing stood before
+-- where nothing stood before, and no other new file has bytes
 pub record WasStaged (t : Elements) (object : Object) (u w : View) : Type 0 where
   pub free : u.names t ≡ absent
   pub there : IsStaged t object w
+  pub gathers : Gathers (Only t) u w
 
 -- these bytes came to the end of a file that was created since the last sync
 pub record Grows (t : Elements) (piece : List ℕ) (u w : View) : Type 0 where

@@ -1,12 +1,12 @@
 //! Laws of the words that the contracts use, for crates that build on them. Each is the contract of a function that
 //! does nothing.
 
-ghost use Rattle.std.specs.Prelude.{◌≡◌, ◌≢◌, ℕ, List, ◌∷◌, ◌++◌, true, Some, None};
+ghost use Rattle.std.specs.Prelude.{◌≡◌, ◌≢◌, ℕ, List, [], ◌∷◌, ◌++◌, true, Some, None};
 ghost use Rattle.fp_host.specs.Paths.{Elements, absent, IsAbove};
 ghost use Rattle.fp_host.specs.View.{View, IsTree};
 ghost use Rattle.fp_host.specs.Calls.{creates, appends, syncs, done, CanCreate};
 ghost use Rattle.fp_host.specs.Outcome.{Nothing, shows, IsSettled};
-ghost use Rattle.fp_host.specs.Frame.{Keeps, NoPath, Only};
+ghost use Rattle.fp_host.specs.Frame.{Keeps, NoPath, Only, NoName};
 ghost use Rattle.fp_name.specs.Hex.{is_digest};
 ghost use Rattle.fp_base.specs.declared.object.ObjKind.{ObjKind};
 ghost use Rattle.fp_base.specs.declared.object.ObjKind.TheVariants as kinds;
@@ -15,7 +15,11 @@ ghost use Rattle.ost_model.specs.Objects.{object_path, name_fault, store, Named}
 ghost use Rattle.ost_model.specs.Stores.{objects_folder};
 ghost use Rattle.fp_small.specs.Clear.{GoneAt, AbsentAt, IsWithin};
 ghost use Rattle.fp_small.specs.Unsynced.{Unsynced};
-ghost use Rattle.ost_store.specs.Stage.{IsStaged, IsHeld, Stages, NoName};
+ghost use Rattle.fp_small.specs.Files.{KeepsFiles, MakesFile};
+ghost use Rattle.fp_small.specs.Shares.{Shares};
+ghost use Rattle.ost_store.specs.Created.{Creates, NoObject, Either};
+ghost use Rattle.ost_store.specs.Gathers.{Gathers};
+ghost use Rattle.ost_store.specs.Stage.{IsStaged, IsHeld, Stages};
 ghost use Rattle.ost_store.specs.Stays.{Stays};
 ghost use Rattle.ost_store.specs.Place.{Places, WasPlaced, IsReadyAs, LeavesObject, LeavesStore};
 
@@ -52,6 +56,17 @@ pub fn what_stays_is_kept()
         → IsReadyAs d kind q u → IsReadyAs d kind q w }
     ensures shown { (q : Elements) (u w : View) → Stays q u w → IsTree u → IsTree w → shows w q ≡
         shows u q }
+{}
+
+/// The one file that is made stands at its path, and where nothing stands only if it is empty. Where new files that have bytes
+/// stand at one name alone, and what stands there is placed, they came to the object's name.
+pub fn gathered_files()
+    ensures made { (p : Elements) (bytes : List ℕ) (u w : View) → MakesFile p bytes u w
+        → Gathers (Only p) u w }
+    ensures nowhere { (p q : Elements) (bytes : List ℕ) (u w : View) → MakesFile p bytes u w
+        → w.names q ≡ absent → Gathers (Only q) u w → bytes ≡ [] }
+    ensures placed { (t p : Elements) (u v w : View) → Gathers (Only t) u v → Places t p v w
+        → WasPlaced t p v w → Shares (Only p) u w }
 {}
 
 /// An object that was placed is there, and the other objects of the store are as before; so they are where one is taken away.
@@ -114,4 +129,16 @@ pub fn views_can_have_stores()
         → IsTree (done syncs (done (appends t bytes) (done (creates t 420 id) v)))
         → IsReadyAs d kinds.DirMeta t
         (done syncs (done (appends t bytes) (done (creates t 420 id) v)))) }
+{}
+
+/// Where nothing happens no object is made, and after two steps those of both are. A file that is created below the store's
+/// objects is an object that was made.
+pub fn made_objects()
+    ensures none { (root : Elements) (v : View) → Creates root NoObject v v }
+    ensures both { (root : Elements) (o p : List ℕ × ObjKind) (u v w : View)
+        → Creates root (λ x. x ≡ o) u v → Creates root (λ x. x ≡ p) v w → KeepsFiles u v
+        → KeepsFiles v w → Creates root (Either (λ x. x ≡ o) (λ x. x ≡ p)) u w }
+    ensures some { (root : Elements) (v : View) (q : Elements) (mode id : ℕ) → v.stood ≡ []
+        → IsAbove (objects_folder root) q
+        → Creates root NoObject v (done (creates q mode id) v) → ⊥ }
 {}

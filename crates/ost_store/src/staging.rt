@@ -3,10 +3,10 @@ ghost use Rattle.std.specs.Prelude.{◌≡◌, [], OnOk, IsErrOf};
 ghost use Rattle.fp_host.specs.Moments.{Always};
 ghost use Rattle.fp_host.specs.Causes.{IsCaused};
 ghost use Rattle.fp_host.specs.Outcome.{Nothing};
-ghost use Rattle.fp_host.specs.Frame.{Frame, AtEnd, Only};
+ghost use Rattle.fp_host.specs.Frame.{Frame, AtEnd, Only, NoName};
 ghost use Rattle.ost_model.specs.declared.object.Object.TheVariants as objects;
 ghost use Rattle.fp_small.specs.Unsynced.{MakesNoFile, MakesOneFile};
-ghost use Rattle.ost_store.specs.Stage.{Stages, NoName, WasStaged, Grows, CanStage, CanGrow};
+ghost use Rattle.ost_store.specs.Stage.{Stages, WasStaged, Grows, CanStage, CanGrow};
 
 use fp_host::{Host, HostEnd, Path};
 use fp_small::make_above;

@@ -1,7 +1,6 @@
 use Rattle.fp_host.specs.Causes.{end_of}
-use Rattle.fp_host.specs.Frame.{NoPath}
+use Rattle.fp_host.specs.Frame.{NoPath, NoName}
 use Rattle.fp_host.specs.Outcome.{Nothing}
-use Rattle.dep_open.specs.Open.{NoName}
 use Rattle.fp_host.proofs.Framed.{frame_start, frame_looks, frame_sync}
 use Rattle.fp_host.proofs.Ending.{ends_call, ends_looks, ends_both, ends_on, ends_to, ends_frame}
 use Rattle.fp_host.proofs.Goes.{makes_goes}

@@ -13,6 +13,8 @@ use Rattle.dep_tidy.specs.Steps.{IsReady, IsSteady, HasRefs}
 use Rattle.dep_tidy.proofs.Joined.{tidies_same, tidying, going_on, pruning_on, ended_goes, was_tidied, ready_on, ready_more, Going}
 use Rattle.dep_tidy.proofs.Pruned.{can_prune}
 use Rattle.dep_tidy.proofs.Ended.{all_settled}
+use Rattle.dep_tidy.proofs.Lasted.{lasts_on, lasts_frame}
+use Rattle.dep_tidy.specs.Lasts.{Lasts}
 use Rattle.dep_tidy.proofs.tidying.settle.Goals as goal
 
 pub returns-in_err-repo-clause-any_moment : goal.returns-in_err-repo-clause-any_moment
@@ -80,4 +82,8 @@ returns-clause-on_success g c =
     (ends_on {Q' = λ u w. IsTree w → IsSteady u → Opens s u → Settled (shows w)} (ends_both (ends_goes (t c.settle_refs.new.host) c.prune_unused.ensures.any_moment) c.in_ok-prune_unused.ensures.on_success) (ends_both (ends_goes (t c.args.host.now) next) refs) (t c.settle_refs.new.host)
     (λ u v w tree q z after steady opens. let ready = ready_more q.0 (record { steady = steady; opens = opens }) in all_settled tree after ready.opens ready.steady (q.1 steady opens) z.0 z.1))
     (λ u w tree q. q tree) in
-    ends_on (ends_call (t c.prune_unused.new.host) c.in_ok-sync.ensures.step) pruned (t c.prune_unused.new.host) (λ u v w tree q step steady. was_tidied (q steady) step)
+    let shared = ends_on {Q' = λ u v. IsSteady u → Lasts u v} (ends_both (ends_goes (t c.clear_left.new.host) c.settle_refs.ensures.any_moment) c.in_ok-settle_refs.ensures.lasts)
+    (ends_both (ends_goes (t c.args.host.now) c.clear_left.ensures.any_moment) c.in_ok-clear_left.ensures.lasts) (t c.clear_left.new.host)
+    (λ u v w tree q z steady. lasts_on q.1 z.1) in
+    let came = ends_on {Q' = λ u v. IsSteady u → Lasts u v} (ends_goes (t c.settle_refs.new.host) c.prune_unused.ensures.any_moment) shared (t c.settle_refs.new.host) (λ u v w tree q z steady. lasts_on (q steady) (lasts_frame _ z.keeps (λ p id away. cc away.1))) in
+    ends_on (ends_call (t c.prune_unused.new.host) c.in_ok-sync.ensures.step) (ends_both pruned came) (t c.prune_unused.new.host) (λ u v w tree q step steady. was_tidied (q.0 steady) (q.1 steady) step)

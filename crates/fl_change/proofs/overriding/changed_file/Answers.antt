@@ -1,4 +1,4 @@
-use Rattle.std.proofs.Common.{◌≡◌, List, ◌++◌, Result, IfOk, ap, sym, subst, ◌∙◌}
+use Rattle.std.proofs.Common.{◌≡◌, List, ◌++◌, IfOk, ap, sym, subst, ◌∙◌}
 use Rattle.fp_keyfile.specs.declared.group.Group.{Group}
 use Rattle.fl_meta.specs.declared.permission.Mention.{Mention}
 use Rattle.fl_context.specs.Grants.{last_mention}

@@ -1,4 +1,4 @@
-use Rattle.std.proofs.Common.{◌≡◌, ◌∙◌, List, ℕ, Ok, Err, ap, subst}
+use Rattle.std.proofs.Common.{◌≡◌, ◌∙◌, List, Ok, Err, ap, subst}
 use Rattle.dep_states.specs.Sound.{Opens}
 use Rattle.ost_walk.specs.Ends.{outside}
 use Rattle.fl_words.specs.declared.command.Change.{Change}

@@ -1,6 +1,5 @@
-use Rattle.std.proofs.Common.{◌≡◌, Ok, subst, sym, arith}
+use Rattle.std.proofs.Common.{subst, sym}
 use Rattle.std.proofs.lemmas.Result.{on_ok_weaker}
-use Rattle.fp_host.specs.View.{View}
 use Rattle.fp_host.proofs.Framed.{frame_start, frame_stat, frame_within}
 use Rattle.fp_host.proofs.Ending.{ends_call, ends_on, ends_to, fault_caused}
 use Rattle.fp_small.specs.Clear.{CanClear}

@@ -1,6 +1,6 @@
 use Rattle.std.proofs.Common.{◌≡◌, ℕ, List, inl, refl, subst, arith}
 use Rattle.std.proofs.lemmas.Str.{is_utf8-from_IsUtf8}
-use Rattle.fp_host.specs.View.{View, IsTree}
+use Rattle.fp_host.specs.View.{IsTree}
 use Rattle.fp_host.specs.Outcome.{points, shows}
 use Rattle.fp_host.specs.Calls.{Can, makes_link}
 use Rattle.fp_host.specs.Frame.{NoPath}
@@ -8,6 +8,7 @@ use Rattle.fp_host.proofs.Cause.{same_fault, clash_step}
 use Rattle.fp_host.proofs.Ending.{ends_on, ends_both, ends_call, ends_frame, ends_in_tree, ends_to, fault_caused, call_caused}
 use Rattle.fp_host.proofs.Framed.{frame_start, frame_within, frame_symlink}
 use Rattle.fp_small.specs.Folders.{ancestors, AreFree}
+use Rattle.fp_small.proofs.Sharing.{shares_empty}
 use Rattle.fl_export.specs.declared.rows.ExportWhat.TheVariants as what
 use Rattle.fl_export.specs.Steps.{PutAt, it_at, CanPut}
 use Rattle.fl_export.proofs.Putting.{LinkName, link_it, link_gone, link_folder, gives_gone, gives_folders, always_link, link_work, linked, IsCleanAt, IsHousedAt, housed, can_fold, can_link, text_good, good_text}
@@ -77,4 +78,4 @@ returns-clause-on_success g c =
     let whole = frame_symlink c.symlink.ensures.step second (t c.make_above.new.host) (it_at refl (text_good c.as_str.ensures)) (link_it refl) in
     let made = ends_on {Q' = λ u w. IsTree w → shows w p ≡ points c.as_str.result.now} (ends_call (t c.make_above.new.host) c.in_ok-symlink.ensures.step) (ends_frame (t c.args.host.now) second) (t c.make_above.new.host) (λ u v w tree q s next. linked next s) in
     ends_in_tree (t c.symlink.new.self) (ends_both (ends_frame (t c.args.host.now) whole) made)
-    (λ u w tree q. record { there = subst (λ (l : List ℕ). shows w p ≡ points l) c.as_str.ensures (q.1 tree); work = λ inside r above. link_work p inside q.0 r above })
+    (λ u w tree q. record { there = subst (λ (l : List ℕ). shows w p ≡ points l) c.as_str.ensures (q.1 tree); work = λ inside r above. link_work p inside q.0 r above; shares = shares_empty q.0 })

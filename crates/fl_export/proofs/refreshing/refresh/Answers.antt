@@ -1,5 +1,5 @@
-use Rattle.std.proofs.Common.{◌≡◌, List, arith, sym, ◌∙◌, ap, subst, Contains}
-use Rattle.fp_host.specs.View.{View, IsTree}
+use Rattle.std.proofs.Common.{List, arith, sym, ◌∙◌, ap, subst, Contains}
+use Rattle.fp_host.specs.View.{IsTree}
 use Rattle.fp_host.proofs.Cause.{same_fault}
 use Rattle.fp_host.proofs.Goes.{begins}
 use Rattle.fp_host.proofs.Ending.{ends_goes, ends_in_tree, fault_caused}

@@ -1,4 +1,4 @@
-use Rattle.std.proofs.Common.{◌≡◌, Ok, subst}
+use Rattle.std.proofs.Common.{Ok, subst}
 use Rattle.fp_host.specs.Reads.{StatOf}
 use Rattle.fp_host.proofs.Looking.{looks_start, looks_stat}
 use Rattle.fl_export.proofs.Tested.{tells_of, bits_told, no_bits_told}

@@ -1,4 +1,4 @@
-use Rattle.std.proofs.Common.{◌≡◌, Ok, List, ℕ, sym, ◌∙◌, subst, arith}
+use Rattle.std.proofs.Common.{◌≡◌, Ok, List, ℕ, sym, ◌∙◌, subst}
 use Rattle.fp_host.specs.Paths.{link}
 use Rattle.fp_host.specs.View.{View, IsTree}
 use Rattle.fp_host.specs.Reads.{StatOf, LinkOf}

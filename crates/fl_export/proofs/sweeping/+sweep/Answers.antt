@@ -1,7 +1,7 @@
 use Rattle.std.proofs.Common.{◌≡◌, ◌-◌, ◌∷◌, inr, ℕ, List, Ok, refl, sym, ◌∙◌, ap, subst, arith}
 use Rattle.std.proofs.lemmas.List.{take_all}
 use Rattle.std.proofs.lemmas.Result.{on_ok_weaker}
-use Rattle.fp_host.specs.Paths.{Elements, dir, IsAbove}
+use Rattle.fp_host.specs.Paths.{Elements, dir}
 use Rattle.fp_host.specs.View.{View, IsTree}
 use Rattle.fp_host.specs.Calls.{IsNoDir}
 use Rattle.fp_host.specs.Reads.{StatOf}
@@ -13,7 +13,7 @@ use Rattle.fp_small.specs.Clear.{IsWithin, Reaches}
 use Rattle.fp_small.proofs.Making.{stat_dir, stat_absent, lists_of}
 use Rattle.fp_small.proofs.Emptying.{stat_leaf}
 use Rattle.fl_export.specs.Steps.{Sweeps, HasNoStaleIn}
-use Rattle.fl_export.proofs.Swept.{sweeps_none, sweeps_same, sweeps_to, leaf_swept, leaf_done, absent_done, folder_done, leaf_is_no_dir, AreSwept, none_swept, child_on, swept_next, within_reach, reach_on, all_swept, from_same}
+use Rattle.fl_export.proofs.Swept.{sweeps_same, sweeps_to, leaf_swept, leaf_done, absent_done, folder_done, leaf_is_no_dir, AreSwept, none_swept, child_on, swept_next, within_reach, reach_on, all_swept, from_same}
 use Rattle.fl_export.proofs.sweeping.+sweep.Goals as goal
 
 -- ---- the names in a folder

@@ -1,4 +1,4 @@
-use Rattle.std.proofs.Common.{◌≡◌, ℕ, inr, refl, subst, arith}
+use Rattle.std.proofs.Common.{ℕ, inr, refl, subst, arith}
 use Rattle.fl_gen.specs.Generator.{IsGenerated, holdings_of}
 use Rattle.fl_top.proofs.Exercises.{exercise_made, nothing_done}
 use Rattle.fl_top.proofs.exercising.run_exercise.Goals as goal

@@ -5,8 +5,6 @@ use Rattle.fl_words.specs.declared.command.Command.{Command}
 use Rattle.fl_top.specs.Runs.{WasTaken, Checks, IsChange, told}
 use Rattle.fp_host.specs.Frame.{AtEnd}
 use Rattle.fp_host.specs.Outcome.{shows}
-use Rattle.dep_states.specs.Sound.{IsSound}
-use Rattle.fl_top.specs.Exports.{LeavesExports}
 use Rattle.fl_top.specs.Fsck.{HasReport}
 use Rattle.fl_top.specs.Status.{IsAnswered}
 use Rattle.fl_top.proofs.Ending.{not_answered}

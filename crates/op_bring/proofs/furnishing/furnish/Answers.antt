@@ -2,11 +2,14 @@ use Rattle.fp_host.proofs.Cause.{passed_on}
 use Rattle.dep_states.specs.Names.{commit_dir}
 use Rattle.op_bring.specs.Furnishing.{CanFurnish}
 use Rattle.op_bring.specs.LayingOut.{CanLayOut}
-use Rattle.op_bring.proofs.Furnished.{goes_ready, goes_lays, end_lays, ready_tree, reserved_by, fault_by, can_lay_after, reserved_after, at_folder, laid_at_folder, cause_at_folder}
+use Rattle.op_bring.proofs.Furnished.{goes_ready, goes_lays, end_kept, end_lays, ready_tree, reserved_by, fault_by, can_lay_after, reserved_after, at_folder, laid_at_folder, cause_at_folder}
 use Rattle.op_bring.proofs.furnishing.furnish.Goals as goal
 
 pub returns-then-kept-clause-any_moment : goal.returns-then-kept-clause-any_moment
 returns-then-kept-clause-any_moment g c = goes_ready (g.met.H.Host.is_tree c.args.host.now) c.ready_store.ensures.any_moment
+
+pub returns-then-kept-clause-on_success : goal.returns-then-kept-clause-on_success
+returns-then-kept-clause-on_success g c = end_kept c.if-kept.true c.in_ok-ready_store.ensures.on_success
 
 pub returns-in-Ok-clause-any_moment : goal.returns-in-Ok-clause-any_moment
 returns-in-Ok-clause-any_moment g c =
@@ -14,7 +17,7 @@ returns-in-Ok-clause-any_moment g c =
     goes_lays c.if-kept.false (t c.args.host.now) (t c.ready_store.new.host) c.ready_store.ensures.any_moment (at_folder c.requires.place c.lay_out.ensures.any_moment)
 
 pub returns-in-Ok-clause-on_success : goal.returns-in-Ok-clause-on_success
-returns-in-Ok-clause-on_success g c = end_lays (g.met.H.Host.is_tree c.args.host.now) (g.met.H.Host.is_tree c.ready_store.new.host) c.ready_store.ensures.any_moment (laid_at_folder c.requires.place c.in-Ok.ensures.on_success)
+returns-in-Ok-clause-on_success g c = end_lays c.args.name.now c.args.commit.now (g.met.H.Host.is_tree c.ready_store.new.host) c.in_ok-ready_store.ensures.on_success (at_folder c.requires.place c.lay_out.ensures.any_moment) (laid_at_folder c.requires.place c.in-Ok.ensures.on_success)
 
 pub returns-in-Err-clause-any_moment : goal.returns-in-Err-clause-any_moment
 returns-in-Err-clause-any_moment g c =

@@ -1,7 +1,6 @@
 use Rattle.std.proofs.Common.{◌-◌, ◌≡◌, ◌≤◌, length}
-use Rattle.fp_host.specs.Frame.{Frame, Only}
+use Rattle.fp_host.specs.Frame.{Frame, Only, NoName}
 use Rattle.fp_host.specs.Outcome.{Nothing}
-use Rattle.ost_store.specs.Stage.{NoName}
 use Rattle.ost_copy.proofs.Copied.{HasCopied}
 use Rattle.ost_copy.proofs.copying.copy_pieces.Given as goal
 

@@ -5,8 +5,11 @@ use Rattle.fp_host.specs.Frame.{AtEnd}
 use Rattle.fp_host.specs.Moments.{Always}
 use Rattle.fp_host.proofs.Cause.{same_fault}
 use Rattle.fp_host.proofs.Ending.{ends_start, ends_goes, ends_on, fault_caused}
+use Rattle.fp_host.proofs.Framed.{keeps_refl}
+use Rattle.fp_host.proofs.Goes.{stays}
 use Rattle.fp_small.specs.Folders.{ancestors, AreFree}
 use Rattle.fp_small.specs.Replace.{CanReplace, Replaces, WasReplaced}
+use Rattle.fp_small.proofs.Keeping.{files_stay}
 use Rattle.ost_commit.specs.declared.built.BuiltObject.{BuiltObject}
 use Rattle.ost_commit.specs.Objects.{have_of}
 use Rattle.ost_refs.specs.Places.{place_path, remotes}
@@ -22,6 +25,9 @@ use Rattle.ost_export.proofs.exporting.write_offer.Goals as goal
 
 pub store_objects-requires-clause-whole : goal.store_objects-requires-clause-whole
 store_objects-requires-clause-whole g c = subst AreWhole (sym c.as_slice.ensures) c.requires.whole
+
+pub returns-in_err-place-clause-any_moment : goal.returns-in_err-place-clause-any_moment
+returns-in_err-place-clause-any_moment g c = stays (g.met.H.Host.is_tree c.args.host.now) (λ u. record { keeps = keeps_refl; files = files_stay }) (λ u tree. record { keeps = keeps_refl; files = files_stay })
 
 pub returns-in_err-store_objects-clause-any_moment : goal.returns-in_err-store_objects-clause-any_moment
 returns-in_err-store_objects-clause-any_moment g c =

@@ -49,7 +49,7 @@ returns-clause-on_success g c =
     let staged = c.in_ok-staged.staged.items in
     let begun = begun_at (t c.args.host.now) c.work_place.ensures.unchanged c.in_ok-work.ensures.tells in
     let filled = filled_at objects staged (t c.args.host.now) (t c.work_place.new.host) begun c.stage_all.ensures.any_moment c.in_ok-staged.ensures.on_success in
-    on_ok_weaker c.store_staged.result (λ was. stored_at c.requires.no_work objects staged (t c.stage_all.new.host) (t c.store_staged.new.host) filled was) (c.store_staged.ensures.on_success (have_of objects))
+    on_ok_weaker c.store_staged.result (λ was. stored_at c.requires.no_work objects staged (t c.stage_all.new.host) (t c.store_staged.new.host) filled (c.store_staged.ensures.any_moment (have_of objects)) was) (c.store_staged.ensures.on_success (have_of objects))
 
 pub returns-clause-fault_has_cause : goal.returns-clause-fault_has_cause
 returns-clause-fault_has_cause g c =

@@ -1,7 +1,7 @@
 use Rattle.std.proofs.Common.{◌≡◌, Err, Some, List, ℕ, refl, sym, subst, arith}
 use Rattle.std.specs.Prelude.{IsErrOf}
 use Rattle.std.proofs.lemmas.Result.{on_ok_weaker}
-use Rattle.fp_host.proofs.Ending.{ends_start, ends_on, ends_both, ends_frame}
+use Rattle.fp_host.proofs.Ending.{ends_start, ends_on, ends_both, ends_frame, ends_goes}
 use Rattle.fp_small.specs.Clear.{CanClear}
 use Rattle.fp_base.specs.declared.object.ObjKind.{ObjKind}
 use Rattle.ost_walk.specs.declared.ends.WalkEnd.{WalkEnd}
@@ -13,6 +13,7 @@ use Rattle.ost_pull.specs.Pulls.{CanPull}
 use Rattle.ost_pull.specs.Takes.{AreTaken}
 use Rattle.ost_pull.specs.Work.{AreOpen}
 use Rattle.ost_pull.proofs.Apart.{works_supplies}
+use Rattle.ost_pull.proofs.Gathered.{gathered_anew}
 use Rattle.ost_pull.proofs.Kept.{works_clear, works_within}
 use Rattle.ost_pull.proofs.Taken.{passed, host_refuses, host_fault, host_remote, no_remotes, nothing_taken, cleared_open, taken_from}
 use Rattle.ost_pull.proofs.gathering.gather.Goals as goal
@@ -30,6 +31,13 @@ returns-in-Ok-clause-on_success g c =
     let holds = g.R.Remotes.holds c.args.remotes.now in
     on_ok_weaker c.take_order.result
     (λ stays. ends_on stays c.in-Ok.ensures.on_success (t c.clear.new.host) (λ u v w tree q s. s.on (subst (λ (l : List (List ℕ × ObjKind)). AreTaken root work c.args.url.now holds l v) (sym c.requires.empty) (nothing_taken q))))
+    c.take_order.ensures.on_success
+
+pub returns-in-Ok-clause-gathers : goal.returns-in-Ok-clause-gathers
+returns-in-Ok-clause-gathers g c =
+    let t = g.met.H.Host.is_tree in
+    on_ok_weaker c.take_order.result
+    (λ stays. ends_on (ends_both (ends_goes (t c.clear.new.host) c.take_order.ensures.any_moment) stays) (ends_both (ends_frame (t c.args.host.now) c.clear.ensures.frame) c.in-Ok.ensures.on_success) (t c.clear.new.host) (λ u v w tree first s. gathered_anew first.0 first.1 s.0 s.1.gathers))
     c.take_order.ensures.on_success
 
 pub returns-in-Ok-clause-covers : goal.returns-in-Ok-clause-covers

@@ -2,11 +2,12 @@ use Rattle.std.proofs.Common.{◌≡◌, ◌∙◌, Option, Some, [], sym, subst
 use Rattle.std.proofs.lemmas.Result.{on_ok_weaker}
 use Rattle.fp_host.specs.Frame.{AtEnd}
 use Rattle.fp_host.specs.Remote.{Holdings}
+use Rattle.fp_host.specs.View.{View}
 use Rattle.fp_host.proofs.Cause.{Rose-later}
 use Rattle.fp_host.proofs.Ending.{ends_on, ends_looks}
 use Rattle.ost_walk.specs.Surveys.{first_named, told_fault}
 use Rattle.ost_pull.specs.Takes.{AreTaken, AreTakenNow, TakesAll}
-use Rattle.ost_pull.specs.Work.{AreOpen}
+use Rattle.ost_pull.specs.Work.{AreOpen, Gathered}
 use Rattle.ost_pull.proofs.Kept.{works_start, works_looks, works_within}
 use Rattle.ost_pull.proofs.Taken.{passed, counted, remotes_pass, survey_judged, covers_order, ok_two, placed_supplies, still_supplied, never_refused, taken_from}
 use Rattle.ost_pull.proofs.gathering.take_order.Goals as goal
@@ -34,7 +35,10 @@ returns-in-Ok-clause-on_success g c =
     on_ok_weaker c.take_surveyed.result
     (λ takes. ends_on
     (subst (λ (h : Option Holdings). AtEnd (TakesAll root work url h c.in-Ok.survey.objects before after) (g.H.Host.moments c.survey.new.host) (g.H.Host.moments c.take_surveyed.new.host)) c.in-Ok.ensures.looks.same takes)
-    (ends_looks (t c.args.host.now) c.in-Ok.ensures.looks.still) (t c.survey.new.host) (λ u v w tree q s. record { on = λ taken. s.taken (subst (AreTaken root work url holds before) (sym q.0) taken) }))
+    (ends_looks (t c.args.host.now) c.in-Ok.ensures.looks.still) (t c.survey.new.host) (λ u v w tree q s. record {
+      on = λ taken. s.taken (subst (AreTaken root work url holds before) (sym q.0) taken);
+      gathers = subst (λ (x : View). Gathered work x w) q.0 s.gathers;
+    }))
     c.take_surveyed.ensures.on_success
 
 pub returns-in-Ok-clause-covers : goal.returns-in-Ok-clause-covers

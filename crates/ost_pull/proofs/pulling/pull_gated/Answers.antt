@@ -21,7 +21,7 @@ returns-in-Ok-store_kept-clause-any_moment g c =
 pub returns-in-Ok-store_kept-clause-on_success : goal.returns-in-Ok-store_kept-clause-on_success
 returns-in-Ok-store_kept-clause-on_success g c have s =
     let t = g.met.H.Host.is_tree in
-    pulled_at c.requires c.gather.new.kept.items (t c.args.host.now) (t c.gather.new.host) (t c.store_kept.new.host) s c.gather.ensures.any_moment c.in-Ok.ensures.on_success (c.in-Ok.ensures.covers have s) (c.in-Ok.ensures.refuses have s)
+    pulled_at c.requires c.gather.new.kept.items (t c.args.host.now) (t c.gather.new.host) (t c.store_kept.new.host) s c.gather.ensures.any_moment c.in-Ok.ensures.on_success c.in-Ok.ensures.gathers (c.in-Ok.ensures.covers have s) (c.in-Ok.ensures.refuses have s)
     (c.in-Ok-store_kept.ensures.on_success c.args.url.now (g.R.Remotes.holds c.args.remotes.now))
 
 pub returns-in-Ok-store_kept-clause-fault_has_cause :

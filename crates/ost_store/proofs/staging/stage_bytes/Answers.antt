@@ -1,7 +1,7 @@
 use Rattle.std.proofs.Common.{[], sym, subst, arith}
 use Rattle.std.proofs.lemmas.Result.{on_ok_weaker}
 use Rattle.fp_host.proofs.Cause.{same_fault}
-use Rattle.fp_host.proofs.Ending.{ends_start, ends_on, fault_caused}
+use Rattle.fp_host.proofs.Ending.{ends_start, ends_on, ends_both, ends_frame, fault_caused}
 use Rattle.ost_model.specs.declared.object.Object.TheVariants as objects
 use Rattle.ost_store.specs.Stage.{CanStage, CanGrow}
 use Rattle.ost_store.proofs.Staged.{can_grow, started, written, with_bytes, writing}
@@ -23,7 +23,7 @@ returns-clause-any_moment g c = let t = g.met.H.Host.is_tree in writing c.args.b
 pub returns-clause-on_success : goal.returns-clause-on_success
 returns-clause-on_success g c =
     let t = g.met.H.Host.is_tree in
-    on_ok_weaker c.stage_piece.result (λ grows. ends_on grows c.in_ok-stage_file.ensures.on_success (t c.stage_file.new.host) (λ u v w tree was more. written was more)) c.stage_piece.ensures.on_success
+    on_ok_weaker c.stage_piece.result (λ grows. ends_on (ends_both (ends_both grows (ends_frame (t c.stage_file.new.host) c.stage_piece.ensures.frame)) c.stage_piece.ensures.unsynced) c.in_ok-stage_file.ensures.on_success (t c.stage_file.new.host) (λ u v w tree was more. written was more.0.0 more.0.1 more.1)) c.stage_piece.ensures.on_success
 
 pub returns-clause-fault_has_cause : goal.returns-clause-fault_has_cause
 returns-clause-fault_has_cause g c =

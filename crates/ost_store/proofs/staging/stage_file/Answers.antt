@@ -29,7 +29,7 @@ returns-clause-any_moment g c = let t = g.met.H.Host.is_tree in creating (t c.ar
 pub returns-clause-on_success : goal.returns-clause-on_success
 returns-clause-on_success g c =
     let t = g.met.H.Host.is_tree in
-    ends_on (ends_call (t c.make_above.new.host) c.in_ok-create.ensures.step) (ends_frame (t c.args.host.now) c.make_above.ensures.frame) (t c.make_above.new.host) (λ u v w tree made step. created made step)
+    ends_on (ends_call (t c.make_above.new.host) c.in_ok-create.ensures.step) (ends_frame (t c.args.host.now) c.make_above.ensures.frame) (t c.make_above.new.host) (λ u v w tree made step. created made tree step)
 
 pub returns-in_err-make_above-clause-unsynced : goal.returns-in_err-make_above-clause-unsynced
 returns-in_err-make_above-clause-unsynced g c =

@@ -27,7 +27,7 @@ returns-clause-any_moment g c = let t = g.met.H.Host.is_tree in linking (t c.arg
 pub returns-clause-on_success : goal.returns-clause-on_success
 returns-clause-on_success g c =
     let t = g.met.H.Host.is_tree in
-    ends_on (ends_call (t c.make_above.new.host) c.in_ok-symlink.ensures.step) (ends_frame (t c.args.host.now) c.make_above.ensures.frame) (t c.make_above.new.host) (λ u v w tree made step. linked made step)
+    ends_on (ends_call (t c.make_above.new.host) c.in_ok-symlink.ensures.step) (ends_frame (t c.args.host.now) c.make_above.ensures.frame) (t c.make_above.new.host) (λ u v w tree made step. linked made tree step)
 
 pub returns-in_err-symlink-clause-unsynced : goal.returns-in_err-symlink-clause-unsynced
 returns-in_err-symlink-clause-unsynced g c =

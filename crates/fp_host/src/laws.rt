@@ -1,0 +1,39 @@
+//! Laws of the words that the contracts use, for crates that build on them. Each is the contract of a function that
+//! does nothing.
+
+ghost use Rattle.std.specs.Prelude.{◌≡◌, ◌⊎◌, ℕ, List, [], ◌∷◌, ◌++◌, None, Contains};
+ghost use Rattle.fp_host.specs.Paths.{Elements, Slot, absent, file};
+ghost use Rattle.fp_host.specs.View.{View};
+ghost use Rattle.fp_host.specs.Calls.{Change, Called, creates, appends, renames, unlinks, syncs, done};
+ghost use Rattle.fp_host.specs.Frame.{Keeps, NoPath};
+
+/// What is put at a name stays remembered: what a call newly remembers stands after it, and each name that a call changed is
+/// remembered with what it holds.
+pub fn remembered_names()
+    ensures stays { (change : Change) (v w : View) (x : Elements × Slot) → Called change v w
+        → Contains v.stood x → Contains w.stood x }
+    ensures stands { (change : Change) (v w : View) (x : Elements × Slot) → Called change v w
+        → Contains w.stood x → Contains v.stood x ⊎ (w.names x.0 ≡ x.1) }
+    ensures told { (change : Change) (v w : View) (q : Elements) → Called change v w
+        → (w.names q ≡ v.names q) ⊎ Contains w.stood (q, w.names q) }
+{}
+
+/// A file that is created, renamed and taken away stood at both names.
+pub fn remembered_file()
+    ensures { (v : View) (p q : Elements) (id mode : ℕ) → v.stood ≡ []
+        → (done syncs (done (unlinks q) (done (renames p q) (done (creates p mode id) v)))).stood
+        ≡ (p, file id) ∷ (q, file id) ∷ (p, absent) ∷ (q, absent) ∷ [] }
+{}
+
+/// Within a frame that gives bytes to no path's file, whatever it puts where, a new file gets none.
+pub fn kept_files_are_empty()
+    ensures { (v : View) (p : Elements) (id mode : ℕ) (bytes : List ℕ) → v.files id ≡ None
+        → Keeps (λ q spot. Unit {0}) (λ q e. Unit {0}) NoPath v
+        (done (appends p bytes) (done (creates p mode id) v)) → bytes ≡ [] }
+{}
+
+/// Within a frame that allows one name, a file that is created is put at that name.
+pub fn kept_puts_are_allowed()
+    ensures { (v : View) (p q : Elements) (id mode : ℕ) → v.stood ≡ []
+        → Keeps (λ r spot. Unit {0}) (λ r e. r ≡ q) NoPath v (done (creates p mode id) v) → p ≡ q }
+{}

@@ -1,0 +1,36 @@
+-- Objects that were made in a store.
+use Rattle.std.specs.Prelude.{◌≡◌, ◌⊎◌, ℕ, List, Some, None, Contains}
+use Rattle.fp_host.specs.Paths.{Elements, file, link, IsAbove}
+use Rattle.fp_host.specs.View.{View}
+use Rattle.fp_host.specs.Outcome.{holds}
+use Rattle.fp_base.specs.declared.object.ObjKind.{ObjKind}
+use Rattle.ost_model.specs.Objects.{object_path, Named}
+use Rattle.ost_model.specs.Stores.{objects_folder}
+
+-- a file that is new since u was put at the object's name, and is the object that the digest names
+pub record MadeFile (root : Elements) (o : List ℕ × ObjKind) (u w : View) : Type 0 where
+  pub id : ℕ
+  pub mode : ℕ
+  pub bytes : List ℕ
+  pub new : u.files id ≡ None
+  pub put : Contains w.stood (object_path root o.0 o.1, file id)
+  pub row : w.files id ≡ Some (record { mode = mode; bytes = bytes })
+  pub named : Named o.0 o.1 (holds id mode bytes)
+
+-- so it was, or a link was put there
+abbrev pub WasMade : Elements → List ℕ × ObjKind → View → View → Type 0
+WasMade root o u w = MadeFile root o u w ⊎ ((text : List ℕ) × Contains w.stood (object_path root o.0 o.1, link text))
+
+-- The objects of L were made. Each file that was put below the store's objects since u is new, at the name of one of them.
+pub record Creates (root : Elements) (L : List ℕ × ObjKind → Type 0) (u w : View) : Type 0 where
+  pub each : (o : List ℕ × ObjKind) → L o → WasMade root o u w
+  pub only : (q : Elements) (id : ℕ) → IsAbove (objects_folder root) q → Contains w.stood (q, file id)
+      → Contains u.stood (q, file id) ⊎ ((u.files id ≡ None) × ((o : List ℕ × ObjKind) × L o × (q ≡ object_path root o.0 o.1)))
+
+-- no object
+abbrev pub NoObject : List ℕ × ObjKind → Type 0
+NoObject o = ⊥
+
+-- the objects of the one or of the other
+abbrev pub Either : (List ℕ × ObjKind → Type 0) → (List ℕ × ObjKind → Type 0) → List ℕ × ObjKind → Type 0
+Either L M o = L o ⊎ M o
