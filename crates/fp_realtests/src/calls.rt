@@ -1,9 +1,7 @@
 // What each call does to a real folder.
-use crate::fixture::Made;
-use crate::log::Kind;
-use crate::play::Part;
-use crate::step::Step;
-use crate::tale::{Act, tell};
+use fp_realacts::{Act, tell};
+use fp_reallog::Kind;
+use fp_realplay::{Made, Part, Step};
 use fp_realroot::Access;
 
 // Calls, a path, and what it shows after each.
@@ -155,9 +153,9 @@ const READING: [Act<'static>; 2] = [
 
 #[test]
 fn folders_do_what_they_are_asked(rt: HostRuntime) {
-    tell(&rt, &rt, "asked", Kind::Plain, &ASKING);
-    tell(&rt, &rt, "refused", Kind::Plain, &REFUSING);
-    tell(&rt, &rt, "above", Kind::Plain, &IN_THE_WAY);
-    tell(&rt, &rt, "ids", Kind::Plain, &LINKING);
-    tell(&rt, &rt, "pieces", Kind::Plain, &READING);
+    assert!(rt; tell(&rt, &rt, "asked", Kind::Plain, &ASKING));
+    assert!(rt; tell(&rt, &rt, "refused", Kind::Plain, &REFUSING));
+    assert!(rt; tell(&rt, &rt, "above", Kind::Plain, &IN_THE_WAY));
+    assert!(rt; tell(&rt, &rt, "ids", Kind::Plain, &LINKING));
+    assert!(rt; tell(&rt, &rt, "pieces", Kind::Plain, &READING));
 }

@@ -1,27 +1,11 @@
-//! Tests of the adapters, over real folders and over a system that notes what it is asked.
+//! Tests of a real folder as a host: what its calls do, over real folders.
 #![tactic(auto)]
 
 #[cfg(test)]
 mod calls;
 #[cfg(test)]
-mod fixture;
-#[cfg(test)]
-mod held;
-#[cfg(test)]
 mod links;
-#[cfg(test)]
-mod log;
-#[cfg(test)]
-mod order;
-#[cfg(test)]
-mod play;
-#[cfg(test)]
-mod remotes;
 #[cfg(test)]
 mod shown;
 #[cfg(test)]
-mod step;
-#[cfg(test)]
 mod stored;
-#[cfg(test)]
-mod tale;

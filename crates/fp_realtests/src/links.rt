@@ -1,10 +1,7 @@
 // Symlinks above a path, which no call follows.
-use crate::fixture::Made;
-use crate::log::Kind;
-use crate::play::Part;
-use crate::remotes::{FAULT, Remote};
-use crate::step::Step;
-use crate::tale::{Act, tell};
+use fp_realacts::{Act, FAULT, Remote, tell};
+use fp_reallog::Kind;
+use fp_realplay::{Made, Part, Step};
 use fp_realroot::Access;
 
 // A folder `links` with a root whose `repo` leads to the folder `outside` beside it, and that is itself reached by the
@@ -101,7 +98,7 @@ const UNMADE: [Act<'static>; 2] = [
 
 #[test]
 fn no_symlink_is_followed(rt: HostRuntime) {
-    tell(&rt, &rt, "links", Kind::Plain, &FOLLOWING);
-    tell(&rt, &rt, "links_there", Kind::Plain, &LINKED);
-    tell(&rt, &rt, "unmade", Kind::Plain, &UNMADE);
+    assert!(rt; tell(&rt, &rt, "links", Kind::Plain, &FOLLOWING));
+    assert!(rt; tell(&rt, &rt, "links_there", Kind::Plain, &LINKED));
+    assert!(rt; tell(&rt, &rt, "unmade", Kind::Plain, &UNMADE));
 }

@@ -1,7 +1,6 @@
 // What is printed to a terminal.
-use crate::fixture::demand;
-use crate::log::{Kind, Log, Logged};
 use fp_realhost::Screen;
+use fp_reallog::{Kind, Log, Logged};
 use std::panic::Expect;
 use std::process::Abort;
 
@@ -43,13 +42,15 @@ fn is_shown(rt: &HostRuntime, test: &impl Abort, log: &Log<'_>, text: &str, want
 
 fn all_shown(rt: &HostRuntime, test: &impl Abort, log: &Log<'_>) {
     for (i, (text, want)) in (&SHOWN).iter().enumerate() {
-        demand(test, is_shown(rt, test, log, text, want), i, want);
+        log.demand(is_shown(rt, test, log, text, want), i, want);
     }
 }
 
 #[test]
 fn nothing_drives_a_terminal(rt: HostRuntime) {
-    all_shown(&rt, &rt, &Log::new(rt.alloc(), Kind::Plain));
+    let log = Log::new(rt.alloc(), Kind::Plain);
+    all_shown(&rt, &rt, &log);
+    assert!(rt; log.all_held(&rt));
 }
 
 #[test]

@@ -1,8 +1,7 @@
 // Times and bits of stored files.
-use crate::log::Kind;
-use crate::play::Part;
-use crate::step::Step;
-use crate::tale::{Act, tell};
+use fp_realacts::{Act, tell};
+use fp_reallog::Kind;
+use fp_realplay::{Part, Step};
 use fp_realroot::Access;
 
 const STORED: [Step<'static>; 8] = [
@@ -24,5 +23,5 @@ const DATED: [Act<'static>; 3] = [
 
 #[test]
 fn stored_files_are_dated_1970(rt: HostRuntime) {
-    tell(&rt, &rt, "stored", Kind::Plain, &DATED);
+    assert!(rt; tell(&rt, &rt, "stored", Kind::Plain, &DATED));
 }

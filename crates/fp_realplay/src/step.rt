@@ -2,11 +2,10 @@
 use crate::fixture::{bits_and_size, path};
 use fp_base::Text;
 use fp_host::{Host, HostError, Path, Stat};
+use fp_reallog::Log;
 use std::alloc::Global;
-use std::panic::Expect;
-use std::process::Abort;
 
-// A call, on paths of one element or two.
+/// A call, on paths of one element or two.
 #[derive(Clone, Copy)]
 pub enum Step<'a> {
     MakeDir(&'a str),
@@ -47,15 +46,10 @@ impl<'a> Step<'a> {
 }
 
 // Makes a call, and answers why it was not done.
-pub fn change<H: Host>(
-    test: &impl Abort,
-    alloc: Global,
-    host: &mut H,
-    step: Step<'_>,
-) -> Option<HostError> {
-    let from = path(test, alloc, step.source());
-    let at = path(test, alloc, step.place());
-    change_at(alloc, host, step, &from, &at)
+pub(crate) fn change<H: Host>(log: &Log<'_>, host: &mut H, step: Step<'_>) -> Option<HostError> {
+    let from = path(log, step.source());
+    let at = path(log, step.place());
+    change_at(log.alloc, host, step, &from, &at)
 }
 
 fn change_at<H: Host>(
@@ -84,69 +78,51 @@ fn change_at<H: Host>(
 }
 
 // Whether the path shows this: a folder's names, a file's permission bits, size and first bytes, a symlink's text.
-pub fn shows<H: Host>(
-    test: &impl Abort,
-    alloc: Global,
-    host: &mut H,
-    at: &str,
-    want: &str,
-) -> bool {
-    shows_at(test, alloc, host, &path(test, alloc, at), want)
+pub(crate) fn shows<H: Host>(log: &Log<'_>, host: &mut H, at: &str, want: &str) -> bool {
+    shows_at(log.alloc, host, &path(log, at), want)
 }
 
-fn shows_at<H: Host>(
-    test: &impl Abort,
-    alloc: Global,
-    host: &mut H,
-    at: &Path,
-    want: &str,
-) -> bool {
-    match host.stat(at).expect(test, "a look") {
-        Stat::Absent => want == "absent",
-        Stat::Dir => is_listed(test, alloc, host, at, want),
-        Stat::File { id: _, mode, size } => {
-            let text = after_bits(test, alloc, (mode, size), want);
-            holds(test, host, at, text)
+fn shows_at<H: Host>(alloc: Global, host: &mut H, at: &Path, want: &str) -> bool {
+    match host.stat(at) {
+        Ok(Stat::Absent) => want == "absent",
+        Ok(Stat::Dir) => is_listed(alloc, host, at, want),
+        Ok(Stat::File { id: _, mode, size }) => {
+            let text = after_bits(alloc, (mode, size), want);
+            holds(host, at, text)
         }
-        Stat::Link => is_link(test, alloc, host, at, want),
+        Ok(Stat::Link) => is_link(alloc, host, at, want),
+        Err(_) => false,
     }
 }
 
-fn is_link<H: Host>(test: &impl Abort, alloc: Global, host: &mut H, at: &Path, want: &str) -> bool {
-    host.read_link(alloc, at).expect(test, "a text").as_str() == want
+fn is_link<H: Host>(alloc: Global, host: &mut H, at: &Path, want: &str) -> bool {
+    match host.read_link(alloc, at) {
+        Ok(text) => text.as_str() == want,
+        Err(_) => false,
+    }
 }
 
 // What is left of a text after the permission bits and the size.
-fn after_bits<'a>(
-    test: &impl Abort,
-    alloc: Global,
-    bits: (u32, u64),
-    text: &'a str,
-) -> Option<&'a str> {
+fn after_bits(alloc: Global, bits: (u32, u64), text: &str) -> Option<&str> {
     let (mode, size) = bits;
-    let head = bits_and_size(test, alloc, mode, size);
+    let head = bits_and_size(alloc, mode, size)?;
     after_word(text.strip_prefix(head.as_str()), "")
 }
 
 // Whether the file's first bytes are these.
-fn holds<H: Host>(test: &impl Abort, host: &mut H, at: &Path, want: Option<&str>) -> bool {
+fn holds<H: Host>(host: &mut H, at: &Path, want: Option<&str>) -> bool {
     let mut into = [0u8; 16];
-    let n = host.read_at(at, 0, &mut into).expect(test, "bytes");
-    match want {
-        Some(text) => &into[..n] == text.as_bytes(),
-        None => false,
+    match (host.read_at(at, 0, &mut into), want) {
+        (Ok(n), Some(text)) => &into[..n] == text.as_bytes(),
+        _ => false,
     }
 }
 
-fn is_listed<H: Host>(
-    test: &impl Abort,
-    alloc: Global,
-    host: &mut H,
-    at: &Path,
-    want: &str,
-) -> bool {
-    let names = host.list(alloc, at).expect(test, "names");
-    are_names(names.as_slice(), want)
+fn is_listed<H: Host>(alloc: Global, host: &mut H, at: &Path, want: &str) -> bool {
+    match host.list(alloc, at) {
+        Ok(names) => are_names(names.as_slice(), want),
+        Err(_) => false,
+    }
 }
 
 fn are_names(names: &[Text], want: &str) -> bool {

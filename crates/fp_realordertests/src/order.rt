@@ -1,9 +1,7 @@
 // What the system is asked, in order, and what a failure of it does.
-use crate::fixture::Made;
-use crate::log::Kind;
-use crate::play::Part;
-use crate::step::Step;
-use crate::tale::{Act, tell};
+use fp_realacts::{Act, tell};
+use fp_reallog::Kind;
+use fp_realplay::{Made, Part, Step};
 use fp_realroot::Access;
 
 // Calls, and what the system is asked for each.
@@ -166,7 +164,7 @@ fn what_the_system_fails_at_is_not_done(rt: HostRuntime) {
     for (fails, at, syncs) in &FAILURES {
         let parts = [Part::Stop(&CHANGES, *at, *syncs)];
         let acts = [Act::Logged(Access::Change, "fails/root", &parts)];
-        tell(&rt, &rt, "fails", Kind::Failing(fails), &acts);
+        assert!(rt; tell(&rt, &rt, "fails", Kind::Failing(fails), &acts));
     }
 }
 
@@ -275,12 +273,12 @@ const LOOKING: [Act<'static>; 1] = [Act::Logged(
 
 #[test]
 fn the_system_is_asked_in_order(rt: HostRuntime) {
-    tell(&rt, &rt, "order", Kind::Plain, &ASKING);
-    tell(&rt, &rt, "date", Kind::Plain, &DATING);
-    tell(&rt, &rt, "left", Kind::Plain, &LEFT);
-    tell(&rt, &rt, "left", Kind::Plain, &MARKED);
-    tell(&rt, &rt, "old", Kind::Plain, &UNLOCKED);
-    tell(&rt, &rt, "looks", Kind::TellingLooks, &LOOKING);
+    assert!(rt; tell(&rt, &rt, "order", Kind::Plain, &ASKING));
+    assert!(rt; tell(&rt, &rt, "date", Kind::Plain, &DATING));
+    assert!(rt; tell(&rt, &rt, "left", Kind::Plain, &LEFT));
+    assert!(rt; tell(&rt, &rt, "left", Kind::Plain, &MARKED));
+    assert!(rt; tell(&rt, &rt, "old", Kind::Plain, &UNLOCKED));
+    assert!(rt; tell(&rt, &rt, "looks", Kind::TellingLooks, &LOOKING));
 }
 
 // How many files are made, and the sync that fails. Where 192 files are open beside the one that is written, they are synced before
@@ -298,6 +296,6 @@ fn many_files_are_synced(rt: HostRuntime) {
     for (count, fails, want) in &MANY {
         let parts = [Part::Many(*count, want)];
         let acts = [Act::Logged(Access::Change, "many/root", &parts)];
-        tell(&rt, &rt, "many", Kind::Failing(fails), &acts);
+        assert!(rt; tell(&rt, &rt, "many", Kind::Failing(fails), &acts));
     }
 }

@@ -1,8 +1,8 @@
-// A system that notes what it is asked to change, in order, as lines.
+// The system that notes, over the real one.
+use crate::log::{Log, out};
 use fp_realroot::{Access, Failure, System, Unsynced, sync_in_turn};
 use fp_system::{Call, known};
 use std::alloc::{Alloc, Allocator, Global};
-use std::cell::Cell;
 use std::fmt::Display;
 use std::fs::{File, FileTimes, Metadata, OpenFile, OpenOptions, Permissions};
 use std::io;
@@ -11,115 +11,14 @@ use std::path::PathBuf;
 use std::rt::Files;
 use std::thread::Threads;
 
-// What is other than in the system below it.
-#[derive(Clone, Copy)]
-pub enum Kind<'a> {
-    Plain,
-    // This line fails. Nothing of that call is done.
-    Failing(&'a str),
-    // Somebody else holds each lock until it is waited for.
-    Busy,
-    // What is looked at is noted, too.
-    TellingLooks,
-}
-
-// The lines since they were read last.
-#[derive(Drop)]
-pub struct Log<'a> {
-    pub alloc: Global,
-    lines: Cell<String>,
-    kind: Kind<'a>,
-}
-
-impl<'a> Log<'a> {
-    pub fn new(alloc: Global, kind: Kind<'a>) -> Self {
-        Log {
-            alloc,
-            lines: Cell::new(String::new(alloc)),
-            kind,
-        }
-    }
-
-    // Notes a call, and answers whether it is to be done.
-    fn lets(&self, what: &str, at: &str) -> bool {
-        let mut lines = self.take();
-        let is_noted = add_line(&mut lines, what, at);
-        self.lines.set(lines);
-        is_noted && !self.fails(what, at)
-    }
-
-    fn lets_look(&self, at: &str) -> bool {
-        match self.kind {
-            Kind::TellingLooks => self.lets("look", at),
-            _ => true,
-        }
-    }
-
-    fn fails(&self, what: &str, at: &str) -> bool {
-        match self.kind {
-            Kind::Failing(line) => is_line(line, what, at),
-            _ => false,
-        }
-    }
-
-    fn is_busy(&self) -> bool {
-        matches!(self.kind, Kind::Busy)
-    }
-
-    // The same for a call of which no more is done.
-    fn answer(&self, what: &str, at: &str) -> io::Result<()> {
-        if self.lets(what, at) {
-            Ok(())
-        } else {
-            Err(out())
-        }
-    }
-
-    // The lines since the last time.
-    pub fn take(&self) -> String {
-        self.lines.replace(String::new(self.alloc))
-    }
-
-    // Whether just this was noted since the last look.
-    pub fn is_noted(&self, want: &str) -> bool {
-        self.take().as_str() == want
-    }
-
-    // Whether just this call was.
-    pub fn is_one(&self, what: &str, at: &str) -> bool {
-        match self.take().strip_suffix('\n') {
-            Some(line) => is_line(line, what, at),
-            None => false,
-        }
-    }
-}
-
-fn add_line(lines: &mut String, what: &str, at: &str) -> bool {
-    lines.push_str(what).is_ok()
-        && lines.push(' ').is_ok()
-        && lines.push_str(at).is_ok()
-        && lines.push('\n').is_ok()
-}
-
-fn is_line(line: &str, what: &str, at: &str) -> bool {
-    match line.strip_prefix(what) {
-        Some(rest) => rest.strip_prefix(' ') == Some(at),
-        None => false,
-    }
-}
-
-fn out() -> io::Error {
-    io::Error::other("the cable is out")
-}
-
-// The system.
+/// A system that notes what it is asked to change.
 #[derive(Drop)]
 pub struct Logged<'a> {
     pub rt: &'a HostRuntime,
     pub log: &'a Log<'a>,
 }
 
-// An open file of it.
+/// An open file of it.
 #[derive(Drop)]
 pub struct LoggedFile<'a> {
     log: &'a Log<'a>,

@@ -1,9 +1,7 @@
 // The lock of an installation.
-use crate::fixture::Made;
-use crate::log::Kind;
-use crate::play::Part;
-use crate::step::Step;
-use crate::tale::{Act, tell};
+use fp_realacts::{Act, tell};
+use fp_reallog::Kind;
+use fp_realplay::{Made, Part, Step};
 use fp_realroot::Access;
 
 // What a host is opened for, its call, and whether others could look then, and change. What is printed holds no lock, so that an
@@ -106,8 +104,8 @@ const NOTED: [Act<'static>; 4] = [
 
 #[test]
 fn the_lock_keeps_others_out(rt: HostRuntime) {
-    tell(&rt, &rt, "held", Kind::Plain, &FREE);
-    tell(&rt, &rt, "read", Kind::Plain, &READABLE);
-    tell(&rt, &rt, "looked", Kind::Plain, &LOOKED);
-    tell(&rt, &rt, "busy", Kind::Busy, &NOTED);
+    assert!(rt; tell(&rt, &rt, "held", Kind::Plain, &FREE));
+    assert!(rt; tell(&rt, &rt, "read", Kind::Plain, &READABLE));
+    assert!(rt; tell(&rt, &rt, "looked", Kind::Plain, &LOOKED));
+    assert!(rt; tell(&rt, &rt, "busy", Kind::Busy, &NOTED));
 }

@@ -1,0 +1,130 @@
+// What a test notes: what its system is asked to change, in order, as lines, and what doesn't hold.
+use std::alloc::Global;
+use std::cell::Cell;
+use std::io;
+
+/// What is other than in the system below it.
+#[derive(Clone, Copy)]
+pub enum Kind<'a> {
+    Plain,
+    /// This line fails. Nothing of that call is done.
+    Failing(&'a str),
+    /// Somebody else holds each lock until it is waited for.
+    Busy,
+    /// What is looked at is noted, too.
+    TellingLooks,
+}
+
+/// The lines since they were read last, and the first row of a table that didn't hold.
+#[derive(Drop)]
+pub struct Log<'a> {
+    pub alloc: Global,
+    lines: Cell<String>,
+    kind: Kind<'a>,
+    is_wrong: Cell<bool>,
+    wrong: Cell<String>,
+}
+
+impl<'a> Log<'a> {
+    pub fn new(alloc: Global, kind: Kind<'a>) -> Self {
+        Log {
+            alloc,
+            lines: Cell::new(String::new(alloc)),
+            kind,
+            is_wrong: Cell::new(false),
+            wrong: Cell::new(String::new(alloc)),
+        }
+    }
+
+    /// Notes a row of a table where it doesn't hold. The first one is kept.
+    pub fn demand(&self, holds: bool, row: usize, what: &str) {
+        if holds || self.is_wrong.replace(true) {
+            return;
+        }
+        if let Ok(text) = format!(in self.alloc; "row {row}: {what}") {
+            self.wrong.set(text);
+        }
+    }
+
+    /// Whether all rows held. Where one didn't, standard error is told which.
+    pub fn all_held(&self, rt: &HostRuntime) -> bool {
+        let is_wrong = self.is_wrong.get();
+        if is_wrong {
+            let wrong = self.wrong.replace(String::new(self.alloc));
+            let _said = eprintln!(rt; "{wrong}");
+        }
+        !is_wrong
+    }
+
+    // Notes a call, and answers whether it is to be done.
+    pub(crate) fn lets(&self, what: &str, at: &str) -> bool {
+        let mut lines = self.take();
+        let is_noted = add_line(&mut lines, what, at);
+        self.lines.set(lines);
+        is_noted && !self.fails(what, at)
+    }
+
+    pub(crate) fn lets_look(&self, at: &str) -> bool {
+        match self.kind {
+            Kind::TellingLooks => self.lets("look", at),
+            _ => true,
+        }
+    }
+
+    fn fails(&self, what: &str, at: &str) -> bool {
+        match self.kind {
+            Kind::Failing(line) => is_line(line, what, at),
+            _ => false,
+        }
+    }
+
+    pub(crate) fn is_busy(&self) -> bool {
+        matches!(self.kind, Kind::Busy)
+    }
+
+    // The same for a call of which no more is done.
+    pub(crate) fn answer(&self, what: &str, at: &str) -> io::Result<()> {
+        if self.lets(what, at) {
+            Ok(())
+        } else {
+            Err(out())
+        }
+    }
+
+    /// The lines since the last time.
+    pub fn take(&self) -> String {
+        self.lines.replace(String::new(self.alloc))
+    }
+
+    /// Whether just this was noted since the last time.
+    pub fn is_noted(&self, want: &str) -> bool {
+        self.take().as_str() == want
+    }
+
+    /// Whether just this call was.
+    pub fn is_one(&self, what: &str, at: &str) -> bool {
+        match self.take().strip_suffix('\n') {
+            Some(line) => is_line(line, what, at),
+            None => false,
+        }
+    }
+}
+
+fn add_line(lines: &mut String, what: &str, at: &str) -> bool {
+    lines.push_str(what).is_ok()
+        && lines.push(' ').is_ok()
+        && lines.push_str(at).is_ok()
+        && lines.push('\n').is_ok()
+}
+
+fn is_line(line: &str, what: &str, at: &str) -> bool {
+    match line.strip_prefix(what) {
+        Some(rest) => rest.strip_prefix(' ') == Some(at),
+        None => false,
+    }
+}
+
+// The error of a call that fails.
+pub(crate) fn out() -> io::Error {
+    io::Error::other("the cable is out")
+}
