@@ -12,8 +12,8 @@ use Rattle.fp_host.specs.declared.host.Stat.TheVariants as stats
 use Rattle.fp_host.proofs.Settled.{at_tree}
 use Rattle.std.proofs.lemmas.Slice.Eq.{bytes_eq-Decides}
 use Rattle.fp_name.specs.FileNames.{is_file_name}
-use Rattle.fp_name.specs.declared.fault.NameFault.{NameFault}
-use Rattle.fp_name.specs.declared.fault.NameFault.TheVariants.{Bad}
+use Rattle.fp_name.specs.declared.fault.NameError.{NameError}
+use Rattle.fp_name.specs.declared.fault.NameError.TheVariants.{Bad}
 use Rattle.fp_name.specs.Hex.{hex, unhex}
 use Rattle.fp_name.specs.Refs.{Ref, is_ref}
 use Rattle.fp_name.proofs.Files.{file_digest}
@@ -134,14 +134,14 @@ link_of v (file id) s = absurd (cc s.2)
 pub stat_link : {p : Elements} {v w : View} → StatOf p (Ok stats.Link) v w → (text : List ℕ) × (v.names p ≡ link text)
 stat_link {p = p} {v = v} stat = link_of v (v.names p) stat.tells.1
 
-pub unhex_ok : (text : List ℕ) (r : Result (List ℕ) NameFault) (d : List ℕ) → r ≡ ok_or (unhex text) Bad → r ≡ Ok d → unhex text ≡ Some d
+pub unhex_ok : (text : List ℕ) (r : Result (List ℕ) NameError) (d : List ℕ) → r ≡ ok_or (unhex text) Bad → r ≡ Ok d → unhex text ≡ Some d
 unhex_ok text r d is ok = go (unhex text) (sym is ∙ ok)
   where
     go : (o : Option (List ℕ)) → ok_or o Bad ≡ Ok d → o ≡ Some d
     go None e = absurd (cc e)
     go (Some x) e = let same : x ≡ d = cc e in ap Some same
 
-pub unhex_err : (text : List ℕ) (r : Result (List ℕ) NameFault) → r ≡ ok_or (unhex text) Bad → ((d : List ℕ) → r ≡ Ok d → ⊥) → unhex text ≡ None
+pub unhex_err : (text : List ℕ) (r : Result (List ℕ) NameError) → r ≡ ok_or (unhex text) Bad → ((d : List ℕ) → r ≡ Ok d → ⊥) → unhex text ≡ None
 unhex_err text r is none = go (unhex text) refl
   where
     go : (o : Option (List ℕ)) → unhex text ≡ o → o ≡ None

@@ -15,7 +15,7 @@ use crate::paths::{apps_path, runtimes_path};
 use dep_states::{DeployData, DeployError};
 use fp_base::{Items, Text};
 use fp_host::{Host, HostEnd, Path, Stat};
-use fp_name::{Digest, NameFault, RefName};
+use fp_name::{Digest, NameError, RefName};
 use fp_small::{Loaded, RefRow, load, values_in_order};
 use ost_refs::paths_below;
 use std::alloc::{AllocError, Global};
@@ -113,8 +113,8 @@ fn ref_at(alloc: Global, path: &Path) -> Result<Option<RefName>, AllocError>
 {
     match RefName::parse(alloc, path.text().as_bytes()) {
         Ok(name) => Ok(Some(name)),
-        Err(NameFault::Bad) => Ok(None),
-        Err(NameFault::NoMemory) => Err(AllocError),
+        Err(NameError::Bad) => Ok(None),
+        Err(NameError::NoMemory) => Err(AllocError),
     }
 }
 

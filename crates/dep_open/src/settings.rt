@@ -17,7 +17,7 @@ use fp_base::Items;
 use fp_host::{Host, HostEnd, Path};
 use fp_name::PinPattern;
 use fp_small::{
-    ConfigFault, Layout, Loaded, RemoteRow, Settings, load, read_config, read_pins, read_remotes,
+    ConfigError, Layout, Loaded, RemoteRow, Settings, load, read_config, read_pins, read_remotes,
 };
 use std::alloc::{AllocError, Global};
 
@@ -165,8 +165,8 @@ fn settings_in(alloc: Global, loaded: Loaded) -> Result<Seen<Settings>, AllocErr
         Loaded::TooLong(_) | Loaded::NotFile => Ok(Seen::Bad),
         Loaded::Bytes(bytes) => match read_config(alloc, bytes.as_slice()) {
             Ok(found) => Ok(Seen::There(found)),
-            Err(ConfigFault::Bad) => Ok(Seen::Bad),
-            Err(ConfigFault::NoMemory) => Err(AllocError),
+            Err(ConfigError::Bad) => Ok(Seen::Bad),
+            Err(ConfigError::NoMemory) => Err(AllocError),
         },
     }
 }
@@ -180,8 +180,8 @@ fn remotes_in(alloc: Global, loaded: Loaded) -> Result<Seen<Items<RemoteRow>>, A
         Loaded::TooLong(_) | Loaded::NotFile => Ok(Seen::Bad),
         Loaded::Bytes(bytes) => match read_remotes(alloc, bytes.as_slice()) {
             Ok(found) => Ok(Seen::There(found)),
-            Err(ConfigFault::Bad) => Ok(Seen::Bad),
-            Err(ConfigFault::NoMemory) => Err(AllocError),
+            Err(ConfigError::Bad) => Ok(Seen::Bad),
+            Err(ConfigError::NoMemory) => Err(AllocError),
         },
     }
 }
@@ -195,8 +195,8 @@ fn pins_in(alloc: Global, loaded: Loaded) -> Result<Seen<Items<PinPattern>>, All
         Loaded::TooLong(_) | Loaded::NotFile => Ok(Seen::Bad),
         Loaded::Bytes(bytes) => match read_pins(alloc, bytes.as_slice()) {
             Ok(found) => Ok(Seen::There(found)),
-            Err(ConfigFault::Bad) => Ok(Seen::Bad),
-            Err(ConfigFault::NoMemory) => Err(AllocError),
+            Err(ConfigError::Bad) => Ok(Seen::Bad),
+            Err(ConfigError::NoMemory) => Err(AllocError),
         },
     }
 }

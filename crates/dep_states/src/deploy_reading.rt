@@ -7,7 +7,7 @@ ghost use Rattle.ost_model.specs.Fields.{text_in};
 ghost use Rattle.dep_states.specs.Deploy.{deploy_shape, deploy_in, origin_in, digest_in, time_in, previous_in, goes_back_to, if_moves, Finds, Says};
 
 use crate::deploy::{DeployData, DeployError};
-use fp_name::{Digest, NameFault, RemoteName};
+use fp_name::{Digest, NameError, RemoteName};
 use fp_small::Previous;
 use gv_decode::{DecodeError, decode};
 use gv_value::{GvType, GvValue, TypeError};
@@ -103,8 +103,8 @@ fn origin_in(alloc: Global, value: &GvValue) -> Result<RemoteName, DeployError>
     };
     match RemoteName::parse(alloc, text.as_bytes()) {
         Ok(name) => Ok(name),
-        Err(NameFault::Bad) => Err(DeployError::Bad),
-        Err(NameFault::NoMemory) => Err(DeployError::NoMemory),
+        Err(NameError::Bad) => Err(DeployError::Bad),
+        Err(NameError::NoMemory) => Err(DeployError::NoMemory),
     }
 }
 

@@ -7,8 +7,8 @@ use Rattle.fp_host.specs.Paths.{Elements, Slot, absent, is_element, path_text, e
 use Rattle.fp_host.specs.View.{View, IsTree}
 use Rattle.fp_host.specs.Outcome.{Spot}
 use Rattle.fp_host.proofs.Separate.{absent_cases}
-use Rattle.fp_name.specs.declared.fault.NameFault.{NameFault}
-use Rattle.fp_name.specs.declared.fault.NameFault.TheVariants.{Bad}
+use Rattle.fp_name.specs.declared.fault.NameError.{NameError}
+use Rattle.fp_name.specs.declared.fault.NameError.TheVariants.{Bad}
 use Rattle.fp_name.specs.declared.kind.RefKind.{RefKind}
 use Rattle.fp_name.specs.declared.kind.RefKind.TheVariants.{App, Runtime}
 use Rattle.fp_name.specs.Hex.{hex, unhex}
@@ -46,14 +46,14 @@ all_taken items i k high has = subst (λ l. Contains l k) (sym (take_all i items
 
 -- ---- the name of a commit's folder
 
-pub unhex_ok : (text : List ℕ) (r : Result (List ℕ) NameFault) (d : List ℕ) → r ≡ ok_or (unhex text) Bad → r ≡ Ok d → unhex text ≡ Some d
+pub unhex_ok : (text : List ℕ) (r : Result (List ℕ) NameError) (d : List ℕ) → r ≡ ok_or (unhex text) Bad → r ≡ Ok d → unhex text ≡ Some d
 unhex_ok text r d is ok = go (unhex text) (sym is ∙ ok)
   where
     go : (o : Option (List ℕ)) → ok_or o Bad ≡ Ok d → o ≡ Some d
     go None e = absurd (cc e)
     go (Some x) e = let same : x ≡ d = cc e in ap Some same
 
-pub unhex_err : (text : List ℕ) (r : Result (List ℕ) NameFault) → r ≡ ok_or (unhex text) Bad → ((d : List ℕ) → r ≡ Ok d → ⊥) → unhex text ≡ None
+pub unhex_err : (text : List ℕ) (r : Result (List ℕ) NameError) → r ≡ ok_or (unhex text) Bad → ((d : List ℕ) → r ≡ Ok d → ⊥) → unhex text ≡ None
 unhex_err text r is none = go (unhex text) refl
   where
     go : (o : Option (List ℕ)) → unhex text ≡ o → o ≡ None

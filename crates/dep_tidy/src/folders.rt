@@ -11,7 +11,7 @@ use crate::paths::{apps_path, runtimes_path};
 use crate::rows::is_kept;
 use fp_base::Text;
 use fp_host::{Host, HostEnd, Path};
-use fp_name::{Digest, NameFault, RefName};
+use fp_name::{Digest, NameError, RefName};
 use fp_small::{State, clear, names_in};
 use ost_refs::paths_below;
 use std::alloc::{AllocError, Global};
@@ -41,8 +41,8 @@ fn ref_at(alloc: Global, path: &Path) -> Result<Option<RefName>, AllocError>
 {
     match RefName::parse(alloc, path.text().as_bytes()) {
         Ok(name) => Ok(Some(name)),
-        Err(NameFault::Bad) => Ok(None),
-        Err(NameFault::NoMemory) => Err(AllocError),
+        Err(NameError::Bad) => Ok(None),
+        Err(NameError::NoMemory) => Err(AllocError),
     }
 }
 

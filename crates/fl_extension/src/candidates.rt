@@ -7,7 +7,7 @@ ghost use Rattle.fp_name.specs.Grammar as grammar;
 ghost use Rattle.fl_extension.specs.Points as spec;
 
 use fp_keyfile::Group;
-use fp_name::{NameFault, RefKind, RefName};
+use fp_name::{NameError, RefKind, RefName};
 use std::alloc::{AllocError, Global};
 
 /// Adds the ref of a version, where the version is a branch.
@@ -27,8 +27,8 @@ fn push_candidate(
             out.push(candidate)?;
             Ok(())
         }
-        Err(NameFault::Bad) => Ok(()),
-        Err(NameFault::NoMemory) => Err(AllocError),
+        Err(NameError::Bad) => Ok(()),
+        Err(NameError::NoMemory) => Err(AllocError),
     }
 }
 

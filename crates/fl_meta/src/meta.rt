@@ -9,7 +9,7 @@ use crate::mentions::{Source, mentions_of};
 use crate::permission::Layer;
 use fp_base::{Items, MetaRule, Text};
 use fp_keyfile::{Group, KeyFile};
-use fp_name::{NameFault, RefKind, RefName};
+use fp_name::{NameError, RefKind, RefName};
 use std::alloc::{AllocError, Global};
 
 /// What a metadata file describes.
@@ -81,8 +81,8 @@ fn runtime_of(alloc: Global, text: &str) -> Result<RefName, MetaError>
 {
     match RefName::of_kind(alloc, RefKind::Runtime, text) {
         Ok(name) => Ok(name),
-        Err(NameFault::Bad) => Err(MetaError::Rule(MetaRule::Runtime)),
-        Err(NameFault::NoMemory) => Err(MetaError::NoMemory),
+        Err(NameError::Bad) => Err(MetaError::Rule(MetaRule::Runtime)),
+        Err(NameError::NoMemory) => Err(MetaError::NoMemory),
     }
 }
 

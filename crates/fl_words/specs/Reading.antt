@@ -1,7 +1,7 @@
 -- What reading the words tells.
 use Rattle.std.specs.Prelude.{◌≡◌, ◌⊎◌, ℕ, List, Bool, true, false, None, Result, Ok, Err}
-use Rattle.fp_name.specs.declared.fault.NameFault.{NameFault}
-use Rattle.fp_name.specs.declared.fault.NameFault.TheVariants as fault
+use Rattle.fp_name.specs.declared.fault.NameError.{NameError}
+use Rattle.fp_name.specs.declared.fault.NameError.TheVariants as fault
 use Rattle.fl_words.specs.declared.command.WordsError.{WordsError}
 use Rattle.fl_words.specs.declared.command.WordsError.TheVariants.{BadWords, NoMemory}
 use Rattle.fl_words.specs.declared.forms.Form.{Form}
@@ -28,12 +28,12 @@ IsRemoteMisplaced words (BadWords index) = (fits remote (word_at 1 words) ≡ fa
 IsRemoteMisplaced words NoMemory = Unit {0}
 
 -- it was read, or is bad
-abbrev pub IsReadBy : {A : Type 0} → Result A NameFault → Bool → Type 0
+abbrev pub IsReadBy : {A : Type 0} → Result A NameError → Bool → Type 0
 IsReadBy (Ok a) good = good ≡ true
 IsReadBy (Err fault.Bad) good = good ≡ false
 IsReadBy (Err fault.NoMemory) good = ⊥
 
 -- it is bad
-abbrev pub IsUnread : {A : Type 0} → Result A NameFault → WordsError → Type 0
+abbrev pub IsUnread : {A : Type 0} → Result A NameError → WordsError → Type 0
 IsUnread read (BadWords index) = read ≡ Err fault.Bad
 IsUnread read NoMemory = Unit {0}

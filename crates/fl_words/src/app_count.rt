@@ -3,7 +3,7 @@ ghost use Rattle.std.specs.Prelude.{◌≡◌, ◌≤◌, true, false, IfOk, OnO
 ghost use Rattle.std.specs.Str.{bytes_eq};
 ghost use Rattle.fl_words.specs.Counts.{is_app_count, count_at, is_count_text};
 
-use fp_name::NameFault;
+use fp_name::NameError;
 use std::alloc::{AllocError, Global};
 use std::marker::Model;
 
@@ -29,18 +29,18 @@ impl Model for AppCount {
 
 impl AppCount {
     /// The number that a word is in decimal. `Bad` comes exactly where it is none from 1 to 64, or has a leading zero or a sign.
-    pub fn parse(alloc: Global, text: &str) -> Result<AppCount, NameFault>
+    pub fn parse(alloc: Global, text: &str) -> Result<AppCount, NameError>
         ensures ok { IfOk result (λ count. count ≡ count_at text.now) }
         ensures good { OnOk result (is_count_text text.now ≡ true) }
-        ensures bad { IsErrOf result NameFault.Bad → is_count_text text.now ≡ false }
+        ensures bad { IsErrOf result NameError.Bad → is_count_text text.now ≡ false }
     {
         let Ok(number) = text.parse::<u32>() else {
-            return Err(NameFault::Bad);
+            return Err(NameError::Bad);
         };
         if is_count(number) && is_printed(alloc, number, text)? {
             Ok(AppCount { number })
         } else {
-            Err(NameFault::Bad)
+            Err(NameError::Bad)
         }
     }
 

@@ -4,7 +4,7 @@ ghost use Rattle.gv_value.specs.TypeText.{type_of};
 ghost use Rattle.gv_value.specs.Views.{shape_of};
 ghost use Rattle.fl_words.specs.Types.{is_type_text};
 
-use fp_name::NameFault;
+use fp_name::NameError;
 use gv_value::{GvType, TypeError};
 use std::alloc::Global;
 use std::marker::Model;
@@ -30,15 +30,15 @@ impl Model for ValueType {
 
 impl ValueType {
     /// The type that a type string stands for. `Bad` comes exactly where it is not one type, nested at most 64 deep.
-    pub fn parse(alloc: Global, text: &[u8]) -> Result<ValueType, NameFault>
+    pub fn parse(alloc: Global, text: &[u8]) -> Result<ValueType, NameError>
         ensures ok { IfOk result (λ t. t ≡ text.now) }
         ensures good { OnOk result (is_type_text text.now ≡ true) }
-        ensures bad { IsErrOf result NameFault.Bad → is_type_text text.now ≡ false }
+        ensures bad { IsErrOf result NameError.Bad → is_type_text text.now ≡ false }
     {
         match GvType::parse(alloc, text) {
             Ok(of) => Ok(ValueType { of }),
-            Err(TypeError::Bad) => Err(NameFault::Bad),
-            Err(TypeError::NoMemory) => Err(NameFault::NoMemory),
+            Err(TypeError::Bad) => Err(NameError::Bad),
+            Err(TypeError::NoMemory) => Err(NameError::NoMemory),
         }
     }
 

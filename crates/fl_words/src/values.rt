@@ -14,7 +14,7 @@ use crate::value_type::ValueType;
 use fl_options::{is_launch_option, is_option};
 use fl_rules::is_rule;
 use fp_base::{Items, Text};
-use fp_name::{AppId, NameFault, PinPattern, RefKind, RefName, RemoteName, RemoteUrl};
+use fp_name::{AppId, NameError, PinPattern, RefKind, RefName, RemoteName, RemoteUrl};
 use fp_small::RemoteRow;
 use std::alloc::{AllocError, Global};
 
@@ -55,19 +55,19 @@ fn is_app(alloc: Global, word: &str) -> Result<bool, AllocError>
 {
     match RefName::parse(alloc, word.as_bytes()) {
         Ok(name) => Ok(name.kind() == RefKind::App),
-        Err(NameFault::Bad) => Ok(false),
-        Err(NameFault::NoMemory) => Err(AllocError),
+        Err(NameError::Bad) => Ok(false),
+        Err(NameError::NoMemory) => Err(AllocError),
     }
 }
 
 /// Whether a word was read.
-fn is_read<T: Drop>(read: Result<T, NameFault>) -> Result<bool, AllocError>
+fn is_read<T: Drop>(read: Result<T, NameError>) -> Result<bool, AllocError>
     ensures { IfOk result (IsReadBy read) }
 {
     match read {
         Ok(_) => Ok(true),
-        Err(NameFault::Bad) => Ok(false),
-        Err(NameFault::NoMemory) => Err(AllocError),
+        Err(NameError::Bad) => Ok(false),
+        Err(NameError::NoMemory) => Err(AllocError),
     }
 }
 
@@ -251,13 +251,13 @@ pub(crate) fn remote_in(alloc: Global, words: &[String]) -> Result<RemoteRow, Wo
 }
 
 /// What was read at a place.
-fn placed<T: Drop>(read: Result<T, NameFault>) -> Result<T, WordsError>
+fn placed<T: Drop>(read: Result<T, NameError>) -> Result<T, WordsError>
     ensures ok { IfOk result (λ value. read ≡ Ok value) }
     ensures bad { IfErr result (IsUnread read) }
 {
     match read {
         Ok(value) => Ok(value),
-        Err(NameFault::Bad) => Err(WordsError::BadWords { index: 0 }),
-        Err(NameFault::NoMemory) => Err(WordsError::NoMemory),
+        Err(NameError::Bad) => Err(WordsError::BadWords { index: 0 }),
+        Err(NameError::NoMemory) => Err(WordsError::NoMemory),
     }
 }

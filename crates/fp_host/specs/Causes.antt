@@ -4,8 +4,8 @@ use Rattle.fp_host.specs.View.{View}
 use Rattle.fp_host.specs.Moments.{Moments, Rose}
 use Rattle.fp_host.specs.declared.host.HostError.{HostError}
 use Rattle.fp_host.specs.declared.host.HostError.TheVariants as error
-use Rattle.fp_host.specs.declared.path.PathFault.{PathFault}
-use Rattle.fp_host.specs.declared.path.PathFault.TheVariants as fault
+use Rattle.fp_host.specs.declared.path.PathError.{PathError}
+use Rattle.fp_host.specs.declared.path.PathError.TheVariants as fault
 use Rattle.fp_host.specs.declared.host.HostEnd.{HostEnd}
 use Rattle.fp_host.specs.declared.host.HostEnd.TheVariants as end
 
@@ -14,7 +14,7 @@ end_of error.Failed = end.Fault
 end_of error.Clash = end.Fault
 end_of error.NoMemory = end.NoMemory
 
-abbrev pub end_of_path : PathFault → HostEnd
+abbrev pub end_of_path : PathError → HostEnd
 end_of_path fault.Bad = end.Fault
 end_of_path fault.NoMemory = end.NoMemory
 

@@ -5,7 +5,7 @@ ghost use Rattle.fp_host.specs.Calls.{Change, Step, Creates, makes_dir, appends,
 ghost use Rattle.fp_host.specs.Moments.{Moments, Makes, HasCause, NeedsNoMemory};
 ghost use Rattle.fp_host.specs.Reads.{StatOf, ListOf, ReadOf, LinkOf, AreNames, HasBits};
 
-use crate::{Path, PathFault};
+use crate::{Path, PathError};
 use fp_base::{Items, Text};
 use std::alloc::{AllocError, Global};
 
@@ -214,16 +214,16 @@ impl From<AllocError> for HostEnd {
     }
 }
 
-impl From<PathFault> for HostEnd {
+impl From<PathError> for HostEnd {
     ghost use Rattle.std.specs.Prelude.{◌≡◌};
     ghost use Rattle.fp_host.specs.Causes.{end_of_path};
 
     ghost from_gives = { λ fault end. end ≡ end_of_path fault };
 
-    fn from(fault: PathFault) -> HostEnd {
+    fn from(fault: PathError) -> HostEnd {
         match fault {
-            PathFault::Bad => HostEnd::Fault,
-            PathFault::NoMemory => HostEnd::NoMemory,
+            PathError::Bad => HostEnd::Fault,
+            PathError::NoMemory => HostEnd::NoMemory,
         }
     }
 }

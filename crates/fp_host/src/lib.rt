@@ -9,7 +9,7 @@ mod source;
 mod text;
 
 pub use host::{Entry, Host, HostEnd, HostError, Stat};
-pub use path::{Path, PathFault, is_element};
+pub use path::{Path, PathError, is_element};
 pub use remotes::{NoRemotes, Node, RemoteError, Remotes};
 pub use source::{Source, Taken};
 pub use text::is_link_text;

@@ -2,24 +2,24 @@
 ghost use Rattle.std.specs.Prelude.{◌≡◌, ◌≢◌, ◌↔◌, ◌⊎◌, ℕ, List, ◌∷◌, ◌<◌, ◌≤◌, ◌+◌, [], length, drop, IsTrue, IsOk, IfOk, IfSome, IsNone, IsErrOf, MatchOption, false, count_by, ◌==◌};
 ghost use Rattle.std.specs.List.{list_all};
 ghost use Rattle.fp_host.specs.Paths.{is_element, is_name_byte, cut, elements_of, path_text, path_eq, IsAbove};
-ghost use Rattle.fp_host.specs.declared.path.PathFault.TheVariants.{NoMemory};
+ghost use Rattle.fp_host.specs.declared.path.PathError.TheVariants.{NoMemory};
 
 use std::alloc::{AllocError, Global};
 use std::marker::Model;
 
 /// Why a text is no path, or an element can't be added.
 #[derive(Clone, Copy, Debug, PartialEq, Eq)]
-pub enum PathFault {
+pub enum PathError {
     /// An element is empty, longer than 255 bytes, `.` or `..`, or has a slash or a zero byte.
     Bad,
     NoMemory,
 }
 
-impl From<AllocError> for PathFault {
+impl From<AllocError> for PathError {
     ghost from_gives = { λ _ e. e ≡ NoMemory };
 
-    fn from(_: AllocError) -> PathFault {
-        PathFault::NoMemory
+    fn from(_: AllocError) -> PathError {
+        PathError::NoMemory
     }
 }
 
@@ -125,14 +125,14 @@ impl Path {
 
     /// The path of a text, which is cut at its slashes. `Bad` where an element may not be one. So is the empty text: the
     /// root has no element to write.
-    pub fn parse(alloc: Global, text: &str) -> Result<Self, PathFault>
+    pub fn parse(alloc: Global, text: &str) -> Result<Self, PathError>
         ensures path { IfOk result (λ p. p ≡ cut text.now) }
         ensures text { IfOk result (λ p. path_text p ≡ text.now) }
         ensures ok { IsOk result → IsTrue (list_all is_element (cut text.now)) }
-        ensures bad { IsErrOf result PathFault.Bad → list_all is_element (cut text.now) ≡ false }
+        ensures bad { IsErrOf result PathError.Bad → list_all is_element (cut text.now) ≡ false }
     {
         if !are_elements(text) {
-            return Err(PathFault::Bad);
+            return Err(PathError::Bad);
         }
         Ok(Path {
             text: text.to_string(alloc)?,
@@ -197,13 +197,13 @@ impl Path {
     }
 
     /// The path with one element more. `Bad` where the text may not be an element.
-    pub fn join(&self, element: &str) -> Result<Self, PathFault>
+    pub fn join(&self, element: &str) -> Result<Self, PathError>
         ensures path { IfOk result (λ p. p ≡ element.now ∷ self.now) }
         ensures ok { IsOk result → IsTrue (is_element element.now) }
-        ensures bad { IsErrOf result PathFault.Bad → is_element element.now ≡ false }
+        ensures bad { IsErrOf result PathError.Bad → is_element element.now ≡ false }
     {
         if !is_element(element) {
-            return Err(PathFault::Bad);
+            return Err(PathError::Bad);
         }
         Ok(self.child(element)?)
     }

@@ -9,8 +9,8 @@ use Rattle.std.proofs.lemmas.Map.Text.{is_eq-slice_cmp}
 use Rattle.std.specs.List.{slice_split, join_with_byte, All}
 use Rattle.std.specs.Option.{IsSome, is_some}
 use Rattle.std.specs.Result.{IfOk, OnOk}
-use Rattle.fp_name.specs.declared.fault.NameFault.{NameFault}
-use Rattle.fp_name.specs.declared.fault.NameFault.TheVariants.{Bad}
+use Rattle.fp_name.specs.declared.fault.NameError.{NameError}
+use Rattle.fp_name.specs.declared.fault.NameError.TheVariants.{Bad}
 use Rattle.std.specs.Str.{bytes_eq, IsAscii, IsUtf8}
 use Rattle.std.proofs.lemmas.Str.{IsUtf8-from_ascii, IsAscii-append}
 use Rattle.std.proofs.lemmas.Str.Ascii.{IsAscii-cons}
@@ -166,11 +166,11 @@ no_if true s h = cc h
 no_if false s h = refl
 
 -- what `new` answers, as an answer to the text
-pub made : (r : Result Ref NameFault) (s : Ref) (read : Option Ref) → read ≡ if_ref s → IfOk r (λ name. name ≡ s) → OnOk r (is_ref s ≡ true) → IfOk r (λ name. read ≡ Some name)
+pub made : (r : Result Ref NameError) (s : Ref) (read : Option Ref) → read ≡ if_ref s → IfOk r (λ name. name ≡ s) → OnOk r (is_ref s ≡ true) → IfOk r (λ name. read ≡ Some name)
 made (Ok name) s read e same good = e ∙ rw good (ap Some (sym same))
 made (Err fault) s read e same good = tt
 
-pub refused : (r : Result Ref NameFault) (s : Ref) (read : Option Ref) → read ≡ if_ref s → (r ≡ Err Bad → is_ref s ≡ false) → (is_ref s ≡ false → r ≡ Err Bad) → (r ≡ Err Bad → read ≡ None) × (read ≡ None → r ≡ Err Bad)
+pub refused : (r : Result Ref NameError) (s : Ref) (read : Option Ref) → read ≡ if_ref s → (r ≡ Err Bad → is_ref s ≡ false) → (is_ref s ≡ false → r ≡ Err Bad) → (r ≡ Err Bad → read ≡ None) × (read ≡ None → r ≡ Err Bad)
 refused r s read e only when = (λ bad. e ∙ rw (only bad) refl, λ none. when (no_if (is_ref s) s (sym e ∙ none)))
 
 -- ---- what is no text is no ref

@@ -3,7 +3,7 @@
 ghost use Rattle.std.specs.Prelude.{◌≡◌, ◌↔◌, true, false, IfOk, OnOk, IsErrOf};
 ghost use Rattle.fp_name.specs.Grammar.{is_id};
 
-use crate::fault::NameFault;
+use crate::fault::NameError;
 use crate::grammar::is_id;
 use fp_base::Text;
 use std::alloc::{AllocError, Global};
@@ -32,16 +32,16 @@ impl Model for AppId {
 impl AppId {
     /// Reads an ID. Bad comes exactly where the text is none.
     #[tactic(auto, using(crate::proofs::Bytes::no_text_no_id))]
-    pub fn parse(alloc: Global, text: &[u8]) -> Result<Self, NameFault>
+    pub fn parse(alloc: Global, text: &[u8]) -> Result<Self, NameError>
         ensures ok { IfOk result (λ id. id ≡ text.now) }
         ensures good { OnOk result (is_id text.now ≡ true) }
-        ensures bad { IsErrOf result NameFault.Bad ↔ (is_id text.now ≡ false) }
+        ensures bad { IsErrOf result NameError.Bad ↔ (is_id text.now ≡ false) }
     {
         let Ok(text) = str::from_utf8(text) else {
-            return Err(NameFault::Bad);
+            return Err(NameError::Bad);
         };
         if !is_id(text) {
-            return Err(NameFault::Bad);
+            return Err(NameError::Bad);
         }
         Ok(AppId {
             text: Text::from_str(alloc, text)?,

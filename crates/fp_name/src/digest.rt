@@ -5,7 +5,7 @@ ghost use Rattle.std.specs.List.{list_any};
 ghost use Rattle.std.specs.Char.{is_ascii_uppercase};
 ghost use Rattle.fp_name.specs.Hex.{hex as hex_text, unhex, is_digest};
 
-use crate::fault::NameFault;
+use crate::fault::NameError;
 use fp_base::Text;
 use hex::FromHex;
 use std::alloc::{AllocError, Global};
@@ -56,15 +56,15 @@ impl Digest {
 
     /// Reads 64 hexadecimal digits in lower case, which takes no memory. Any other text is Bad.
     #[tactic(auto, using(crate::proofs::HexTexts::unhex_upper))]
-    pub fn parse(text: &[u8]) -> Result<Self, NameFault>
-        ensures { result ≡ ok_or (unhex text.now) NameFault.Bad }
+    pub fn parse(text: &[u8]) -> Result<Self, NameError>
+        ensures { result ≡ ok_or (unhex text.now) NameError.Bad }
     {
         if has_uppercase(text) {
-            return Err(NameFault::Bad);
+            return Err(NameError::Bad);
         }
         match <[u8; 32]>::from_hex(text) {
             Ok(bytes) => Ok(Digest::from_bytes(bytes)),
-            Err(_) => Err(NameFault::Bad),
+            Err(_) => Err(NameError::Bad),
         }
     }
 

@@ -1,7 +1,7 @@
 //! Why a text was not read as a name.
 
 ghost use Rattle.std.specs.Prelude.{◌≡◌};
-ghost use Rattle.fp_name.specs.declared.fault.NameFault.TheVariants.{NoMemory};
+ghost use Rattle.fp_name.specs.declared.fault.NameError.TheVariants.{NoMemory};
 
 use std::alloc::AllocError;
 use std::error::Error;
@@ -9,28 +9,28 @@ use std::fmt;
 
 /// Why a text was not read as a name.
 #[derive(Clone, Copy, Debug, PartialEq, Eq)]
-pub enum NameFault {
+pub enum NameError {
     /// The text is not in the grammar of the name.
     Bad,
     /// There was no memory for the name.
     NoMemory,
 }
 
-impl fmt::Display for NameFault {
+impl fmt::Display for NameError {
     fn fmt<W: fmt::Write>(&self, f: &mut fmt::Formatter<W>) -> fmt::Result {
         match self {
-            NameFault::Bad => write!(f, "bad name"),
-            NameFault::NoMemory => write!(f, "out of memory"),
+            NameError::Bad => write!(f, "bad name"),
+            NameError::NoMemory => write!(f, "out of memory"),
         }
     }
 }
 
-impl Error for NameFault {}
+impl Error for NameError {}
 
-impl From<AllocError> for NameFault {
+impl From<AllocError> for NameError {
     ghost from_gives = { λ _ e. e ≡ NoMemory };
 
-    fn from(_e: AllocError) -> NameFault {
-        NameFault::NoMemory
+    fn from(_e: AllocError) -> NameError {
+        NameError::NoMemory
     }
 }

@@ -15,7 +15,7 @@ mod remote_url;
 
 pub use app_id::AppId;
 pub use digest::Digest;
-pub use fault::NameFault;
+pub use fault::NameError;
 pub use grammar::{is_arch, is_branch, is_id, is_remote_name, is_url};
 pub use kind::RefKind;
 pub use laws::{

@@ -3,7 +3,7 @@
 ghost use Rattle.std.specs.Prelude.{◌≡◌, ◌↔◌, true, false, IfOk, OnOk, IsErrOf};
 ghost use Rattle.fp_name.specs.Pins.{is_pin, pin_matches};
 
-use crate::fault::NameFault;
+use crate::fault::NameError;
 use crate::parts::{is_pin, parts_of};
 use crate::ref_name::RefName;
 use fp_base::Text;
@@ -33,16 +33,16 @@ impl Model for PinPattern {
 impl PinPattern {
     /// Reads a pattern. Bad comes exactly where the text is none.
     #[tactic(auto, using(crate::proofs::Pins::no_text_no_pin))]
-    pub fn parse(alloc: Global, text: &[u8]) -> Result<Self, NameFault>
+    pub fn parse(alloc: Global, text: &[u8]) -> Result<Self, NameError>
         ensures ok { IfOk result (λ pattern. pattern ≡ text.now) }
         ensures good { OnOk result (is_pin text.now ≡ true) }
-        ensures bad { IsErrOf result NameFault.Bad ↔ (is_pin text.now ≡ false) }
+        ensures bad { IsErrOf result NameError.Bad ↔ (is_pin text.now ≡ false) }
     {
         let Ok(text) = str::from_utf8(text) else {
-            return Err(NameFault::Bad);
+            return Err(NameError::Bad);
         };
         if !is_pin(text) {
-            return Err(NameFault::Bad);
+            return Err(NameError::Bad);
         }
         Ok(PinPattern {
             text: Text::from_str(alloc, text)?,

@@ -10,7 +10,7 @@ ghost use Rattle.std.proofs.Common.{rules};
 ghost use Rattle.fp_name.specs.Refs.{ref_of};
 
 use crate::app_id::AppId;
-use crate::fault::NameFault;
+use crate::fault::NameError;
 use crate::kind::RefKind;
 use crate::parts::{Parts, is_ref, parts_of, parts_remainder};
 use fp_base::Text;
@@ -44,15 +44,15 @@ impl RefName {
 
     /// Reads the text of a ref. Bad comes exactly where the text is none.
     #[tactic(auto, using(crate::proofs::Refs::no_text_no_ref))]
-    pub fn parse(alloc: Global, text: &[u8]) -> Result<Self, NameFault>
+    pub fn parse(alloc: Global, text: &[u8]) -> Result<Self, NameError>
         ensures ok { IfOk result (λ name. ref_of text.now ≡ Some name) }
-        ensures bad { IsErrOf result NameFault.Bad ↔ (ref_of text.now ≡ None) }
+        ensures bad { IsErrOf result NameError.Bad ↔ (ref_of text.now ≡ None) }
     {
         let Ok(text) = str::from_utf8(text) else {
-            return Err(NameFault::Bad);
+            return Err(NameError::Bad);
         };
         if !is_ref(text) {
-            return Err(NameFault::Bad);
+            return Err(NameError::Bad);
         }
         Ok(RefName {
             text: Text::from_str(alloc, text)?,
@@ -66,10 +66,10 @@ impl RefName {
         id: &str,
         arch: &str,
         branch: &str,
-    ) -> Result<Self, NameFault>
+    ) -> Result<Self, NameError>
         ensures ok { IfOk result (λ name. name ≡ ref_with kind id.now arch.now branch.now) }
         ensures good { OnOk result (is_ref (ref_with kind id.now arch.now branch.now) ≡ true) }
-        ensures bad { IsErrOf result NameFault.Bad ↔ (is_ref
+        ensures bad { IsErrOf result NameError.Bad ↔ (is_ref
             (ref_with kind id.now arch.now branch.now) ≡ false) }
     {
         let parts = Parts {
@@ -79,7 +79,7 @@ impl RefName {
             branch,
         };
         if !parts.are_ref() {
-            return Err(NameFault::Bad);
+            return Err(NameError::Bad);
         }
         Ok(RefName {
             text: parts.join(alloc)?,
@@ -88,13 +88,13 @@ impl RefName {
 
     /// The ref of a kind and the text `ID/ARCH/BRANCH`. Bad comes exactly where the two make none.
     #[tactic(auto, using(crate::proofs::Refs::ref_of_kind, crate::proofs::Refs::made, crate::proofs::Refs::refused))]
-    pub fn of_kind(alloc: Global, kind: RefKind, text: &str) -> Result<Self, NameFault>
+    pub fn of_kind(alloc: Global, kind: RefKind, text: &str) -> Result<Self, NameError>
         ensures ok { IfOk result (λ name. ref_of (kind_word kind ++ 47 ∷ text.now) ≡ Some name) }
-        ensures bad { IsErrOf result NameFault.Bad ↔ (ref_of (kind_word kind ++ 47 ∷ text.now) ≡
+        ensures bad { IsErrOf result NameError.Bad ↔ (ref_of (kind_word kind ++ 47 ∷ text.now) ≡
             None) }
     {
         let Some(parts) = parts_remainder(kind, text) else {
-            return Err(NameFault::Bad);
+            return Err(NameError::Bad);
         };
         RefName::new(alloc, parts.kind, parts.id, parts.arch, parts.branch)
     }

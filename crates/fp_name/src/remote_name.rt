@@ -3,7 +3,7 @@
 ghost use Rattle.std.specs.Prelude.{◌≡◌, ◌↔◌, true, false, IfOk, OnOk, IsErrOf};
 ghost use Rattle.fp_name.specs.Grammar.{is_remote_name};
 
-use crate::fault::NameFault;
+use crate::fault::NameError;
 use crate::grammar::is_remote_name;
 use fp_base::Text;
 use std::alloc::{AllocError, Global};
@@ -32,16 +32,16 @@ impl Model for RemoteName {
 impl RemoteName {
     /// Reads a remote's name. Bad comes exactly where the text is none.
     #[tactic(auto, using(crate::proofs::Bytes::no_text_no_remote_name))]
-    pub fn parse(alloc: Global, text: &[u8]) -> Result<Self, NameFault>
+    pub fn parse(alloc: Global, text: &[u8]) -> Result<Self, NameError>
         ensures ok { IfOk result (λ name. name ≡ text.now) }
         ensures good { OnOk result (is_remote_name text.now ≡ true) }
-        ensures bad { IsErrOf result NameFault.Bad ↔ (is_remote_name text.now ≡ false) }
+        ensures bad { IsErrOf result NameError.Bad ↔ (is_remote_name text.now ≡ false) }
     {
         let Ok(text) = str::from_utf8(text) else {
-            return Err(NameFault::Bad);
+            return Err(NameError::Bad);
         };
         if !is_remote_name(text) {
-            return Err(NameFault::Bad);
+            return Err(NameError::Bad);
         }
         Ok(RemoteName {
             text: Text::from_str(alloc, text)?,

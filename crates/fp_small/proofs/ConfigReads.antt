@@ -22,9 +22,9 @@ use Rattle.fp_keyfile.proofs.Good.{good_parts, good_group_parts}
 use Rattle.fp_keyfile.proofs.Read.{good_file_of}
 use Rattle.fp_small.specs.declared.state.RemoteRow.{RemoteRow}
 use Rattle.fp_small.specs.declared.config.Settings.{Settings}
-use Rattle.fp_small.specs.declared.config.ConfigFault.{ConfigFault}
-use Rattle.fp_small.specs.declared.config.ConfigFault.TheVariants.{Bad}
-use Rattle.fp_small.specs.ConfigFaults.{key_fault}
+use Rattle.fp_small.specs.declared.config.ConfigError.{ConfigError}
+use Rattle.fp_small.specs.declared.config.ConfigError.TheVariants.{Bad}
+use Rattle.fp_small.specs.ConfigErrors.{key_fault}
 use Rattle.fp_small.specs.Order.{inserted, sorted_onto, sorted_by}
 use Rattle.fp_small.specs.Config.{name_of, is_layout, is_pin_pair, remote_front, is_quoted, quoted_name, row_of, remote_of, is_part, remotes_in, pins_in, is_config, settings_of, settings_read, config_of, is_row, IsSettings}
 use Rattle.fp_small.proofs.Ordered.{bytes_eq-itself, bytes_eq-is, list_all-sorted_onto, length-sorted_onto, is_ascending-sorted_by, is_ascending-sorted_onto_none}
@@ -306,10 +306,10 @@ bad_key : (bytes : List ℕ) (e : KeyError) → Bad ≡ key_fault e → Fails e 
 bad_key bytes (keys.Fault fault) bad h = fault_none bytes fault h
 bad_key bytes keys.NoMemory bad h = absurd cc
 
-pub no_file : {T : Type 0} (bytes : List ℕ) (e : KeyError) (r : Result T ConfigFault) → IsErrAnd r (λ fault. fault ≡ key_fault e) → IsErrOf r Bad → Fails e (file_of bytes) → config_of bytes ≡ None
-no_file {T} bytes e r gives bad h = bad_key bytes e (subst (λ (x : Result T ConfigFault). IsErrAnd x (λ fault. fault ≡ key_fault e)) bad gives) h
+pub no_file : {T : Type 0} (bytes : List ℕ) (e : KeyError) (r : Result T ConfigError) → IsErrAnd r (λ fault. fault ≡ key_fault e) → IsErrOf r Bad → Fails e (file_of bytes) → config_of bytes ≡ None
+no_file {T} bytes e r gives bad h = bad_key bytes e (subst (λ (x : Result T ConfigError). IsErrAnd x (λ fault. fault ≡ key_fault e)) bad gives) h
 
-pub ok_good : (bytes : List ℕ) (r : Result Settings ConfigFault) → IfOk r (λ s. config_of bytes ≡ Some s) → IfOk r (λ s. IsSettings s)
+pub ok_good : (bytes : List ℕ) (r : Result Settings ConfigError) → IfOk r (λ s. config_of bytes ≡ Some s) → IfOk r (λ s. IsSettings s)
 ok_good bytes (Ok s) h = read_good bytes s h
 ok_good bytes (Err fault) h = tt
 

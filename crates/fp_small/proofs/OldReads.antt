@@ -19,9 +19,9 @@ use Rattle.fp_keyfile.specs.Lines.{lines_of}
 use Rattle.fp_keyfile.proofs.Good.{good_parts}
 use Rattle.fp_keyfile.proofs.Read.{good_file_of}
 use Rattle.fp_small.specs.declared.state.RemoteRow.{RemoteRow}
-use Rattle.fp_small.specs.declared.config.ConfigFault.{ConfigFault}
-use Rattle.fp_small.specs.declared.config.ConfigFault.TheVariants.{Bad}
-use Rattle.fp_small.specs.ConfigFaults.{key_fault}
+use Rattle.fp_small.specs.declared.config.ConfigError.{ConfigError}
+use Rattle.fp_small.specs.declared.config.ConfigError.TheVariants.{Bad}
+use Rattle.fp_small.specs.ConfigErrors.{key_fault}
 use Rattle.fp_small.specs.Order.{sorted_by}
 use Rattle.fp_small.specs.Config.{name_of, remote_of, remotes_in, is_row}
 use Rattle.fp_small.specs.Old.{are_remotes, remotes_seen, remotes_read, remotes_of, is_ended, are_pins, pins_of, AreRows, ArePatterns}
@@ -72,10 +72,10 @@ bad_key : (bytes : List ℕ) (e : KeyError) → Bad ≡ key_fault e → Fails e 
 bad_key bytes (keys.Fault fault) bad h = fault_none bytes fault h
 bad_key bytes keys.NoMemory bad h = absurd cc
 
-pub no_remotes : {T : Type 0} (bytes : List ℕ) (e : KeyError) (r : Result T ConfigFault) → IsErrAnd r (λ fault. fault ≡ key_fault e) → IsErrOf r Bad → Fails e (file_of bytes) → remotes_of bytes ≡ None
-no_remotes {T} bytes e r gives bad h = bad_key bytes e (subst (λ (x : Result T ConfigFault). IsErrAnd x (λ fault. fault ≡ key_fault e)) bad gives) h
+pub no_remotes : {T : Type 0} (bytes : List ℕ) (e : KeyError) (r : Result T ConfigError) → IsErrAnd r (λ fault. fault ≡ key_fault e) → IsErrOf r Bad → Fails e (file_of bytes) → remotes_of bytes ≡ None
+no_remotes {T} bytes e r gives bad h = bad_key bytes e (subst (λ (x : Result T ConfigError). IsErrAnd x (λ fault. fault ≡ key_fault e)) bad gives) h
 
-pub ok_rows : (bytes : List ℕ) (r : Result (List RemoteRow) ConfigFault) → IfOk r (λ rows. remotes_of bytes ≡ Some rows) → IfOk r (λ rows. AreRows rows)
+pub ok_rows : (bytes : List ℕ) (r : Result (List RemoteRow) ConfigError) → IfOk r (λ rows. remotes_of bytes ≡ Some rows) → IfOk r (λ rows. AreRows rows)
 ok_rows bytes (Ok rows) h = remotes_good bytes rows h
 ok_rows bytes (Err fault) h = tt
 
@@ -116,8 +116,8 @@ is_ascending-last xs i h = short (drop i xs) (omega (arith, length-drop i xs))
 -- ---- the pins
 
 -- the same end, of another result
-pub same_end : {T U : Type 0} (r : Result T ConfigFault) (e : ConfigFault) → IsErrAnd r (λ f. f ≡ e) → IsErrOf r Bad → IsErrOf {T = U} (Err e) Bad
-same_end {T} {U} r e gives bad = let is : Bad ≡ e = subst (λ (x : Result T ConfigFault). IsErrAnd x (λ f. f ≡ e)) bad gives in subst (λ (f : ConfigFault). IsErrOf {T = U} (Err f) Bad) is refl
+pub same_end : {T U : Type 0} (r : Result T ConfigError) (e : ConfigError) → IsErrAnd r (λ f. f ≡ e) → IsErrOf r Bad → IsErrOf {T = U} (Err e) Bad
+same_end {T} {U} r e gives bad = let is : Bad ≡ e = subst (λ (x : Result T ConfigError). IsErrAnd x (λ f. f ≡ e)) bad gives in subst (λ (f : ConfigError). IsErrOf {T = U} (Err f) Bad) is refl
 
 refused : (bytes : List ℕ) → (is_ended bytes && are_pins (lines_of bytes)) ≡ false → pins_of bytes ≡ None
 unfolding pins_of

@@ -12,5 +12,5 @@ pub mod Clear
 pub mod Unsynced
 pub mod Order
 pub mod Config
-pub mod ConfigFaults
+pub mod ConfigErrors
 pub mod Old

@@ -1,12 +1,12 @@
 // The file `config`.
 ghost use Rattle.std.specs.Prelude.{◌≡◌};
-ghost use Rattle.fp_small.specs.ConfigFaults.{key_fault, name_fault};
-ghost use Rattle.fp_small.specs.declared.config.ConfigFault.TheVariants.{NoMemory};
+ghost use Rattle.fp_small.specs.ConfigErrors.{key_fault, name_fault};
+ghost use Rattle.fp_small.specs.declared.config.ConfigError.TheVariants.{NoMemory};
 
 use crate::state::RemoteRow;
 use fp_base::Items;
 use fp_keyfile::KeyError;
-use fp_name::{NameFault, PinPattern};
+use fp_name::{NameError, PinPattern};
 use std::alloc::{AllocError, AllocFailed};
 
 /// The remotes and the pins of an installation, each ascending by name.
@@ -18,47 +18,47 @@ pub struct Settings {
 
 /// Why a `config` was not read.
 #[derive(Clone, Copy, Debug, PartialEq, Eq)]
-pub enum ConfigFault {
+pub enum ConfigError {
     /// The bytes are no `config`.
     Bad,
     /// Memory ran out.
     NoMemory,
 }
 
-impl From<AllocError> for ConfigFault {
+impl From<AllocError> for ConfigError {
     ghost from_gives = { λ _ e. e ≡ NoMemory };
 
-    fn from(_e: AllocError) -> ConfigFault {
-        ConfigFault::NoMemory
+    fn from(_e: AllocError) -> ConfigError {
+        ConfigError::NoMemory
     }
 }
 
-impl<T: Drop> From<AllocFailed<T>> for ConfigFault {
+impl<T: Drop> From<AllocFailed<T>> for ConfigError {
     ghost from_gives = { λ _ e. e ≡ NoMemory };
 
-    fn from(_e: AllocFailed<T>) -> ConfigFault {
-        ConfigFault::NoMemory
+    fn from(_e: AllocFailed<T>) -> ConfigError {
+        ConfigError::NoMemory
     }
 }
 
-impl From<KeyError> for ConfigFault {
+impl From<KeyError> for ConfigError {
     ghost from_gives = { λ e fault. fault ≡ key_fault e };
 
-    fn from(e: KeyError) -> ConfigFault {
+    fn from(e: KeyError) -> ConfigError {
         match e {
-            KeyError::Fault(_) => ConfigFault::Bad,
-            KeyError::NoMemory => ConfigFault::NoMemory,
+            KeyError::Fault(_) => ConfigError::Bad,
+            KeyError::NoMemory => ConfigError::NoMemory,
         }
     }
 }
 
-impl From<NameFault> for ConfigFault {
+impl From<NameError> for ConfigError {
     ghost from_gives = { λ e fault. fault ≡ name_fault e };
 
-    fn from(e: NameFault) -> ConfigFault {
+    fn from(e: NameError) -> ConfigError {
         match e {
-            NameFault::Bad => ConfigFault::Bad,
-            NameFault::NoMemory => ConfigFault::NoMemory,
+            NameError::Bad => ConfigError::Bad,
+            NameError::NoMemory => ConfigError::NoMemory,
         }
     }
 }

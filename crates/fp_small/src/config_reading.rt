@@ -8,7 +8,7 @@ ghost use Rattle.fp_small.specs.Order.{sorted_by};
 ghost use Rattle.fp_small.specs.Config as spec;
 ghost use Rattle.fp_small.specs.Config.{IsSettings, config_of, settings_of, remotes_in, pins_in};
 
-use crate::config::{ConfigFault, Settings};
+use crate::config::{ConfigError, Settings};
 use crate::ordering::insert_by_name;
 use crate::state::RemoteRow;
 use fp_base::Items;
@@ -165,11 +165,11 @@ fn is_config(groups: &[Group]) -> bool
 }
 
 /// The row of a remote.
-fn row_of(alloc: Global, name: &str, url: &str) -> Result<RemoteRow, ConfigFault>
+fn row_of(alloc: Global, name: &str, url: &str) -> Result<RemoteRow, ConfigError>
     requires name { grammar.is_remote_name name.now ≡ true }
     requires url { grammar.is_url url.now ≡ true }
     ensures ok { IfOk result (λ row. row ≡ record { name = name.now; url = url.now }) }
-    ensures needs_no_memory { IsErrOf result ConfigFault.Bad → ⊥ }
+    ensures needs_no_memory { IsErrOf result ConfigError.Bad → ⊥ }
 {
     Ok(RemoteRow {
         name: RemoteName::parse(alloc, name.as_bytes())?,
@@ -178,9 +178,9 @@ fn row_of(alloc: Global, name: &str, url: &str) -> Result<RemoteRow, ConfigFault
 }
 
 /// The remotes that the groups say, ascending.
-pub(crate) fn remote_rows(alloc: Global, groups: &[Group]) -> Result<Vec<RemoteRow>, ConfigFault>
+pub(crate) fn remote_rows(alloc: Global, groups: &[Group]) -> Result<Vec<RemoteRow>, ConfigError>
     ensures ok { IfOk result (λ rows. rows.items ≡ sorted_by spec.name_of (remotes_in groups.now)) }
-    ensures needs_no_memory { IsErrOf result ConfigFault.Bad → ⊥ }
+    ensures needs_no_memory { IsErrOf result ConfigError.Bad → ⊥ }
 {
     let mut rows = Vec::new(alloc);
     for group in groups {
@@ -193,10 +193,10 @@ pub(crate) fn remote_rows(alloc: Global, groups: &[Group]) -> Result<Vec<RemoteR
 }
 
 /// The pins that the pairs say, ascending.
-fn pin_keys(alloc: Global, pairs: &[Pair]) -> Result<Vec<PinPattern>, ConfigFault>
+fn pin_keys(alloc: Global, pairs: &[Pair]) -> Result<Vec<PinPattern>, ConfigError>
     requires { list_all spec.is_pin_pair pairs.now ≡ true }
     ensures ok { IfOk result (λ pins. pins.items ≡ sorted_by (λ pin. pin) (keys_of pairs.now)) }
-    ensures needs_no_memory { IsErrOf result ConfigFault.Bad → ⊥ }
+    ensures needs_no_memory { IsErrOf result ConfigError.Bad → ⊥ }
 {
     let mut pins = Vec::new(alloc);
     for pair in pairs {
@@ -207,10 +207,10 @@ fn pin_keys(alloc: Global, pairs: &[Pair]) -> Result<Vec<PinPattern>, ConfigFaul
 }
 
 /// The pins that the groups say, ascending.
-fn pins_of(alloc: Global, groups: &[Group]) -> Result<Vec<PinPattern>, ConfigFault>
+fn pins_of(alloc: Global, groups: &[Group]) -> Result<Vec<PinPattern>, ConfigError>
     requires { list_all spec.is_part groups.now ≡ true }
     ensures ok { IfOk result (λ pins. pins.items ≡ sorted_by (λ pin. pin) (pins_in groups.now)) }
-    ensures needs_no_memory { IsErrOf result ConfigFault.Bad → ⊥ }
+    ensures needs_no_memory { IsErrOf result ConfigError.Bad → ⊥ }
 {
     match pins_group(groups) {
         Some(group) => pin_keys(alloc, group.pairs.as_slice()),
@@ -219,12 +219,12 @@ fn pins_of(alloc: Global, groups: &[Group]) -> Result<Vec<PinPattern>, ConfigFau
 }
 
 /// The settings that the groups say.
-fn settings_of(alloc: Global, groups: &[Group]) -> Result<Settings, ConfigFault>
+fn settings_of(alloc: Global, groups: &[Group]) -> Result<Settings, ConfigError>
     ensures ok { IfOk result (λ s. settings_of groups.now ≡ Some s) }
-    ensures bad { IsErrOf result ConfigFault.Bad → settings_of groups.now ≡ None }
+    ensures bad { IsErrOf result ConfigError.Bad → settings_of groups.now ≡ None }
 {
     if !is_config(groups) {
-        return Err(ConfigFault::Bad);
+        return Err(ConfigError::Bad);
     }
     Ok(Settings {
         remotes: Items::from_vec(remote_rows(alloc, groups)?),
@@ -235,10 +235,10 @@ fn settings_of(alloc: Global, groups: &[Group]) -> Result<Settings, ConfigFault>
 /// Reads a `config`: the group `installation` with the one key `layout=2`, the groups `remote "NAME"` with the one key
 /// `url`, and the group `pins`, whose keys are patterns with the value `true`. There are at most 256 remotes and at most
 /// 1,024 pins. The bytes are Bad where they are anything else.
-pub fn read_config(alloc: Global, bytes: &[u8]) -> Result<Settings, ConfigFault>
+pub fn read_config(alloc: Global, bytes: &[u8]) -> Result<Settings, ConfigError>
     ensures ok { IfOk result (λ s. config_of bytes.now ≡ Some s) }
     ensures good { IfOk result (λ s. IsSettings s) }
-    ensures bad { IsErrOf result ConfigFault.Bad → config_of bytes.now ≡ None }
+    ensures bad { IsErrOf result ConfigError.Bad → config_of bytes.now ≡ None }
 {
     let file = KeyFile::parse(alloc, bytes)?;
     settings_of(alloc, file.groups().as_slice())

@@ -20,7 +20,7 @@ mod walking;
 
 pub use above::make_above;
 pub use clearing::{clear, clear_below};
-pub use config::{ConfigFault, Settings};
+pub use config::{ConfigError, Settings};
 pub use config_reading::{MOST_PINS, MOST_REMOTES, read_config};
 pub use config_writing::write_config;
 pub use loading::{Loaded, load};

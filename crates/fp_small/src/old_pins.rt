@@ -9,7 +9,7 @@ ghost use Rattle.fp_keyfile.specs.Lines.{lines_of};
 ghost use Rattle.fp_small.specs.Old as spec;
 ghost use Rattle.fp_small.specs.Old.{ArePatterns, pins_of};
 
-use crate::config::ConfigFault;
+use crate::config::ConfigError;
 use crate::config_reading::MOST_PINS;
 use fp_base::Items;
 use fp_keyfile::first_line;
@@ -24,10 +24,10 @@ fn is_ended(bytes: &[u8]) -> bool
 }
 
 /// The pattern of each line.
-fn patterns_of(alloc: Global, bytes: &[u8]) -> Result<Vec<PinPattern>, ConfigFault>
+fn patterns_of(alloc: Global, bytes: &[u8]) -> Result<Vec<PinPattern>, ConfigError>
     ensures ok { IfOk result (λ pins. pins.items ≡ lines_of bytes.now) }
     ensures good { OnOk result (list_all names.is_pin (lines_of bytes.now) ≡ true) }
-    ensures bad { IsErrOf result ConfigFault.Bad → list_all names.is_pin (lines_of bytes.now) ≡
+    ensures bad { IsErrOf result ConfigError.Bad → list_all names.is_pin (lines_of bytes.now) ≡
         false }
 {
     let mut pins = Vec::new(alloc);
@@ -60,17 +60,17 @@ fn are_ascending(pins: &[PinPattern]) -> bool
 
 /// Reads a `pins`: one pattern a line, strictly ascending by bytes, at most 1,024, and each line with its newline. The
 /// bytes are Bad where they are anything else.
-pub fn read_pins(alloc: Global, bytes: &[u8]) -> Result<Items<PinPattern>, ConfigFault>
+pub fn read_pins(alloc: Global, bytes: &[u8]) -> Result<Items<PinPattern>, ConfigError>
     ensures ok { IfOk result (λ pins. pins_of bytes.now ≡ Some pins) }
     ensures good { IfOk result (λ pins. ArePatterns pins) }
-    ensures bad { IsErrOf result ConfigFault.Bad → pins_of bytes.now ≡ None }
+    ensures bad { IsErrOf result ConfigError.Bad → pins_of bytes.now ≡ None }
 {
     if !is_ended(bytes) {
-        return Err(ConfigFault::Bad);
+        return Err(ConfigError::Bad);
     }
     let pins = patterns_of(alloc, bytes)?;
     if !are_ascending(&pins) || pins.len() > MOST_PINS {
-        return Err(ConfigFault::Bad);
+        return Err(ConfigError::Bad);
     }
     Ok(Items::from_vec(pins))
 }

@@ -6,7 +6,7 @@ ghost use Rattle.fp_small.specs.Config.{remote_of};
 ghost use Rattle.fp_small.specs.Old as spec;
 ghost use Rattle.fp_small.specs.Old.{AreRows, remotes_of, remotes_seen};
 
-use crate::config::ConfigFault;
+use crate::config::ConfigError;
 use crate::config_reading::{MOST_REMOTES, count_remotes, is_remote, remote_rows};
 use crate::state::RemoteRow;
 use fp_base::Items;
@@ -28,22 +28,22 @@ fn are_remotes(groups: &[Group]) -> bool
 }
 
 /// The remotes that the groups say, ascending.
-fn rows_of(alloc: Global, groups: &[Group]) -> Result<Items<RemoteRow>, ConfigFault>
+fn rows_of(alloc: Global, groups: &[Group]) -> Result<Items<RemoteRow>, ConfigError>
     ensures ok { IfOk result (λ rows. remotes_seen groups.now ≡ Some rows) }
-    ensures bad { IsErrOf result ConfigFault.Bad → remotes_seen groups.now ≡ None }
+    ensures bad { IsErrOf result ConfigError.Bad → remotes_seen groups.now ≡ None }
 {
     if !are_remotes(groups) {
-        return Err(ConfigFault::Bad);
+        return Err(ConfigError::Bad);
     }
     Ok(Items::from_vec(remote_rows(alloc, groups)?))
 }
 
 /// Reads a `remotes.conf`: a key file whose groups are `remote "NAME"` with the one key `url`, at most 256 and in any
 /// order. The bytes are Bad where they are anything else.
-pub fn read_remotes(alloc: Global, bytes: &[u8]) -> Result<Items<RemoteRow>, ConfigFault>
+pub fn read_remotes(alloc: Global, bytes: &[u8]) -> Result<Items<RemoteRow>, ConfigError>
     ensures ok { IfOk result (λ rows. remotes_of bytes.now ≡ Some rows) }
     ensures good { IfOk result (λ rows. AreRows rows) }
-    ensures bad { IsErrOf result ConfigFault.Bad → remotes_of bytes.now ≡ None }
+    ensures bad { IsErrOf result ConfigError.Bad → remotes_of bytes.now ≡ None }
 {
     let file = KeyFile::parse(alloc, bytes)?;
     rows_of(alloc, file.groups().as_slice())

@@ -2,7 +2,7 @@
 
 use crate::rows::{agree, agree_at, is_text};
 use fp_base::{Blob, Text};
-use fp_host::{NoRemotes, Node, Path, PathFault, Remotes, is_element, is_link_text};
+use fp_host::{NoRemotes, Node, Path, PathError, Remotes, is_element, is_link_text};
 use std::alloc::{AllocError, Global};
 use std::panic::Expect;
 use std::process::Abort;
@@ -57,7 +57,7 @@ fn elements_and_link_texts(rt: HostRuntime) {
 
 /// Whether the text is no path.
 fn is_no_path(alloc: Global, text: &str) -> bool {
-    Path::parse(alloc, text).err() == Some(PathFault::Bad)
+    Path::parse(alloc, text).err() == Some(PathError::Bad)
 }
 
 #[test]
@@ -154,7 +154,7 @@ fn is_joined(rt: &impl Abort, repo: &Path) -> bool {
 /// Whether elements are joined to the root, and `..` isn't.
 fn are_joined(rt: &impl Abort, root: &Path) -> bool {
     let repo = root.join("repo").expect(rt, "an element");
-    is_joined(rt, &repo) && repo.join("..").err() == Some(PathFault::Bad)
+    is_joined(rt, &repo) && repo.join("..").err() == Some(PathError::Bad)
 }
 
 /// Whether the last element is added once more.

@@ -3,7 +3,7 @@
 use crate::rows::{agree, is_text};
 use fp_base::Text;
 use fp_name::{
-    AppId, Digest, NameFault, PinPattern, RefKind, RefName, RemoteName, RemoteUrl, is_arch,
+    AppId, Digest, NameError, PinPattern, RefKind, RefName, RemoteName, RemoteUrl, is_arch,
     is_branch, is_id, is_pin, is_ref,
 };
 use std::alloc::Global;
@@ -12,8 +12,8 @@ use std::panic::Expect;
 use std::process::Abort;
 
 /// The fault of a text that is good, or that has one.
-fn fault(good: bool) -> Option<NameFault> {
-    if good { None } else { Some(NameFault::Bad) }
+fn fault(good: bool) -> Option<NameError> {
+    if good { None } else { Some(NameError::Bad) }
 }
 
 /// Kinds of texts: by what reads them, by what tests them, and what stands after `app/` in a ref.
@@ -34,7 +34,7 @@ enum Kind {
 }
 
 /// The fault of a text as one of this kind.
-fn fault_of(alloc: Global, kind: Kind, text: &str) -> Option<NameFault> {
+fn fault_of(alloc: Global, kind: Kind, text: &str) -> Option<NameError> {
     match kind {
         Kind::Id => AppId::parse(alloc, text.as_bytes()).err(),
         Kind::Remote => RemoteName::parse(alloc, text.as_bytes()).err(),

@@ -6,7 +6,7 @@ use fp_host::{Host, Path, Stat};
 use fp_memhost::MemHost;
 use fp_name::{PinPattern, RemoteName, RemoteUrl};
 use fp_small::{
-    ConfigFault, Loaded, RemoteRow, Settings, clear, clear_below, has_pin, has_remote, insert_pin,
+    ConfigError, Loaded, RemoteRow, Settings, clear, clear_below, has_pin, has_remote, insert_pin,
     insert_remote, load, make_above, read_config, read_pins, read_remotes, remove_pin,
     remove_remote, replace, take_away, write_config,
 };
@@ -138,7 +138,7 @@ fn said_by_files(rt: HostRuntime) {
 }
 
 /// The fault of a text as such a file.
-fn fault_of(alloc: Global, file: File, text: &str) -> Option<ConfigFault> {
+fn fault_of(alloc: Global, file: File, text: &str) -> Option<ConfigError> {
     match file {
         File::Config => read_config(alloc, text.as_bytes()).err(),
         File::Remotes => read_remotes(alloc, text.as_bytes()).err(),
@@ -148,7 +148,7 @@ fn fault_of(alloc: Global, file: File, text: &str) -> Option<ConfigFault> {
 
 /// Whether a text is no such file.
 fn is_bad(alloc: Global, file: File, text: &str) -> bool {
-    fault_of(alloc, file, text) == Some(ConfigFault::Bad)
+    fault_of(alloc, file, text) == Some(ConfigError::Bad)
 }
 
 /// Ends the test at a text that is such a file.

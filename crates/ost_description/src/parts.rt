@@ -7,7 +7,7 @@ ghost use Rattle.ost_description.specs.Steps.{Gives};
 ghost use Rattle.ost_description.specs.Parts.{parts_at, has_leading_zero, are_digits as are_digits_of, number_in, octal_in, mode_in, is_lower_digit, hex_in, content_in, path_in, text_in, is_control, is_subject as may_be_subject};
 
 use fp_base::Blob;
-use fp_host::{Path, PathFault};
+use fp_host::{Path, PathError};
 use hex::FromHexError;
 use std::alloc::{AllocError, Global};
 use std::str;
@@ -176,8 +176,8 @@ pub(crate) fn path(alloc: Global, bytes: &[u8]) -> Result<Option<Path>, AllocErr
     }
     match Path::parse(alloc, text) {
         Ok(path) => Ok(Some(path)),
-        Err(PathFault::Bad) => Ok(None),
-        Err(PathFault::NoMemory) => Err(AllocError),
+        Err(PathError::Bad) => Ok(None),
+        Err(PathError::NoMemory) => Err(AllocError),
     }
 }
 

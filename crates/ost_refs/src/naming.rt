@@ -4,7 +4,7 @@ ghost use Rattle.ost_refs.specs.Found.{ref_named, remote_named, place_named};
 
 use crate::place::RefPlace;
 use fp_host::Path;
-use fp_name::{NameFault, RefKind, RefName, RemoteName};
+use fp_name::{NameError, RefKind, RefName, RemoteName};
 use std::alloc::{AllocError, Global};
 
 /// How many elements the path of a ref has at least: KIND/ID/ARCH/BRANCH after `refs/heads`.
@@ -33,8 +33,8 @@ fn ref_named(
     };
     match RefName::new(alloc, kind, id, arch, branch) {
         Ok(name) => Ok(Some(name)),
-        Err(NameFault::Bad) => Ok(None),
-        Err(NameFault::NoMemory) => Err(AllocError),
+        Err(NameError::Bad) => Ok(None),
+        Err(NameError::NoMemory) => Err(AllocError),
     }
 }
 
@@ -51,8 +51,8 @@ fn remote_named(
             Some(name) => Ok(Some(RefPlace::Remote(origin, name))),
             None => Ok(None),
         },
-        Err(NameFault::Bad) => Ok(None),
-        Err(NameFault::NoMemory) => Err(AllocError),
+        Err(NameError::Bad) => Ok(None),
+        Err(NameError::NoMemory) => Err(AllocError),
     }
 }
 
