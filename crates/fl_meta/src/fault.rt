@@ -5,6 +5,8 @@ ghost use Rattle.fl_meta.specs.declared.fault.MetaError.TheVariants.{NoMemory};
 
 use fp_base::MetaRule;
 use std::alloc::{AllocError, AllocFailed};
+use std::error::Error;
+use std::fmt;
 
 /// Why a key file could not be read as metadata.
 #[derive(Clone, Copy, Debug, PartialEq, Eq)]
@@ -14,6 +16,17 @@ pub enum MetaError {
     /// Memory ran out.
     NoMemory,
 }
+
+impl fmt::Display for MetaError {
+    fn fmt<W: fmt::Write>(&self, f: &mut fmt::Formatter<W>) -> fmt::Result {
+        match self {
+            MetaError::Rule(rule) => write!(f, "metadata that breaks a rule: {rule:?}"),
+            MetaError::NoMemory => write!(f, "out of memory"),
+        }
+    }
+}
+
+impl Error for MetaError {}
 
 impl From<AllocError> for MetaError {
     ghost from_gives = { λ _ e. e ≡ NoMemory };

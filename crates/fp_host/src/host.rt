@@ -8,6 +8,8 @@ ghost use Rattle.fp_host.specs.Reads.{StatOf, ListOf, ReadOf, LinkOf, AreNames, 
 use crate::{Path, PathError};
 use fp_base::{Items, Text};
 use std::alloc::{AllocError, Global};
+use std::error::Error;
+use std::fmt;
 
 /// Why a call of a host was not done.
 #[derive(Clone, Copy, Debug, PartialEq, Eq)]
@@ -20,6 +22,18 @@ pub enum HostError {
     /// There was no memory for the answer of `list` or `read_link`, and nothing changed.
     NoMemory,
 }
+
+impl fmt::Display for HostError {
+    fn fmt<W: fmt::Write>(&self, f: &mut fmt::Formatter<W>) -> fmt::Result {
+        match self {
+            HostError::Failed => write!(f, "the host failed"),
+            HostError::Clash => write!(f, "the condition of the call doesn't hold"),
+            HostError::NoMemory => write!(f, "out of memory"),
+        }
+    }
+}
+
+impl Error for HostError {}
 
 /// What a name holds, apart from nothing.
 #[derive(Debug, Drop)]

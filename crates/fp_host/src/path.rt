@@ -5,6 +5,8 @@ ghost use Rattle.fp_host.specs.Paths.{is_element, is_name_byte, cut, elements_of
 ghost use Rattle.fp_host.specs.declared.path.PathError.TheVariants.{NoMemory};
 
 use std::alloc::{AllocError, Global};
+use std::error::Error;
+use std::fmt;
 use std::marker::Model;
 
 /// Why a text is no path, or an element can't be added.
@@ -14,6 +16,17 @@ pub enum PathError {
     Bad,
     NoMemory,
 }
+
+impl fmt::Display for PathError {
+    fn fmt<W: fmt::Write>(&self, f: &mut fmt::Formatter<W>) -> fmt::Result {
+        match self {
+            PathError::Bad => write!(f, "bad path"),
+            PathError::NoMemory => write!(f, "out of memory"),
+        }
+    }
+}
+
+impl Error for PathError {}
 
 impl From<AllocError> for PathError {
     ghost from_gives = { λ _ e. e ≡ NoMemory };

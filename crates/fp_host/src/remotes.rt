@@ -6,6 +6,8 @@ ghost use Rattle.fp_host.specs.Remote.{Holdings, IsNode, HasNodeBits, bytes_of, 
 use crate::Path;
 use fp_base::Text;
 use std::alloc::Global;
+use std::error::Error;
+use std::fmt;
 
 /// What stands at a path of a remote.
 #[derive(Debug, Drop)]
@@ -24,6 +26,17 @@ pub enum RemoteError {
     Failed,
     NoMemory,
 }
+
+impl fmt::Display for RemoteError {
+    fn fmt<W: fmt::Write>(&self, f: &mut fmt::Formatter<W>) -> fmt::Result {
+        match self {
+            RemoteError::Failed => write!(f, "the remote failed"),
+            RemoteError::NoMemory => write!(f, "out of memory"),
+        }
+    }
+}
+
+impl Error for RemoteError {}
 
 /// The remotes: for each url a tree of files, which no call changes.
 pub trait Remotes {

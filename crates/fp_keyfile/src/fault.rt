@@ -3,6 +3,8 @@ ghost use Rattle.fp_keyfile.specs.declared.fault.KeyError.TheVariants.{NoMemory}
 
 use fp_base::KeyRule;
 use std::alloc::{AllocError, AllocFailed};
+use std::error::Error;
+use std::fmt;
 
 /// What is wrong with a key file: its first bad line, and the rule that this line breaks.
 #[derive(Clone, Copy, Debug, PartialEq, Eq)]
@@ -21,6 +23,19 @@ pub enum KeyError {
     /// Memory ran out.
     NoMemory,
 }
+
+impl fmt::Display for KeyError {
+    fn fmt<W: fmt::Write>(&self, f: &mut fmt::Formatter<W>) -> fmt::Result {
+        match self {
+            KeyError::Fault(KeyFault { line, rule }) => {
+                write!(f, "line {line} breaks a rule: {rule:?}")
+            }
+            KeyError::NoMemory => write!(f, "out of memory"),
+        }
+    }
+}
+
+impl Error for KeyError {}
 
 impl From<AllocError> for KeyError {
     ghost from_gives = { λ _ e. e ≡ NoMemory };

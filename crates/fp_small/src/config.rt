@@ -8,6 +8,8 @@ use fp_base::Items;
 use fp_keyfile::KeyError;
 use fp_name::{NameError, PinPattern};
 use std::alloc::{AllocError, AllocFailed};
+use std::error::Error;
+use std::fmt;
 
 /// The remotes and the pins of an installation, each ascending by name.
 #[derive(Drop)]
@@ -24,6 +26,17 @@ pub enum ConfigError {
     /// Memory ran out.
     NoMemory,
 }
+
+impl fmt::Display for ConfigError {
+    fn fmt<W: fmt::Write>(&self, f: &mut fmt::Formatter<W>) -> fmt::Result {
+        match self {
+            ConfigError::Bad => write!(f, "not a config file"),
+            ConfigError::NoMemory => write!(f, "out of memory"),
+        }
+    }
+}
+
+impl Error for ConfigError {}
 
 impl From<AllocError> for ConfigError {
     ghost from_gives = { λ _ e. e ≡ NoMemory };
