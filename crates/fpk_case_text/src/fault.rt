@@ -1,9 +1,11 @@
 //! Why a line of a case can't be read.
 use std::alloc::{AllocError, AllocFailed};
+use std::error::Error;
+use std::fmt;
 
 /// Why a line of a case can't be read.
-#[derive(Clone, Copy)]
-pub enum Fault {
+#[derive(Clone, Copy, Debug)]
+pub enum CaseError {
     NoKind,
     NoCase,
     NoStep,
@@ -20,40 +22,48 @@ pub enum Fault {
     NoMemory,
 }
 
-impl Fault {
+impl CaseError {
     /// What is to be done about it.
     pub fn text(self) -> &'static str {
         match self {
-            Fault::NoKind => "no line begins like this one",
-            Fault::NoCase => "a line `case NAME` comes first",
-            Fault::NoStep => "an indented line belongs to a line above it, which is missing",
-            Fault::NoCommand => "this line belongs to a command, and none is above it",
-            Fault::NoStops => "`shown` belongs to a line `stops`, and none is above it",
-            Fault::NoNumber => "a number is expected",
-            Fault::NoMode => "after the path come permission bits in octal digits, or nothing",
-            Fault::NoHex => "an even number of hexadecimal digits is expected",
-            Fault::OneWord => "two words are expected",
-            Fault::NoObject => {
+            CaseError::NoKind => "no line begins like this one",
+            CaseError::NoCase => "a line `case NAME` comes first",
+            CaseError::NoStep => "an indented line belongs to a line above it, which is missing",
+            CaseError::NoCommand => "this line belongs to a command, and none is above it",
+            CaseError::NoStops => "`shown` belongs to a line `stops`, and none is above it",
+            CaseError::NoNumber => "a number is expected",
+            CaseError::NoMode => "after the path come permission bits in octal digits, or nothing",
+            CaseError::NoHex => "an even number of hexadecimal digits is expected",
+            CaseError::OneWord => "two words are expected",
+            CaseError::NoObject => {
                 "an object is expected: LABEL, and commit, dirtree, dirmeta, or file and its path"
             }
-            Fault::NoHarm => {
+            CaseError::NoHarm => {
                 "the last word is absent, folder, cut, longer, turned, or permission bits"
             }
-            Fault::NoRemote => "this line belongs to a remote, and none is above it",
-            Fault::NotInstallation => "a hard link is given to the installation alone",
-            Fault::NoMemory => "out of memory",
+            CaseError::NoRemote => "this line belongs to a remote, and none is above it",
+            CaseError::NotInstallation => "a hard link is given to the installation alone",
+            CaseError::NoMemory => "out of memory",
         }
     }
 }
 
-impl From<AllocError> for Fault {
-    fn from(_: AllocError) -> Fault {
-        Fault::NoMemory
+impl fmt::Display for CaseError {
+    fn fmt<W: fmt::Write>(&self, f: &mut fmt::Formatter<W>) -> fmt::Result {
+        f.write_str(self.text())
     }
 }
 
-impl<T: Drop> From<AllocFailed<T>> for Fault {
-    fn from(_: AllocFailed<T>) -> Fault {
-        Fault::NoMemory
+impl Error for CaseError {}
+
+impl From<AllocError> for CaseError {
+    fn from(_: AllocError) -> CaseError {
+        CaseError::NoMemory
+    }
+}
+
+impl<T: Drop> From<AllocFailed<T>> for CaseError {
+    fn from(_: AllocFailed<T>) -> CaseError {
+        CaseError::NoMemory
     }
 }

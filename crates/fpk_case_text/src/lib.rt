@@ -13,7 +13,7 @@ pub use case::{
     Action, Case, Command, CommitLine, Expected, Failing, Failure, Fixture, FixtureKind, Harm,
     ObjectWords, Owner, Pieces, ShownText, Step, Stops, What,
 };
-pub use fault::Fault;
+pub use fault::CaseError;
 pub use name::{Name, name_of};
 pub use parser::Parser;
 pub use sign::Form;

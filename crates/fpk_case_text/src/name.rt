@@ -1,6 +1,6 @@
 //! Names of objects.
 use crate::case::{Harm, ObjectWords};
-use crate::fault::Fault;
+use crate::fault::CaseError;
 use crate::words::cut_words;
 use fp_base::ObjKind;
 use std::alloc::Global;
@@ -13,7 +13,7 @@ pub struct Name {
 }
 
 /// Reads `LABEL`, which is the commit, `LABEL KIND` or `LABEL file PATH`, and how it is broken, if it is.
-pub fn name_of(alloc: Global, text: &str) -> Result<Name, Fault> {
+pub fn name_of(alloc: Global, text: &str) -> Result<Name, CaseError> {
     let words = cut_words(alloc, text)?;
     let label = word_at(alloc, &words, 0)?;
     let Some(kind) = words.get(1) else {
@@ -38,24 +38,24 @@ pub fn name_of(alloc: Global, text: &str) -> Result<Name, Fault> {
     Ok(Name { object, harm })
 }
 
-fn word_at(alloc: Global, words: &[String], at: usize) -> Result<String, Fault> {
+fn word_at(alloc: Global, words: &[String], at: usize) -> Result<String, CaseError> {
     match words.get(at) {
         Some(word) => Ok(String::from_str(alloc, word)?),
-        None => Err(Fault::NoObject),
+        None => Err(CaseError::NoObject),
     }
 }
 
-fn kind_of(word: &str) -> Result<ObjKind, Fault> {
+fn kind_of(word: &str) -> Result<ObjKind, CaseError> {
     match word {
         "commit" => Ok(ObjKind::Commit),
         "dirtree" => Ok(ObjKind::DirTree),
         "dirmeta" => Ok(ObjKind::DirMeta),
         "file" => Ok(ObjKind::File),
-        _ => Err(Fault::NoObject),
+        _ => Err(CaseError::NoObject),
     }
 }
 
-fn harm_of(word: &str) -> Result<Harm, Fault> {
+fn harm_of(word: &str) -> Result<Harm, CaseError> {
     match word {
         "absent" => Ok(Harm::Absent),
         "folder" => Ok(Harm::Folder),
@@ -64,7 +64,7 @@ fn harm_of(word: &str) -> Result<Harm, Fault> {
         "turned" => Ok(Harm::Turned),
         _ => match u32::from_str_radix(word, 8) {
             Ok(mode) => Ok(Harm::Mode(mode)),
-            Err(_) => Err(Fault::NoHarm),
+            Err(_) => Err(CaseError::NoHarm),
         },
     }
 }

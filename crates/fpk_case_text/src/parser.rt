@@ -3,7 +3,7 @@ use crate::case::{
     Action, Case, Command, CommitLine, Expected, Failure, Fixture, FixtureKind, Owner, Pieces,
     ShownText, Step, Stops, What,
 };
-use crate::fault::Fault;
+use crate::fault::CaseError;
 use crate::name::{Name, name_of};
 use crate::sign::{Form, Line, Sign, line_of};
 use crate::words::{
@@ -44,23 +44,23 @@ impl Parser {
     }
 
     /// Takes the lines of a text, which has a case.
-    pub fn take_all(&mut self, text: &str) -> Result<(), Fault> {
+    pub fn take_all(&mut self, text: &str) -> Result<(), CaseError> {
         for line in text.lines() {
             self.take(line)?;
         }
         if self.cases.is_empty() {
-            return Err(Fault::NoCase);
+            return Err(CaseError::NoCase);
         }
         Ok(())
     }
 
     /// Takes the next line.
-    fn take(&mut self, line: &str) -> Result<(), Fault> {
+    fn take(&mut self, line: &str) -> Result<(), CaseError> {
         self.line = self.line.saturating_add(1);
         let line = line_of(line);
         match line.sign {
             Sign::Blank => Ok(()),
-            Sign::Unknown => Err(Fault::NoKind),
+            Sign::Unknown => Err(CaseError::NoKind),
             Sign::Case => self.begin_case(line.text),
             Sign::Content => self.take_content(line.text),
             Sign::Stops => self.begin_stops(),
@@ -90,7 +90,7 @@ impl Parser {
         }
     }
 
-    fn begin_case(&mut self, name: &str) -> Result<(), Fault> {
+    fn begin_case(&mut self, name: &str) -> Result<(), CaseError> {
         let name = String::from_str(self.alloc, name)?;
         let case = Case {
             line: self.line,
@@ -102,12 +102,12 @@ impl Parser {
         Ok(())
     }
 
-    fn begin_step(&mut self, line: Line<'_>) -> Result<(), Fault> {
+    fn begin_step(&mut self, line: Line<'_>) -> Result<(), CaseError> {
         let Some(case) = self.cases.last_mut() else {
-            return Err(Fault::NoCase);
+            return Err(CaseError::NoCase);
         };
         if needs_remote(line.sign) && !has_remote(&case.steps) {
-            return Err(Fault::NoRemote);
+            return Err(CaseError::NoRemote);
         }
         let step = Step {
             line: self.line,
@@ -119,39 +119,39 @@ impl Parser {
         Ok(())
     }
 
-    fn begin_stops(&mut self) -> Result<(), Fault> {
+    fn begin_stops(&mut self) -> Result<(), CaseError> {
         let stops = Stops {
             line: self.line,
             open: Vec::new(self.alloc),
             shown: Vec::new(self.alloc),
         };
         let Some(case) = self.cases.last_mut() else {
-            return Err(Fault::NoCase);
+            return Err(CaseError::NoCase);
         };
         case.stops = Some(stops);
         Ok(())
     }
 
-    fn begin_shown(&mut self) -> Result<(), Fault> {
+    fn begin_shown(&mut self) -> Result<(), CaseError> {
         let shown = ShownText {
             line: self.line,
             text: Vec::new(self.alloc),
         };
         let Some(case) = self.cases.last_mut() else {
-            return Err(Fault::NoCase);
+            return Err(CaseError::NoCase);
         };
         let Some(stops) = &mut case.stops else {
-            return Err(Fault::NoStops);
+            return Err(CaseError::NoStops);
         };
         stops.shown.push(shown)?;
         Ok(())
     }
 
     /// A line of what the line above has.
-    fn take_content(&mut self, text: &str) -> Result<(), Fault> {
+    fn take_content(&mut self, text: &str) -> Result<(), CaseError> {
         let alloc = self.alloc;
         let Some(case) = self.cases.last_mut() else {
-            return Err(Fault::NoCase);
+            return Err(CaseError::NoCase);
         };
         match &mut case.stops {
             Some(stops) => take_of_stops(stops, text),
@@ -160,16 +160,16 @@ impl Parser {
     }
 
     /// A line about the command above.
-    fn take_of_command(&mut self, line: Line<'_>) -> Result<(), Fault> {
+    fn take_of_command(&mut self, line: Line<'_>) -> Result<(), CaseError> {
         let alloc = self.alloc;
         let Some(case) = self.cases.last_mut() else {
-            return Err(Fault::NoCase);
+            return Err(CaseError::NoCase);
         };
         let Some(step) = case.steps.last_mut() else {
-            return Err(Fault::NoCommand);
+            return Err(CaseError::NoCommand);
         };
         let Action::Run(command) = &mut step.action else {
-            return Err(Fault::NoCommand);
+            return Err(CaseError::NoCommand);
         };
         tell(alloc, command, line)
     }
@@ -207,16 +207,16 @@ fn form_of(sign: Sign) -> Form {
     }
 }
 
-fn take_of_stops(stops: &mut Stops, text: &str) -> Result<(), Fault> {
+fn take_of_stops(stops: &mut Stops, text: &str) -> Result<(), CaseError> {
     match stops.shown.last_mut() {
         Some(shown) => push_line(&mut shown.text, text),
         None => push_line(&mut stops.open, text),
     }
 }
 
-fn take_of_steps(alloc: Global, steps: &mut Vec<Step>, text: &str) -> Result<(), Fault> {
+fn take_of_steps(alloc: Global, steps: &mut Vec<Step>, text: &str) -> Result<(), CaseError> {
     let Some(step) = steps.last_mut() else {
-        return Err(Fault::NoStep);
+        return Err(CaseError::NoStep);
     };
     match step.form {
         Form::Lines | Form::Open => push_line(&mut step.content, text),
@@ -225,7 +225,7 @@ fn take_of_steps(alloc: Global, steps: &mut Vec<Step>, text: &str) -> Result<(),
 }
 
 /// What a step does or expects.
-fn action_of(alloc: Global, line: Line<'_>, owner: Owner) -> Result<Action, Fault> {
+fn action_of(alloc: Global, line: Line<'_>, owner: Owner) -> Result<Action, CaseError> {
     match line.sign {
         Sign::Fixture(_) => give_file_action(alloc, line.text, owner),
         Sign::Folder => give_action(alloc, line.text, FixtureKind::Folder, owner),
@@ -242,7 +242,7 @@ fn action_of(alloc: Global, line: Line<'_>, owner: Owner) -> Result<Action, Faul
         Sign::FoundLink => expect_link_action(alloc, line.text),
         Sign::FoundHardLink => expect_hard_link_action(alloc, line.text),
         Sign::Absent => expect_action(alloc, line.text, What::Nothing),
-        _ => Err(Fault::NoKind),
+        _ => Err(CaseError::NoKind),
     }
 }
 
@@ -251,28 +251,28 @@ fn give_action(
     path: &str,
     kind: FixtureKind,
     owner: Owner,
-) -> Result<Action, Fault> {
+) -> Result<Action, CaseError> {
     let path = String::from_str(alloc, path)?;
     Ok(Action::Give(Fixture { owner, path, kind }))
 }
 
-fn give_file_action(alloc: Global, text: &str, owner: Owner) -> Result<Action, Fault> {
+fn give_file_action(alloc: Global, text: &str, owner: Owner) -> Result<Action, CaseError> {
     let (path, mode) = path_and_mode(text)?;
     give_action(alloc, path, FixtureKind::File { mode }, owner)
 }
 
-fn give_link_action(alloc: Global, text: &str, owner: Owner) -> Result<Action, Fault> {
+fn give_link_action(alloc: Global, text: &str, owner: Owner) -> Result<Action, CaseError> {
     let (path, text) = word_and_rest(text)?;
     let text = String::from_str(alloc, text)?;
     give_action(alloc, path, FixtureKind::Link { text }, owner)
 }
 
-fn remote_action(alloc: Global, text: &str) -> Result<Action, Fault> {
+fn remote_action(alloc: Global, text: &str) -> Result<Action, CaseError> {
     let url = String::from_str(alloc, text)?;
     Ok(Action::BeginRemote { url })
 }
 
-fn commit_action(alloc: Global, text: &str) -> Result<Action, Fault> {
+fn commit_action(alloc: Global, text: &str) -> Result<Action, CaseError> {
     let (label, rest) = word_and_rest(text)?;
     let (name, time) = word_and_rest(rest)?;
     let time = number(time)?;
@@ -281,54 +281,54 @@ fn commit_action(alloc: Global, text: &str) -> Result<Action, Fault> {
     Ok(Action::Commit(CommitLine { label, name, time }))
 }
 
-fn offer_action(alloc: Global, text: &str) -> Result<Action, Fault> {
+fn offer_action(alloc: Global, text: &str) -> Result<Action, CaseError> {
     let (name, label) = word_and_rest(text)?;
     let name = String::from_str(alloc, name)?;
     let label = String::from_str(alloc, label)?;
     Ok(Action::Offer { name, label })
 }
 
-fn break_action(alloc: Global, text: &str) -> Result<Action, Fault> {
+fn break_action(alloc: Global, text: &str) -> Result<Action, CaseError> {
     let Name { object, harm } = name_of(alloc, text)?;
     match harm {
         Some(harm) => Ok(Action::Break { object, harm }),
-        None => Err(Fault::NoHarm),
+        None => Err(CaseError::NoHarm),
     }
 }
 
 /// A hard link, which neither a remote nor a commit has.
-fn give_hard_link_action(alloc: Global, text: &str, owner: Owner) -> Result<Action, Fault> {
+fn give_hard_link_action(alloc: Global, text: &str, owner: Owner) -> Result<Action, CaseError> {
     if !owner.is_installation() {
-        return Err(Fault::NotInstallation);
+        return Err(CaseError::NotInstallation);
     }
     let (path, file) = word_and_rest(text)?;
     let file = String::from_str(alloc, file)?;
     give_action(alloc, path, FixtureKind::HardLink { file }, owner)
 }
 
-fn expect_file_action(alloc: Global, text: &str) -> Result<Action, Fault> {
+fn expect_file_action(alloc: Global, text: &str) -> Result<Action, CaseError> {
     let (path, mode) = path_and_mode(text)?;
     expect_action(alloc, path, What::File { mode })
 }
 
-fn expect_link_action(alloc: Global, text: &str) -> Result<Action, Fault> {
+fn expect_link_action(alloc: Global, text: &str) -> Result<Action, CaseError> {
     let (path, text) = word_and_rest(text)?;
     let text = String::from_str(alloc, text)?;
     expect_action(alloc, path, What::Link { text })
 }
 
-fn expect_hard_link_action(alloc: Global, text: &str) -> Result<Action, Fault> {
+fn expect_hard_link_action(alloc: Global, text: &str) -> Result<Action, CaseError> {
     let (path, file) = word_and_rest(text)?;
     let file = String::from_str(alloc, file)?;
     expect_action(alloc, path, What::HardLink { file })
 }
 
-fn expect_action(alloc: Global, path: &str, what: What) -> Result<Action, Fault> {
+fn expect_action(alloc: Global, path: &str, what: What) -> Result<Action, CaseError> {
     let path = String::from_str(alloc, path)?;
     Ok(Action::Expect(Expected { path, what }))
 }
 
-fn run_action(alloc: Global, text: &str) -> Result<Action, Fault> {
+fn run_action(alloc: Global, text: &str) -> Result<Action, CaseError> {
     Ok(Action::Run(Command {
         words: cut_words(alloc, text)?,
         input: Vec::new(alloc),
@@ -340,7 +340,7 @@ fn run_action(alloc: Global, text: &str) -> Result<Action, Fault> {
 }
 
 /// Tells of a command what a line says.
-fn tell(alloc: Global, command: &mut Command, line: Line<'_>) -> Result<(), Fault> {
+fn tell(alloc: Global, command: &mut Command, line: Line<'_>) -> Result<(), CaseError> {
     match line.sign {
         Sign::Input(form) => push_input(alloc, &mut command.input, form, line.text),
         Sign::Zeros => push_zeros(alloc, &mut command.input, line.text),
@@ -348,7 +348,7 @@ fn tell(alloc: Global, command: &mut Command, line: Line<'_>) -> Result<(), Faul
     }
 }
 
-fn push_input(alloc: Global, input: &mut Vec<u8>, form: Form, text: &str) -> Result<(), Fault> {
+fn push_input(alloc: Global, input: &mut Vec<u8>, form: Form, text: &str) -> Result<(), CaseError> {
     match form {
         Form::Lines => push_line(input, text),
         Form::Open => push_text(input, text),
@@ -357,32 +357,32 @@ fn push_input(alloc: Global, input: &mut Vec<u8>, form: Form, text: &str) -> Res
 }
 
 /// Tells of a command what a line says of other things than its input.
-fn tell_more(command: &mut Command, line: Line<'_>) -> Result<(), Fault> {
+fn tell_more(command: &mut Command, line: Line<'_>) -> Result<(), CaseError> {
     match line.sign {
         Sign::Pieces => command.pieces = Some(pieces_of(line.text)?),
         Sign::Status => command.status = status(line.text)?,
         Sign::FailureUndone => command.failure = Some(failure_of(line.text, false)?),
         Sign::FailureDone => command.failure = Some(failure_of(line.text, true)?),
         Sign::Calls => command.calls = Some(number(line.text)?),
-        _ => return Err(Fault::NoKind),
+        _ => return Err(CaseError::NoKind),
     }
     Ok(())
 }
 
-fn push_zeros(alloc: Global, bytes: &mut Vec<u8>, text: &str) -> Result<(), Fault> {
+fn push_zeros(alloc: Global, bytes: &mut Vec<u8>, text: &str) -> Result<(), CaseError> {
     let zeros = vec![in alloc; 0u8; size(text)?]?;
     bytes.extend_from_slice(&zeros)?;
     Ok(())
 }
 
-fn pieces_of(text: &str) -> Result<Pieces, Fault> {
+fn pieces_of(text: &str) -> Result<Pieces, CaseError> {
     let (first, second) = word_and_rest(text)?;
     let size = size(first)?;
     let calls = number(second)?;
     Ok(Pieces { size, calls })
 }
 
-fn failure_of(text: &str, is_done: bool) -> Result<Failure, Fault> {
+fn failure_of(text: &str, is_done: bool) -> Result<Failure, CaseError> {
     let call = number(text)?;
     Ok(Failure { call, is_done })
 }

@@ -7,7 +7,7 @@ use fp_host::{Host, Remotes, Source};
 use fpk_case_hosts::{Program, is_for_folder};
 use fpk_case_play::{play_in_folder, play_in_memory, play_stops};
 use fpk_case_system::System;
-use fpk_case_text::{Case, Fault, Parser, Wrong};
+use fpk_case_text::{Case, CaseError, Parser, Wrong};
 use std::alloc::Global;
 use std::process::ExitCode;
 use std::thread::Threads;
@@ -112,7 +112,7 @@ fn try_text<R: System>(rt: &R, alloc: Global, name: &str, text: &str) -> io::Res
 }
 
 /// Says which line can't be read.
-fn say_fault<R: System>(rt: &R, name: &str, line: u64, fault: Fault) -> io::Result<u64> {
+fn say_fault<R: System>(rt: &R, name: &str, line: u64, fault: CaseError) -> io::Result<u64> {
     let text = fault.text();
     println!(rt; "{name}:{line}: {text}")?;
     Ok(1)
