@@ -16,6 +16,8 @@ use fp_host::{Host, Path};
 use fp_name::RefName;
 use fp_small::State;
 use std::alloc::{AllocError, Global};
+use std::error::Error;
+use std::fmt;
 
 /// Why there is no plan.
 #[derive(Clone, Copy, Debug, PartialEq, Eq)]
@@ -24,6 +26,17 @@ pub enum RetireError {
     NotThere,
     NoMemory,
 }
+
+impl fmt::Display for RetireError {
+    fn fmt<W: fmt::Write>(&self, f: &mut fmt::Formatter<W>) -> fmt::Result {
+        match self {
+            RetireError::NotThere => write!(f, "the ref isn't deployed"),
+            RetireError::NoMemory => write!(f, "out of memory"),
+        }
+    }
+}
+
+impl Error for RetireError {}
 
 impl From<AllocError> for RetireError {
     ghost use Rattle.std.specs.Prelude.{◌≡◌};
