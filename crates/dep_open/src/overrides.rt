@@ -15,12 +15,9 @@ use fp_base::{Items, Text};
 use fp_host::{Host, HostEnd, Path};
 use fp_keyfile::{KeyError, KeyFile};
 use fp_name::is_id;
-use fp_small::{Loaded, OverrideRow, load, names_in, values_in_order};
+use fp_small::{Loaded, MOST_TEXT_BYTES, OverrideRow, load, names_in, values_in_order};
 use std::alloc::{AllocError, Global};
 use std::collections::BTreeMap;
-
-/// An override has at most 1 MiB.
-const OVERRIDE_MOST: u64 = 1024 * 1024;
 
 /// Reads the overrides that the present view shows, and changes nothing.
 pub(crate) fn read_overrides<H: Host>(
@@ -88,7 +85,7 @@ fn add_override<H: Host>(
         return Ok(());
     }
     let path = folder.child(name)?;
-    let loaded = load(alloc, host, &path, OVERRIDE_MOST)?;
+    let loaded = load(alloc, host, &path, MOST_TEXT_BYTES)?;
     let seen = override_in(alloc, loaded, name)?;
     Ok(add(alloc, name, path, seen, rows, damaged)?)
 }

@@ -16,16 +16,13 @@ use dep_states::{DeployData, DeployError};
 use fp_base::{Items, Text};
 use fp_host::{Host, HostEnd, Path, Stat};
 use fp_name::{Digest, NameError, RefName};
-use fp_small::{Loaded, RefRow, load, values_in_order};
+use fp_small::{Loaded, MOST_TEXT_BYTES, RefRow, load, values_in_order};
 use ost_refs::paths_below;
 use std::alloc::{AllocError, Global};
 use std::collections::BTreeMap;
 
 /// How many elements a branch directory's path has below `app` and `runtime`.
 const BRANCH_DEPTH: usize = 3;
-
-/// A `deploy` has at most 1 MiB.
-const DEPLOY_MOST: u64 = 1024 * 1024;
 
 /// Reads the refs that the present view shows, and changes nothing.
 pub(crate) fn read_refs<H: Host>(
@@ -179,7 +176,7 @@ fn read_commit<H: Host>(
         return Ok(Seen::Bad);
     };
     let deploy = folder.child(text.as_str())?.child("deploy")?;
-    let loaded = load(alloc, host, &deploy, DEPLOY_MOST)?;
+    let loaded = load(alloc, host, &deploy, MOST_TEXT_BYTES)?;
     Ok(read_deploy(alloc, loaded, name, commit)?)
 }
 

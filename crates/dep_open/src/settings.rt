@@ -17,15 +17,10 @@ use fp_base::Items;
 use fp_host::{Host, HostEnd, Path};
 use fp_name::PinPattern;
 use fp_small::{
-    ConfigError, Layout, Loaded, RemoteRow, Settings, load, read_config, read_pins, read_remotes,
+    ConfigError, Layout, Loaded, MOST_CONFIG_BYTES, MOST_TEXT_BYTES, RemoteRow, Settings, load,
+    read_config, read_pins, read_remotes,
 };
 use std::alloc::{AllocError, Global};
-
-/// `config` has at most 2 MiB.
-const CONFIG_MOST: u64 = 2 * 1024 * 1024;
-
-/// Each file of layout 1 has at most 1 MiB.
-const OLD_MOST: u64 = 1024 * 1024;
 
 /// Reads the settings that the present view shows, and changes nothing.
 pub(crate) fn read_settings<H: Host>(alloc: Global, host: &mut H) -> Result<Part<Setup>, HostEnd>
@@ -37,7 +32,7 @@ pub(crate) fn read_settings<H: Host>(alloc: Global, host: &mut H) -> Result<Part
         (H.moments host.old) (H.faults host.old) (H.faults host.new) }
 {
     let path = config_path(alloc)?;
-    let loaded = load(alloc, host, &path, CONFIG_MOST)?;
+    let loaded = load(alloc, host, &path, MOST_CONFIG_BYTES)?;
     if is_absent(&loaded) {
         return load_old(alloc, host);
     }
@@ -55,8 +50,8 @@ fn load_old<H: Host>(alloc: Global, host: &mut H) -> Result<Part<Setup>, HostEnd
 {
     let pins_path = pins_path(alloc)?;
     let remotes_path = remotes_path(alloc)?;
-    let pins = load(alloc, host, &pins_path, OLD_MOST)?;
-    let remotes = load(alloc, host, &remotes_path, OLD_MOST)?;
+    let pins = load(alloc, host, &pins_path, MOST_TEXT_BYTES)?;
+    let remotes = load(alloc, host, &remotes_path, MOST_TEXT_BYTES)?;
     Ok(read_old(alloc, pins, pins_path, remotes, remotes_path)?)
 }
 

@@ -10,6 +10,7 @@ use Rattle.fp_small.specs.Shares.{Shares}
 use Rattle.fp_small.specs.Folders.{ancestors, AreFree}
 use Rattle.fp_small.specs.Places.{tmp}
 use Rattle.fp_small.specs.Replace.{IsFreeFile}
+use Rattle.fp_small.specs.declared.limits.TheConstants.{FILE_MODE}
 use Rattle.fp_small.specs.declared.state.RefRow.{RefRow}
 use Rattle.dep_states.specs.Zones.{IsFileOrGone}
 use Rattle.dep_states.specs.declared.deploy.DeployData.{DeployData}
@@ -44,7 +45,7 @@ pub record WritesFile (p : Elements) (u w : View) : Type 0 where
 pub record HasFile (p : Elements) (bytes : List ℕ) (v : View) : Type 0 where
   pub id : ℕ
   pub name : v.names p ≡ file id
-  pub row : v.files id ≡ Some (record { mode = 420; bytes = bytes })
+  pub row : v.files id ≡ Some (record { mode = FILE_MODE; bytes = bytes })
 
 -- where it may be written
 pub record CanWrite (p : Elements) (v : View) : Type 0 where

@@ -14,7 +14,7 @@ use crate::rows::put_ref;
 use dep_states::DeployData;
 use fp_base::{Blob, Items};
 use fp_host::{Host, HostEnd, Path};
-use fp_small::{RefRow, State, make_above, take_away};
+use fp_small::{FILE_MODE, RefRow, State, make_above, take_away};
 use std::alloc::{AllocError, Global};
 
 /// The bytes of the row's `deploy`.
@@ -58,7 +58,7 @@ pub(crate) fn write_new<H: Host>(host: &mut H, path: &Path, bytes: &[u8]) -> Res
     ensures needs_no_memory { IsErrOf result HostEnd.NoMemory → ⊥ }
 {
     take_away(host, path)?;
-    host.create(path, 0o644)?;
+    host.create(path, FILE_MODE)?;
     Ok(host.append(path, bytes)?)
 }
 

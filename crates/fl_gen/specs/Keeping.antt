@@ -2,6 +2,7 @@
 use Rattle.std.specs.Prelude.{◌≡◌, ℕ, Bool, true, List, ◌++◌, leb, Option, option_map}
 use Rattle.std.specs.List.{find, list_any}
 use Rattle.fp_host.specs.Paths.{Elements, path_eq}
+use Rattle.fp_host.specs.declared.limits.TheConstants.{PERMISSION_BITS}
 use Rattle.fp_host.specs.Outcome.{Spot, holds, points, Disk}
 use Rattle.ost_commit.specs.Rows.{is_above}
 use Rattle.fl_gen.specs.declared.store.Leaf.{Leaf}
@@ -16,7 +17,7 @@ leaf_spot (leaf.Link text) = points text
 
 -- permission bits are within 07777 (octal)
 abbrev pub leaf_bits : Leaf → Bool
-leaf_bits (leaf.File mode bytes) = leb mode 4095
+leaf_bits (leaf.File mode bytes) = leb mode PERMISSION_BITS
 leaf_bits (leaf.Link text) = true
 
 abbrev pub has_bits : Row → Bool

@@ -6,6 +6,8 @@ use Rattle.fp_name.specs.Refs.{Ref, ref_with}
 use Rattle.fp_name.specs.declared.kind.RefKind.TheVariants as kinds
 use Rattle.ost_commit.specs.declared.row.TreeRow.{TreeRow}
 use Rattle.ost_commit.specs.declared.row.TreeRow.TheVariants as row
+use Rattle.fp_small.specs.declared.limits.TheConstants.{FILE_MODE}
+use Rattle.fl_gen.specs.declared.series.TheConstants.{FILE_BYTES}
 use Rattle.fl_gen.specs.declared.series.Series.{Series}
 
 -- f at 0, 1 and so on, this number of times
@@ -18,7 +20,7 @@ counted_bytes start count = each_of (λ i. (start + i) % 251) count
 
 -- the bytes of each file but `metadata`
 abbrev pub made_bytes : ℕ → List ℕ
-made_bytes start = counted_bytes start 4096
+made_bytes start = counted_bytes start FILE_BYTES
 
 abbrev pub numbered : List ℕ → ℕ → List ℕ
 numbered word number = word ++ decimal number
@@ -29,9 +31,9 @@ at_root name = name ∷ []
 abbrev pub in_files : List ℕ → Elements
 in_files name = name ∷ (codes "files" ∷ [])
 
--- 0644 (octal)
+-- the permission bits of each file
 abbrev pub file_mode : ℕ
-file_mode = 420
+file_mode = FILE_MODE
 
 -- the number of the first byte of a file; the first eight files of a series differ with the version
 abbrev pub start_at : ℕ → ℕ → ℕ → ℕ → ℕ

@@ -2,6 +2,7 @@
 use Rattle.std.specs.Prelude.{◌≡◌, ℕ, Bool, true, leb, List, [], ◌∷◌, map, flat_map, if◌then◌else◌, Option, Some, None, codes}
 use Rattle.std.specs.List.{AllByRecursion, list_any}
 use Rattle.fp_host.specs.Paths.{Elements, is_link_text, path_eq}
+use Rattle.fp_host.specs.declared.limits.TheConstants.{PERMISSION_BITS}
 use Rattle.fp_host.specs.Outcome.{Spot, gone, folder, holds, points, Disk}
 use Rattle.fp_name.specs.Hex.{is_digest}
 use Rattle.fp_name.specs.Refs.{Ref}
@@ -86,7 +87,7 @@ has_link_text (objects.Link text) = is_link_text text
 -- permission bits are within 07777 (octal)
 abbrev pub object_bits : Object → Bool
 object_bits (objects.Meta bytes) = true
-object_bits (objects.File mode bytes) = leb mode 4095
+object_bits (objects.File mode bytes) = leb mode PERMISSION_BITS
 object_bits (objects.Link text) = true
 
 -- an object reads back from where it stands

@@ -10,21 +10,18 @@ ghost use Rattle.fl_gen.specs.Stores.{IsStoreOf, Reads, config_entry, file_spot,
 ghost use Rattle.fl_gen.specs.Keeping.{Adds, Brings, Stocks, kept, leaf_bits, leaf_spot};
 
 use crate::naming::{app_ref, path_at_root, runtime_ref};
-use crate::series::FILE_MODE;
 use crate::store::{Leaf, Store};
 use crate::trees::{app_rows, runtime_rows};
 use fp_base::Blob;
 use fp_host::{Path, is_link_text};
 use fp_name::{Digest, RefName};
+use fp_small::FILE_MODE;
 use ost_commit::{Built, BuiltObject, TreeRow, commit_tree};
-use ost_model::Object;
+use ost_model::{Object, STORE_CONFIG};
 use ost_refs::{RefPlace, path_of as ref_path};
 use ost_store::path_of;
 use std::alloc::{AllocError, Global};
 use std::thread::Threads;
-
-/// What `config` says.
-const CONFIG: &[u8] = b"[core]\nrepo_version=1\nmode=bare-user-only\n";
 
 /// How many runtimes there are.
 const RUNTIMES: usize = 4;
@@ -141,7 +138,7 @@ fn bare_store(alloc: Global, version: u64) -> Result<Store, AllocError>
     ensures { IfOk result (λ store. Stocks version [] store.rows.items) }
 {
     let path = path_at_root(alloc, "config")?;
-    let config = Blob::from_slice(alloc, CONFIG)?;
+    let config = Blob::from_slice(alloc, STORE_CONFIG.as_bytes())?;
     let mut store = Store::new(alloc);
     store.put(path, file_of(config))?;
     Ok(store)

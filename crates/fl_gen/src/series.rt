@@ -4,11 +4,9 @@ ghost use Rattle.fl_gen.specs.Made.{each_of, made_bytes, counted_bytes, start_at
 
 use crate::naming::{numbered, path_in_files};
 use fp_base::{Blob, Items};
+use fp_small::FILE_MODE;
 use ost_commit::TreeRow;
 use std::alloc::{AllocError, Global};
-
-/// The permission bits of each file.
-pub(crate) const FILE_MODE: u32 = 0o644;
 
 /// The bytes of each file, but for `metadata`.
 const FILE_BYTES: usize = 4_096;

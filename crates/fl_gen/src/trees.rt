@@ -3,8 +3,9 @@ ghost use Rattle.std.specs.Prelude.{◌≡◌, ◌∷◌, ◌++◌, [], ◌<◌,
 ghost use Rattle.fl_gen.specs.Made as made;
 
 use crate::naming::{app_metadata, path_at_root, path_in_files, runtime_metadata};
-use crate::series::{FILE_MODE, Series, push_series};
+use crate::series::{Series, push_series};
 use fp_base::{Blob, Items, Text};
+use fp_small::FILE_MODE;
 use ost_commit::TreeRow;
 use std::alloc::{AllocError, Global};
 

@@ -19,12 +19,10 @@ use crate::places::{metadata_path, repo, store_alone};
 use fp_base::{Blob, ObjKind};
 use fp_host::{Host, HostEnd, NoRemotes, Path};
 use fp_name::Digest;
+use ost_model::MOST_METADATA_BYTES;
 use ost_store::{Got, get, read_piece};
 use ost_walk::{Found, Places, WalkEnd, look};
 use std::alloc::Global;
-
-/// The most bytes that a file `metadata` has.
-const MOST_BYTES: u64 = 1024 * 1024;
 
 /// What stands at a path of a commit, by the store alone.
 fn look_there<H: Host>(
@@ -121,7 +119,14 @@ fn read_short<H: Host>(
         (H.moments host.old) (H.faults host.old) (H.faults host.new) }
 {
     let root = repo(alloc)?;
-    match get(alloc, host, &root, digest, ObjKind::File, MOST_BYTES)? {
+    match get(
+        alloc,
+        host,
+        &root,
+        digest,
+        ObjKind::File,
+        MOST_METADATA_BYTES,
+    )? {
         Got::File { size, .. } => read_bytes(alloc, host, &root, digest, size),
         _ => Ok(None),
     }

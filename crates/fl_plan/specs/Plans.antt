@@ -4,6 +4,7 @@ use Rattle.std.specs.Str.{bytes_eq}
 use Rattle.fp_base.specs.declared.what.What.TheVariants as whats
 use Rattle.fp_host.specs.Remote.{Holdings}
 use Rattle.fp_name.specs.Refs.{Ref, ref_text}
+use Rattle.fp_small.specs.declared.limits.TheConstants.{MOST_REFS}
 use Rattle.fp_small.specs.declared.op.Op.{Op}
 use Rattle.fp_small.specs.declared.op.Op.TheVariants.{Update}
 use Rattle.fp_small.specs.declared.refusal.Refusal.{Refusal}
@@ -37,7 +38,7 @@ abbrev pub number_after : State → List Offer → ℕ
 number_after state plan = length state.refs + new_ones state plan
 
 abbrev pub within : State → List Offer → Result (List Op) Refusal
-within state plan = if leb (number_after state plan) 4096 then Ok (map (op_of state) plan) else Err (refusals.Limit whats.Refs 4097)
+within state plan = if leb (number_after state plan) MOST_REFS then Ok (map (op_of state) plan) else Err (refusals.Limit whats.Refs (MOST_REFS + 1))
 
 -- ---- what is to come
 

@@ -1,12 +1,13 @@
 //! Laws of the words that the contracts use, for crates that build on them, and worked plans. Each is the contract of a function
 //! that does nothing.
 
-ghost use Rattle.std.specs.Prelude.{◌≡◌, ◌≤◌, ◌<◌, ℕ, List, [], ◌∷◌, map, true, false, codes, Option, Some, None, Ok, Err};
+ghost use Rattle.std.specs.Prelude.{◌≡◌, ◌≤◌, ◌<◌, ◌+◌, ℕ, List, [], ◌∷◌, map, true, false, codes, Option, Some, None, Ok, Err};
 ghost use Rattle.fp_base.specs.declared.what.What.TheVariants as whats;
 ghost use Rattle.fp_host.specs.Reads.{is_ascending};
 ghost use Rattle.fp_host.specs.Remote.{Holdings};
 ghost use Rattle.fp_name.specs.Refs.{Ref};
 ghost use Rattle.fp_small.specs.Config.{name_of};
+ghost use Rattle.fp_small.specs.declared.limits.TheConstants.{MOST_REFS};
 ghost use Rattle.fp_small.specs.declared.op.Op.{Op};
 ghost use Rattle.fp_small.specs.declared.op.Op.TheVariants.{Install, Update};
 ghost use Rattle.fp_small.specs.declared.refusal.Refusal.{Refusal};
@@ -63,7 +64,7 @@ pub fn runtimes_come_alone()
     ensures { (held : Holdings) (stored : Have) (state : State) (remote : RemoteRow)
         (name : Ref) (commit : List ℕ) (head : Head)
         → IsTarget held stored state remote name commit head → Says name head None []
-        → number_after state (offer_with remote name commit ∷ []) ≤ 4096
+        → number_after state (offer_with remote name commit ∷ []) ≤ MOST_REFS
         → plan_of held stored state remote name
         ≡ Ok (op_of state (offer_with remote name commit) ∷ []) }
 {}
@@ -74,16 +75,16 @@ pub fn runtime_is_installed()
         (name : Ref) (commit : List ℕ) (head : Head) (runtime : Ref)
         → IsTarget held stored state remote name commit head → Says name head (Some runtime) []
         → has_ref state runtime ≡ true
-        → number_after state (offer_with remote name commit ∷ []) ≤ 4096
+        → number_after state (offer_with remote name commit ∷ []) ≤ MOST_REFS
         → plan_of held stored state remote name
         ≡ Ok (op_of state (offer_with remote name commit) ∷ []) }
     ensures limited { (held : Holdings) (stored : Have) (state : State) (remote : RemoteRow)
         (name : Ref) (commit : List ℕ) (head : Head) (runtime : Ref)
         → IsTarget held stored state remote name commit head → Says name head (Some runtime) []
         → has_ref state runtime ≡ true
-        → 4096 < number_after state (offer_with remote name commit ∷ [])
+        → MOST_REFS < number_after state (offer_with remote name commit ∷ [])
         → plan_of held stored state remote name
-        ≡ Err (refusals.Limit whats.Refs 4097) }
+        ≡ Err (refusals.Limit whats.Refs (MOST_REFS + 1)) }
 {}
 
 /// An application whose runtime isn't installed: the runtime comes first, from the first remote in turn that offers it, and where
@@ -99,7 +100,7 @@ pub fn runtime_comes_along()
         ≡ Some (offer_with other runtime d)
         → Heads held stored other runtime None d below
         → number_after state (offer_with other runtime d ∷ offer_with remote name commit ∷ [])
-        ≤ 4096
+        ≤ MOST_REFS
         → plan_of held stored state remote name
         ≡ Ok (op_of state (offer_with other runtime d)
         ∷ op_of state (offer_with remote name commit) ∷ []) }
@@ -140,7 +141,7 @@ pub fn extension_comes_along()
         ≡ Some (offer_with remote candidate d)
         → Heads held stored remote candidate None d below
         → number_after state (offer_with remote name commit ∷ offer_with remote candidate d ∷ [])
-        ≤ 4096
+        ≤ MOST_REFS
         → plan_of held stored state remote name
         ≡ Ok (op_of state (offer_with remote name commit)
         ∷ op_of state (offer_with remote candidate d) ∷ []) }
@@ -149,7 +150,7 @@ pub fn extension_comes_along()
         → IsTarget held stored state remote name commit head
         → Says name head (Some runtime) (point ∷ []) → has_ref state runtime ≡ true
         → is_done state (offer_with remote name commit ∷ []) point ≡ true
-        → number_after state (offer_with remote name commit ∷ []) ≤ 4096
+        → number_after state (offer_with remote name commit ∷ []) ≤ MOST_REFS
         → plan_of held stored state remote name
         ≡ Ok (op_of state (offer_with remote name commit) ∷ []) }
     ensures not_offered { (held : Holdings) (stored : Have) (state : State) (remote : RemoteRow)
@@ -158,7 +159,7 @@ pub fn extension_comes_along()
         → Says name head (Some runtime) (point ∷ []) → has_ref state runtime ≡ true
         → is_done state (offer_with remote name commit ∷ []) point ≡ false
         → first_of (offer_of held remote) point.candidates ≡ None
-        → number_after state (offer_with remote name commit ∷ []) ≤ 4096
+        → number_after state (offer_with remote name commit ∷ []) ≤ MOST_REFS
         → plan_of held stored state remote name
         ≡ Ok (op_of state (offer_with remote name commit) ∷ []) }
     ensures refused { (held : Holdings) (stored : Have) (state : State) (remote : RemoteRow)
@@ -223,7 +224,7 @@ pub fn extensions_come_last()
         → first_of (offer_of held remote) q.candidates ≡ Some (offer_with remote second f)
         → Heads held stored remote second None f two
         → number_after state (offer_with other runtime d ∷ offer_with remote name commit
-        ∷ offer_with other first e ∷ offer_with remote second f ∷ []) ≤ 4096
+        ∷ offer_with other first e ∷ offer_with remote second f ∷ []) ≤ MOST_REFS
         → plan_of held stored state remote name
         ≡ Ok (op_of state (offer_with other runtime d)
         ∷ op_of state (offer_with remote name commit)

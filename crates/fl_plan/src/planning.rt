@@ -21,12 +21,9 @@ use fl_installed::runtime_named;
 use fp_base::{Items, What};
 use fp_host::{Host, Remotes};
 use fp_name::{RefName, RemoteName};
-use fp_small::{Op, Refusal, RemoteRow, State};
+use fp_small::{MOST_REFS, Op, Refusal, RemoteRow, State};
 use ost_head::{PullEnd, offer, read_head};
 use std::alloc::{AllocError, Global};
-
-/// The most refs that are deployed.
-pub const MOST_REFS: u64 = 4096;
 
 /// The operation that brings what is offered: a ref that is deployed moves, another comes.
 fn op_of(state: &State, offer: &Offer) -> Result<Op, AllocError>

@@ -2,6 +2,7 @@
 use Rattle.std.specs.Prelude.{◌≡◌, ◌≢◌, ◌⊎◌, ◌≤◌, ◌==◌, ℕ, List, [], ◌∷◌, ◌++◌, true, false, Option, Some, None, Result, Ok, Err, if◌then◌else◌}
 use Rattle.fp_host.specs.Paths.{Elements, Slot, absent, dir, file, link, is_link_text, set_at, IsAbove}
 use Rattle.fp_host.specs.View.{View, Inode}
+use Rattle.fp_host.specs.declared.limits.TheConstants.{PERMISSION_BITS}
 use Rattle.fp_host.specs.declared.host.HostError.{HostError}
 use Rattle.fp_host.specs.declared.host.HostError.TheVariants.{Failed, Clash, NoMemory}
 
@@ -49,7 +50,7 @@ abbrev pub set_file : {A : Type 0} → (ℕ → A) → ℕ → A → ℕ → A
 set_file f id a i = if i == id then a else f i
 
 abbrev pub CanCreate : Elements → ℕ → View → Type 0
-CanCreate p mode v = HasFolder v p × (v.names p ≡ absent) × (mode ≤ 4095)
+CanCreate p mode v = HasFolder v p × (v.names p ≡ absent) × (mode ≤ PERMISSION_BITS)
 
 -- the call's condition
 abbrev pub Can : Change → View → Type 0

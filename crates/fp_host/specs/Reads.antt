@@ -6,6 +6,7 @@ use Rattle.std.specs.Cmp.Lexicographic.{slice_cmp}
 use Rattle.fp_host.specs.Paths.{Elements, Slot, absent, dir, file, link, is_element}
 use Rattle.fp_host.specs.View.{View, Inode}
 use Rattle.fp_host.specs.Calls.{IsFile}
+use Rattle.fp_host.specs.declared.limits.TheConstants.{PERMISSION_BITS}
 use Rattle.fp_host.specs.declared.host.HostError.{HostError}
 use Rattle.fp_host.specs.declared.host.HostError.TheVariants.{Failed, Clash, NoMemory}
 use Rattle.fp_host.specs.declared.host.Stat.{Stat}
@@ -47,7 +48,7 @@ abbrev pub HasBits : Stat → Type 0
 HasBits Absent = Unit {0}
 HasBits Dir = Unit {0}
 HasBits Link = Unit {0}
-HasBits (StatFile id mode size) = mode ≤ 4095
+HasBits (StatFile id mode size) = mode ≤ PERMISSION_BITS
 
 pub record ListOf (p : Elements) (result : Result (List (List ℕ)) HostError) (v w : View) : Type 0 where
   pub same : w ≡ v

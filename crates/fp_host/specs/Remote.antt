@@ -1,6 +1,7 @@
 -- What remotes hold, and what a source has left.
 use Rattle.std.specs.Prelude.{◌≡◌, ◌≤◌, ◌-◌, ◌<◌, ℕ, List, [], length, take, drop, min, Option, Some}
 use Rattle.fp_host.specs.Paths.{Elements}
+use Rattle.fp_host.specs.declared.limits.TheConstants.{PERMISSION_BITS}
 use Rattle.fp_host.specs.declared.remotes.Node.{Node}
 use Rattle.fp_host.specs.declared.remotes.Node.TheVariants.{Absent, Dir, File, Link}
 use Rattle.fp_host.specs.declared.source.Taken.{Taken}
@@ -28,7 +29,7 @@ IsNode (target text) node = node ≡ Link text
 abbrev pub HasNodeBits : Node → Type 0
 HasNodeBits Absent = Unit {0}
 HasNodeBits Dir = Unit {0}
-HasNodeBits (File mode size) = mode ≤ 4095
+HasNodeBits (File mode size) = mode ≤ PERMISSION_BITS
 HasNodeBits (Link text) = Unit {0}
 
 -- the bytes of a file; anything else has none

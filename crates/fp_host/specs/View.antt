@@ -1,6 +1,7 @@
 -- A view of the host: what stands now, and what a stop may bring back.
 use Rattle.std.specs.Prelude.{◌≡◌, ◌≢◌, ◌⊎◌, ◌≤◌, ℕ, List, [], ◌∷◌, Bool, true, Option, Some, None, Contains}
 use Rattle.fp_host.specs.Paths.{Elements, Slot, absent, dir, file, link, is_link_text}
+use Rattle.fp_host.specs.declared.limits.TheConstants.{PERMISSION_BITS}
 
 -- a file: its permission bits and its bytes
 pub record Inode : Type 0 where
@@ -44,4 +45,4 @@ pub record IsTree (v : View) : Type 0 where
   -- what stands at a name was put there
   pub remembered : (x : List ℕ) (up : Elements) → (v.names (x ∷ up) ≡ absent) ⊎ Contains v.stood (x ∷ up, v.names (x ∷ up))
   -- permission bits are within 07777
-  pub bits : (id : ℕ) (f : Inode) → v.files id ≡ Some f → f.mode ≤ 4095
+  pub bits : (id : ℕ) (f : Inode) → v.files id ≡ Some f → f.mode ≤ PERMISSION_BITS

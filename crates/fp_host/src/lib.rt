@@ -3,12 +3,14 @@
 
 mod host;
 pub mod laws;
+mod limits;
 mod path;
 mod remotes;
 mod source;
 mod text;
 
 pub use host::{Entry, Host, HostEnd, HostError, Stat};
+pub use limits::{MOST_ELEMENT_BYTES, MOST_LINK_BYTES, PERMISSION_BITS};
 pub use path::{Path, PathError, is_element};
 pub use remotes::{NoRemotes, Node, RemoteError, Remotes};
 pub use source::{Source, Taken};

@@ -4,6 +4,7 @@ ghost use Rattle.std.specs.List.{list_all};
 ghost use Rattle.fp_host.specs.Paths.{is_element, is_name_byte, cut, elements_of, path_text, path_eq, IsAbove};
 ghost use Rattle.fp_host.specs.declared.path.PathError.TheVariants.{NoMemory};
 
+use crate::limits::MOST_ELEMENT_BYTES;
 use std::alloc::{AllocError, Global};
 use std::error::Error;
 use std::fmt;
@@ -61,7 +62,7 @@ pub fn is_element(text: &str) -> bool
     ensures { result ≡ is_element text.now }
 {
     let bytes = text.as_bytes();
-    if bytes.is_empty() || bytes.len() > 255 {
+    if bytes.is_empty() || bytes.len() > MOST_ELEMENT_BYTES {
         return false;
     }
     if !are_name_bytes(bytes) {

@@ -3,15 +3,14 @@ ghost use Rattle.std.specs.Prelude.{◌≡◌, ◌==◌, not};
 ghost use Rattle.std.specs.List.{list_all};
 ghost use Rattle.fp_host.specs.Paths as spec;
 
-/// The most bytes that the text of a link has.
-const MAX_LINK_TEXT: usize = 4095;
+use crate::limits::MOST_LINK_BYTES;
 
 /// Whether a text may be a link's: 1 to 4,095 bytes, none of them zero.
 pub fn is_link_text(text: &str) -> bool
     ensures { result ≡ spec.is_link_text text.now }
 {
     let bytes = text.as_bytes();
-    if bytes.is_empty() || bytes.len() > MAX_LINK_TEXT {
+    if bytes.is_empty() || bytes.len() > MOST_LINK_BYTES {
         return false;
     }
     has_no_zero(bytes)

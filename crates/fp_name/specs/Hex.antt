@@ -2,6 +2,7 @@
 use Rattle.std.specs.Prelude.{ℕ, List, [], ◌∷◌, ◌+◌, ◌-◌, ◌*◌, ◌/◌, ◌%◌, Bool, ◌&&◌, ◌==◌, nat_lt, Option, Some, None, length, slice_index, codes, if◌then◌else◌}
 use Rattle.std.specs.List.{list_all}
 use Rattle.std.specs.Int.{is_in_range}
+use Rattle.fp_name.specs.declared.limits.TheConstants.{DIGEST_DIGITS}
 
 abbrev pub is_byte : ℕ → Bool
 is_byte b = nat_lt b 256
@@ -36,4 +37,4 @@ bytes_of (high ∷ low ∷ rest) = with_byte (digit_value high) (digit_value low
 
 -- A digest is written as 64 lower-case hexadecimal digits: the digest of a text that is so.
 unfoldable pub unhex : List ℕ → Option (List ℕ)
-unhex text = if length text == 64 then bytes_of text else None
+unhex text = if length text == DIGEST_DIGITS then bytes_of text else None

@@ -6,6 +6,7 @@ ghost use Rattle.std.specs.Char.{is_ascii_uppercase};
 ghost use Rattle.fp_name.specs.Hex.{hex as hex_text, unhex, is_digest};
 
 use crate::fault::NameError;
+use crate::limits::DIGEST_DIGITS;
 use fp_base::Text;
 use hex::FromHex;
 use std::alloc::{AllocError, Global};
@@ -70,10 +71,10 @@ impl Digest {
 
     /// The 64 hexadecimal digits of the digest, in lower case, which takes no memory.
     #[tactic(auto, using(crate::proofs::HexTexts::hex_is_encoded))]
-    pub fn digits(&self) -> [u8; 64]
+    pub fn digits(&self) -> [u8; DIGEST_DIGITS]
         ensures { result ≡ hex_text self.now }
     {
-        let mut digits = [0; 64];
+        let mut digits = [0; DIGEST_DIGITS];
         hex::encode_to_slice(self.bytes, &mut digits).unwrap();
         digits
     }

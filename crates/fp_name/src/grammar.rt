@@ -6,6 +6,8 @@ ghost use Rattle.std.specs.Char.{is_ascii_graphic};
 ghost use Rattle.fp_name.specs.Bytes.{is_word_start, is_word, is_dashed, is_dotted, is_dot, begins_with};
 ghost use Rattle.fp_name.specs.Grammar.{is_element, is_last_element, are_elements, is_id, is_arch, is_branch, is_remote_name, is_url};
 
+use crate::limits::{MOST_NAME_BYTES, MOST_REMOTE_NAME_BYTES, MOST_URL_BYTES};
+
 /// How many dots an ID has at least: they separate three elements.
 const FEWEST_DOTS: usize = 2;
 
@@ -100,7 +102,7 @@ fn has_elements(text: &str) -> bool
 pub fn is_id(text: &str) -> bool
     ensures { result ≡ is_id text.now }
 {
-    text.len() <= 255 && has_elements(text)
+    text.len() <= MOST_NAME_BYTES && has_elements(text)
 }
 
 /// Whether a text is an ARCH: 1 to 255 letters, digits and `_`.
@@ -108,7 +110,9 @@ pub fn is_id(text: &str) -> bool
 pub fn is_arch(text: &str) -> bool
     ensures { result ≡ is_arch text.now }
 {
-    text.len() <= 255 && text.bytes().next().is_some_and(is_word_byte) && all_words(text)
+    text.len() <= MOST_NAME_BYTES
+        && text.bytes().next().is_some_and(is_word_byte)
+        && all_words(text)
 }
 
 /// Whether a text is a BRANCH: 1 to 255 letters, digits, `_`, `-` and `.`, the first of them no `.`.
@@ -116,7 +120,9 @@ pub fn is_arch(text: &str) -> bool
 pub fn is_branch(text: &str) -> bool
     ensures { result ≡ is_branch text.now }
 {
-    text.len() <= 255 && text.bytes().next().is_some_and(is_dashed_byte) && all_dotted(text)
+    text.len() <= MOST_NAME_BYTES
+        && text.bytes().next().is_some_and(is_dashed_byte)
+        && all_dotted(text)
 }
 
 /// Whether a text is the name of a remote: 1 to 64 letters, digits, `_`, `-` and `.`, the first of
@@ -125,7 +131,9 @@ pub fn is_branch(text: &str) -> bool
 pub fn is_remote_name(text: &str) -> bool
     ensures { result ≡ is_remote_name text.now }
 {
-    text.len() <= 64 && text.bytes().next().is_some_and(is_word_byte) && all_dotted(text)
+    text.len() <= MOST_REMOTE_NAME_BYTES
+        && text.bytes().next().is_some_and(is_word_byte)
+        && all_dotted(text)
 }
 
 /// Whether a text is the url of a remote: `file:///` followed by any number of bytes 0x21 to 0x7e, at
@@ -137,5 +145,5 @@ pub fn is_url(text: &str) -> bool
     let Some(path) = text.strip_prefix("file:///") else {
         return false;
     };
-    text.len() <= 1024 && all_graphic(path)
+    text.len() <= MOST_URL_BYTES && all_graphic(path)
 }

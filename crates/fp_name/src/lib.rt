@@ -7,6 +7,7 @@ mod fault;
 mod grammar;
 mod kind;
 mod laws;
+mod limits;
 mod parts;
 mod pin_pattern;
 mod ref_name;
@@ -22,6 +23,7 @@ pub use laws::{
     digests_read_back, names_are_equal_by_text, names_are_file_names, names_are_ordered_by_text,
     refs_are_patterns, refs_read_back,
 };
+pub use limits::{DIGEST_DIGITS, MOST_NAME_BYTES, MOST_REMOTE_NAME_BYTES, MOST_URL_BYTES};
 pub use parts::{is_pin, is_ref};
 pub use pin_pattern::PinPattern;
 pub use ref_name::RefName;

@@ -3,6 +3,7 @@ use Rattle.std.specs.Prelude.{◌≡◌, ◌≢◌, ◌⊎◌, ◌≤◌, ◌+�
 use Rattle.fp_host.specs.Paths.{Elements, Slot, absent, IsAbove}
 use Rattle.fp_host.specs.View.{View}
 use Rattle.fp_host.specs.Outcome.{Spot, gone}
+use Rattle.fp_small.specs.declared.limits.TheConstants.{MOST_ELEMENTS}
 
 -- a stop may leave nothing at the path
 abbrev pub GoneAt : Elements → Elements → Spot → Type 0
@@ -40,7 +41,7 @@ pub record IsEmptied (p : Elements) (v : View) : Type 0 where
 
 -- no path below has more than 128 elements
 pub record CanEmpty (p : Elements) (v : View) : Type 0 where
-  pub short : (q : Elements) → IsAbove p q → (v.names q ≡ absent) ⊎ (length q ≤ 128)
+  pub short : (q : Elements) → IsAbove p q → (v.names q ≡ absent) ⊎ (length q ≤ MOST_ELEMENTS)
 
 -- and the path isn't the root
 pub record CanClear (p : Elements) (v : View) : Type 0 where

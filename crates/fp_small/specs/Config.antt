@@ -11,6 +11,7 @@ use Rattle.fp_keyfile.specs.declared.group.Group.{Group}
 use Rattle.fp_keyfile.specs.declared.fault.KeyFault.{KeyFault}
 use Rattle.fp_keyfile.specs.KeyFile.{file_of, text_of, keys_at}
 use Rattle.fp_small.specs.Order.{sorted_by}
+use Rattle.fp_small.specs.declared.limits.TheConstants.{MOST_REMOTES, MOST_PINS}
 use Rattle.fp_small.specs.declared.state.RemoteRow.{RemoteRow}
 use Rattle.fp_small.specs.declared.config.Settings.{Settings}
 
@@ -69,7 +70,7 @@ pins_in file = keys_at file (codes "pins")
 -- The group `installation` is there. Each group is it, a remote or the pins. There are at most 256 remotes and at
 -- most 1,024 pins.
 unfoldable pub is_config : List Group → Bool
-is_config file = list_any is_layout file && list_all is_part file && nat_le (length (remotes_in file)) 256 && nat_le (length (pins_in file)) 1024
+is_config file = list_any is_layout file && list_all is_part file && nat_le (length (remotes_in file)) MOST_REMOTES && nat_le (length (pins_in file)) MOST_PINS
 
 abbrev pub settings_of : List Group → Option Settings
 settings_of file = if is_config file then Some (record { remotes = sorted_by name_of (remotes_in file); pins = sorted_by (λ pin. pin) (pins_in file) }) else None
@@ -116,5 +117,5 @@ pub record IsSettings (s : Settings) : Type 0 where
   pub patterns : list_all is_pin s.pins ≡ true
   pub remotes_ascend : is_ascending (map name_of s.remotes) ≡ true
   pub pins_ascend : is_ascending s.pins ≡ true
-  pub few_remotes : length s.remotes ≤ 256
-  pub few_pins : length s.pins ≤ 1024
+  pub few_remotes : length s.remotes ≤ MOST_REMOTES
+  pub few_pins : length s.pins ≤ MOST_PINS

@@ -2,6 +2,7 @@
 use Rattle.std.specs.Prelude.{◌≡◌, ℕ, List, Some, None, Contains}
 use Rattle.fp_host.specs.Paths.{Elements, Slot, file}
 use Rattle.fp_host.specs.View.{View, Inode}
+use Rattle.fp_small.specs.declared.limits.TheConstants.{FILE_MODE}
 
 -- each file that was there keeps its mode and its bytes, and what was put at a name stays remembered
 pub record KeepsFiles (u w : View) : Type 0 where
@@ -23,5 +24,5 @@ pub record MakesFile (p : Elements) (bytes : List ℕ) (u w : View) : Type 0 whe
   pub free : u.files id ≡ None
   pub name : w.names p ≡ file id
   pub stood : Contains w.stood (p, file id)
-  pub row : w.files id ≡ Some (record { mode = 420; bytes = bytes })
+  pub row : w.files id ≡ Some (record { mode = FILE_MODE; bytes = bytes })
   pub only : (j : ℕ) (f : Inode) → u.files j ≡ None → w.files j ≡ Some f → j ≡ id

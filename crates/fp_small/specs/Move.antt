@@ -5,11 +5,12 @@ use Rattle.fp_host.specs.View.{View}
 use Rattle.fp_host.specs.Calls.{HasFolder, IsFile, IsNoDir}
 use Rattle.fp_host.specs.Outcome.{Spot, gone, holds, Disk, Leaves, IsSettled}
 use Rattle.fp_host.specs.Frame.{Keeps, Only}
+use Rattle.fp_small.specs.declared.limits.TheConstants.{FILE_MODE}
 use Rattle.fp_small.specs.Stage.{IsReady}
 
 -- a file with these bytes and the permission bits 0644
 abbrev pub IsNew : List ℕ → Spot → Type 0
-IsNew bytes spot = (id : ℕ) × (spot ≡ holds id 420 bytes)
+IsNew bytes spot = (id : ℕ) × (spot ≡ holds id FILE_MODE bytes)
 
 abbrev pub MovesAt : Elements → Elements → List ℕ → Elements → Spot → Type 0
 MovesAt from to bytes q spot = ((q ≡ to) × IsNew bytes spot) ⊎ ((q ≡ from) × (spot ≡ gone))

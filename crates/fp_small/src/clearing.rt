@@ -5,15 +5,13 @@ ghost use Rattle.fp_host.specs.Causes.{IsCaused};
 ghost use Rattle.fp_host.specs.Frame.{Frame, AtEnd, NoPath};
 ghost use Rattle.fp_small.specs.Clear.{GoneWithin, AbsentWithin, GoneBelow, AbsentBelow, IsCleared, IsEmptied, CanClear, CanEmpty, Reaches, ReachesDown};
 
+use crate::limits::MOST_ELEMENTS;
 use fp_host::{Host, HostEnd, Path, Stat};
 use std::alloc::Global;
 
-/// No path of an installation has more elements.
-const MOST_ELEMENTS: usize = 128;
-
 /// How many folders below the path a path of an installation may go.
 fn levels_below(path: &Path) -> usize
-    ensures { result ≡ 128 - length path.now }
+    ensures { result ≡ MOST_ELEMENTS - length path.now }
 {
     MOST_ELEMENTS.saturating_sub(path.len())
 }

@@ -9,6 +9,7 @@ ghost use Rattle.fp_small.specs.Config as spec;
 ghost use Rattle.fp_small.specs.Config.{IsSettings, config_of, settings_of, remotes_in, pins_in};
 
 use crate::config::{ConfigError, Settings};
+use crate::limits::{MOST_PINS, MOST_REMOTES};
 use crate::ordering::insert_by_name;
 use crate::state::RemoteRow;
 use fp_base::Items;
@@ -16,12 +17,6 @@ use fp_keyfile::{Group, KeyFile, Pair};
 use fp_name::{PinPattern, RemoteName, RemoteUrl, is_pin, is_remote_name, is_url};
 use std::alloc::Global;
 use std::str;
-
-/// The most remotes that there may be.
-pub const MOST_REMOTES: usize = 256;
-
-/// The most pins that there may be.
-pub const MOST_PINS: usize = 1024;
 
 /// Whether the pairs are this one.
 fn is_pair(pairs: &[Pair], key: &str, value: &str) -> bool

@@ -1,7 +1,7 @@
 //! Laws of the words that the contracts use, for crates that build on them. Each is the contract of a function that
 //! does nothing.
 
-ghost use Rattle.std.specs.Prelude.{◌≡◌, ◌≢◌, ◌↔◌, ◌⊎◌, ◌<◌, ℕ, List, length, true, false, Some, Contains};
+ghost use Rattle.std.specs.Prelude.{◌≡◌, ◌≢◌, ◌↔◌, ◌⊎◌, ◌<◌, ◌+◌, ℕ, List, length, true, false, Some, Contains};
 ghost use Rattle.std.specs.Prelude.{map, not, ◌∷◌, [], None, codes};
 ghost use Rattle.std.specs.List.{filter};
 ghost use Rattle.std.specs.List.Sorted.{IsPermutation};
@@ -14,6 +14,7 @@ ghost use Rattle.fp_host.specs.Frame.{Keeps, Only, NoPath};
 ghost use Rattle.fp_host.specs.Reads.{is_ascending};
 ghost use Rattle.fp_keyfile.specs.KeyFile.{are_distinct};
 ghost use Rattle.fp_name.specs.Pins.{is_pin};
+ghost use Rattle.fp_small.specs.declared.limits.TheConstants.{FILE_MODE, MOST_ELEMENTS, MOST_PINS, MOST_REMOTES};
 ghost use Rattle.fp_small.specs.Order.{inserted, removed, replaced, has_name, sorted_by};
 ghost use Rattle.fp_small.specs.Unsynced.{Unsynced, MakesNoFile, MakesOneFile};
 ghost use Rattle.fp_small.specs.Files.{KeepsFiles, SameFiles, MakesFile};
@@ -49,7 +50,7 @@ pub fn read_old_files_are_good()
 /// With one more pin the settings can be written, and have this pin besides those that they had.
 pub fn added_pin()
     ensures good { (s : Settings) (p : List ℕ) → IsSettings s → is_pin p ≡ true →
-        (Contains s.pins p → ⊥) → length s.pins < 1024
+        (Contains s.pins p → ⊥) → length s.pins < MOST_PINS
         → IsSettings (record s { pins = inserted (λ q. q) s.pins p }) }
     ensures has { (pins : List (List ℕ)) (p q : List ℕ) → Contains (inserted (λ x. x) pins p) q ↔
         ((q ≡ p) ⊎ Contains pins q) }
@@ -66,7 +67,7 @@ pub fn dropped_pin()
 /// With one more remote the settings can be written.
 pub fn added_remote()
     ensures { (s : Settings) (row : RemoteRow) → IsSettings s → is_row row ≡ true → has_name
-        name_of s.remotes row.name ≡ false → length s.remotes < 256
+        name_of s.remotes row.name ≡ false → length s.remotes < MOST_REMOTES
         → IsSettings (record s { remotes = inserted name_of s.remotes row }) }
 {}
 
@@ -111,12 +112,12 @@ pub fn unsynced_views()
 
 /// A file that is created, written and synced is the one file that was made, and its name may be given to it.
 pub fn made_files()
-    ensures made { (v : View) (p : Elements) (bytes : List ℕ) (id : ℕ) → CanCreate p 420 v
+    ensures made { (v : View) (p : Elements) (bytes : List ℕ) (id : ℕ) → CanCreate p FILE_MODE v
         → v.files id ≡ None
-        → MakesFile p bytes v (done syncs (done (appends p bytes) (done (creates p 420 id) v))) }
-    ensures ready { (v : View) (p : Elements) (bytes : List ℕ) (id : ℕ) → CanCreate p 420 v
+        → MakesFile p bytes v (done syncs (done (appends p bytes) (done (creates p FILE_MODE id) v))) }
+    ensures ready { (v : View) (p : Elements) (bytes : List ℕ) (id : ℕ) → CanCreate p FILE_MODE v
         → v.files id ≡ None
-        → IsReady p bytes (done syncs (done (appends p bytes) (done (creates p 420 id) v))) }
+        → IsReady p bytes (done syncs (done (appends p bytes) (done (creates p FILE_MODE id) v))) }
 {}
 
 /// Where no file is made, or none gets bytes, each file that is new and has bytes came to a name of any kind. After two steps it
@@ -135,21 +136,21 @@ pub fn shared_files()
 
 /// A file that is created, written and renamed came to its new name. One that is not renamed did so only if it is empty.
 pub fn shared_file()
-    ensures renamed { (v : View) (p q : Elements) (bytes : List ℕ) (id : ℕ) → CanCreate p 420 v
+    ensures renamed { (v : View) (p q : Elements) (bytes : List ℕ) (id : ℕ) → CanCreate p FILE_MODE v
         → v.files id ≡ None → p ≢ q → Shares (Only q) v (done (renames p q)
-        (done syncs (done (appends p bytes) (done (creates p 420 id) v)))) }
-    ensures left { (v : View) (p q : Elements) (bytes : List ℕ) (id : ℕ) → CanCreate p 420 v
+        (done syncs (done (appends p bytes) (done (creates p FILE_MODE id) v)))) }
+    ensures left { (v : View) (p q : Elements) (bytes : List ℕ) (id : ℕ) → CanCreate p FILE_MODE v
         → v.files id ≡ None → v.stood ≡ [] → p ≢ q
-        → Shares (Only q) v (done (appends p bytes) (done (creates p 420 id) v)) → bytes ≡ [] }
+        → Shares (Only q) v (done (appends p bytes) (done (creates p FILE_MODE id) v)) → bytes ≡ [] }
 {}
 
 /// Where nothing stands but the root, folders may be made, a file may be written anew in the root, and each path may be
-/// cleared. No folder may be emptied that has a path of 129 elements below it.
+/// cleared. No folder may be emptied that has a path below it with one element too many.
 pub fn bare_views()
     ensures folders { (v : View) (paths : List Elements) → IsBare v → AreFree paths v }
     ensures file { (v : View) (name : List ℕ) → IsBare v → name ≢ codes "repo"
         → CanReplace (name ∷ []) v }
     ensures cleared { (v : View) (x : List ℕ) (up : Elements) → IsBare v → CanClear (x ∷ up) v }
     ensures too_deep { (v : View) (p q : Elements) → IsAbove p q → v.names q ≢ absent
-        → length q ≡ 129 → CanEmpty p v → ⊥ }
+        → length q ≡ MOST_ELEMENTS + 1 → CanEmpty p v → ⊥ }
 {}

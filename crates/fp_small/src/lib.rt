@@ -7,6 +7,7 @@ mod config;
 mod config_reading;
 mod config_writing;
 pub mod laws;
+mod limits;
 mod loading;
 mod old_pins;
 mod old_remotes;
@@ -21,8 +22,12 @@ mod walking;
 pub use above::make_above;
 pub use clearing::{clear, clear_below};
 pub use config::{ConfigError, Settings};
-pub use config_reading::{MOST_PINS, MOST_REMOTES, read_config};
+pub use config_reading::read_config;
 pub use config_writing::write_config;
+pub use limits::{
+    FILE_MODE, MOST_CONFIG_BYTES, MOST_ELEMENTS, MOST_PINS, MOST_REFS, MOST_REMOTES,
+    MOST_TEXT_BYTES,
+};
 pub use loading::{Loaded, load};
 pub use old_pins::read_pins;
 pub use old_remotes::read_remotes;

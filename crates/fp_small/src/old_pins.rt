@@ -10,7 +10,7 @@ ghost use Rattle.fp_small.specs.Old as spec;
 ghost use Rattle.fp_small.specs.Old.{ArePatterns, pins_of};
 
 use crate::config::ConfigError;
-use crate::config_reading::MOST_PINS;
+use crate::limits::MOST_PINS;
 use fp_base::Items;
 use fp_keyfile::first_line;
 use fp_name::PinPattern;

@@ -7,7 +7,8 @@ ghost use Rattle.fp_small.specs.Old as spec;
 ghost use Rattle.fp_small.specs.Old.{AreRows, remotes_of, remotes_seen};
 
 use crate::config::ConfigError;
-use crate::config_reading::{MOST_REMOTES, count_remotes, is_remote, remote_rows};
+use crate::config_reading::{count_remotes, is_remote, remote_rows};
+use crate::limits::MOST_REMOTES;
 use crate::state::RemoteRow;
 use fp_base::Items;
 use fp_keyfile::{Group, KeyFile};

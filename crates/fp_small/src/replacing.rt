@@ -15,6 +15,7 @@ ghost use Rattle.fp_small.specs.Move.{Moves, WasMoved, CanMove};
 ghost use Rattle.fp_small.specs.Naming.{IsFirstFree};
 ghost use Rattle.fp_small.specs.Replace.{folders_of, IsStaging, Replaces, WasReplaced, CanReplace};
 
+use crate::limits::FILE_MODE;
 use crate::walking::names_in;
 use fp_base::Text;
 use fp_host::{Host, HostEnd, Path, Stat};
@@ -71,7 +72,7 @@ fn stage<H: Host>(host: &mut H, path: &Path, bytes: &[u8]) -> Result<(), HostEnd
         (CanStage path.now) (H.faults host.old) (H.faults host.new) }
     ensures needs_no_memory { IsErrOf result HostEnd.NoMemory → ⊥ }
 {
-    host.create(path, 0o644)?;
+    host.create(path, FILE_MODE)?;
     host.append(path, bytes)?;
     Ok(host.sync()?)
 }

@@ -3,6 +3,7 @@ use Rattle.std.specs.Prelude.{◌≡◌, ◌≤◌, ◌+◌, ℕ, List, ◌++◌
 use Rattle.fp_host.specs.Paths.{Elements}
 use Rattle.fp_host.specs.View.{View}
 use Rattle.fp_host.specs.Outcome.{shows}
+use Rattle.ost_model.specs.declared.limits.TheConstants.{MOST_OBJECTS}
 use Rattle.ost_model.specs.Fields.{CommitView, TreeView}
 use Rattle.ost_model.specs.Objects.{store}
 use Rattle.ost_model.specs.Order.{tree_at, commit_at, first_fault}
@@ -14,7 +15,7 @@ use Rattle.ost_checkout.specs.Reading.{HasTree}
 
 -- no commit has more objects in its order
 abbrev pub most_rows : ℕ
-most_rows = 200000
+most_rows = MOST_OBJECTS
 
 -- the row stands at this index
 abbrev pub IsAt : List Row → ℕ → Row → Type 0

@@ -9,11 +9,9 @@ use crate::reading::{read_root, read_tree};
 use crate::rows::{Entry, Row, add_rows};
 use fp_host::{Host, HostEnd, Path};
 use fp_name::Digest;
+use ost_model::MOST_OBJECTS;
 use ost_object::DirTree;
 use std::alloc::{AllocError, Global};
-
-/// No commit has more objects in its order.
-const MOST_ROWS: usize = 200_000;
 
 /// Whether a list of so many rows has room for these.
 fn has_room(listed: usize, tree: &DirTree) -> bool
@@ -22,7 +20,7 @@ fn has_room(listed: usize, tree: &DirTree) -> bool
 {
     let files = tree.files.len();
     let dirs = tree.dirs.len();
-    let left = MOST_ROWS - listed;
+    let left = MOST_OBJECTS - listed;
     files <= left && dirs <= left - files
 }
 

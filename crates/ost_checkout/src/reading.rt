@@ -10,12 +10,10 @@ ghost use Rattle.ost_checkout.specs.Reading.{IsTree, IsRoot, HasGoodNames, HasTr
 use fp_base::{Blob, ObjKind};
 use fp_host::{Host, HostEnd, Path};
 use fp_name::Digest;
+use ost_model::MOST_META_BYTES;
 use ost_object::{CommitRoot, DirTree, ObjectError, commit_root, read_dirtree};
 use ost_store::{Got, get};
 use std::alloc::Global;
-
-/// The most bytes that a metadata object has: 16 MiB.
-const MOST_BYTES: u64 = 16 * 1024 * 1024;
 
 /// How a function over a host ends where an object can't be read.
 fn unread(error: ObjectError) -> HostEnd
@@ -55,7 +53,7 @@ pub(crate) fn read_tree<H: Host>(
     ensures fault_has_cause { IsCaused (IsErrOf result HostEnd.Fault) (H.moments host.old)
         (HasTree root.now digest.now) (H.faults host.old) (H.faults host.new) }
 {
-    match get(alloc, host, root, digest, ObjKind::DirTree, MOST_BYTES)? {
+    match get(alloc, host, root, digest, ObjKind::DirTree, MOST_META_BYTES)? {
         Got::Meta(bytes) => tree_in(alloc, &bytes),
         _ => Err(HostEnd::Fault),
     }
@@ -88,7 +86,7 @@ pub(crate) fn read_root<H: Host>(
     ensures fault_has_cause { IsCaused (IsErrOf result HostEnd.Fault) (H.moments host.old)
         (HasCommit root.now commit.now) (H.faults host.old) (H.faults host.new) }
 {
-    match get(alloc, host, root, commit, ObjKind::Commit, MOST_BYTES)? {
+    match get(alloc, host, root, commit, ObjKind::Commit, MOST_META_BYTES)? {
         Got::Meta(bytes) => root_in(alloc, &bytes),
         _ => Err(HostEnd::Fault),
     }

@@ -6,6 +6,7 @@ use Rattle.std.specs.Cmp.Lexicographic.{slice_cmp}
 use Rattle.std.specs.BTreeMap.{is_at}
 use Rattle.std.specs.Map.{lookup}
 use Rattle.fp_host.specs.Paths.{Elements, path_eq, is_element}
+use Rattle.ost_model.specs.declared.limits.TheConstants.{MOST_LEVELS}
 use Rattle.ost_commit.specs.declared.row.TreeRow.{TreeRow}
 use Rattle.ost_commit.specs.declared.tree.Child.{Child}
 use Rattle.ost_commit.specs.declared.tree.Child.TheVariants as child
@@ -59,7 +60,7 @@ pub record Gathers (rows : List TreeRow) (said : Elements → Said) (folders : L
   pub tree : IsTree said
   pub root : (f : Folder) × At folders 0 f × (f.path ≡ [])
   pub path : (i : ℕ) (f : Folder) → At folders i f → said f.path ≡ a_directory
-  pub shallow : (i : ℕ) (f : Folder) → At folders i f → length f.path ≤ 64
+  pub shallow : (i : ℕ) (f : Folder) → At folders i f → length f.path ≤ MOST_LEVELS
   pub each : (i : ℕ) (f : Folder) (x : List ℕ) → At folders i f → child_said rows (child_in f.children.entries x) ≡ said (x ∷ f.path)
   pub below : (i : ℕ) (f : Folder) (x : List ℕ) (j : ℕ) → At folders i f → child_in f.children.entries x ≡ Some (child.Folder j)
       → (i < j) × ((g : Folder) × At folders j g × (g.path ≡ x ∷ f.path))

@@ -1,7 +1,8 @@
 -- The first row that is refused.
-use Rattle.std.specs.Prelude.{◌≡◌, ℕ, ◌+◌, ◌*◌, List, [], ◌∷◌, ◌++◌, length, Bool, true, false, not, ◌&&◌, leb, if◌then◌else◌, Option, Some, None}
+use Rattle.std.specs.Prelude.{◌≡◌, ℕ, suc, ◌+◌, List, [], ◌∷◌, ◌++◌, length, Bool, true, false, not, ◌&&◌, leb, if◌then◌else◌, Option, Some, None}
 use Rattle.std.specs.List.{AllByRecursion}
 use Rattle.fp_host.specs.Paths.{Elements, is_link_text}
+use Rattle.ost_model.specs.declared.limits.TheConstants.{MOST_LEVELS, MOST_FILE_BYTES}
 use Rattle.ost_model.specs.Contents.{is_permission}
 use Rattle.ost_commit.specs.declared.row.TreeRow.{TreeRow}
 use Rattle.ost_commit.specs.declared.row.TreeRow.TheVariants as row
@@ -12,9 +13,9 @@ use Rattle.ost_commit.specs.Rows.{Said, no_entry, a_directory, content, row_path
 -- A row by itself: a directory has at most 64 elements, a file or a link at most 64 directories above it; a file's permission
 -- bits are within 0775 (octal), and it has at most 1 GiB; a link's text is one.
 abbrev pub is_good_row : TreeRow → Bool
-is_good_row (row.Dir path) = leb (length path) 64
-is_good_row (row.File path mode bytes) = leb (length path) 65 && (is_permission mode && leb (length bytes) (1024 * 1024 * 1024))
-is_good_row (row.Link path target) = leb (length path) 65 && is_link_text target
+is_good_row (row.Dir path) = leb (length path) MOST_LEVELS
+is_good_row (row.File path mode bytes) = leb (length path) (suc MOST_LEVELS) && (is_permission mode && leb (length bytes) MOST_FILE_BYTES)
+is_good_row (row.Link path target) = leb (length path) (suc MOST_LEVELS) && is_link_text target
 
 abbrev pub AreGoodRows : List TreeRow → Type 0
 AreGoodRows rows = AllByRecursion (λ r. is_good_row r ≡ true) rows

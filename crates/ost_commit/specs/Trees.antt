@@ -1,9 +1,10 @@
 -- Dirtrees of a tree, from the deepest to the root.
-use Rattle.std.specs.Prelude.{◌≡◌, ◌<◌, ◌≤◌, ◌+◌, ◌-◌, ℕ, List, [], ◌∷◌, ◌++◌, map, length, get_or, true, Some, None}
+use Rattle.std.specs.Prelude.{◌≡◌, ◌<◌, ◌≤◌, ◌+◌, ◌-◌, ℕ, suc, List, [], ◌∷◌, ◌++◌, map, length, get_or, true, Some, None}
 use Rattle.fp_host.specs.Paths.{Elements}
 use Rattle.fp_base.specs.declared.object.ObjKind.TheVariants as kinds
 use Rattle.ost_model.specs.declared.object.Object.{Object}
 use Rattle.ost_model.specs.declared.object.Object.TheVariants as objects
+use Rattle.ost_model.specs.declared.limits.TheConstants.{MOST_OBJECTS, MOST_LEVELS}
 use Rattle.ost_model.specs.Fields.{DirRow}
 use Rattle.ost_model.specs.Readers.{tree_of}
 use Rattle.ost_model.specs.Objects.{Have, object_fault}
@@ -61,7 +62,7 @@ pub record AddsTree (contents : List (List ℕ)) (meta : List ℕ) (ds : List Do
   pub good : object_fault done.tree kinds.DirTree (Some (objects.Meta bytes)) ≡ None
   pub reads : tree_of bytes ≡ Some (tree_rows (names_of contents meta ds) es)
   pub places : done.places ≡ 2 + places_in ds es
-  pub few : done.places < 200000
+  pub few : done.places < MOST_OBJECTS
 
 abbrev pub row_of : List ℕ → List ℕ → DirRow
 row_of tree meta = record { name = []; tree = tree; meta = meta }
@@ -84,9 +85,9 @@ pub record AreGatheredFor (folders : List Folder) (contents : List (List ℕ)) :
 
 -- Wherever the dirtrees are, and what they name, the directory is shown as it is said, and has at most so many objects, fewer than 200,000.
 pub record IsWritten (rows : List TreeRow) (said : Elements → Said) (contents : List (List ℕ)) (meta : List ℕ) (trees : List (List ℕ × Object)) (path : Elements) (done : Done) : Type 0 where
-  pub shows : (have : Have) → HasTrees trees have → Supports rows contents meta have → Shows have said (65 - length path) path (row_of done.tree meta)
+  pub shows : (have : Have) → HasTrees trees have → Supports rows contents meta have → Shows have said (suc MOST_LEVELS - length path) path (row_of done.tree meta)
   pub few : (have : Have) → HasTrees trees have → (levels depth : ℕ) → length (dir_places have levels depth (row_of done.tree meta)) ≤ done.places
-  pub small : done.places < 200000
+  pub small : done.places < MOST_OBJECTS
 
 -- so is the root
 pub record IsRootWritten (rows : List TreeRow) (said : Elements → Said) (contents : List (List ℕ)) (meta : List ℕ) (made : Dirtrees) : Type 0 where

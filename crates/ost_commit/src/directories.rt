@@ -21,13 +21,10 @@ use crate::writing::dirtree_bytes;
 use fp_base::{Items, Text};
 use fp_name::Digest;
 use ost_content::meta_digest;
-use ost_model::Object;
+use ost_model::{MOST_OBJECTS, Object};
 use ost_object::{DirEntry, DirTree, FileEntry};
 use std::alloc::{AllocError, Global};
 use std::collections::BTreeMap;
-
-/// The most objects of a commit, repeats counted.
-const MOST_PLACES: usize = 200_000;
 
 /// A directory that is done: its dirtree, and how many objects it has with all below it, repeats counted.
 #[derive(Clone, Copy)]
@@ -64,7 +61,7 @@ pub(crate) fn dirtrees_of(
     };
     let mut done = vec![in alloc; nothing; folders.len()]?;
     while let Some(folder) = folders.pop() {
-        if folder.children.len() >= MOST_PLACES {
+        if folder.children.len() >= MOST_OBJECTS {
             return Err(BuildError::TooLarge);
         }
         let at = folders.len();
@@ -124,7 +121,7 @@ fn listing_of(
         ≡ tree_rows (names_of contents.now meta done.now) children.entries) }
     ensures places { IfOk result (λ listing. listing.places
         ≡ 2 + places_in done.now children.entries) }
-    ensures few { IfOk result (λ listing. listing.places < 200000) }
+    ensures few { IfOk result (λ listing. listing.places < MOST_OBJECTS) }
     ensures error { IfErr result IsWantOfRoom }
 {
     let mut listing = Listing::new(alloc);
@@ -159,12 +156,12 @@ impl Listing {
         done: &[Done],
     ) -> Result<(), BuildError>
         requires among { IsAmong (length contents.now) (length done.now) child }
-        requires few { self.old.places < 200000 }
+        requires few { self.old.places < MOST_OBJECTS }
         ensures adds { OnOk result (AddsEntry (names_of contents.now meta done.now) name child
             self.old.tree self.new.tree) }
         ensures places { OnOk result (self.new.places
             ≡ self.old.places + child_places done.now child) }
-        ensures few { OnOk result (self.new.places < 200000) }
+        ensures few { OnOk result (self.new.places < MOST_OBJECTS) }
         ensures error { IfErr result IsWantOfRoom }
     {
         match child {
@@ -175,12 +172,12 @@ impl Listing {
 
     /// Adds a file or a link.
     fn add_file(&mut self, name: Text, digest: Digest) -> Result<(), BuildError>
-        requires { self.old.places < 200000 }
+        requires { self.old.places < MOST_OBJECTS }
         ensures files { OnOk result (map file_row self.new.tree.files
             ≡ map file_row self.old.tree.files ++ record { name = name; digest = digest } ∷ []) }
         ensures dirs { OnOk result (self.new.tree.dirs ≡ self.old.tree.dirs) }
         ensures places { OnOk result (self.new.places ≡ self.old.places + 1) }
-        ensures few { OnOk result (self.new.places < 200000) }
+        ensures few { OnOk result (self.new.places < MOST_OBJECTS) }
         ensures error { IfErr result IsWantOfRoom }
     {
         self.count(1)?;
@@ -190,13 +187,13 @@ impl Listing {
 
     /// Adds a directory.
     fn add_dir(&mut self, name: Text, done: Done, meta: Digest) -> Result<(), BuildError>
-        requires { self.old.places < 200000 }
+        requires { self.old.places < MOST_OBJECTS }
         ensures files { OnOk result (self.new.tree.files ≡ self.old.tree.files) }
         ensures dirs { OnOk result (map dir_row self.new.tree.dirs
             ≡ map dir_row self.old.tree.dirs
             ++ record { name = name; tree = done.tree; meta = meta } ∷ []) }
         ensures places { OnOk result (self.new.places ≡ self.old.places + done.places) }
-        ensures few { OnOk result (self.new.places < 200000) }
+        ensures few { OnOk result (self.new.places < MOST_OBJECTS) }
         ensures error { IfErr result IsWantOfRoom }
     {
         self.count(done.places)?;
@@ -210,13 +207,13 @@ impl Listing {
 
     /// Counts so many objects.
     fn count(&mut self, more: usize) -> Result<(), BuildError>
-        requires { self.old.places < 200000 }
+        requires { self.old.places < MOST_OBJECTS }
         ensures places { OnOk result (self.new.places ≡ self.old.places + more) }
-        ensures few { OnOk result (self.new.places < 200000) }
+        ensures few { OnOk result (self.new.places < MOST_OBJECTS) }
         ensures tree { self.new.tree ≡ self.old.tree }
         ensures error { IfErr result IsWantOfRoom }
     {
-        if more >= MOST_PLACES - self.places {
+        if more >= MOST_OBJECTS - self.places {
             return Err(BuildError::TooLarge);
         }
         self.places += more;

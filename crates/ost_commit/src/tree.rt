@@ -1,6 +1,6 @@
 //! The directories of a tree, as rows make them.
 
-ghost use Rattle.std.specs.Prelude.{◌≡◌, ◌≢◌, ◌≤◌, ◌<◌, ◌^◌, ◌∷◌, [], ℕ, List, true, None, length, drop, IfOk, IfErr, OnOk};
+ghost use Rattle.std.specs.Prelude.{◌≡◌, ◌≢◌, ◌≤◌, ◌<◌, ◌+◌, ◌^◌, ◌∷◌, [], ℕ, List, true, None, length, drop, IfOk, IfErr, OnOk};
 ghost use Rattle.fp_host.specs.Paths.{Elements, is_element};
 ghost use Rattle.ost_commit.specs.Rows.{Said, says, put_by, row_path};
 ghost use Rattle.ost_commit.specs.Refusals.{first_refused, IsRefusal, is_good_row, is_content};
@@ -15,13 +15,13 @@ use std::alloc::{AllocError, Global};
 use std::collections::BTreeMap;
 
 /// The most directories above a file or a link.
-const MOST_LEVELS: usize = 64;
+const MOST_LEVELS: usize = ost_model::MOST_LEVELS as usize;
 
 /// The most names below the root.
 const MOST_NAMES: usize = 40_000;
 
 /// The most bytes of a file.
-const MOST_BYTES: usize = 1024 * 1024 * 1024;
+const MOST_BYTES: usize = ost_model::MOST_FILE_BYTES as usize;
 
 /// What stands in a directory.
 #[derive(Clone, Copy)]
@@ -135,7 +135,7 @@ impl Tree {
     /// The directory above the path. Those on the way are made where nothing stands; None where a file or link does.
     fn folder_above(&mut self, alloc: Global, path: &Path) -> Result<Option<usize>, AllocError>
         requires gathered { AreGathered self.old.folders.items }
-        requires short { length path.now ≤ 65 }
+        requires short { length path.now ≤ MOST_LEVELS + 1 }
         requires few { self.old.names ≤ 40000 }
         ensures { IfOk result (λ found. (rows : List TreeRow) (said : Elements → Said)
             → Gathers rows said self.old.folders.items
@@ -163,7 +163,7 @@ impl Tree {
         requires gathered { AreGathered self.old.folders.items }
         requires at { FolderAt self.old.folders.items folder (drop 1 path) }
         requires inner { path ≢ [] }
-        requires short { length path ≤ 64 }
+        requires short { length path ≤ MOST_LEVELS }
         requires few { self.old.names < 2 ^ 32 }
         ensures { IfOk result (λ found. (rows : List TreeRow) (said : Elements → Said)
             → Gathers rows said self.old.folders.items
@@ -209,7 +209,7 @@ impl Tree {
     fn take_folder(&mut self, alloc: Global, folder: usize, path: &Path) -> Result<bool, AllocError>
         requires gathered { AreGathered self.old.folders.items }
         requires at { FolderAt self.old.folders.items folder (drop 1 path.now) }
-        requires short { length path.now ≤ 64 }
+        requires short { length path.now ≤ MOST_LEVELS }
         requires few { self.old.names < 2 ^ 32 }
         ensures { IfOk result (λ taken. (rows : List TreeRow) (said : Elements → Said)
             → Gathers rows said self.old.folders.items

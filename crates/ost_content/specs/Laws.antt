@@ -2,6 +2,7 @@
 use Rattle.std.specs.Prelude.{◌≡◌, ◌≢◌, ℕ, ◌+◌, true, List, [], ◌++◌}
 use Rattle.fp_host.specs.Paths.{is_link_text}
 use Rattle.gv_value.specs.Spelled.{Spelled}
+use Rattle.ost_model.specs.declared.limits.TheConstants.{REGULAR_MODE, LINK_MODE}
 use Rattle.ost_model.specs.Contents.{header_shape, header_value, with_length, is_permission, header, link_header}
 
 -- After its length stands GVariant's one spelling of this mode and text, as a value of the type `(uuuusa(ayay))`.
@@ -11,10 +12,10 @@ pub record IsHeader (bytes : List ℕ) (mode : ℕ) (text : List ℕ) : Type 0 w
   pub remainder : bytes ≡ with_length tuple
 
 abbrev pub FilesHaveHeaders : Type 0
-FilesHaveHeaders = (bits : ℕ) → is_permission bits ≡ true → IsHeader (header bits) (0x8000 + bits) []
+FilesHaveHeaders = (bits : ℕ) → is_permission bits ≡ true → IsHeader (header bits) (REGULAR_MODE + bits) []
 
 abbrev pub LinksHaveHeaders : Type 0
-LinksHaveHeaders = (text : List ℕ) → is_link_text text ≡ true → IsHeader (link_header text) 0xA1FF text
+LinksHaveHeaders = (text : List ℕ) → is_link_text text ≡ true → IsHeader (link_header text) LINK_MODE text
 
 -- What SHA-256 is taken of tells the permission bits and the content of a file,
 abbrev pub TellsFiles : Type 0

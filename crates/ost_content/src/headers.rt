@@ -10,13 +10,8 @@ ghost use Rattle.ost_model.specs.Contents.{header as file_header, link_header as
 use byteorder::{BigEndian, ByteOrder, LittleEndian};
 use fp_base::Blob;
 use gv_value::width;
+use ost_model::{LINK_MODE, REGULAR_MODE};
 use std::alloc::{AllocError, Global};
-
-/// The kind of a mode that says regular file.
-const REGULAR: u32 = 0o100000;
-
-/// The mode of every symbolic link.
-const LINK: u32 = 0o120777;
 
 /// How many bytes the four numbers of a header take.
 const NUMBERS: usize = 16;
@@ -37,7 +32,7 @@ pub fn header(mode: u32) -> [u8; 26]
     ensures { result ≡ file_header mode }
 {
     let mut bytes = [0; 26];
-    bytes[..24].copy_from_slice(&beginning(18, REGULAR + mode));
+    bytes[..24].copy_from_slice(&beginning(18, REGULAR_MODE + mode));
     bytes[25] = 17;
     bytes
 }
@@ -52,7 +47,7 @@ pub fn link_header(alloc: Global, target: &str) -> Result<Blob, AllocError>
     let mut offset = [0; 2];
     LittleEndian::write_u16(&mut offset, end as u16);
     let mut bytes = Vec::with_capacity(alloc, 8 + end + size)?;
-    bytes.extend_from_slice(&beginning((end + size) as u32, LINK))?;
+    bytes.extend_from_slice(&beginning((end + size) as u32, LINK_MODE))?;
     bytes.extend_from_slice(target.as_bytes())?;
     bytes.push(0)?;
     bytes.extend_from_slice(&offset[..size])?;

@@ -1,7 +1,8 @@
 -- Files and links whose content isn't read, or is read in pieces.
-use Rattle.std.specs.Prelude.{◌≡◌, ◌≤◌, ◌*◌, ℕ, List, Bool, true, false, Option, Some, None, Result, Ok, Err}
+use Rattle.std.specs.Prelude.{◌≡◌, ◌≤◌, ℕ, List, Bool, true, false, Option, Some, None, Result, Ok, Err}
 use Rattle.fp_host.specs.Paths.{is_link_text}
 use Rattle.fp_base.specs.declared.object.ObjKind.TheVariants as kinds
+use Rattle.ost_model.specs.declared.limits.TheConstants.{MOST_FILE_BYTES}
 use Rattle.ost_model.specs.declared.object.Object.{Object}
 use Rattle.ost_model.specs.declared.object.Object.TheVariants as objects
 use Rattle.ost_model.specs.Contents.{is_permission}
@@ -15,7 +16,7 @@ use Rattle.ost_copy.specs.declared.content.Content.TheVariants as content
 
 -- a file of so many bytes with these permission bits is within the limits
 pub record IsWithinLimits (mode size : ℕ) : Type 0 where
-  pub short : size ≤ 1024 * 1024 * 1024
+  pub short : size ≤ MOST_FILE_BYTES
   pub bits : is_permission mode ≡ true
 
 -- the text may be a link's, and the link is the one that its digest names

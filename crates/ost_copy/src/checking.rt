@@ -17,11 +17,12 @@ ghost use Rattle.ost_copy.specs.Contents.{ChecksIfThere};
 ghost use Rattle.ost_copy.specs.Pieces.{TakesIn};
 ghost use Rattle.ost_head.specs.Stored.{IsFileOf};
 
-use crate::limits::{MOST_FILE, check_limits, check_link, refused};
+use crate::limits::{check_limits, check_link, refused};
 use fp_base::{ObjKind, Text};
 use fp_host::{Host, HostEnd, Path};
 use fp_name::Digest;
 use ost_content::ContentHasher;
+use ost_model::MOST_FILE_BYTES;
 use ost_store::{Got, get, read_piece};
 use ost_walk::{ObjectFault, WalkEnd};
 use std::alloc::Global;
@@ -161,7 +162,7 @@ pub fn check_stored<H: Host>(
         (H.faults host.old) (H.faults host.new) }
     ensures remote { IsErrOf result WalkEnd.RemoteFault → ⊥ }
 {
-    match get(alloc, host, root, digest, ObjKind::File, MOST_FILE)? {
+    match get(alloc, host, root, digest, ObjKind::File, MOST_FILE_BYTES)? {
         Got::File { mode, size } => check_file(alloc, host, root, digest, mode, size),
         Got::Link(text) => check_text(alloc, digest, &text),
         Got::TooLong(size) => Err(refused(digest, ObjectFault::TooLong(size))),

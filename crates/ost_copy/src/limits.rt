@@ -11,11 +11,9 @@ use fp_base::ObjKind;
 use fp_host::is_link_text;
 use fp_name::Digest;
 use ost_content::{is_permission, link_digest};
+use ost_model::MOST_FILE_BYTES;
 use ost_walk::{ObjectFault, WalkEnd, WalkFault};
 use std::alloc::Global;
-
-/// The most bytes that a file has.
-pub(crate) const MOST_FILE: u64 = 1024 * 1024 * 1024;
 
 /// The refusal of the file or link.
 pub(crate) fn refused(digest: &Digest, fault: ObjectFault) -> WalkEnd
@@ -36,7 +34,7 @@ pub(crate) fn check_limits(digest: &Digest, mode: u32, size: u64) -> Result<(), 
         → EndsBy (λ _. IsWithinLimits mode size) (IsFaultOf digest.now kinds.File (object_fault digest.now kinds.File (Some (objects.File mode bytes)))) result }
     ensures faults { NoFault result }
 {
-    if size > MOST_FILE {
+    if size > MOST_FILE_BYTES {
         return Err(refused(digest, ObjectFault::TooLong(size)));
     }
     if !is_permission(mode) {

@@ -13,6 +13,7 @@ use Rattle.fp_small.specs.Folders.{IsFree}
 use Rattle.fp_small.specs.Replace.{IsFreeFile}
 use Rattle.fp_small.specs.Shares.{Shares}
 use Rattle.fp_small.specs.Move.{IsNew}
+use Rattle.ost_model.specs.declared.limits.TheConstants.{STORE_CONFIG}
 use Rattle.ost_model.specs.declared.object.Object.{Object}
 use Rattle.ost_model.specs.Objects.{Have, store}
 use Rattle.ost_model.specs.Order.{first_fault}
@@ -30,7 +31,7 @@ config_path root = codes "config" ∷ root
 
 -- what `config` says
 abbrev pub config_text : List ℕ
-config_text = codes "[core]\nrepo_version=1\nmode=bare-user-only\n"
+config_text = STORE_CONFIG.now
 
 abbrev pub ref_path : Elements → Ref → Elements
 ref_path root r = place_path root (Head r)

@@ -11,10 +11,8 @@ ghost use Rattle.ost_export.specs.Exports.{a_remote, config_path, config_text};
 
 use fp_host::{Host, HostEnd, Path, Stat};
 use fp_small::{make_above, replace};
+use ost_model::STORE_CONFIG;
 use std::alloc::{AllocError, Global};
-
-/// What `config` of a store says.
-const CONFIG: &[u8] = b"[core]\nrepo_version=1\nmode=bare-user-only\n";
 
 /// The path of `config`.
 fn config_path(root: &Path) -> Result<Path, AllocError>
@@ -27,7 +25,7 @@ fn config_path(root: &Path) -> Result<Path, AllocError>
 fn config_bytes(alloc: Global) -> Result<Vec<u8>, AllocError>
     ensures { IfOk result (λ bytes. bytes.items ≡ config_text) }
 {
-    Vec::from_slice(alloc, CONFIG)
+    Vec::from_slice(alloc, STORE_CONFIG.as_bytes())
 }
 
 /// The folder of the remotes' refs, and a name in it.

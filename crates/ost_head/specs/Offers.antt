@@ -1,5 +1,5 @@
 -- What a remote offers under a ref.
-use Rattle.std.specs.Prelude.{◌≡◌, ◌*◌, ℕ, Bool, true, false, nat_le, ◌&&◌, ◌||◌, ◌==◌, List, [], ◌∷◌, length, codes, leb, Option, Some, None, Result, Ok, Err, if◌then◌else◌}
+use Rattle.std.specs.Prelude.{◌≡◌, ℕ, Bool, true, false, nat_le, ◌&&◌, ◌||◌, ◌==◌, List, [], ◌∷◌, length, codes, leb, Option, Some, None, Result, Ok, Err, if◌then◌else◌}
 use Rattle.std.specs.List.{list_all}
 use Rattle.std.specs.Str.{bytes_eq}
 use Rattle.fp_host.specs.Paths.{Elements}
@@ -16,6 +16,8 @@ use Rattle.fp_small.specs.declared.refusal.Refusal.TheVariants as refusals
 use Rattle.ost_refs.specs.Places.{place_path}
 use Rattle.ost_refs.specs.Files.{ref_file}
 use Rattle.ost_refs.specs.declared.place.RefPlace.TheVariants.{Head}
+use Rattle.ost_refs.specs.declared.reading.TheConstants.{REF_FILE_BYTES}
+use Rattle.ost_head.specs.declared.offering.TheConstants.{MOST_STORE_CONFIG_BYTES}
 use Rattle.ost_refs.specs.declared.place.RefFile.{RefFile}
 use Rattle.ost_refs.specs.declared.place.RefFile.TheVariants as files
 
@@ -77,7 +79,7 @@ config_path = codes "config" ∷ []
 
 -- the mode that is refused of the remote at this url
 abbrev pub wrong_mode : Holdings → List ℕ → Option (List ℕ)
-wrong_mode held url = mode_in (small_file (1024 * 1024) (held url config_path))
+wrong_mode held url = mode_in (small_file MOST_STORE_CONFIG_BYTES (held url config_path))
 
 -- ---- the ref
 
@@ -91,7 +93,7 @@ ref_said (Some bytes) = ref_file bytes
 
 -- what the ref's file says at the remote at this url
 abbrev pub ref_at : Holdings → List ℕ → Ref → RefFile
-ref_at held url name = ref_said (small_file 65 (held url (ref_path name)))
+ref_at held url name = ref_said (small_file REF_FILE_BYTES (held url (ref_path name)))
 
 abbrev pub commit_said : RemoteRow → Ref → RefFile → Result (List ℕ) Refusal
 commit_said remote name (files.Digest d) = Ok d

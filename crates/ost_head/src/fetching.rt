@@ -16,16 +16,10 @@ use fp_base::{Blob, ObjKind, Text};
 use fp_host::{Node, Path, Remotes, is_link_text};
 use fp_name::Digest;
 use ost_content::is_permission;
-use ost_model::Object;
+use ost_model::{MOST_FILE_BYTES, MOST_META_BYTES, Object};
 use ost_store::path_of;
 use ost_walk::{ObjectFault, WalkEnd};
 use std::alloc::Global;
-
-/// The most bytes that a metadata object has.
-pub(crate) const MOST_META: u64 = 16 * 1024 * 1024;
-
-/// The most bytes that a file has.
-pub(crate) const MOST_FILE: u64 = 1024 * 1024 * 1024;
 
 /// The bytes of a file of this size.
 fn read_bytes<R: Remotes>(
@@ -70,7 +64,7 @@ fn read_file<R: Remotes>(
     ensures fault_has_cause { IsRemotes (IsErrOf result WalkEnd.RemoteFault)
         (R.faults remotes.old) (R.faults remotes.new) }
 {
-    if size > MOST_FILE {
+    if size > MOST_FILE_BYTES {
         return Err(refused(digest, ObjKind::File, ObjectFault::TooLong(size)));
     }
     if !is_permission(mode) {
@@ -137,7 +131,7 @@ fn read_sized<R: Remotes>(
     ensures fault_has_cause { IsRemotes (IsErrOf result WalkEnd.RemoteFault)
         (R.faults remotes.old) (R.faults remotes.new) }
 {
-    if size > MOST_META {
+    if size > MOST_META_BYTES {
         return Err(refused(digest, kind, ObjectFault::TooLong(size)));
     }
     Ok(Object::Meta(read_bytes(alloc, remotes, url, path, size)?))

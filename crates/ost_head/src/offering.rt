@@ -13,14 +13,11 @@ use fp_base::Text;
 use fp_host::{Path, RemoteError, Remotes};
 use fp_name::{Digest, RefName};
 use fp_small::{Refusal, RemoteRow};
-use ost_refs::{RefFile, RefPlace, path_of, ref_file};
+use ost_refs::{REF_FILE_BYTES, RefFile, RefPlace, path_of, ref_file};
 use std::alloc::{AllocError, Global};
 
 /// The most bytes of a repository's `config`.
-const MOST_CONFIG: u64 = 1024 * 1024;
-
-/// How many bytes the file of a ref has.
-const REF_BYTES: u64 = 65;
+const MOST_STORE_CONFIG_BYTES: u64 = 1024 * 1024;
 
 /// The path of `config`.
 fn config_path(alloc: Global) -> Result<Path, AllocError>
@@ -50,7 +47,13 @@ fn mode_of<R: Remotes>(
         (R.faults remotes.old) (R.faults remotes.new) }
 {
     let path = config_path(alloc)?;
-    let config = load_remote(alloc, remotes, remote.url.as_str(), &path, MOST_CONFIG)?;
+    let config = load_remote(
+        alloc,
+        remotes,
+        remote.url.as_str(),
+        &path,
+        MOST_STORE_CONFIG_BYTES,
+    )?;
     Ok(mode_in(alloc, config)?)
 }
 
@@ -69,7 +72,7 @@ fn ref_of<R: Remotes>(
         (R.faults remotes.old) (R.faults remotes.new) }
 {
     let path = ref_path(alloc, name)?;
-    match load_remote(alloc, remotes, remote.url.as_str(), &path, REF_BYTES)? {
+    match load_remote(alloc, remotes, remote.url.as_str(), &path, REF_FILE_BYTES)? {
         Some(bytes) => Ok(ref_file(bytes.as_slice())),
         None => Ok(RefFile::Bad),
     }

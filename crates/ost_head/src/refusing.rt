@@ -14,18 +14,19 @@ use fp_base::{Blob, Items, MetaRule, MetadataRule, ObjKind, Text, What};
 use fp_keyfile::{KeyError, KeyFile};
 use fp_name::{Digest, RefKind, RefName};
 use fp_small::Refusal;
+use ost_model::{MOST_LEVELS, MOST_METADATA_BYTES, MOST_OBJECTS};
 use ost_object::{Commit, DirTree, binding};
 use ost_walk::{ObjectFault, WalkFault};
 use std::alloc::{AllocError, Global};
 
 /// The most objects of a commit, and one.
-const TOO_MANY: u64 = 200_001;
+const TOO_MANY: u64 = MOST_OBJECTS as u64 + 1;
 
 /// The most directories below the root, and one.
-const TOO_DEEP: u64 = 65;
+const TOO_DEEP: u64 = MOST_LEVELS as u64 + 1;
 
 /// The most bytes of the file `metadata`.
-const MOST_METADATA: usize = 1024 * 1024;
+const MOST_METADATA: usize = MOST_METADATA_BYTES as usize;
 
 /// What is too long where an object of the kind is.
 fn long_what(kind: ObjKind) -> What

@@ -14,13 +14,12 @@ ghost use Rattle.ost_head.specs.Objects.{IsFitIfThere, IsGoodIfThere, JudgesIfTh
 ghost use Rattle.ost_head.specs.Stored.{IsFileOf};
 ghost use Rattle.ost_walk.specs.declared.ends.WalkFault.{WalkFault};
 
-use crate::fetching::{MOST_FILE, MOST_META};
 use crate::judging::{check, refused};
 use fp_base::{Blob, ObjKind, Text};
 use fp_host::{Host, Path, is_link_text};
 use fp_name::Digest;
 use ost_content::is_permission;
-use ost_model::Object;
+use ost_model::{MOST_FILE_BYTES, MOST_META_BYTES, Object};
 use ost_store::{Got, get, read_piece};
 use ost_walk::{ObjectFault, WalkEnd};
 use std::alloc::Global;
@@ -71,7 +70,7 @@ fn read_file<H: Host>(
         (HasFile root.now digest.now) (H.faults host.old) (H.faults host.new) }
     ensures remote { IsErrOf result WalkEnd.RemoteFault → ⊥ }
 {
-    if size > MOST_FILE {
+    if size > MOST_FILE_BYTES {
         return Err(refused(digest, ObjKind::File, ObjectFault::TooLong(size)));
     }
     if !is_permission(mode) {
@@ -105,7 +104,7 @@ fn read_whole(digest: &Digest, kind: ObjKind, bytes: Blob) -> Result<Option<Obje
     ensures faults { NoFault result }
 {
     let size = bytes.len() as u64;
-    if size > MOST_META {
+    if size > MOST_META_BYTES {
         return Err(refused(digest, kind, ObjectFault::TooLong(size)));
     }
     Ok(Some(Object::Meta(bytes)))
@@ -126,7 +125,7 @@ fn read_content<H: Host>(
         (H.faults host.old) (H.faults host.new) }
     ensures remote { IsErrOf result WalkEnd.RemoteFault → ⊥ }
 {
-    match get(alloc, host, root, digest, ObjKind::File, MOST_FILE)? {
+    match get(alloc, host, root, digest, ObjKind::File, MOST_FILE_BYTES)? {
         Got::File { mode, size } => read_file(alloc, host, root, digest, mode, size),
         Got::Link(text) => read_link(digest, text),
         Got::TooLong(size) => Err(refused(digest, ObjKind::File, ObjectFault::TooLong(size))),
@@ -151,7 +150,7 @@ fn read_meta<H: Host>(
         (H.faults host.old) (H.faults host.new) }
     ensures remote { IsErrOf result WalkEnd.RemoteFault → ⊥ }
 {
-    match get(alloc, host, root, digest, kind, MOST_META)? {
+    match get(alloc, host, root, digest, kind, MOST_META_BYTES)? {
         Got::Meta(bytes) => read_whole(digest, kind, bytes),
         Got::TooLong(size) => Err(refused(digest, kind, ObjectFault::TooLong(size))),
         _ => Ok(None),

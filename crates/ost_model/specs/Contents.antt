@@ -8,6 +8,7 @@ use Rattle.gv_value.specs.Bytes.{le_value, zeros}
 use Rattle.gv_value.specs.Shape.{Shape, no_shapes, shape}
 use Rattle.gv_value.specs.Tree.{Content, Tree, no_trees, tree}
 use Rattle.gv_value.specs.Spelling.{spelling}
+use Rattle.ost_model.specs.declared.limits.TheConstants.{STORED_BITS, REGULAR_MODE, LINK_MODE}
 
 -- `u`, and a number in it: OSTree keeps numbers big endian, so GVariant, whose numbers are little endian, sees the bytes turned
 abbrev pub number_shape : Shape
@@ -42,15 +43,15 @@ header_bytes mode text = with_length (spelling (header_value mode text) header_s
 
 -- the permission bits of a file: at most 0775 (octal), bit by bit
 abbrev pub is_permission : ℕ → Bool
-is_permission bits = bit_and bits 0x1FD == bits
+is_permission bits = bit_and bits STORED_BITS == bits
 
 -- the header of a file with these permission bits: its mode is 0100000 (octal) and the bits, and its text is empty
 unfoldable pub header : ℕ → List ℕ
-header bits = header_bytes (0x8000 + bits) []
+header bits = header_bytes (REGULAR_MODE + bits) []
 
 -- the header of a link with this text: its mode is 0120777 (octal)
 unfoldable pub link_header : List ℕ → List ℕ
-link_header target = header_bytes 0xA1FF target
+link_header target = header_bytes LINK_MODE target
 
 unfoldable pub file_digest : ℕ → List ℕ → List ℕ
 file_digest bits bytes = sha256 (header bits ++ bytes)

@@ -7,6 +7,7 @@ use Rattle.fp_host.specs.Moments.{Moments}
 use Rattle.fp_host.specs.Remote.{Holdings}
 use Rattle.fp_base.specs.declared.object.ObjKind.{ObjKind}
 use Rattle.fp_base.specs.declared.object.ObjKind.TheVariants as kinds
+use Rattle.ost_model.specs.declared.limits.TheConstants.{MOST_LEVELS}
 use Rattle.ost_model.specs.Fields.{DirRow, TreeView, CommitView}
 use Rattle.ost_model.specs.Objects.{Have, Fault, Named, object_path, object_fault, or_else, store, supply}
 use Rattle.ost_model.specs.Order.{Place, Agree, order, first_fault, first_walk_fault, first_of, tree_at, commit_at}
@@ -100,13 +101,13 @@ OpensWithHeads = (have : Have) (o : Open) → (rest : List Place) × (open_place
 
 -- and goes on with its files and its directories
 abbrev pub OpensAsRead : Type 0
-OpensAsRead = (have : Have) (o : Open) (v : TreeView) (left : List Open) → o.depth ≤ 64 → tree_at have o.tree ≡ Some v
+OpensAsRead = (have : Have) (o : Open) (v : TreeView) (left : List Open) → o.depth ≤ MOST_LEVELS → tree_at have o.tree ≡ Some v
     → pending have (o ∷ left) ≡ own_places o v ++ pending have (opened (suc o.depth) v.dirs ++ left)
 
 -- a walk goes on by one directory
 abbrev pub WalkGoesOn : Type 0
 WalkGoesOn = (have : Have) (test : ℕ → Place → Option Fault) (commit : List ℕ) (done : List Place) (o : Open) (left : List Open) (v : TreeView)
-    → Walked have test commit done (o ∷ left) → o.depth ≤ 64 → tree_at have o.tree ≡ Some v → first_of test (length done) (own_places o v) ≡ None
+    → Walked have test commit done (o ∷ left) → o.depth ≤ MOST_LEVELS → tree_at have o.tree ≡ Some v → first_of test (length done) (own_places o v) ≡ None
     → Walked have test commit (done ++ own_places o v) (opened (suc o.depth) v.dirs ++ left)
 
 -- at its end it has done the order, which has no fault

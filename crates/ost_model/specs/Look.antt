@@ -1,8 +1,9 @@
 -- One path of a commit, followed name by name.
-use Rattle.std.specs.Prelude.{◌≡◌, ℕ, ◌+◌, List, [], ◌∷◌, ◌++◌, length, if◌then◌else◌, Option, Some, None}
+use Rattle.std.specs.Prelude.{◌≡◌, ℕ, suc, ◌+◌, List, [], ◌∷◌, ◌++◌, length, if◌then◌else◌, Option, Some, None}
 use Rattle.std.specs.Str.{bytes_eq}
 use Rattle.fp_host.specs.Paths.{Elements}
 use Rattle.fp_base.specs.declared.object.ObjKind.TheVariants as kinds
+use Rattle.ost_model.specs.declared.limits.TheConstants.{MOST_LEVELS}
 use Rattle.ost_model.specs.Fields.{DirRow, FileRow, CommitView, TreeView}
 use Rattle.ost_model.specs.Objects.{Have, Fault}
 use Rattle.ost_model.specs.Order.{Place, In, tree_at, commit_at, root_row, tree_place, commit_place, dir_places, order, place_fault, first_of}
@@ -63,7 +64,7 @@ look_fault have commit path = first_of (λ n. place_fault have 0) 0 (look_places
 pub record Reached (have : Have) (commit : List ℕ) (e : DirRow) : Type 0 where
   pub fuel : ℕ
   pub depth : ℕ
-  pub sum : fuel + depth ≡ 65
+  pub sum : fuel + depth ≡ suc MOST_LEVELS
   pub sub : (p : Place) → In (dir_places have fuel depth e) p → In (order have commit) p
 
 -- a file of this digest that stands in the order

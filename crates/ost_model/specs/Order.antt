@@ -2,6 +2,7 @@
 use Rattle.std.specs.Prelude.{◌≡◌, ◌⊎◌, ℕ, zero, suc, List, [], ◌∷◌, ◌++◌, leb, if◌then◌else◌, Option, Some, None}
 use Rattle.fp_base.specs.declared.object.ObjKind.{ObjKind}
 use Rattle.fp_base.specs.declared.object.ObjKind.TheVariants as kinds
+use Rattle.ost_model.specs.declared.limits.TheConstants.{MOST_OBJECTS, MOST_LEVELS}
 use Rattle.ost_model.specs.declared.object.Object.{Object}
 use Rattle.ost_model.specs.declared.object.Object.TheVariants as objects
 use Rattle.ost_model.specs.Fields.{DirRow, FileRow, CommitView, TreeView}
@@ -66,7 +67,7 @@ commit_place commit = record { digest = commit; kind = kinds.Commit; depth = 0 }
 
 abbrev pub below_commit : Have → Option CommitView → List Place
 below_commit have None = []
-below_commit have (Some c) = dir_places have 65 0 (root_row c)
+below_commit have (Some c) = dir_places have (suc MOST_LEVELS) 0 (root_row c)
 
 -- Order: the commit, the root's dirtree and dirmeta, then the files of a directory, then its directories, each with its
 -- dirtree and its dirmeta first. Nothing is listed in a directory 65 below the root, whose place has a fault in any case.
@@ -75,7 +76,7 @@ order have commit = commit_place commit ∷ below_commit have (commit_at have co
 
 -- the first fault of the place that has n before it: at most 200,000 places, at most 64 directories below the root
 abbrev pub limited : ℕ → Place → Option Fault → Option Fault
-limited n p fault = if leb 200000 n then Some too_many else (if leb 65 p.depth then Some too_deep else fault)
+limited n p fault = if leb MOST_OBJECTS n then Some too_many else (if leb (suc MOST_LEVELS) p.depth then Some too_deep else fault)
 
 abbrev pub place_fault : Have → ℕ → Place → Option Fault
 place_fault have n p = limited n p (object_fault p.digest p.kind (have p.digest p.kind))

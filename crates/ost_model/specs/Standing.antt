@@ -1,8 +1,9 @@
 -- A commit that stands in a folder: what a deployed commit has to be, for one store and one commit.
-use Rattle.std.specs.Prelude.{◌≡◌, ◌≢◌, ℕ, List, [], ◌∷◌, ◌++◌, ◌*◌, Bool, true, false, ◌&&◌, leb, length, None, codes}
+use Rattle.std.specs.Prelude.{◌≡◌, ◌≢◌, ℕ, List, [], ◌∷◌, ◌++◌, Bool, true, false, ◌&&◌, leb, length, None, codes}
 use Rattle.fp_host.specs.Paths.{Elements}
 use Rattle.fp_host.specs.Outcome.{Spot, gone, folder, holds, points, Disk}
 use Rattle.fp_base.specs.declared.object.ObjKind.TheVariants as kinds
+use Rattle.ost_model.specs.declared.limits.TheConstants.{MOST_METADATA_BYTES}
 use Rattle.ost_model.specs.Objects.{object_path, store}
 use Rattle.ost_model.specs.Order.{Place, In, order, first_fault}
 use Rattle.ost_model.specs.Look.{Found, nothing, directory, file_at, look}
@@ -15,7 +16,7 @@ expected root disk (file_at d) = disk (object_path root d kinds.File)
 
 -- the file `metadata`: at most 1 MiB that reads
 abbrev pub is_metadata : (List ℕ → Bool) → Spot → Bool
-is_metadata reads (holds id mode bytes) = leb (length bytes) (1024 * 1024) && reads bytes
+is_metadata reads (holds id mode bytes) = leb (length bytes) MOST_METADATA_BYTES && reads bytes
 is_metadata reads gone = false
 is_metadata reads folder = false
 is_metadata reads (points text) = false

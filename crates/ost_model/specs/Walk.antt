@@ -1,5 +1,6 @@
 -- What a walk with a work list has done, and what is left.
-use Rattle.std.specs.Prelude.{◌≡◌, ℕ, ◌-◌, List, [], ◌∷◌, ◌++◌, Option, None}
+use Rattle.std.specs.Prelude.{◌≡◌, ℕ, suc, ◌-◌, List, [], ◌∷◌, ◌++◌, Option, None}
+use Rattle.ost_model.specs.declared.limits.TheConstants.{MOST_LEVELS}
 use Rattle.ost_model.specs.Fields.{DirRow, TreeView}
 use Rattle.ost_model.specs.Objects.{Have, Fault}
 use Rattle.ost_model.specs.Order.{Place, dir_places, file_places, tree_place, meta_place, order, first_of}
@@ -18,7 +19,7 @@ open_at depth e = record { tree = e.tree; meta = e.meta; depth = depth }
 
 -- all places of the directory and of those in it
 abbrev pub open_places : Have → Open → List Place
-open_places have o = dir_places have (65 - o.depth) o.depth (open_row o)
+open_places have o = dir_places have (suc MOST_LEVELS - o.depth) o.depth (open_row o)
 
 abbrev pub pending : Have → List Open → List Place
 pending have [] = []

@@ -3,6 +3,11 @@
 #![tactic(auto)]
 
 pub mod laws;
+mod limits;
 mod object;
 
+pub use limits::{
+    LINK_MODE, MOST_FILE_BYTES, MOST_LEVELS, MOST_META_BYTES, MOST_METADATA_BYTES, MOST_OBJECTS,
+    REGULAR_MODE, STORE_CONFIG, STORED_BITS,
+};
 pub use object::Object;

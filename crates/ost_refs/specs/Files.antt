@@ -5,6 +5,7 @@ use Rattle.fp_host.specs.Paths.{Elements}
 use Rattle.fp_host.specs.View.{View}
 use Rattle.fp_host.specs.Outcome.{Spot, gone, folder, holds, points, shows}
 use Rattle.fp_name.specs.Hex.{hex, unhex}
+use Rattle.fp_name.specs.declared.limits.TheConstants.{DIGEST_DIGITS}
 use Rattle.ost_refs.specs.declared.place.RefFile.{RefFile}
 use Rattle.ost_refs.specs.declared.place.RefFile.TheVariants.{Digest, Absent, Bad}
 
@@ -18,7 +19,7 @@ said (Some digest) = Digest digest
 
 -- what a file of these bytes says
 abbrev pub ref_file : List ℕ → RefFile
-ref_file bytes = if bytes_eq (drop 64 bytes) (10 ∷ []) then said (unhex (take 64 bytes)) else Bad
+ref_file bytes = if bytes_eq (drop DIGEST_DIGITS bytes) (10 ∷ []) then said (unhex (take DIGEST_DIGITS bytes)) else Bad
 
 -- what stands at a ref's place says
 abbrev pub ref_in : Spot → RefFile

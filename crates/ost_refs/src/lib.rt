@@ -12,5 +12,5 @@ mod walking;
 pub use changing::{drop_ref, write_ref};
 pub use listing::list_refs;
 pub use place::{RefFile, RefPlace, path_of};
-pub use reading::{read_ref, ref_file};
+pub use reading::{REF_FILE_BYTES, read_ref, ref_file};
 pub use walking::paths_below;

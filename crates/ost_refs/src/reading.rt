@@ -7,15 +7,12 @@ ghost use Rattle.ost_refs.specs.Files.{ref_file, ReadsRef};
 
 use crate::place::{RefFile, RefPlace, path_of};
 use fp_host::{Host, HostEnd, Path};
-use fp_name::Digest;
+use fp_name::{DIGEST_DIGITS, Digest};
 use fp_small::{Loaded, load};
 use std::alloc::Global;
 
-/// How many digits a digest has.
-const DIGITS: usize = 64;
-
-/// How many bytes the file of a ref has.
-const SIZE: u64 = 65;
+/// How many bytes the file of a ref has: its digits and a newline.
+pub const REF_FILE_BYTES: u64 = DIGEST_DIGITS as u64 + 1;
 
 /// Reads the ref of the store in this folder. `Absent` comes exactly where nothing stands at its place, and `Bad` exactly
 /// where something stands there that is no file of 64 digits and a newline.
@@ -32,7 +29,7 @@ pub fn read_ref<H: Host>(
         (H.moments host.old) (H.faults host.old) (H.faults host.new) }
 {
     let path = path_of(root, place)?;
-    match load(alloc, host, &path, SIZE)? {
+    match load(alloc, host, &path, REF_FILE_BYTES)? {
         Loaded::Absent => Ok(RefFile::Absent),
         Loaded::TooLong(_) | Loaded::NotFile => Ok(RefFile::Bad),
         Loaded::Bytes(bytes) => Ok(ref_file(bytes.as_slice())),
@@ -44,10 +41,10 @@ pub fn read_ref<H: Host>(
 pub fn ref_file(bytes: &[u8]) -> RefFile
     ensures { result ≡ ref_file bytes.now }
 {
-    if bytes.len() < DIGITS {
+    if bytes.len() < DIGEST_DIGITS {
         return RefFile::Bad;
     }
-    let (digits, end) = bytes.split_at(DIGITS);
+    let (digits, end) = bytes.split_at(DIGEST_DIGITS);
     if end != b"\n".as_slice() {
         return RefFile::Bad;
     }

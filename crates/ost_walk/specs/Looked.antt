@@ -1,6 +1,7 @@
 -- What is found at a path, step by step.
 use Rattle.std.specs.Prelude.{◌≡◌, ◌≤◌, ℕ, List, length, Some, None}
 use Rattle.fp_host.specs.Paths.{Elements}
+use Rattle.ost_model.specs.declared.limits.TheConstants.{MOST_LEVELS}
 use Rattle.ost_model.specs.Fields.{DirRow, FileRow, TreeView}
 use Rattle.ost_model.specs.Objects.{Have}
 use Rattle.ost_model.specs.Order.{tree_at}
@@ -46,6 +47,6 @@ IsHere have commit path here.Nothing = IsLeafAt have commit path nothing
 
 -- a directory that was reached is at most 64 below the root
 abbrev pub IsLow : Here → Type 0
-IsLow (here.Dir tree depth) = depth ≤ 64
+IsLow (here.Dir tree depth) = depth ≤ MOST_LEVELS
 IsLow (here.File d) = Unit {0}
 IsLow here.Nothing = Unit {0}

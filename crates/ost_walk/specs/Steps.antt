@@ -1,10 +1,11 @@
 -- What the steps of a walk find.
-use Rattle.std.specs.Prelude.{◌≡◌, ◌≤◌, ◌*◌, ℕ, suc, List, [], ◌∷◌, ◌++◌, map, length, leb, true, reverse, Option, Some, None, Result, if◌then◌else◌}
+use Rattle.std.specs.Prelude.{◌≡◌, ◌≤◌, ℕ, suc, List, [], ◌∷◌, ◌++◌, map, length, leb, true, reverse, Option, Some, None, Result, if◌then◌else◌}
 use Rattle.std.specs.Str.{bytes_eq}
 use Rattle.fp_base.specs.declared.object.ObjKind.{ObjKind}
 use Rattle.fp_base.specs.declared.object.ObjKind.TheVariants as kinds
 use Rattle.ost_model.specs.declared.object.Object.{Object}
 use Rattle.ost_model.specs.declared.object.Object.TheVariants as objects
+use Rattle.ost_model.specs.declared.limits.TheConstants.{MOST_META_BYTES, MOST_OBJECTS, MOST_LEVELS}
 use Rattle.ost_model.specs.Contents.{meta_digest}
 use Rattle.ost_model.specs.Fields.{FileRow, CommitView, TreeView}
 use Rattle.ost_model.specs.Objects.{Have, Fault, object_fault}
@@ -19,7 +20,7 @@ use Rattle.ost_walk.specs.Ends.{EndsBy, IsFaultOf}
 -- these are the bytes of the object, which is not too long and is the one that its digest names
 pub record IsNamed (d : List ℕ) (object : Option Object) (bytes : List ℕ) : Type 0 where
   pub there : object ≡ Some (objects.Meta bytes)
-  pub short : leb (length bytes) (16 * 1024 * 1024) ≡ true
+  pub short : leb (length bytes) MOST_META_BYTES ≡ true
   pub named : bytes_eq (meta_digest bytes) d ≡ true
 
 -- the bytes of a metadata object, or the fault that it has
@@ -43,7 +44,7 @@ place_name p = (p.digest, p.kind)
 
 -- the limit that the place passes which has n before it and is so far below the root
 abbrev pub limit_of : ℕ → ℕ → Option ObjectFault
-limit_of n depth = if leb 200000 n then Some faults.TooMany else (if leb 65 depth then Some faults.TooDeep else None)
+limit_of n depth = if leb MOST_OBJECTS n then Some faults.TooMany else (if leb (suc MOST_LEVELS) depth then Some faults.TooDeep else None)
 
 -- ---- the commit
 
@@ -115,7 +116,7 @@ pub record AreListed (have : Have) (depth : ℕ) (files : List FileRow) (done do
 -- a directory was walked, without those in it, which come next
 pub record IsWalked (have : Have) (dir : Dir) (done done' : List (List ℕ × ObjKind)) (left left' : List Dir) : Type 0 where
   pub view : TreeView
-  pub low : dir.depth ≤ 64
+  pub low : dir.depth ≤ MOST_LEVELS
   pub read : tree_at have dir.tree ≡ Some view
   pub good : first_of (walk_fault have) (length done) (own_places (open_of dir) view) ≡ None
   pub names : done' ≡ done ++ map place_name (own_places (open_of dir) view)

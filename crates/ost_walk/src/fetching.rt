@@ -9,10 +9,11 @@ ghost use Rattle.ost_walk.specs.Steps.{Fetches};
 
 use crate::ends::{ObjectFault, WalkEnd, refused};
 use crate::places::Places;
-use crate::remote::{MOST_BYTES, fetch_remote, named};
+use crate::remote::{fetch_remote, named};
 use fp_base::{Blob, ObjKind};
 use fp_host::{Host, Remotes};
 use fp_name::Digest;
+use ost_model::MOST_META_BYTES;
 use ost_store::{Got, get};
 use std::alloc::Global;
 
@@ -34,7 +35,7 @@ pub fn fetch<H: Host, R: Remotes>(
         (R.holds remotes.old) have
         → Fetches digest.now kind (have digest.now kind) result }
 {
-    match get(alloc, host, &places.root, digest, kind, MOST_BYTES)? {
+    match get(alloc, host, &places.root, digest, kind, MOST_META_BYTES)? {
         Got::Meta(bytes) => named(bytes, digest, kind),
         Got::TooLong(size) => Err(refused(digest, kind, ObjectFault::TooLong(size))),
         _ => fetch_from(alloc, remotes, places, digest, kind),

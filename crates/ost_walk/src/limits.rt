@@ -3,12 +3,7 @@ ghost use Rattle.std.specs.Prelude.{◌≡◌};
 ghost use Rattle.ost_walk.specs.Steps.{limit_of};
 
 use crate::ends::ObjectFault;
-
-/// The most objects that an order has.
-const MOST_OBJECTS: usize = 200_000;
-
-/// How far a directory is below the root at most.
-const MOST_LEVELS: u32 = 64;
+use ost_model::{MOST_LEVELS, MOST_OBJECTS};
 
 /// The limit that an object passes which has so many before it, in a directory so far below the root.
 pub(crate) fn limit_of(count: usize, depth: u32) -> Option<ObjectFault>

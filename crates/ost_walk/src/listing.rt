@@ -1,6 +1,7 @@
 //! The objects of one directory, put in order.
 ghost use Rattle.std.specs.Prelude.{◌≡◌, ◌≤◌, ◌+◌, ◌++◌, ◌∷◌, [], map, length, None, OnOk, IsErrOf};
 ghost use Rattle.fp_base.specs.declared.object.ObjKind.TheVariants as kinds;
+ghost use Rattle.ost_model.specs.declared.limits.TheConstants.{MOST_OBJECTS};
 ghost use Rattle.ost_model.specs.Objects.{Have};
 ghost use Rattle.ost_model.specs.Order.{file_places};
 ghost use Rattle.ost_model.specs.Walk.{open_places};
@@ -27,7 +28,7 @@ fn add_file(digest: &Digest, depth: u32, done: &mut Vec<(Digest, ObjKind)>) -> R
         → done.new.items ≡ done.old.items }
     ensures on_success { OnOk result (done.new.items ≡ done.old.items ++ (digest.now, kinds.File) ∷
         []) }
-    ensures most { OnOk result (length done.new.items ≤ 200000) }
+    ensures most { OnOk result (length done.new.items ≤ MOST_OBJECTS) }
     ensures faults { NoFault result }
 {
     if let Some(fault) = limit_of(done.len(), depth) {
@@ -47,7 +48,8 @@ fn add_files(
         done.old.items done.new.items)
         (StopsAmong have (length done.old.items) (file_places depth (map file_row files.now)) done.old.items done.new.items) result }
     ensures more { OnOk result (length done.old.items ≤ length done.new.items) }
-    ensures most { length done.old.items ≤ 200000 → OnOk result (length done.new.items ≤ 200000) }
+    ensures most { length done.old.items ≤ MOST_OBJECTS
+        → OnOk result (length done.new.items ≤ MOST_OBJECTS) }
     ensures faults { NoFault result }
 {
     for file in files {
@@ -81,7 +83,7 @@ pub(crate) fn list_dir(
         (tree_view tree.now)
         → EndsBy (λ _. IsWalked have dir.now done.old.items done.new.items left.old.items left.new.items) (StopsAmong have (length done.old.items) (open_places have (open_of dir.now)) done.old.items done.new.items) result }
     ensures more { OnOk result (length done.old.items + 2 ≤ length done.new.items) }
-    ensures most { OnOk result (length done.new.items ≤ 200000) }
+    ensures most { OnOk result (length done.new.items ≤ MOST_OBJECTS) }
     ensures faults { NoFault result }
 {
     add_heads(dir, done)?;

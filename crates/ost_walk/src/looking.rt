@@ -1,6 +1,7 @@
 //! One path of a commit, followed name by name.
 ghost use Rattle.std.specs.Prelude.{◌≡◌, ◌≢◌, ◌≤◌, ◌∷◌, [], List, ℕ, drop, IfOk};
 ghost use Rattle.fp_host.specs.Paths.{Elements};
+ghost use Rattle.ost_model.specs.declared.limits.TheConstants.{MOST_LEVELS};
 ghost use Rattle.ost_model.specs.Objects.{Have};
 ghost use Rattle.ost_model.specs.Look.{look_fault};
 ghost use Rattle.ost_model.specs.Remotes.{Supplies};
@@ -53,7 +54,7 @@ fn enter<H: Host, R: Remotes>(
     depth: u32,
     name: &str,
 ) -> Result<Here, WalkEnd>
-    requires { depth ≤ 64 }
+    requires { depth ≤ MOST_LEVELS }
     ensures looks { Observes result (outside (H.moments host.old) (H.faults host.old)
         (R.holds remotes.old) (R.faults remotes.old))
         (outside (H.moments host.new) (H.faults host.new) (R.holds remotes.new) (R.faults remotes.new)) }

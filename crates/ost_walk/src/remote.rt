@@ -1,5 +1,5 @@
 //! Metadata objects of a remote.
-ghost use Rattle.std.specs.Prelude.{◌≡◌, ◌≤◌, ◌*◌, length, leb, true, false, IfOk, IsErrOf, Some, Ok};
+ghost use Rattle.std.specs.Prelude.{◌≡◌, ◌≤◌, length, leb, true, false, IfOk, IsErrOf, Some, Ok};
 ghost use Rattle.fp_host.specs.Remote.{Holdings, bytes_of};
 ghost use Rattle.ost_model.specs.declared.object.Object.TheVariants as objects;
 ghost use Rattle.ost_model.specs.Objects.{may_be_link};
@@ -13,16 +13,14 @@ use fp_base::{Blob, ObjKind};
 use fp_host::{Node, Path, Remotes};
 use fp_name::Digest;
 use ost_content::meta_digest;
+use ost_model::MOST_META_BYTES;
 use ost_store::path_of;
 use std::alloc::Global;
-
-/// The most bytes that a metadata object has.
-pub(crate) const MOST_BYTES: u64 = 16 * 1024 * 1024;
 
 /// The bytes, where the digest names them. It is for at most 16 MiB.
 pub(crate) fn named(bytes: Blob, digest: &Digest, kind: ObjKind) -> Result<Blob, WalkEnd>
     requires { may_be_link kind ≡ false }
-    ensures tells { leb (length bytes) (16 * 1024 * 1024) ≡ true → Fetches digest.now kind
+    ensures tells { leb (length bytes) MOST_META_BYTES ≡ true → Fetches digest.now kind
         (Some (objects.Meta bytes)) result }
     ensures host { IsErrOf result WalkEnd.HostFault → ⊥ }
     ensures remote { IsErrOf result WalkEnd.RemoteFault → ⊥ }
@@ -76,7 +74,7 @@ pub(crate) fn fetch_remote<R: Remotes>(
 {
     let path = path_of(alloc, &Path::root(alloc), digest, kind)?;
     match remotes.node(alloc, url, &path)? {
-        Node::File { size, .. } if size > MOST_BYTES => {
+        Node::File { size, .. } if size > MOST_META_BYTES => {
             Err(refused(digest, kind, ObjectFault::TooLong(size)))
         }
         Node::File { size, .. } => {

@@ -1,5 +1,6 @@
 //! The directories of a commit, walked one after another.
 ghost use Rattle.std.specs.Prelude.{◌≡◌, ◌≤◌, ◌+◌, [], List, ℕ, length, OnOk};
+ghost use Rattle.ost_model.specs.declared.limits.TheConstants.{MOST_OBJECTS};
 ghost use Rattle.ost_model.specs.Objects.{Have};
 ghost use Rattle.ost_model.specs.Remotes.{Supplies};
 ghost use Rattle.ost_model.specs.Walk.{open_places};
@@ -31,7 +32,7 @@ fn visit<H: Host, R: Remotes>(
         (R.holds remotes.old) (R.faults remotes.old))
         (outside (H.moments host.new) (H.faults host.new) (R.holds remotes.new) (R.faults remotes.new)) }
     ensures more { OnOk result (length done.old.items + 2 ≤ length done.new.items) }
-    ensures most { OnOk result (length done.new.items ≤ 200000) }
+    ensures most { OnOk result (length done.new.items ≤ MOST_OBJECTS) }
     ensures tells { (have : Have) → Supplies places.now.root places.now.url (H.moments host.old)
         (R.holds remotes.old) have
         → EndsBy (λ _. IsWalked have dir.now done.old.items done.new.items left.old.items left.new.items) (StopsAmong have (length done.old.items) (open_places have (open_of dir.now)) done.old.items done.new.items) result }

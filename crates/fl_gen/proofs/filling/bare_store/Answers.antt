@@ -8,5 +8,5 @@ use Rattle.fl_gen.proofs.filling.bare_store.Goals as goal
 
 pub returns : goal.returns
 returns c =
-    let adds = adds_as c.in_ok-path.ensures (c.file_of.ensures.spot ∙ ap file_spot c.in_ok-config.ensures) c.in_ok-put.ensures in
+    let adds = adds_as c.in_ok-path.ensures (c.file_of.ensures.spot ∙ ap file_spot (c.in_ok-config.ensures ∙ c.as_bytes.ensures.value)) c.in_ok-put.ensures in
     stocks_bare (subst (λ (l : List Row). Adds (config_entry ∷ []) l c.put.new.self.rows.items) c.new-store.ensures adds)
