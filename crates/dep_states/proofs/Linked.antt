@@ -77,11 +77,8 @@ linked_links v d kind q tree = record {
   ];
 }
 
-none_had : (l : List (Elements × Slot)) (x : Elements × Slot) → l ≡ [] → Contains l x → ⊥
-none_had l x none had = omega (arith, (subst (λ (k : List (Elements × Slot)). Contains k x) none had).1)
-
 -- a file that is written there is not
-pub written_no_links : (v : View) (name : Ref) (commit bytes : List ℕ) (q : Elements) (mode id : ℕ) → CanCreate q mode v → v.stood ≡ [] → IsAbove (commit_dir name commit) q → q ≢ deploy (commit_dir name commit)
+pub written_no_links : (v : View) (name : Ref) (commit bytes : List ℕ) (q : Elements) (mode id : ℕ) → CanCreate q mode v → (WasStored id v → ⊥) → IsAbove (commit_dir name commit) q → q ≢ deploy (commit_dir name commit)
     → Links v (done (appends q bytes) (done (creates q mode id) v)) → ⊥
 written_no_links v name commit bytes q mode id can none above off linked =
     let made = done (creates q mode id) v in
@@ -94,7 +91,7 @@ written_no_links v name commit bytes q mode id can none above off linked =
         | inr stored ↦
             let had : Contains (v.stood ++ (q, file id) ∷ []) (stored.at, file id) = subst (λ (l : List (Elements × Slot)). Contains l (stored.at, file id)) (grow_stood (made.names q) bytes made) stored.put in
             elim (Contains-push_cases v.stood (q, file id) (stored.at, file id) had) [
-              | inl old ↦ none_had v.stood (stored.at, file id) none old
+              | inl old ↦ none (record { at = stored.at; below = stored.below; put = old })
               | inr is ↦ off (lasting_record name commit q above (subst IsLasting (ap (λ (x : Elements × Slot). x.0) (sym is)) (IsLasting.an_object stored.below)))
             ]
       ]

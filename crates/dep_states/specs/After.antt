@@ -9,6 +9,7 @@ use Rattle.fp_name.specs.Pins.{is_pin}
 use Rattle.fp_name.specs.Refs.{Ref, is_ref, ref_text}
 use Rattle.fp_small.specs.Config.{IsSettings, is_row, name_of}
 use Rattle.fp_small.specs.Order.{inserted, removed, replaced, has_name}
+use Rattle.fp_small.specs.declared.limits.TheConstants.{MOST_REFS, MOST_PINS, MOST_REMOTES}
 use Rattle.fp_small.specs.declared.state.State.{State}
 use Rattle.fp_small.specs.declared.state.RefRow.{RefRow}
 use Rattle.fp_small.specs.declared.state.Previous.{Previous}
@@ -117,7 +118,7 @@ abbrev pub HasPrevious : List ℕ → RefRow → Type 0
 HasPrevious commit row = (p : Previous) × (row.previous ≡ Some p) × (p.commit ≡ commit)
 
 abbrev pub IsInstall : State → Ref → List ℕ → List ℕ → Type 0
-IsInstall s name remote commit = (is_ref name ≡ true) × (row_at s name ≡ None) × (has_name name_of s.remotes remote ≡ true) × (is_digest commit ≡ true) × (length s.refs < 4096)
+IsInstall s name remote commit = (is_ref name ≡ true) × (row_at s name ≡ None) × (has_name name_of s.remotes remote ≡ true) × (is_digest commit ≡ true) × (length s.refs < MOST_REFS)
 
 abbrev pub IsUpdate : State → Ref → List ℕ → List ℕ → Type 0
 IsUpdate s name remote commit = HasRow s name (λ row. row.commit ≢ commit) × (has_name name_of s.remotes remote ≡ true) × (is_digest commit ≡ true)
@@ -126,9 +127,9 @@ abbrev pub Allows : State → Op → Type 0
 Allows s (Install name remote commit) = IsInstall s name remote commit
 Allows s (Update name remote commit) = IsUpdate s name remote commit
 Allows s (Uninstall name) = row_at s name ≢ None
-Allows s (AddPin pin) = (is_pin pin ≡ true) × (Contains s.pins pin → ⊥) × (length s.pins < 1024)
+Allows s (AddPin pin) = (is_pin pin ≡ true) × (Contains s.pins pin → ⊥) × (length s.pins < MOST_PINS)
 Allows s (DropPin pin) = Contains s.pins pin
-Allows s (AddRemote row) = (is_row row ≡ true) × (has_name name_of s.remotes row.name ≡ false) × (length s.remotes < 256)
+Allows s (AddRemote row) = (is_row row ≡ true) × (has_name name_of s.remotes row.name ≡ false) × (length s.remotes < MOST_REMOTES)
 Allows s (ModifyRemote row) = (is_row row ≡ true) × (has_name name_of s.remotes row.name ≡ true)
 Allows s (DropRemote name) = has_name name_of s.remotes name ≡ true
 Allows s (SetOverride row) = (is_override row.name ≡ true) × (is_good row.file ≡ true)

@@ -7,6 +7,7 @@ use Rattle.fp_base.specs.declared.object.ObjKind.{ObjKind}
 use Rattle.fp_name.specs.Hex.{is_digest}
 use Rattle.fp_name.specs.Refs.{Ref}
 use Rattle.fp_small.specs.Places.{repo}
+use Rattle.fp_small.specs.declared.limits.TheConstants.{MOST_ELEMENTS}
 use Rattle.fp_small.specs.declared.state.State.{State}
 use Rattle.fp_small.specs.declared.state.RefRow.{RefRow}
 use Rattle.ost_model.specs.Objects.{object_path, Named, store}
@@ -32,7 +33,7 @@ pub record KeptIn (s : State) (name : Ref) (commit : List ℕ) : Type 0 where
 pub record InDir (name : Ref) (commit : List ℕ) (p : Elements) (spot : Spot) : Type 0 where
   pub rest : Elements
   pub is : p ≡ rest ++ commit_dir name commit
-  pub short : length p ≤ 128
+  pub short : length p ≤ MOST_ELEMENTS
   pub itself : rest ≡ [] → IsFolderOrGone spot
 
 -- ---- objects

@@ -1,6 +1,6 @@
 -- What an image shows: a relation of an image and a state. (The refs that an image has can't be enumerated by a function, since
 -- an image is a function from paths. So it is said of each ref, and of each override, what the image has there.)
-use Rattle.std.specs.Prelude.{◌≡◌, ◌*◌, ℕ, List, [], ◌∷◌, map, leb, length, if◌then◌else◌, true, Option, Some, None, Result, Ok, Err}
+use Rattle.std.specs.Prelude.{◌≡◌, ℕ, List, [], ◌∷◌, map, leb, length, if◌then◌else◌, true, Option, Some, None, Result, Ok, Err}
 use Rattle.std.specs.Str.{bytes_eq}
 use Rattle.fp_host.specs.Reads.{is_ascending}
 use Rattle.fp_host.specs.Outcome.{Spot, gone, folder, holds, points, Disk}
@@ -11,6 +11,7 @@ use Rattle.fp_name.specs.Hex.{hex}
 use Rattle.fp_name.specs.Refs.{Ref, is_ref, ref_of, ref_text}
 use Rattle.fp_small.specs.Config.{config_of}
 use Rattle.fp_small.specs.Old.{remotes_of, pins_of}
+use Rattle.fp_small.specs.declared.limits.TheConstants.{MOST_CONFIG_BYTES, MOST_TEXT_BYTES}
 use Rattle.fp_small.specs.declared.config.Settings.{Settings}
 use Rattle.fp_small.specs.declared.state.State.{State}
 use Rattle.fp_small.specs.declared.state.RefRow.{RefRow}
@@ -47,10 +48,10 @@ read_file most read (holds id mode bytes) = if leb (length bytes) most then read
 
 -- `config` has at most 2 MiB, each other small file at most 1 MiB
 abbrev pub config_most : ℕ
-config_most = 2 * 1024 * 1024
+config_most = MOST_CONFIG_BYTES
 
 abbrev pub small_most : ℕ
-small_most = 1024 * 1024
+small_most = MOST_TEXT_BYTES
 
 -- ---- the settings: by what stands at three paths
 

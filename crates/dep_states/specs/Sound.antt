@@ -10,6 +10,7 @@ use Rattle.fp_name.specs.declared.kind.RefKind.{RefKind}
 use Rattle.fp_name.specs.declared.kind.RefKind.TheVariants.{App, Runtime}
 use Rattle.fp_name.specs.Refs.{Ref, is_ref}
 use Rattle.fp_small.specs.Places.{repo, tmp}
+use Rattle.fp_small.specs.declared.limits.TheConstants.{MOST_ELEMENTS}
 use Rattle.fp_small.specs.declared.state.State.{State}
 use Rattle.fp_small.specs.declared.state.RefRow.{RefRow}
 use Rattle.fp_small.specs.declared.state.Previous.{Previous}
@@ -121,4 +122,4 @@ pub record InTmp (p : Elements) (spot : Spot) : Type 0 where
   pub name : List ℕ
   pub rest : Elements
   pub is : p ≡ (rest ++ (name ∷ [])) ++ tmp
-  pub short : length p ≤ 128
+  pub short : length p ≤ MOST_ELEMENTS

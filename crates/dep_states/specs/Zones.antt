@@ -7,6 +7,7 @@ use Rattle.fp_name.specs.Grammar.{is_id, is_arch, is_branch, is_remote_name}
 use Rattle.fp_name.specs.Hex.{unhex}
 use Rattle.fp_name.specs.Kinds.{kind_of}
 use Rattle.fp_small.specs.Places.{repo}
+use Rattle.fp_small.specs.declared.limits.TheConstants.{MOST_ELEMENTS}
 use Rattle.ost_model.specs.Stores.{is_prefix, MayBePrefix, MayBeObject}
 use Rattle.dep_states.specs.Names.{is_override}
 
@@ -168,4 +169,4 @@ Fits an_object p spot = MayBeObject repo p spot
 -- Part 1 of Sound, and of part 5 all that is said of one path alone. No path has more than 128 elements.
 pub record Allowed (p : Elements) (spot : Spot) : Type 0 where
   pub fits : Fits (zone (outward p)) p spot
-  pub short : IsGone spot ⊎ (length p ≤ 128)
+  pub short : IsGone spot ⊎ (length p ≤ MOST_ELEMENTS)

@@ -1,5 +1,5 @@
 //! Laws of what images show. Each is the contract of a function that does nothing.
-ghost use Rattle.std.specs.Prelude.{◌≡◌, ◌≢◌, ◌⊎◌, ◌↔◌, ◌≤◌, ◌++◌, ◌∷◌, ℕ, List, [], length, map, true, Some, None, Result, Err};
+ghost use Rattle.std.specs.Prelude.{◌≡◌, ◌≢◌, ◌⊎◌, ◌↔◌, ◌≤◌, ◌+◌, ◌++◌, ◌∷◌, ℕ, List, [], length, map, true, Some, None, Result, Err};
 ghost use Rattle.fp_host.specs.Paths.{Elements, absent, IsAbove};
 ghost use Rattle.fp_host.specs.View.{View, IsTree};
 ghost use Rattle.fp_host.specs.Calls.{CanCreate, creates, appends, links, done};
@@ -12,6 +12,7 @@ ghost use Rattle.fp_small.specs.Config.{IsSettings, config_text};
 ghost use Rattle.fp_small.specs.Clear.{IsWithin};
 ghost use Rattle.fp_small.specs.Files.{KeepsFiles};
 ghost use Rattle.fp_small.specs.Places.{repo, tmp};
+ghost use Rattle.fp_small.specs.declared.limits.TheConstants.{MOST_ELEMENTS};
 ghost use Rattle.fp_small.specs.declared.config.Settings.{Settings};
 ghost use Rattle.fp_small.specs.declared.op.Op.TheVariants.{Install, Update, Uninstall, SetOverride, DropOverride, Rollback};
 ghost use Rattle.fp_small.specs.declared.state.State.{State};
@@ -28,7 +29,7 @@ ghost use Rattle.dep_states.specs.Frames.{KeptIn, InDir, IsUnused, ObjectGone, I
 ghost use Rattle.dep_states.specs.Small.{IsSetting, IsLayered};
 ghost use Rattle.dep_states.specs.Switch.{IsWith, SwitchesAt, Stages, OpensEither};
 ghost use Rattle.dep_states.specs.Lasting.{IsLasting};
-ghost use Rattle.dep_states.specs.Links.{Links};
+ghost use Rattle.dep_states.specs.Links.{WasStored, Links};
 ghost use Rattle.dep_states.specs.Names.{active, commit_dir, config, deploy, remotes_conf, pins_file, override_path};
 ghost use Rattle.dep_states.specs.Shown.{there, seen_of, settings_seen, override_seen, at_name, override_key, setup_of, Shows, IsShown, config_most};
 ghost use Rattle.dep_states.specs.Zones.{Allowed, IsFileOrGone, IsFolderOrGone, anything, outward, zone};
@@ -105,11 +106,11 @@ pub fn a_bare_view_is_sound()
         → ((x : List ℕ) (up : Elements) → v.names (x ∷ up) ≡ absent) → IsSound v }
 {}
 
-/// A path of 128 elements that is for nothing else may be a folder, and one of 129 may not.
+/// A path of the most elements that is for nothing else may be a folder, and one of one more may not.
 pub fn paths_have_a_longest()
-    ensures longest { (p : Elements) → length p ≡ 128 → zone (outward p) ≡ anything
+    ensures longest { (p : Elements) → length p ≡ MOST_ELEMENTS → zone (outward p) ≡ anything
         → Allowed p folder }
-    ensures too_long { (p : Elements) → length p ≡ 129 → Allowed p folder → ⊥ }
+    ensures too_long { (p : Elements) → length p ≡ MOST_ELEMENTS + 1 → Allowed p folder → ⊥ }
 {}
 
 // ---- steps
@@ -293,15 +294,16 @@ pub fn what_lasts()
     ensures a_ref { (place : RefPlace) → IsLasting (place_path repo place) }
 {}
 
-/// Where no name changes, all that stands in commits' folders is linked; so it is after two steps if it is after each. A link to
-/// an object's file is, wherever it stands. A file that is written into a commit's folder is not, unless it is the record.
+/// Where no name changes, all that stands in commits' folders is linked; so it is after two steps
+/// if it is after each. A link to an object's file is, wherever it stands. A file that is written
+/// into a commit's folder and wasn't put below the store's objects is not, unless it is the record.
 pub fn what_is_linked()
     ensures still { (u w : View) → ((q : Elements) → w.names q ≡ u.names q) → Links u w }
     ensures on { (u v w : View) → Links u v → Links v w → KeepsFiles v w → Links u w }
     ensures linked { (v : View) (d : List ℕ) (kind : ObjKind) (q : Elements) → IsTree v
         → Links v (done (links (object_path repo d kind) q) v) }
     ensures written { (v : View) (name : Ref) (commit bytes : List ℕ) (q : Elements) (mode id : ℕ)
-        → CanCreate q mode v → v.stood ≡ [] → IsAbove (commit_dir name commit) q
+        → CanCreate q mode v → (WasStored id v → ⊥) → IsAbove (commit_dir name commit) q
         → q ≢ deploy (commit_dir name commit)
         → Links v (done (appends q bytes) (done (creates q mode id) v)) → ⊥ }
 {}

@@ -43,7 +43,7 @@ use Rattle.op_bring.specs.Places.{pull_work}
 use Rattle.op_bring.specs.Readying.{ReadiesStore}
 use Rattle.op_bring.specs.Rooms.{RoomAt, RoomName, HasRoom}
 use Rattle.fp_small.proofs.Keeping.{files_kept, files_on}
-use Rattle.ost_store.proofs.Creating.{creates_to, creates_on, creates_after}
+use Rattle.ost_store.proofs.Creating.{creates_to, creates_on, creates_off}
 use Rattle.op_bring.proofs.Creating.{room_creates, furnish_creates}
 use Rattle.op_bring.proofs.Apart.{rest_within, dir_apart, work_in_tmp, object_off_tmp, store_by}
 use Rattle.op_bring.proofs.Changing.{changes_on, room_changes, room_store, pull_changes, ready_object, furnish_changes, furnish_files, furnish_store}
@@ -278,7 +278,7 @@ module _ (s : State) (name : Ref) (commit url : List ℕ) (kept : Bool) (holds :
               let pulled = (pulls_of p.room p.pull opens).files in
               let before = files_on (files_kept p.room) pulled in
               creates_to (λ o l. record { digits = l.digits; ordered = l.ordered; lacked = sym (object_before o.0 o.1) ∙ l.lacked }) (λ o l. record { digits = l.digits; ordered = l.ordered; lacked = object_before o.0 o.1 ∙ l.lacked })
-              (creates_on (creates_after (room_creates name commit kept p.room) (was_pulled held told).creates (files_kept p.room) pulled) (furnish_creates name commit furnish) before (furnish_files s name commit furnish));
+              (creates_on (creates_off (room_creates name commit kept p.room) (was_pulled held told).creates (files_kept p.room) pulled) (furnish_creates name commit furnish) before (furnish_files s name commit furnish));
         }
 
         -- the commit's root has no entry `deploy`

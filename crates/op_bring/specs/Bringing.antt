@@ -75,7 +75,7 @@ pub record Brings (s : State) (origin : RemoteRow) (name : Ref) (commit : List �
   pub changes : Opens s u → ChangesFor s name commit u w
 
 -- In the end the one after, the commit's objects, and every stop leaves what stands. Each new file that has bytes came to a lasting
--- name.
+-- name, and just those of the commit's objects were made that the store lacked.
 pub record WasBrought (s : State) (origin : RemoteRow) (name : Ref) (commit : List ℕ) (holds : Option Holdings) (u w : View) : Type 0 where
   pub opens : (held : Holdings) → holds ≡ Some held → Opens s u → Opens (state_brought (supply_at held (Some origin.url) u) s name origin.name commit) w
   pub objects : (held : Holdings) → holds ≡ Some held → Opens s u → HasObjects (supply_at held (Some origin.url) u) commit u w

@@ -34,7 +34,8 @@ pub record IsFetched (name : Ref) (commit : List ℕ) (kept : Bool) (have : Have
   pub link_free : w.names new_link ≡ absent
   pub laid : kept ≡ false → IsCheckedOut repo commit (commit_dir name commit) w
 
--- so it is; each new file that has bytes came to a lasting name
+-- So it is. Each new file that has bytes came to a lasting name, and just those of the commit's
+-- objects were made that the store lacked.
 pub record WasFetched (s : State) (name : Ref) (commit : List ℕ) (kept : Bool) (url : List ℕ) (holds : Option Holdings) (u w : View) : Type 0 where
   pub fetched : (held : Holdings) → holds ≡ Some held → Opens s u → IsFetched name commit kept (supply_at held (Some url) u) u w
   pub shares : (held : Holdings) → holds ≡ Some held → Opens s u → Shares IsLasting u w

@@ -10,6 +10,7 @@ use Rattle.fp_small.specs.Files.{KeepsFiles}
 use Rattle.fp_small.specs.Shares.{Shares}
 use Rattle.fp_small.specs.Folders.{ancestors, FoldersAt, DirsAt, AreFree, AreDirs}
 use Rattle.fp_small.specs.Replace.{IsStaging, ReplacesAt, ReplacesName, CanReplace, IsFreeFile}
+use Rattle.ost_model.specs.declared.limits.TheConstants.{STORE_CONFIG}
 use Rattle.dep_states.specs.Lasting.{IsLasting}
 
 -- `config` of the store, and what it says
@@ -17,7 +18,7 @@ abbrev pub store_config : Elements
 store_config = codes "config" ∷ repo
 
 abbrev pub store_text : List ℕ
-store_text = codes "[core]\nrepo_version=1\nmode=bare-user-only\n"
+store_text = STORE_CONFIG.now
 
 -- a name in the folder of the store's refs, and the folders above it
 abbrev pub refs_folder : Elements

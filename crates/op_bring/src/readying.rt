@@ -8,10 +8,8 @@ ghost use Rattle.op_bring.specs.Readying.{store_config, store_text, a_head, Read
 
 use fp_host::{Host, HostEnd, Path, Stat};
 use fp_small::{make_above, replace};
+use ost_model::STORE_CONFIG;
 use std::alloc::{AllocError, Global};
-
-/// What `config` of a store says.
-const CONFIG: &str = "[core]\nrepo_version=1\nmode=bare-user-only\n";
 
 /// `config` of the store, and a name in the folder of its refs.
 fn store_paths(alloc: Global) -> Result<(Path, Path), AllocError>
@@ -34,7 +32,7 @@ fn write_config<H: Host>(alloc: Global, host: &mut H, config: &Path) -> Result<(
         (CanReplace store_config) (H.faults host.old) (H.faults host.new) }
 {
     match host.stat(config)? {
-        Stat::Absent => replace(alloc, host, config, CONFIG.as_bytes()),
+        Stat::Absent => replace(alloc, host, config, STORE_CONFIG.as_bytes()),
         _ => Ok(()),
     }
 }

@@ -26,7 +26,7 @@ use Rattle.fp_small.proofs.Keeping.{files_on, files_kept}
 use Rattle.fp_small.proofs.Sharing.{shares_empty, shares_on}
 use Rattle.fp_small.proofs.Ordered.{bytes_eq-is, bytes_eq-differ}
 use Rattle.ost_model.specs.Objects.{object_path}
-use Rattle.ost_store.proofs.Creating.{creates_after, creates_frame}
+use Rattle.ost_store.proofs.Creating.{creates_off, creates_frame}
 use Rattle.dep_states.specs.After.{row_at, exchanged, back, rolled_back, plain, after, HasRow, HasPrevious, IsGood, IsGoodRow}
 use Rattle.dep_states.specs.Deploy.{goes_back_to}
 use Rattle.dep_states.specs.Frames.{KeptIn}
@@ -203,7 +203,7 @@ module _ {s : State} {name : Ref} {commit : List ℕ} {new : RefRow} (good : is_
     settled = done.settled;
     objects = let backs = backs_deploys between keeps cleared deploys in same_objects (DeploysName name commit) before after backs.files backs.names no_object;
     shares = shares_on (shares_empty keeps) deploys.shares deploys.files;
-    creates = creates_after (creates_frame (AbsentWithin new_link) keeps (λ q id below away. cc away.1)) deploys.creates (files_kept keeps) deploys.files;
+    creates = creates_off (creates_frame (AbsentWithin new_link) keeps (λ q id below away. cc away.1)) deploys.creates (files_kept keeps) deploys.files;
   }
 
   -- ---- call by call

@@ -1,5 +1,5 @@
 -- A commit that is pulled.
-use Rattle.std.proofs.Common.{◌≡◌, ◌≢◌, inl, inr, ℕ, List, [], ◌∷◌, map, true, Option, Some, None, Err, refl, sym, ◌∙◌, ap, subst, Contains}
+use Rattle.std.proofs.Common.{◌≡◌, ◌≢◌, inl, inr, ℕ, List, [], ◌∷◌, get_or, map, true, Option, Some, None, Err, refl, sym, ◌∙◌, ap, subst, Contains}
 use Rattle.std.specs.Prelude.{IsErrOf, option_map, if◌then◌else◌}
 use Rattle.fp_host.specs.Paths.{Elements, Slot, absent, dir, file, link}
 use Rattle.fp_host.specs.View.{View, Inode, IsTree}
@@ -24,8 +24,10 @@ use Rattle.ost_model.specs.declared.object.Object.{Object}
 use Rattle.ost_model.specs.declared.object.Object.TheVariants as objects
 use Rattle.ost_model.specs.Objects.{Have, Fault, object_path, object_at, store, supply, or_else, name_fault, Named as NamedAs}
 use Rattle.ost_model.specs.Order.{Place, In, order, first_fault}
+use Rattle.ost_model.specs.Stores.{objects_folder}
 use Rattle.ost_model.specs.Remotes.{Supplies, remote, remote_at}
-use Rattle.ost_store.specs.Created.{MadeFile, WasMade, Creates}
+use Rattle.ost_store.specs.Created.{MadeFile, WasMade, WasPutSince, Creates}
+use Rattle.ost_store.proofs.Creating.{object_below}
 use Rattle.ost_store.specs.Stage.{IsHeld}
 use Rattle.ost_store.proofs.Staying.{shown_stays}
 use Rattle.ost_walk.specs.declared.ends.WalkFault.{WalkFault}
@@ -82,6 +84,10 @@ in_named : (ps : List Place) (p : Place) → In ps p → In (map place_name ps) 
 in_named [] p has = absurd has
 in_named (q ∷ ps) p (inl is) = inl (ap place_name is)
 in_named (q ∷ ps) p (inr has) = inr (in_named ps p has)
+
+-- the object's path in another folder
+abbrev moved : Elements → Elements → Elements
+moved t q = get_or q 0 [] ∷ (get_or q 1 [] ∷ objects_folder t)
 
 module _ {root t : Elements} (apart : IsApart root t) {url : List ℕ} {holds : Option Holdings} {have : Have} {commit : List ℕ} (kept : List Named) {u v w : View} (tree_u : IsTree u) (tree_v : IsTree v) (tree_w : IsTree w)
     (held : Holdings) (holdings_are : holds ≡ Some held) (have_is : have ≡ supply (store root (shows u)) (remote held (Some url)))
@@ -141,9 +147,28 @@ module _ {root t : Elements} (apart : IsApart root t) {url : List ℕ} {holds : 
     | inr has ↦ made o has
   ]
 
+  -- a file that was put at an object's name stood at its path in the work folder
+  came_from : (o : Named) (id : ℕ) → WasPutSince (object_path root o.0 o.1) id u w
+      → v.names (object_path t o.0 o.1) ≡ file id
+  came_from o id new =
+      let q = object_path root o.0 o.1 in
+      elim (was.places.only q id (object_below root o) new.put) [
+        | inl before ↦ elim (works.keeps.puts (q, file id) before) [
+          | inl old ↦ absurd (new.since old)
+          | inr put ↦ absurd (works_off root t apart q (file id) (object_within root o.0 o.1) put)
+        ]
+        | inr put ↦ ap v.names (ap (moved t) put.2) ∙ put.3
+      ]
+
+  one_came : (o : Named) (i j : ℕ) → WasPutSince (object_path root o.0 o.1) i u w
+      → WasPutSince (object_path root o.0 o.1) j u w → i ≡ j
+  one_came o i j a b =
+      let same : file i ≡ file j = sym (came_from o i a) ∙ came_from o j b in cc same
+
   creates_lacked : Creates root (IsLacked root have commit u) u w
   creates_lacked = record {
     each = all_made;
+    one = λ o is. one_came o;
     only = λ q id below had. elim (was.places.only q id below had) [
       | inl before ↦ elim (works.keeps.puts (q, file id) before) [ inl old ↦ inl old | inr put ↦ absurd (works_off root t apart q (file id) (inr below) put) ]
       | inr put ↦ inr (

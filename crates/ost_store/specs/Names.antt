@@ -5,6 +5,7 @@ use Rattle.fp_host.specs.Paths.{Elements, absent, path_text, IsAbove}
 use Rattle.fp_host.specs.View.{View}
 use Rattle.fp_host.specs.Reads.{is_ascending}
 use Rattle.fp_name.specs.Hex.{is_digest, unhex}
+use Rattle.fp_small.specs.declared.limits.TheConstants.{MOST_ELEMENTS}
 use Rattle.fp_base.specs.declared.object.ObjKind.{ObjKind}
 use Rattle.fp_base.specs.declared.object.ObjKind.TheVariants as kinds
 use Rattle.ost_model.specs.Objects.{object_path}
@@ -18,7 +19,7 @@ pub record ListsNames (root : Elements) (v : View) (paths : List Elements) : Typ
 
 -- no path below `objects` has more than 128 elements
 pub record CanList (root : Elements) (v : View) : Type 0 where
-  pub short : (q : Elements) → IsAbove (objects_folder root) q → (v.names q ≡ absent) ⊎ (length q ≤ 128)
+  pub short : (q : Elements) → IsAbove (objects_folder root) q → (v.names q ≡ absent) ⊎ (length q ≤ MOST_ELEMENTS)
 
 -- the kind whose objects' names end so
 abbrev pub kind_said : List ℕ → Option ObjKind

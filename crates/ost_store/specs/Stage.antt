@@ -5,6 +5,7 @@ use Rattle.fp_host.specs.View.{View}
 use Rattle.fp_host.specs.Calls.{IsDirty, IsFile}
 use Rattle.fp_host.specs.Outcome.{Spot, holds, points}
 use Rattle.fp_host.specs.Frame.{Keeps, Only}
+use Rattle.fp_small.specs.declared.limits.TheConstants.{FILE_MODE}
 use Rattle.fp_small.specs.Files.{KeepsFiles}
 use Rattle.fp_small.specs.Folders.{ancestors, FoldersAt, DirsAt, AreFree}
 use Rattle.ost_model.specs.declared.object.Object.{Object}
@@ -14,7 +15,7 @@ use Rattle.ost_store.specs.Gathers.{Gathers}
 
 -- the permission bits of the file that keeps a metadata object: 0644
 abbrev pub meta_mode : ℕ
-meta_mode = 420
+meta_mode = FILE_MODE
 
 -- a file with these permission bits, and any bytes
 abbrev pub IsOfMode : ℕ → Spot → Type 0

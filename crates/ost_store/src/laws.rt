@@ -1,8 +1,8 @@
 //! Laws of the words that the contracts use, for crates that build on them. Each is the contract of a function that
 //! does nothing.
 
-ghost use Rattle.std.specs.Prelude.{◌≡◌, ◌≢◌, ℕ, List, [], ◌∷◌, ◌++◌, true, Some, None};
-ghost use Rattle.fp_host.specs.Paths.{Elements, absent, IsAbove};
+ghost use Rattle.std.specs.Prelude.{◌≡◌, ◌≢◌, ℕ, List, [], ◌∷◌, ◌++◌, true, Some, None, Contains};
+ghost use Rattle.fp_host.specs.Paths.{Elements, absent, file, link, IsAbove};
 ghost use Rattle.fp_host.specs.View.{View, IsTree};
 ghost use Rattle.fp_host.specs.Calls.{creates, appends, syncs, done, CanCreate};
 ghost use Rattle.fp_host.specs.Outcome.{Nothing, shows, IsSettled};
@@ -12,12 +12,14 @@ ghost use Rattle.fp_base.specs.declared.object.ObjKind.{ObjKind};
 ghost use Rattle.fp_base.specs.declared.object.ObjKind.TheVariants as kinds;
 ghost use Rattle.ost_model.specs.declared.object.Object.{Object};
 ghost use Rattle.ost_model.specs.Objects.{object_path, name_fault, store, Named};
+ghost use Rattle.ost_model.specs.Order.{In};
 ghost use Rattle.ost_model.specs.Stores.{objects_folder};
 ghost use Rattle.fp_small.specs.Clear.{GoneAt, AbsentAt, IsWithin};
+ghost use Rattle.fp_small.specs.declared.limits.TheConstants.{FILE_MODE};
 ghost use Rattle.fp_small.specs.Unsynced.{Unsynced};
 ghost use Rattle.fp_small.specs.Files.{KeepsFiles, MakesFile};
 ghost use Rattle.fp_small.specs.Shares.{Shares};
-ghost use Rattle.ost_store.specs.Created.{Creates, NoObject, Either};
+ghost use Rattle.ost_store.specs.Created.{WasPutSince, Creates, NoObject};
 ghost use Rattle.ost_store.specs.Gathers.{Gathers};
 ghost use Rattle.ost_store.specs.Stage.{IsStaged, IsHeld, Stages};
 ghost use Rattle.ost_store.specs.Stays.{Stays};
@@ -125,20 +127,34 @@ pub fn views_can_have_stores()
     ensures object { (root : Elements) (d : List ℕ) (kind : ObjKind) (v : View)
         → is_digest d ≡ true → LeavesStore root v → LeavesObject root d kind v }
     ensures ready { (d : List ℕ) × (bytes : List ℕ) × ((t : Elements) (id : ℕ) (v : View)
-        → CanCreate t 420 v → v.files id ≡ None
-        → IsTree (done syncs (done (appends t bytes) (done (creates t 420 id) v)))
+        → CanCreate t FILE_MODE v → v.files id ≡ None
+        → IsTree (done syncs (done (appends t bytes) (done (creates t FILE_MODE id) v)))
         → IsReadyAs d kinds.DirMeta t
-        (done syncs (done (appends t bytes) (done (creates t 420 id) v)))) }
+        (done syncs (done (appends t bytes) (done (creates t FILE_MODE id) v)))) }
 {}
 
-/// Where nothing happens no object is made, and after two steps those of both are. A file that is created below the store's
-/// objects is an object that was made.
+/// Where nothing happens no object is made. Where objects are made and then, or before, nothing is
+/// made, just these are. A created file is put at its name. A file that was put below the store's
+/// objects since then is an object that was made, and no two were put at the name of one object. No
+/// object is made where nothing happens, unless a link was put at its name before.
 pub fn made_objects()
     ensures none { (root : Elements) (v : View) → Creates root NoObject v v }
-    ensures both { (root : Elements) (o p : List ℕ × ObjKind) (u v w : View)
-        → Creates root (λ x. x ≡ o) u v → Creates root (λ x. x ≡ p) v w → KeepsFiles u v
-        → KeepsFiles v w → Creates root (Either (λ x. x ≡ o) (λ x. x ≡ p)) u w }
-    ensures some { (root : Elements) (v : View) (q : Elements) (mode id : ℕ) → v.stood ≡ []
-        → IsAbove (objects_folder root) q
-        → Creates root NoObject v (done (creates q mode id) v) → ⊥ }
+    ensures on { (root : Elements) (os : List (List ℕ × ObjKind)) (u v w : View)
+        → Creates root (In os) u v → Creates root NoObject v w → KeepsFiles u v → KeepsFiles v w
+        → Creates root (In os) u w }
+    ensures off { (root : Elements) (os : List (List ℕ × ObjKind)) (u v w : View)
+        → Creates root NoObject u v → Creates root (In os) v w → KeepsFiles u v → KeepsFiles v w
+        → Creates root (In os) u w }
+    ensures created { (q : Elements) (mode id : ℕ) (v : View)
+        → (Contains v.stood (q, file id) → ⊥)
+        → WasPutSince q id v (done (creates q mode id) v) }
+    ensures some { (root q : Elements) (id : ℕ) (u w : View) → WasPutSince q id u w
+        → IsAbove (objects_folder root) q → Creates root NoObject u w → ⊥ }
+    ensures twice { (root : Elements) (o : List ℕ × ObjKind) (i j : ℕ) (u w : View)
+        → WasPutSince (object_path root o.0 o.1) i u w
+        → WasPutSince (object_path root o.0 o.1) j u w
+        → i ≢ j → Creates root (λ x. x ≡ o) u w → ⊥ }
+    ensures lacking { (root : Elements) (o : List ℕ × ObjKind) (v : View)
+        → ((text : List ℕ) → Contains v.stood (object_path root o.0 o.1, link text) → ⊥)
+        → Creates root (λ x. x ≡ o) v v → ⊥ }
 {}

@@ -1,8 +1,9 @@
 // The names of a store in a list.
-ghost use Rattle.std.specs.Prelude.{IfOk, IsErrOf};
+ghost use Rattle.std.specs.Prelude.{◌-◌, IfOk, IsErrOf};
 ghost use Rattle.fp_host.specs.Causes.{IsCaused};
 ghost use Rattle.fp_host.specs.Frame.{AtEnd, Unchanged};
 ghost use Rattle.fp_small.specs.Clear.{Reaches};
+ghost use Rattle.fp_small.specs.declared.limits.TheConstants.{MOST_ELEMENTS};
 ghost use Rattle.ost_model.specs.Stores.{objects_folder};
 ghost use Rattle.ost_store.specs.Names.{ListsNames, CanList};
 ghost use Rattle.ost_store.specs.Walks.{AreKeyed};
@@ -21,7 +22,8 @@ pub fn names<H: Host>(alloc: Global, host: &mut H, root: &Path) -> Result<Items<
     ensures tells { IfOk result (λ paths. AtEnd (λ u w. ListsNames root.now u paths)
         (H.moments host.old) (H.moments host.new)) }
     // No path below `objects` is longer.
-    ensures reach { IfOk result (λ _. AtEnd (λ u w. Reaches (objects_folder root.now) 127 u)
+    ensures reach { IfOk result (λ _. AtEnd (λ u w. Reaches (objects_folder root.now)
+        (MOST_ELEMENTS - 1) u)
         (H.moments host.old) (H.moments host.new)) }
     ensures fault_has_cause { IsCaused (IsErrOf result HostEnd.Fault) (H.moments host.old)
         (CanList root.now) (H.faults host.old) (H.faults host.new) }

@@ -9,12 +9,9 @@ ghost use Rattle.fp_small.specs.Unsynced.{MakesNoFile, MakesOneFile};
 ghost use Rattle.ost_store.specs.Stage.{Stages, WasStaged, Grows, CanStage, CanGrow};
 
 use fp_host::{Host, HostEnd, Path};
-use fp_small::make_above;
+use fp_small::{FILE_MODE, make_above};
 use ost_model::Object;
 use std::alloc::Global;
-
-/// The permission bits of the file that keeps a metadata object.
-const META_MODE: u32 = 0o644;
 
 /// Makes the absent path hold the object, and the folders above it where they are absent. A metadata object's file has the
 /// permission bits 0644. Nothing is synced: that is done before the object is placed. It is for a path above which each name is
@@ -40,7 +37,7 @@ pub fn stage<H: Host>(
         (H.moments host.old) (H.moments host.new) }
 {
     match object {
-        Object::Meta(bytes) => stage_bytes(alloc, host, tmp, META_MODE, bytes.as_slice()),
+        Object::Meta(bytes) => stage_bytes(alloc, host, tmp, FILE_MODE, bytes.as_slice()),
         Object::File { mode, bytes } => stage_bytes(alloc, host, tmp, *mode, bytes.as_slice()),
         Object::Link(text) => stage_link(alloc, host, tmp, text.as_str()),
     }

@@ -1,16 +1,13 @@
 // The files and links below a folder.
-ghost use Rattle.std.specs.Prelude.{◌≡◌, ◌++◌, ◌∷◌, [], IfOk, OnOk, IsErrOf};
+ghost use Rattle.std.specs.Prelude.{◌≡◌, ◌++◌, ◌-◌, ◌∷◌, [], IfOk, OnOk, IsErrOf};
 ghost use Rattle.fp_host.specs.Causes.{IsCaused, IsCounted};
 ghost use Rattle.fp_host.specs.Frame.{AtEnd, Unchanged};
 ghost use Rattle.fp_small.specs.Clear.{Reaches};
 ghost use Rattle.ost_store.specs.Walks.{Visits, VisitsAll, AreLeavesWithin, AreLeavesBelow};
 
 use fp_host::{Host, HostEnd, Path, Stat};
-use fp_small::{add_names, list_of_one};
+use fp_small::{MOST_ELEMENTS, add_names, list_of_one};
 use std::alloc::{AllocError, Global};
-
-/// How many levels of paths are looked at: no path below has more elements.
-const MOST_ELEMENTS: usize = 128;
 
 /// Adds the path.
 fn add_path(path: &Path, paths: &mut Vec<Path>) -> Result<(), AllocError>
@@ -70,10 +67,10 @@ fn leaves_within<H: Host>(alloc: Global, host: &mut H, folder: Path) -> Result<V
     ensures unchanged { Unchanged (H.moments host.old) (H.moments host.new) }
     ensures tells { IfOk result (λ found. AtEnd (λ u w. AreLeavesWithin folder u found.items)
         (H.moments host.old) (H.moments host.new)) }
-    ensures reach { IfOk result (λ _. AtEnd (λ u w. Reaches folder 127 u)
+    ensures reach { IfOk result (λ _. AtEnd (λ u w. Reaches folder (MOST_ELEMENTS - 1) u)
         (H.moments host.old) (H.moments host.new)) }
     ensures fault_has_cause { IsCaused (IsErrOf result HostEnd.Fault) (H.moments host.old)
-        (Reaches folder 127) (H.faults host.old) (H.faults host.new) }
+        (Reaches folder (MOST_ELEMENTS - 1)) (H.faults host.old) (H.faults host.new) }
 {
     let mut found = Vec::new(alloc);
     let mut level = list_of_one(alloc, folder)?;
@@ -96,10 +93,10 @@ pub(crate) fn leaves_below<H: Host>(
     ensures unchanged { Unchanged (H.moments host.old) (H.moments host.new) }
     ensures tells { IfOk result (λ found. AtEnd (λ u w. AreLeavesBelow folder u found.items)
         (H.moments host.old) (H.moments host.new)) }
-    ensures reach { IfOk result (λ _. AtEnd (λ u w. Reaches folder 127 u)
+    ensures reach { IfOk result (λ _. AtEnd (λ u w. Reaches folder (MOST_ELEMENTS - 1) u)
         (H.moments host.old) (H.moments host.new)) }
     ensures fault_has_cause { IsCaused (IsErrOf result HostEnd.Fault) (H.moments host.old)
-        (Reaches folder 127) (H.faults host.old) (H.faults host.new) }
+        (Reaches folder (MOST_ELEMENTS - 1)) (H.faults host.old) (H.faults host.new) }
 {
     match host.stat(&folder)? {
         Stat::Dir => leaves_within(alloc, host, folder),

@@ -16,6 +16,10 @@ pub returns-in-Uninstall-clause-any_moment : goal.returns-in-Uninstall-clause-an
 returns-in-Uninstall-clause-any_moment g c =
     goes_as c.args.opened c.args.op.now (Uninstall c.in-Uninstall.name) c.in-Uninstall.is (g.met.H.Host.is_tree c.args.host.now) (λ u q e put. put) c.uninstall.ensures.any_moment
 
+pub returns-in-Uninstall-clause-on_success : goal.returns-in-Uninstall-clause-on_success
+returns-in-Uninstall-clause-on_success g c =
+    on_ok_weaker c.uninstall.result (λ done. done_as c.args.opened c.args.op.now (Uninstall c.in-Uninstall.name) c.in-Uninstall.is (λ on. on) done) c.uninstall.ensures.on_success
+
 pub returns-in-Rollback-clause-good : goal.returns-in-Rollback-clause-good
 returns-in-Rollback-clause-good g c =
     let op = Rollback c.in-Rollback.name c.in-Rollback.commit in
@@ -41,6 +45,10 @@ pub returns-in-SetOverride-clause-any_moment : goal.returns-in-SetOverride-claus
 returns-in-SetOverride-clause-any_moment g c =
     goes_as c.args.opened c.args.op.now (SetOverride c.in-SetOverride.row) c.in-SetOverride.is (g.met.H.Host.is_tree c.args.host.now) (λ u q e put. put) c.set_override.ensures.any_moment
 
+pub returns-in-SetOverride-clause-on_success : goal.returns-in-SetOverride-clause-on_success
+returns-in-SetOverride-clause-on_success g c =
+    on_ok_weaker c.set_override.result (λ done. done_as c.args.opened c.args.op.now (SetOverride c.in-SetOverride.row) c.in-SetOverride.is (λ on. on) done) c.set_override.ensures.on_success
+
 pub returns-in-DropOverride-clause-good : goal.returns-in-DropOverride-clause-good
 returns-in-DropOverride-clause-good g c =
     good_if c.drop_override.result (after c.args.opened (plain (DropOverride c.in-DropOverride.name))) (good_drop c.args.opened c.in-DropOverride.name c.requires.good) c.drop_override.ensures.state
@@ -48,6 +56,10 @@ returns-in-DropOverride-clause-good g c =
 pub returns-in-DropOverride-clause-any_moment : goal.returns-in-DropOverride-clause-any_moment
 returns-in-DropOverride-clause-any_moment g c =
     goes_as c.args.opened c.args.op.now (DropOverride c.in-DropOverride.name) c.in-DropOverride.is (g.met.H.Host.is_tree c.args.host.now) (λ u q e put. put) c.drop_override.ensures.any_moment
+
+pub returns-in-DropOverride-clause-on_success : goal.returns-in-DropOverride-clause-on_success
+returns-in-DropOverride-clause-on_success g c =
+    on_ok_weaker c.drop_override.result (λ done. done_as c.args.opened c.args.op.now (DropOverride c.in-DropOverride.name) c.in-DropOverride.is (λ on. on) done) c.drop_override.ensures.on_success
 
 -- ---- settings
 
