@@ -16,8 +16,9 @@ use Rattle.fp_base.specs.declared.object.ObjKind.{ObjKind}
 use Rattle.fp_small.specs.Places.{repo, tmp}
 use Rattle.fp_small.specs.Clear.{GoneBelow, AbsentBelow, IsWithin}
 use Rattle.fp_small.specs.Files.{KeepsFiles, SameFiles}
+use Rattle.fp_small.specs.Shares.{Shares}
 use Rattle.fp_small.proofs.Keeping.{files_stay, files_on, files_kept, files_synced}
-use Rattle.fp_small.proofs.Sharing.{shares_on, shares_same}
+use Rattle.fp_small.proofs.Sharing.{shares_refl, shares_start, shares_on, shares_same, shares_empty}
 use Rattle.fp_small.specs.declared.state.State.{State}
 use Rattle.fp_small.specs.declared.state.RefRow.{RefRow}
 use Rattle.ost_model.specs.Objects.{object_path, object_at}
@@ -82,11 +83,12 @@ tidy_links s names = links_lasting (MayTidy s) names (may_file s)
 
 -- ---- no name changes
 
-pub tidies_still : {s : State} {u w : View} → IsTree u → (Opens s u → Opens s w) → ((q : Elements) → w.names q ≡ u.names q) → KeepsFiles u w → w.printed ≡ u.printed → Tidies s u w
-tidies_still {u = u} {w = w} tree opens names files printed = record {
+pub tidies_still : {s : State} {u w : View} → IsTree u → (Opens s u → Opens s w) → ((q : Elements) → w.names q ≡ u.names q) → KeepsFiles u w → Shares NoPath u w → w.printed ≡ u.printed → Tidies s u w
+tidies_still {u = u} {w = w} tree opens names files shares printed = record {
   opens = opens;
   names = λ q. inl (names q);
   idle = λ o settled q. names q;
+  unwritten = λ o settled. shares;
   used = λ o d kind is. ap (object_at kind) (shows_along tree files (object_path repo d kind) (all_same_to u.names w.names names (object_path repo d kind)));
   files = files;
   links = links_still names;
@@ -94,13 +96,13 @@ tidies_still {u = u} {w = w} tree opens names files printed = record {
 }
 
 pub tidies_same : {s : State} {u w : View} → w ≡ u → Tidies s u w
-tidies_same {s = s} {u = u} same = subst (Tidies s u) (sym same) (record { opens = λ o. o; names = λ q. inl refl; idle = λ o settled q. refl; used = λ o d kind is. refl; files = files_stay; links = links_refl; printed = refl })
+tidies_same {s = s} {u = u} same = subst (Tidies s u) (sym same) (record { opens = λ o. o; names = λ q. inl refl; idle = λ o settled q. refl; unwritten = λ o settled. shares_refl; used = λ o d kind is. refl; files = files_stay; links = links_refl; printed = refl })
 
 -- a sync
 pub tidies_sync : {s : State} {r : Result (Unit {0}) HostError} {u w : View} → IsTree u → Step syncs r u w → Tidies s u w
 tidies_sync {u = u} {w = w} tree step =
     let keeps : Keeps Nothing NoName NoPath u w = keeps_call tree (λ q spot h. absurd h) (λ q e h. absurd h) (λ x i h. absurd h) tt tt (called step) in
-    tidies_still tree (λ o. frame_law (spares_nothing u) keeps.follows o) (λ q. elim (keeps.names q) [ inl same ↦ same | inr none ↦ absurd none ]) (files_kept keeps) keeps.printed
+    tidies_still tree (λ o. frame_law (spares_nothing u) keeps.follows o) (λ q. elim (keeps.names q) [ inl same ↦ same | inr none ↦ absurd none ]) (files_kept keeps) (shares_empty keeps) keeps.printed
 
 pub settled_synced : {u w : View} → Step syncs (Ok tt) u w → IsSettled w
 settled_synced {u = u} step = subst IsSettled (sym step.how.1) (record { earlier = λ q. refl; dirty = λ id. refl })
@@ -125,6 +127,8 @@ tidies_on {u = u} {v = v} tree between first second_ = record {
   ];
   idle = λ o settled q. let names = first.idle o settled in
       second_.idle (first.opens o) (subst Settled (sym (all_shows tree between first.files names)) settled) q ∙ names q;
+  unwritten = λ o settled. shares_on (first.unwritten o settled)
+      (second_.unwritten (first.opens o) (subst Settled (sym (all_shows tree between first.files (first.idle o settled))) settled)) second_.files;
   used = λ o d kind is. second_.used (first.opens o) d kind (used_on o (first.opens o) (first.used o) d kind is) ∙ first.used o d kind is;
   files = files_on first.files second_.files;
   links = links_on first.links second_.links second_.files;
@@ -158,12 +162,13 @@ module _ {G : Elements → Spot → Type 0} {W : Elements → Slot → Type 0} {
       let b = step.follows.from disk left in
       elim (b.2 (object_path repo d kind)) [ inl same ↦ same ∙ steady.objects b.0 b.1 d kind | inr given ↦ absurd (aside.objects d kind (disk (object_path repo d kind)) given) ]
 
-  pub steadily : {s : State} → (Opens s u → IsSteady u → Opens s w) → ((q : Elements) (e : Slot) → W q e → MayTidy s q e) → (Opens s u → Settled (shows u) → (q : Elements) → w.names q ≡ u.names q) → IsSteady u → Steadily s u w
-  steadily {s = s} opens may idle steady = record {
+  pub steadily : {s : State} → (Opens s u → IsSteady u → Opens s w) → ((q : Elements) (e : Slot) → W q e → MayTidy s q e) → (Opens s u → Settled (shows u) → (q : Elements) → w.names q ≡ u.names q) → (Opens s u → Settled (shows u) → Shares NoPath u w) → IsSteady u → Steadily s u w
+  steadily {s = s} opens may idle unwritten steady = record {
     tidies = record {
       opens = λ o. opens o steady;
       names = names;
       idle = idle;
+      unwritten = unwritten;
       used = λ o d kind is. ap (object_at kind) (object_same steady (shows w) (now_left w) d kind);
       files = step.files;
       links = tidy_links s names;
@@ -205,7 +210,7 @@ module _ {u w : View} (tree : IsTree u) (keeps : Keeps (GoneBelow tmp) (AbsentBe
 
   pub steadily_work : {s : State} → IsSteady u → Steadily s u w
   steadily_work = steadily (record { spot = λ spot given. no_config_above given.0; name = λ e put. no_config_above put.0; objects = λ d kind spot given. no_object_above d kind given.0 })
-      (alters_kept keeps) (λ o steady. frame_law (work_goes u) keeps.follows o) (λ q e put. some_work put.0) (λ o settled. work_idle settled)
+      (alters_kept keeps) (λ o steady. frame_law (work_goes u) keeps.follows o) (λ q e put. some_work put.0) (λ o settled. work_idle settled) (λ o settled. shares_empty keeps)
 
   off_work : (q : Elements) → (IsAbove tmp q → ⊥) → w.names q ≡ u.names q
   off_work q off = elim (keeps.names q) [ inl same ↦ same | inr put ↦ absurd (off put.0) ]
@@ -223,6 +228,7 @@ module _ {u w : View} (tree : IsTree u) (keeps : Keeps (GoneBelow tmp) (AbsentBe
     opens = λ o. frame_law (work_goes u) keeps.follows o;
     names = names;
     idle = λ o settled. work_idle settled;
+    unwritten = λ o settled. shares_empty keeps;
     used = λ o d kind is. ap (object_at kind) (shows_along tree (files_kept keeps) (object_path repo d kind) (along d kind));
     files = files_kept keeps;
     links = tidy_links s names;
@@ -253,7 +259,7 @@ module _ {s : State} {u w : View} (tree : IsTree u) (keeps : Keeps (UnkeptGone s
     spot = λ spot given. let t = in_unkept_top given.0 in word_no_config t.0 (sym t.1);
     name = λ e put. let t = in_unkept_top put.0 in word_no_config t.0 (sym t.1);
     objects = λ d kind spot given. let t = in_unkept_top given.0 in word_no_repo t.0 (sym t.1);
-  }) (alters_kept keeps) (λ o steady. opens_unkept keeps.follows o) (λ q e put. commit_gone put.0.name put.0.commit put.0.is.good put.0.is.digits put.0.is.unkept put.0.within put.1) folders_idle
+  }) (alters_kept keeps) (λ o steady. opens_unkept keeps.follows o) (λ q e put. commit_gone put.0.name put.0.commit put.0.is.good put.0.is.digits put.0.is.unkept put.0.within put.1) folders_idle (λ o settled. shares_empty keeps)
 
 -- ---- the files of layout 1
 
@@ -267,7 +273,7 @@ module _ {u w : View} (tree : IsTree u) (takes : TakesOld u w) where
     | inl none ↦ record { tidies = tidies_same (takes.alone none); steady = subst IsSteady (sym (takes.alone none)) steady }
     | inr some ↦ steadily (record { spot = λ spot given. old_no_config given.0; name = λ e put. old_no_config put.0; objects = λ d kind spot given. old_no_repo given.0 refl })
         (alters_kept takes.keeps) (λ o st. frame_law (old_go u (st.config some)) takes.keeps.follows o) (λ q e put. old_gone put.0 put.1)
-        (λ o settled. none_goes {W = OldAbsent} u w takes.keeps.names (λ q e put. put.1) (λ q e put. old_absent settled some q put.0)) steady
+        (λ o settled. none_goes {W = OldAbsent} u w takes.keeps.names (λ q e put. put.1) (λ q e put. old_absent settled some q put.0)) (λ o settled. shares_empty takes.keeps) steady
   ]
 
 -- ---- ref files
@@ -311,7 +317,7 @@ module _ {s : State} {u w : View} (tree : IsTree u) (keeps : Keeps (OtherGone s)
     spot = λ spot given. beside_no_config (other_beside given.0) refl;
     name = λ e put. beside_no_config (other_beside put.0) refl;
     objects = λ d kind spot given. beside_no_object (other_beside given.0) d kind refl;
-  }) (alters_kept keeps) (λ o steady. frame_law other_spares keeps.follows o) (λ q e put. ref_gone put.0.origin put.0.name put.0.is.remote put.0.is.good put.0.is.other put.0.at put.1) others_idle
+  }) (alters_kept keeps) (λ o steady. frame_law other_spares keeps.follows o) (λ q e put. ref_gone put.0.origin put.0.name put.0.is.remote put.0.is.good put.0.is.other put.0.at put.1) others_idle (λ o settled. shares_empty keeps)
 
 -- what an image that is settled has
 bytes_say : (commit : List ℕ) (spot : Spot) → is_digest commit ≡ true → HasBytes (hex commit ++ 10 ∷ []) spot → ref_in spot ≡ Digest commit
@@ -338,7 +344,7 @@ module _ {s : State} {u w : View} (step : Writes s.refs u w) where
     spot = λ spot given. beside_no_config (spot_beside config spot given) refl;
     name = λ e put. beside_no_config (name_beside config e put) refl;
     objects = λ d kind spot given. beside_no_object (spot_beside (object_path repo d kind) spot given) d kind refl;
-  }) step.alters (λ o steady. frame_law refs_spare step.alters.follows o) may_write (λ o settled q. ap (λ (v : View). v.names q) (step.idle (settled_files o settled)))
+  }) step.alters (λ o steady. frame_law refs_spare step.alters.follows o) may_write (λ o settled q. ap (λ (v : View). v.names q) (step.idle (settled_files o settled))) (λ o settled. shares_start (step.idle (settled_files o settled)))
 
 -- ---- objects
 
@@ -347,6 +353,7 @@ tidies_pruned {s = s} {u = u} {w = w} steady pruned = record {
   opens = λ o. opens_pruned o steady pruned;
   names = names;
   idle = λ o settled q. elim (pruned.keeps.names q) [ inl same ↦ same | inr put ↦ absurd (none_unused o (λ d kind good some. settled.used d kind good some) q put.0) ];
+  unwritten = λ o settled. shares_empty pruned.keeps;
   used = λ o d kind is. used_stays o steady pruned d kind is;
   files = files_kept pruned.keeps;
   links = tidy_links s names;
@@ -454,5 +461,6 @@ tidied_of {v = v} same q was = record {
   creates = record {
     each = λ o none. absurd none;
     only = λ p id below had. elim (was.creates.only p id below had) [ inl before ↦ inl (q.3 (p, file id) before) | inr new ↦ absurd new.1.1 ];
+    one = λ o none. absurd none;
   };
 }

@@ -3,6 +3,7 @@ use Rattle.std.specs.Prelude.{◌≡◌, ◌≢◌, ◌⊎◌, ◌++◌, ◌∷�
 use Rattle.fp_host.specs.Paths.{Elements, Slot, absent, dir, IsAbove}
 use Rattle.fp_host.specs.View.{View}
 use Rattle.fp_host.specs.Calls.{IsFile}
+use Rattle.fp_host.specs.Frame.{NoPath}
 use Rattle.fp_host.specs.Outcome.{gone, Disk, IsSettled, shows}
 use Rattle.fp_base.specs.declared.object.ObjKind.{ObjKind}
 use Rattle.fp_name.specs.Grammar.{is_remote_name}
@@ -46,12 +47,14 @@ pub data MayTidy (s : State) (q : Elements) (e : Slot) : Type 0 where
   object_gone : (d : List ℕ) (kind : ObjKind) → is_digest d ≡ true → q ≡ object_path repo d kind → e ≡ absent → MayTidy s q e
 
 -- At every moment: what every stop left before it leaves now, a name is what it was or what tidying makes of it, and where all is
--- settled no name changes. Each object that a kept commit uses is as it was. Each file that was there keeps its mode and its
--- bytes, one that comes to a commit's folder is a record or was put below the store's objects, and nothing is printed.
+-- settled no name changes and no new file has a byte. Each object that a kept commit uses is as it was. Each file that was
+-- there keeps its mode and its bytes, one that comes to a commit's folder is a record or was put below the store's objects, and
+-- nothing is printed.
 pub record Tidies (s : State) (u w : View) : Type 0 where
   pub opens : Opens s u → Opens s w
   pub names : (q : Elements) → (w.names q ≡ u.names q) ⊎ MayTidy s q (w.names q)
   pub idle : Opens s u → Settled (shows u) → (q : Elements) → w.names q ≡ u.names q
+  pub unwritten : Opens s u → Settled (shows u) → Shares NoPath u w
   pub used : Opens s u → (d : List ℕ) (kind : ObjKind) → Used (shows u) d kind → store repo (shows w) d kind ≡ store repo (shows u) d kind
   pub files : KeepsFiles u w
   pub links : Links u w

@@ -38,7 +38,7 @@ module _ {May : Op → Type 0} {s : State} where
   acts_nothing f {o = o} told is = works_stays (Ok s) told (λ x first. not_begun s f o.holdings x)
       (λ x first. record {
         performed = λ held known rests. subst (λ (a : Answer). Performed held a (world_at s x) (Ok s) x x) (sym (is x first held known rests))
-            (refl, refl, none_done held nothing (world_at s x) x refl (holds_at s x rests.opens));
+            (refl, refl, none_done held nothing (world_at s x) x refl (holds_at s x rests.opens) rests.settled);
       })
       (λ x opens. opens) (λ no. cc no) (λ no. cc no)
 
@@ -47,7 +47,7 @@ module _ {May : Op → Type 0} {s : State} where
   acts_refused f r {o = o} told is = works_stays (Err (Refused r)) told (λ x first. not_begun s f o.holdings x)
       (λ x first. record {
         performed = λ held known rests. subst (λ (a : Answer). Performed held a (world_at s x) (Err (Refused r)) x x) (sym (is x first held known rests))
-            (refl, none_done held (refusal_answer r) (world_at s x) x refl (holds_at s x rests.opens));
+            (refl, none_done held (refusal_answer r) (world_at s x) x refl (holds_at s x rests.opens) rests.settled);
       })
       (λ x. tt) (λ no. cc no) (λ no. cc no)
 
@@ -123,12 +123,12 @@ module _ {May : Op → Type 0} {s : State} where
       (λ x y z p q n. record {
         performs = λ held known rests.
             let d = q.1.performed held known rests in
-            performs_second held f g s t x y z d (q.0.performs held known rests).files (n.performs held known (left_rests held (f held (world_at s x)) s t y rests d));
+            performs_second held f g s t x y z d (q.0.performs held known rests).files (n.performs held known (left_rests held (f held (world_at s x)) s t x y d));
       })
       (λ x y z p q n l. record {
         performed = λ held known rests.
             let d = q.1.performed held known rests in
-            let at = left_rests held (f held (world_at s x)) s t y rests d in
+            let at = left_rests held (f held (world_at s x)) s t x y d in
             performed_second held f g s t r x y z d (q.0.performs held known rests).files (n.performs held known at).files (l.performed held known at);
       })
 
@@ -144,7 +144,7 @@ module _ {A : Type 0} (item : A → Holdings → World → Answer) (all : List A
 
   pub turn_begins : {o : Outside} → IsTold o.told → Turned all s o o
   turn_begins {o = o} told = works_stays (Ok s) told (λ x first. not_begun s (each_over item all) o.holdings x)
-      (λ x first. record { stage = λ held known rests. first_stage item held all s rests.opens }) (λ x opens. opens) (λ no. cc no) (λ no. cc no)
+      (λ x first. record { stage = λ held known rests. first_stage item held all s rests }) (λ x opens. opens) (λ no. cc no) (λ no. cc no)
 
   next_held : (a : A) (t : State) (r : Result State RunEnd) (u : Outside) {v w : Outside} → v.holdings ≡ u.holdings → Acts (Rests t) May (item a) t r v w → Works May t (PerformsOver (Rests t) u.holdings (item a) t) (PerformedOver (Rests t) u.holdings (item a) t r) r v w
   next_held a t r u {v = v} {w = w} same acts = subst (λ (h : Option Holdings). Works May t (PerformsOver (Rests t) h (item a) t) (PerformedOver (Rests t) h (item a) t r) r v w) same acts
@@ -153,7 +153,7 @@ module _ {A : Type 0} (item : A → Holdings → World → Answer) (all : List A
   turning a left t x y z q n = record {
     performs = λ held known rests.
         let stage = q.stage held known rests in
-        stage_performs item held all a left s t stage (n.performs held known (stage_rests item held all (a ∷ left) s t rests stage));
+        stage_performs item held all a left s t stage (n.performs held known (stage_rests item held all (a ∷ left) s t stage));
   }
 
   pub turn_goes_on : (a : A) (left : List A) (t t' : State) {u v w : Outside} → IsTold v.told → Turned (a ∷ left) t u v → Acts (Rests t) May (item a) t (Ok t') v w → Turned left t' u w
@@ -162,7 +162,7 @@ module _ {A : Type 0} (item : A → Holdings → World → Answer) (all : List A
       (λ x y z p q n l. record {
         stage = λ held known rests.
             let stage = q.stage held known rests in
-            let at = stage_rests item held all (a ∷ left) s t rests stage in
+            let at = stage_rests item held all (a ∷ left) s t stage in
             next_stage item held all a left s t stage t' (n.performs held known at).files (l.performed held known at);
       })
 
@@ -172,7 +172,7 @@ module _ {A : Type 0} (item : A → Holdings → World → Answer) (all : List A
       (λ x y z p q n l. record {
         performed = λ held known rests.
             let stage = q.stage held known rests in
-            let at = stage_rests item held all (a ∷ left) s t rests stage in
+            let at = stage_rests item held all (a ∷ left) s t stage in
             stage_failed item held all a left s t stage e z (n.performs held known at).files (l.performed held known at);
       })
 

@@ -2,6 +2,7 @@
 use Rattle.std.proofs.Common.{◌≡◌, ◌≤◌, inl, inr, ℕ, List, [], ◌∷◌, length, get_or, false, Contains, refl, sym, ◌∙◌, ap, subst, arith}
 use Rattle.fp_host.specs.Paths.{Elements, Slot, IsAbove}
 use Rattle.fp_host.specs.View.{View}
+use Rattle.fp_host.specs.Outcome.{shows}
 use Rattle.fp_name.specs.Refs.{Ref}
 use Rattle.fp_name.specs.declared.kind.RefKind.{RefKind}
 use Rattle.fp_name.specs.declared.kind.RefKind.TheVariants.{App, Runtime}
@@ -12,13 +13,15 @@ use Rattle.fp_small.specs.Places.{repo, tmp}
 use Rattle.fp_small.specs.Replace.{ReplacesName, folders_of}
 use Rattle.fp_small.specs.Shares.{Shares}
 use Rattle.fp_small.proofs.Keeping.{files_stay, files_on}
-use Rattle.fp_small.proofs.Sharing.{shares_none}
+use Rattle.fp_small.proofs.Sharing.{shares_none, shares_refl, shares_on}
 use Rattle.fp_small.specs.declared.state.State.{State}
 use Rattle.fp_small.specs.declared.op.Op.{Op}
 use Rattle.fp_small.specs.declared.op.Op.TheVariants.{Install, Update, Uninstall, AddPin, DropPin, AddRemote, ModifyRemote, DropRemote, SetOverride, DropOverride, Migrate, Rollback}
 use Rattle.fp_name.specs.Kinds.{kind_word}
 use Rattle.ost_store.proofs.Lists.{in_none, in_cases}
 use Rattle.dep_states.specs.Names.{config, commit_dir, override_path}
+use Rattle.dep_states.specs.Settled.{Settled}
+use Rattle.dep_states.specs.Sound.{Opens}
 use Rattle.dep_states.proofs.Linked.{links_still, links_on}
 use Rattle.dep_switch.specs.Writing.{new_deploy, new_folder, the_link, new_link}
 use Rattle.dep_tidy.specs.Tidy.{MayTidy, Tidies}
@@ -27,7 +30,7 @@ use Rattle.op_deploy.specs.Applied.{DeploysName, work_goes, before_switch, at_ac
 use Rattle.op_bring.specs.Bringing.{IsFolderFor, above_commit, above_object, above_head, for_work, BringsName, some_work, in_folder, a_record, at_active, an_object, a_config, a_folder}
 use Rattle.op_change.specs.Applied.{MayChange, ChangesBy}
 use Rattle.fl_change.specs.Answer.{sets_config}
-use Rattle.fl_change.specs.Changes.{MayHold, operated, tidied, Changes, OnlyTidied, IsUntouched, HasText}
+use Rattle.fl_change.specs.Changes.{MayHold, operated, tidied, Changes, OnlyTidied, IsStill, IsUntouched, HasText}
 
 pub change_on : {May : Op → Type 0} (u v w : View) → Changes May u v → Changes May v w → Changes May u w
 change_on {May = May} u v w first second = record {
@@ -119,6 +122,29 @@ tidied_not = tidied_none (λ q. refl)
 
 pub tidies_only : {s : State} {u w : View} → Tidies s u w → OnlyTidied s u w
 tidies_only tidies = record { names = tidies.names }
+
+-- ---- where nothing is written
+
+pub still_on : {u v w : View} → IsStill u v → IsStill v w → KeepsFiles v w → IsStill u w
+still_on first second kept = record {
+  names = λ q. second.names q ∙ first.names q;
+  unwritten = shares_on first.unwritten second.unwritten kept;
+}
+
+-- nothing is done
+pub still_not : {v : View} → IsStill v v
+still_not = record { names = λ q. refl; unwritten = shares_refl }
+
+pub still_untouched : {u w : View} → IsUntouched u w → IsStill u w
+still_untouched same = record { names = same.names; unwritten = none_made same }
+
+-- where all was settled
+pub tidies_still : {s : State} {u w : View} → Tidies s u w → Opens s u → Settled (shows u)
+    → IsStill u w
+tidies_still tidies opens settled = record {
+  names = tidies.idle opens settled;
+  unwritten = tidies.unwritten opens settled;
+}
 
 -- ---- `config`
 

@@ -22,6 +22,7 @@ use Rattle.ost_store.proofs.Creating.{creates_refl, creates_to, creates_on}
 use Rattle.dep_states.specs.Lasting.{IsLasting}
 use Rattle.dep_states.specs.Names.{config}
 use Rattle.dep_states.specs.Shown.{settings_of}
+use Rattle.dep_states.specs.Settled.{Settled}
 use Rattle.dep_states.specs.Sound.{Opens}
 use Rattle.dep_states.specs.After.{Done, May, plain, after, IsOnConfig}
 use Rattle.dep_states.specs.Switch.{OpensEither}
@@ -38,7 +39,7 @@ use Rattle.fl_change.specs.Performs.{Printed, IsSome, Performs, Holds, IsDone, I
 use Rattle.fl_change.specs.declared.end.RunEnd.TheVariants.{Refused}
 use Rattle.fl_change.specs.Says.{Says, WasSaid}
 use Rattle.fl_change.proofs.Brought.{plainly, done_is, supplied_is, world_is, same_world}
-use Rattle.fl_change.proofs.Changing.{config_kept, config_tidied, tidied_not, keeps_files, none_made, text_on}
+use Rattle.fl_change.proofs.Changing.{config_kept, config_tidied, tidied_not, still_not, keeps_files, none_made, text_on}
 use Rattle.fl_change.proofs.Created.{none_created, no_ops_created, lacks_is, brought_is, one_created}
 use Rattle.fl_change.proofs.Pulled.{op_pulls}
 use Rattle.fl_change.proofs.Resting.{small_rest}
@@ -60,18 +61,27 @@ pub not_done : (a : Answer) (s : State) {v : View} (disk : Disk) → Opens s v �
 not_done a s disk opens left = record { done = []; undone = ops_of a; prefix = refl; more = []; holds = refl; shown = opens.shown disk left; sound = opens.sound disk left }
 
 pub not_yet : (a : Answer) (s : State) {v : View} → Opens s v → Performs a s v v
-not_yet a s opens = record { said = []; so_far = none_yet a refl; files = files_stay; only_tidied = λ idle. tidied_not; some = λ disk left. not_done a s disk opens left }
+not_yet a s opens = record {
+  said = [];
+  so_far = none_yet a refl;
+  files = files_stay;
+  only_tidied = λ idle. tidied_not;
+  still = λ idle settled. still_not;
+  some = λ disk left. not_done a s disk opens left;
+}
 
 pub halted : (a : Answer) (s : State) {v : View} → Opens s v → IsHalted a s v v
 halted a s opens = record { said = []; so_far = none_yet a refl; opens = opens }
 
 -- nothing is done, and so it is done
-pub none_done : (held : Holdings) (a : Answer) (x : World) (v : View) → a.pieces ≡ [] → Holds x v → IsDone held a x v v
-none_done held a x v none holds = record {
+pub none_done : (held : Holdings) (a : Answer) (x : World) (v : View) → a.pieces ≡ [] → Holds x v
+    → Settled (shows v) → IsDone held a x v v
+none_done held a x v none holds settled = record {
   only_tidied = λ no. tidied_not;
+  still = λ no was. still_not;
   printed = sym (append-nil v.printed) ∙ ap (λ (l : List Piece). v.printed ++ joined l) (sym none);
   holds = subst (λ (l : List Piece). Holds (worlds_after held x (ops_in l)) v) (sym none) holds;
-  tidied = λ why. elim why [ inl tidy ↦ tidy | inr some ↦ absurd (some (ap ops_in none)) ];
+  tidied = settled;
   text = λ some. absurd (let both : false ≡ true = ap (λ (l : List Piece). set_config (ops_in l)) (sym none) ∙ some in cc both);
   config = λ not. refl;
   shares = λ no. shares_refl;
@@ -132,6 +142,7 @@ module _ (holds : Option Holdings) (held : Holdings) (told : holds ≡ Some held
         so_far = none_yet (done_answer (done_with here op)) changes.printed;
         files = changes.files;
         only_tidied = λ idle. absurd (made_some (done_with here op) idle.0);
+        still = λ idle settled. absurd (made_some (done_with here op) idle.0);
         some = λ disk left. one_of (done_with here op) s disk (applies.either held (λ b. told) rests.opens) left;
       }
   applying_by applies (Some r) is =
@@ -141,6 +152,7 @@ module _ (holds : Option Holdings) (held : Holdings) (told : holds ≡ Some held
         so_far = none_yet (refusal_answer r) changes.printed;
         files = changes.files;
         only_tidied = λ idle. absurd (op_pulls here op r is idle.1);
+        still = λ idle settled. absurd (op_pulls here op r is idle.1);
         some = λ disk left. not_done (refusal_answer r) s disk (applies.refused held (λ b. told) r is rests.opens) left;
       }
 
@@ -157,8 +169,9 @@ module _ (holds : Option Holdings) (held : Holdings) (told : holds ≡ Some held
       record {
         printed = changes.printed ∙ sym (append-nil v.printed);
         only_tidied = λ idle. absurd (op_pulls here op r is idle.1);
+        still = λ idle settled. absurd (op_pulls here op r is idle.1);
         holds = record { opens = was.opens known rests.opens; have = same_world s w rests (was.objects known rests.opens) };
-        tidied = λ why. was.settled known rests.opens rests.settled;
+        tidied = was.settled known rests.opens rests.settled;
         text = λ some. absurd (cc some);
         config = λ not. config_kept s op (refused_keeps here op r is) changes;
         shares = λ none. absurd (cc none);
@@ -297,6 +310,7 @@ module _ (held : Holdings) (op : Op) (s t : State) (v : View) where
       so_far = none_yet (done_answer d) (none ∙ a.printed);
       files = files_on a.files (keeps_files says.untouched);
       only_tidied = λ idle. absurd (made_some d idle.0);
+      still = λ idle settled. absurd (made_some d idle.0);
       some = λ disk left. all_done [] (d ∷ []) refl disk (same_opens says.follows a.holds.opens) left;
     }
     | inr more ↦ record {
@@ -304,6 +318,7 @@ module _ (held : Holdings) (op : Op) (s t : State) (v : View) where
       so_far = line_said (more ∙ ap (λ (p : List ℕ). p ++ op_text op) a.printed);
       files = files_on a.files (keeps_files says.untouched);
       only_tidied = λ idle. absurd (made_some d idle.0);
+      still = λ idle settled. absurd (made_some d idle.0);
       some = λ disk left. all_done (d ∷ []) [] refl disk (same_opens says.follows a.holds.opens) left;
     }
   ])
@@ -343,6 +358,7 @@ module _ (held : Holdings) (op : Op) (s t : State) (v : View) where
     so_far = printed_it done tidies;
     files = files_on done.files tidies.files;
     only_tidied = λ idle. absurd (made_some d idle.0);
+    still = λ idle settled. absurd (made_some d idle.0);
     some = λ disk left. all_done (d ∷ []) [] refl disk (opens_it done tidies) left;
   })
 
@@ -356,12 +372,14 @@ module _ (held : Holdings) (op : Op) (s t : State) (v : View) where
     record {
       printed = (printed_it done tidies).printed;
       only_tidied = λ idle. absurd (made_some d idle.0);
+      still = λ idle settled. absurd (made_some d idle.0);
       holds = holds_tidied (tidies_it done tidies) done.holds;
-      tidied = λ why. was.settled (subst (λ (q : State). Opens q w) (sym done.state) done.holds.opens) done.rest;
+      tidied = was.settled (subst (λ (q : State). Opens q w) (sym done.state) done.holds.opens) done.rest;
       text = λ some. text_on (config_tidied tidies) tidies.files (subst (λ (q : State). HasText q w) done.state (done.text (sets true some)));
       config = λ not. config_tidied tidies ∙ done.config (sets false not);
       shares = λ none. shares_on done.shares was.shares tidies.files;
-      creates = λ none. one_created held x op d op_is (creates_on done.creates was.creates done.files tidies.files);
+      creates = λ none. one_created held x op d op_is (files_on done.files tidies.files)
+          (creates_on done.creates was.creates done.files tidies.files);
     },
   )
 

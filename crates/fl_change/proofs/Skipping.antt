@@ -14,7 +14,7 @@ use Rattle.fl_change.specs.Ends.{end_of_host}
 use Rattle.fl_change.specs.Performs.{Printed, Performs, IsDone, PerformsOver, PerformedOver, Acts, Rests}
 use Rattle.fl_change.specs.Says.{Says, WasSaid}
 use Rattle.fl_change.specs.declared.end.RunEnd.{RunEnd}
-use Rattle.fl_change.proofs.Changing.{tidied_none, keeps_files, none_made}
+use Rattle.fl_change.proofs.Changing.{tidied_none, still_untouched, keeps_files, none_made}
 use Rattle.fl_change.proofs.Created.{none_created, no_ops_created}
 use Rattle.fl_change.proofs.Composing.{Saying, works_said, works_not_said}
 use Rattle.fl_change.proofs.Doing.{none_yet, not_done}
@@ -30,16 +30,31 @@ said_text text x y more = record { left = []; pieces = refl; printed = more ∙ 
 
 telling : (text : List ℕ) (s : State) {x y : View} → Rests s x → Says text x y → Performs (text_answer text) s x y
 telling text s {x = x} {y = y} rests says = elim says.printed [
-  | inl none ↦ record { said = []; so_far = none_yet (text_answer text) none; files = keeps_files says.untouched; only_tidied = λ idle. tidied_none says.untouched.names; some = λ disk left. not_done (text_answer text) s disk (same_opens says.follows rests.opens) left }
-  | inr more ↦ record { said = piece_of text ∷ []; so_far = said_text text x y more; files = keeps_files says.untouched; only_tidied = λ idle. tidied_none says.untouched.names; some = λ disk left. not_done (text_answer text) s disk (same_opens says.follows rests.opens) left }
+  | inl none ↦ record {
+    said = [];
+    so_far = none_yet (text_answer text) none;
+    files = keeps_files says.untouched;
+    only_tidied = λ idle. tidied_none says.untouched.names;
+    still = λ idle settled. still_untouched says.untouched;
+    some = λ disk left. not_done (text_answer text) s disk (same_opens says.follows rests.opens) left;
+  }
+  | inr more ↦ record {
+    said = piece_of text ∷ [];
+    so_far = said_text text x y more;
+    files = keeps_files says.untouched;
+    only_tidied = λ idle. tidied_none says.untouched.names;
+    still = λ idle settled. still_untouched says.untouched;
+    some = λ disk left. not_done (text_answer text) s disk (same_opens says.follows rests.opens) left;
+  }
 ]
 
 told : (held : Holdings) (text : List ℕ) (s : State) {x y : View} → Rests s x → WasSaid text x y → IsDone held (text_answer text) (world_at s x) x y
 told held text s {x = x} {y = y} rests was = record {
   printed = (said_text text x y was.printed).printed;
   only_tidied = λ idle. tidied_none was.untouched.names;
+  still = λ idle settled. still_untouched was.untouched;
   holds = holds_on (same_opens was.follows rests.opens) (same_objects x y was.shown) (holds_at s x rests.opens);
-  tidied = λ why. same_settled was.shown rests.settled;
+  tidied = same_settled was.shown rests.settled;
   text = λ some. absurd (cc some);
   config = λ not. was.untouched.names _;
   shares = λ none. none_made was.untouched;

@@ -1,5 +1,5 @@
 -- An installation that is tidied before anything else is done with it.
-use Rattle.std.proofs.Common.{◌≡◌, inl, List, [], ◌++◌, ℕ, Option, Result, Ok, Err, OnOk, refl, ◌∙◌, ap, subst}
+use Rattle.std.proofs.Common.{◌≡◌, List, [], ◌++◌, ℕ, Option, Result, Ok, Err, OnOk, refl, ◌∙◌, ap, subst}
 use Rattle.fp_host.specs.Causes.{IsCaused}
 use Rattle.fp_host.specs.Frame.{AtEnd}
 use Rattle.fp_host.specs.Moments.{Always}
@@ -17,19 +17,19 @@ use Rattle.fp_small.specs.Shares.{Shares}
 use Rattle.fp_small.proofs.Keeping.{files_on}
 use Rattle.fp_small.proofs.Sharing.{shares_on}
 use Rattle.ost_store.specs.Created.{Creates, NoObject}
-use Rattle.ost_store.proofs.Creating.{creates_after}
 use Rattle.ost_walk.specs.Ends.{Outside}
 use Rattle.dep_states.specs.Lasting.{IsLasting}
 use Rattle.dep_states.specs.Sound.{Opens}
 use Rattle.dep_states.specs.Settled.{Settled}
 use Rattle.dep_tidy.specs.Tidy.{Tidies, WasTidied}
 use Rattle.fl_change.specs.World.{World, world_at}
-use Rattle.fl_change.specs.Answer.{Answer, Piece, joined}
+use Rattle.fl_change.specs.Answer.{Answer, Piece, joined, ops_of}
 use Rattle.fl_change.specs.Ends.{end_of_host}
 use Rattle.fl_change.specs.Performs.{Printed, Performs, IsDone, IsHalted, Performed, PerformsOver, PerformedOver, Works, Acts, Rests}
 use Rattle.fl_change.specs.declared.end.RunEnd.{RunEnd}
 use Rattle.fl_change.specs.declared.end.RunEnd.TheVariants.{Refused, Fault, RemoteFault, NoMemory}
-use Rattle.fl_change.proofs.Changing.{tidied_on, tidies_only, config_tidied}
+use Rattle.fl_change.proofs.Changing.{tidied_on, tidies_only, still_on, tidies_still, config_tidied}
+use Rattle.fl_change.proofs.Created.{created_off}
 use Rattle.fl_change.proofs.Composing.{Tidying, works_tidied, works_untidied}
 use Rattle.fl_change.proofs.Doing.{none_yet, not_done}
 use Rattle.fl_change.proofs.Working.{works_as, works_on}
@@ -50,17 +50,25 @@ module _ (s : State) {u v : View} (tidies : Tidies s u v) (opens : Opens s u) wh
 
   -- nothing is done yet
   tidied_first : (a : Answer) → Performs a s u v
-  tidied_first a = record { said = []; so_far = none_yet a tidies.printed; files = tidies.files; only_tidied = λ idle. tidies_only tidies; some = λ disk left. not_done a s disk (tidies.opens opens) left }
+  tidied_first a = record {
+    said = [];
+    so_far = none_yet a tidies.printed;
+    files = tidies.files;
+    only_tidied = λ idle. tidies_only tidies;
+    still = λ idle settled. tidies_still tidies opens settled;
+    some = λ disk left. not_done a s disk (tidies.opens opens) left;
+  }
 
   halted_first : (a : Answer) → IsHalted a s u v
   halted_first a = record { said = []; so_far = none_yet a tidies.printed; opens = tidies.opens opens }
 
-  performs_moved : (a : Answer) {w : View} → Performs a s v w → Performs a s u w
-  performs_moved a performs = record {
+  performs_moved : Settled (shows v) → (a : Answer) {w : View} → Performs a s v w → Performs a s u w
+  performs_moved settled a performs = record {
     said = performs.said;
     so_far = first_moved tidies.printed performs.so_far;
     files = files_on tidies.files performs.files;
     only_tidied = λ idle. tidied_on (tidies_only tidies) (performs.only_tidied idle);
+    still = λ idle before. still_on (tidies_still tidies opens before) (performs.still idle settled) performs.files;
     some = performs.some;
   }
 
@@ -68,13 +76,14 @@ module _ (s : State) {u v : View} (tidies : Tidies s u v) (opens : Opens s u) wh
     done_moved : (a : Answer) {w : View} → KeepsFiles v w → IsDone held a (world_at s v) v w → IsDone held a (world_at s v) u w
     done_moved a kept done = record {
       only_tidied = λ idle. tidied_on (tidies_only tidies) (done.only_tidied idle);
+      still = λ idle before. still_on (tidies_still tidies opens before) (done.still idle settled) kept;
       printed = done.printed ∙ ap (λ (p : List ℕ). p ++ joined a.pieces) tidies.printed;
       holds = done.holds;
-      tidied = λ why. done.tidied (inl settled);
+      tidied = done.tidied;
       text = done.text;
       config = λ not. done.config not ∙ config_tidied tidies;
       shares = λ none. shares_on made (done.shares none) kept;
-      creates = λ none. creates_after creates (done.creates none) tidies.files kept;
+      creates = λ none. created_off held (world_at s v) (ops_of a) creates (done.creates none) tidies.files kept;
     }
 
     halted_moved : (a : Answer) {w : View} → IsHalted a s v w → IsHalted a s u w
@@ -105,7 +114,7 @@ acts_tidied_first {May = May} f s t r {u = u} {v = v} {w = w} told call acts = w
     (λ x y z p q n. record {
       performs = λ held known opens.
           let rests : Rests s y = record { opens = q.0.opens opens; settled = q.1.settled opens } in
-          subst (λ (a : World). Performs (f held a) s x z) (tidied_world s q.0 opens) (performs_moved s q.0 opens (f held (world_at s y)) (n.performs held known rests));
+          subst (λ (a : World). Performs (f held a) s x z) (tidied_world s q.0 opens) (performs_moved s q.0 opens rests.settled (f held (world_at s y)) (n.performs held known rests));
     })
     (λ x y z p q n l. record {
       performed = λ held known opens.

@@ -1,11 +1,12 @@
 -- What speaks against a change of the settings.
-use Rattle.std.proofs.Common.{◌≡◌, ◌<◌, ◌≤◌, ℕ, List, Bool, true, false, nat_le, length, Option, Some, None, option_map, if◌then◌else◌, Contains, IsTrue, ◌↔◌, refl, sym, ◌∙◌, ap, subst, arith}
+use Rattle.std.proofs.Common.{◌≡◌, ◌<◌, ◌≤◌, ◌+◌, ℕ, List, Bool, true, false, nat_le, length, Option, Some, None, option_map, if◌then◌else◌, Contains, IsTrue, ◌↔◌, refl, sym, ◌∙◌, ap, subst, arith}
 use Rattle.fp_base.specs.declared.what.What.TheVariants.{Pins, Remotes}
 use Rattle.fp_name.specs.Pins.{is_pin}
 use Rattle.fp_name.specs.Refs.{Ref}
 use Rattle.fp_small.proofs.Ordered.{is_contained, lacks}
 use Rattle.fp_small.specs.Config.{name_of, is_row}
 use Rattle.fp_small.specs.Order.{has_name}
+use Rattle.fp_small.specs.declared.limits.TheConstants.{MOST_PINS, MOST_REMOTES}
 use Rattle.fp_small.specs.declared.state.State.{State}
 use Rattle.fp_small.specs.declared.state.RefRow.{RefRow}
 use Rattle.fp_small.specs.declared.state.RemoteRow.{RemoteRow}
@@ -30,11 +31,11 @@ pinned false pins pin iff = lacks pins pin (λ has. let is : false ≡ true = if
 pub pin_exists : (r : Bool) (pins : List (List ℕ)) (pin copy : List ℕ) → (IsTrue r ↔ Contains pins pin) → r ≡ true → copy ≡ pin → add_pin_refusal pins pin ≡ Some (PinExists copy)
 pin_exists r pins pin copy iff is same = rw (pinned r pins pin iff, is, same) refl
 
-pub pin_full : (r : Bool) (pins : List (List ℕ)) (pin : List ℕ) → (IsTrue r ↔ Contains pins pin) → r ≡ false → 1024 ≤ length pins → add_pin_refusal pins pin ≡ Some (Limit Pins 1025)
-pin_full r pins pin iff is le = rw (pinned r pins pin iff, is, full 1024 (length pins) le) refl
+pub pin_full : (r : Bool) (pins : List (List ℕ)) (pin : List ℕ) → (IsTrue r ↔ Contains pins pin) → r ≡ false → MOST_PINS ≤ length pins → add_pin_refusal pins pin ≡ Some (Limit Pins (MOST_PINS + 1))
+pin_full r pins pin iff is le = rw (pinned r pins pin iff, is, full MOST_PINS (length pins) le) refl
 
-pub pin_new : (r : Bool) (pins : List (List ℕ)) (pin : List ℕ) → (IsTrue r ↔ Contains pins pin) → r ≡ false → length pins < 1024 → add_pin_refusal pins pin ≡ None
-pin_new r pins pin iff is lt = rw (pinned r pins pin iff, is, not_full 1024 (length pins) lt) refl
+pub pin_new : (r : Bool) (pins : List (List ℕ)) (pin : List ℕ) → (IsTrue r ↔ Contains pins pin) → r ≡ false → length pins < MOST_PINS → add_pin_refusal pins pin ≡ None
+pin_new r pins pin iff is lt = rw (pinned r pins pin iff, is, not_full MOST_PINS (length pins) lt) refl
 
 pub pin_lacking : (r : Bool) (pins : List (List ℕ)) (pin copy : List ℕ) → (IsTrue r ↔ Contains pins pin) → r ≡ false → copy ≡ pin → drop_pin_refusal pins pin ≡ Some (NoSuchPin copy)
 pin_lacking r pins pin copy iff is same = rw (pinned r pins pin iff, is, same) refl
@@ -42,15 +43,15 @@ pin_lacking r pins pin copy iff is same = rw (pinned r pins pin iff, is, same) r
 pub pin_there : (r : Bool) (pins : List (List ℕ)) (pin : List ℕ) → (IsTrue r ↔ Contains pins pin) → r ≡ true → drop_pin_refusal pins pin ≡ None
 pin_there r pins pin iff is = rw (pinned r pins pin iff, is) refl
 
-pub remote_full : (remotes : List RemoteRow) (name : List ℕ) → has_name name_of remotes name ≡ false → 256 ≤ length remotes → add_remote_refusal remotes name ≡ Some (Limit Remotes 257)
-remote_full remotes name is le = rw (is, full 256 (length remotes) le) refl
+pub remote_full : (remotes : List RemoteRow) (name : List ℕ) → has_name name_of remotes name ≡ false → MOST_REMOTES ≤ length remotes → add_remote_refusal remotes name ≡ Some (Limit Remotes (MOST_REMOTES + 1))
+remote_full remotes name is le = rw (is, full MOST_REMOTES (length remotes) le) refl
 
-pub remote_new : (remotes : List RemoteRow) (name : List ℕ) → has_name name_of remotes name ≡ false → length remotes < 256 → add_remote_refusal remotes name ≡ None
-remote_new remotes name is lt = rw (is, not_full 256 (length remotes) lt) refl
+pub remote_new : (remotes : List RemoteRow) (name : List ℕ) → has_name name_of remotes name ≡ false → length remotes < MOST_REMOTES → add_remote_refusal remotes name ≡ None
+remote_new remotes name is lt = rw (is, not_full MOST_REMOTES (length remotes) lt) refl
 
 -- ---- what nothing speaks against may be done
 
-pub add_pin_plain : (r : Bool) (s : State) (pin made : List ℕ) → (IsTrue r ↔ Contains s.pins pin) → r ≡ false → length s.pins < 1024 → is_pin pin ≡ true → made ≡ pin → IsPlain s (AddPin made)
+pub add_pin_plain : (r : Bool) (s : State) (pin made : List ℕ) → (IsTrue r ↔ Contains s.pins pin) → r ≡ false → length s.pins < MOST_PINS → is_pin pin ≡ true → made ≡ pin → IsPlain s (AddPin made)
 add_pin_plain r s pin made iff is few good same = subst (λ (p : List ℕ). IsPlain s (AddPin p)) (sym same) (record {
   layout = refl;
   allows = (good, (λ has. let both : false ≡ true = sym is ∙ iff.1 has in cc both), few);
@@ -61,7 +62,7 @@ add_pin_plain r s pin made iff is few good same = subst (λ (p : List ℕ). IsPl
 pub drop_pin_plain : (r : Bool) (s : State) (pin made : List ℕ) → (IsTrue r ↔ Contains s.pins pin) → r ≡ true → made ≡ pin → IsPlain s (DropPin made)
 drop_pin_plain r s pin made iff is same = subst (λ (p : List ℕ). IsPlain s (DropPin p)) (sym same) (record { layout = refl; allows = iff.0 is; short = tt; brings_none = λ b. b })
 
-pub add_remote_plain : (s : State) (row made : RemoteRow) → has_name name_of s.remotes row.name ≡ false → length s.remotes < 256 → is_row row ≡ true → made ≡ row → IsPlain s (AddRemote made)
+pub add_remote_plain : (s : State) (row made : RemoteRow) → has_name name_of s.remotes row.name ≡ false → length s.remotes < MOST_REMOTES → is_row row ≡ true → made ≡ row → IsPlain s (AddRemote made)
 add_remote_plain s row made is few good same = subst (λ (x : RemoteRow). IsPlain s (AddRemote x)) (sym same) (record { layout = refl; allows = (good, is, few); short = tt; brings_none = λ b. b })
 
 found : (there : Bool) (a : Refusal) → (if there then None else Some a) ≡ None → there ≡ true

@@ -1,5 +1,5 @@
 -- One answer after another.
-use Rattle.std.proofs.Common.{◌≡◌, ◌≢◌, ◌⊎◌, inl, inr, ℕ, List, [], ◌∷◌, ◌++◌, append_assoc, Bool, true, false, ◌||◌, Option, Some, None, Result, Ok, Err, refl, sym, ◌∙◌, ap, subst}
+use Rattle.std.proofs.Common.{◌≡◌, ℕ, List, [], ◌∷◌, ◌++◌, append_assoc, Bool, true, false, ◌||◌, Option, Some, None, Result, Ok, Err, refl, sym, ◌∙◌, ap, subst}
 use Rattle.std.proofs.lemmas.List.{append-nil}
 use Rattle.std.proofs.lemmas.List.Folds.{list_any-append}
 use Rattle.std.proofs.lemmas.Grind.{flat_map-append}
@@ -27,7 +27,7 @@ use Rattle.fl_change.specs.Changes.{HasText, OnlyTidied}
 use Rattle.fl_change.specs.Performs.{Printed, IsSome, Performs, Holds, IsDone, Performed, Rests}
 use Rattle.fl_change.specs.declared.end.RunEnd.{RunEnd}
 use Rattle.fl_change.specs.declared.end.RunEnd.TheVariants.{Refused, Fault, RemoteFault, NoMemory}
-use Rattle.fl_change.proofs.Changing.{tidied_on, text_on}
+use Rattle.fl_change.proofs.Changing.{tidied_on, still_on, text_on}
 use Rattle.fl_change.proofs.Created.{created_both}
 use Rattle.fl_change.proofs.Doing.{none_done}
 use Rattle.fl_change.proofs.Worlds.{holds_at, world_held, worlds_state}
@@ -94,6 +94,7 @@ performs_continued pieces None b s performs = record {
   so_far = printed_first pieces b performs.said performs.so_far;
   files = performs.files;
   only_tidied = λ idle. performs.only_tidied (first_none (ops_in pieces) (ops_in b.pieces) (sym (ops-append pieces b.pieces) ∙ idle.0), tt);
+  still = λ idle settled. performs.still (first_none (ops_in pieces) (ops_in b.pieces) (sym (ops-append pieces b.pieces) ∙ idle.0), tt) settled;
   some = λ disk left. some_first pieces b (ops_in performs.said) s (performs.some disk left);
 }
 performs_continued pieces (Some refusal) b s performs = performs
@@ -148,6 +149,7 @@ performs_onto : (held : Holdings) (pieces : List Piece) (b : Answer) (x y : Worl
 performs_onto held pieces b x y {w = w} {z = z} is done kept performs = record {
   files = files_on kept performs.files;
   only_tidied = λ idle. let both = no_ops pieces b idle.0 in tidied_on (done.only_tidied (both.0, tt)) (subst (λ (s : State). OnlyTidied s w z) (same_state held pieces x y is both.0) (performs.only_tidied (both.1, idle.1)));
+  still = λ idle settled. let both = no_ops pieces b idle.0 in still_on (done.still (both.0, tt) settled) (performs.still (both.1, idle.1) done.tidied) performs.files;
   said = pieces ++ performs.said;
   so_far = printed_second pieces b performs.said done.printed performs.so_far;
   some = λ disk left. some_second pieces b performs.said x.state y.state (ap (λ (w : World). w.state) is ∙ worlds_state held x (ops_in pieces)) (performs.some disk left);
@@ -196,27 +198,17 @@ settings_kept s (d ∷ ops) not = let none = both_false (sets_config d.op) (set_
 text_same : {s t : State} {v : View} → settings_of t ≡ settings_of s → HasText s v → HasText t v
 text_same {v = v} same text = record { id = text.id; name = text.name; row = text.row ∙ ap (λ (x : Settings). Some (record { mode = 420; bytes = config_text x })) (sym same) }
 
--- where both are not empty, one isn't
-one_made : (xs ys : List Done) → xs ++ ys ≢ [] → (xs ≢ []) ⊎ (ys ≢ [])
-one_made [] ys some = inr some
-one_made (x ∷ xs) ys some = inl (λ none. cc none)
-
 done_onto : (held : Holdings) (pieces : List Piece) (b : Answer) (x y : World) {v w z : View} → y ≡ worlds_after held x (ops_in pieces) → IsDone held (unrefused pieces) x v w → IsDone held b y w z → KeepsFiles v w → KeepsFiles w z → IsDone held (continued pieces None b) x v z
 done_onto held pieces b x y {v = v} {w = w} {z = z} is done next before kept = record {
   only_tidied = λ idle. let both = no_ops pieces b idle.0 in tidied_on (done.only_tidied (both.0, tt)) (subst (λ (s : State). OnlyTidied s w z) (same_state held pieces x y is both.0) (next.only_tidied (both.1, idle.1)));
+  still = λ idle settled. let both = no_ops pieces b idle.0 in still_on (done.still (both.0, tt) settled) (next.still (both.1, idle.1) done.tidied) kept;
   printed = next.printed ∙ ap (λ (p : List ℕ). p ++ joined b.pieces) done.printed ∙ append_assoc v.printed (joined pieces) (joined b.pieces) ∙ ap (λ (p : List ℕ). v.printed ++ p) (sym (joined-append pieces b.pieces));
   holds = subst (λ (q : World). Holds q z) (worlds_pieces held x y pieces b.pieces is) next.holds;
   text = λ some. subst (λ (q : State). HasText q z) after_both (text_by (set_config (ops_of b)) refl (set_both some));
   config = λ not. let none = none_set not in next.config none.1 ∙ done.config none.0;
   shares = λ none. shares_on (done.shares refl) (next.shares none) kept;
   creates = λ none. created_both held x y (ops_in pieces) (ops_of b) (ops_of (continued pieces None b)) is (ops-append pieces b.pieces) (done.creates refl) (next.creates none) before kept;
-  tidied = λ why. next.tidied (elim why [
-    | inl tidy ↦ inl (done.tidied (inl tidy))
-    | inr made ↦ elim (one_made (ops_in pieces) (ops_of b) (λ none. made (ops-append pieces b.pieces ∙ none))) [
-      | inl first ↦ inl (done.tidied (inr first))
-      | inr second ↦ inr second
-    ]
-  ]);
+  tidied = next.tidied;
 }
   where
     state : y.state ≡ after_all x.state (ops_in pieces)
@@ -270,17 +262,27 @@ then_is : (a b : Answer) → a.refusal ≡ None → continued a.pieces None b �
 then_is a b none = ap (λ (o : Option Refusal). continued a.pieces o b) (sym none)
 
 done_plain : (held : Holdings) (a : Answer) (x : World) {v w : View} → IsDone held a x v w → a.refusal ≡ None → IsDone held (unrefused a.pieces) x v w
-done_plain held a x done none = record { only_tidied = λ idle. done.only_tidied (idle.0, subst IsUnpulled (sym none) tt); printed = done.printed; holds = done.holds; tidied = done.tidied; text = done.text; config = done.config; shares = λ ok. done.shares none; creates = λ ok. done.creates none }
+done_plain held a x done none = record {
+  printed = done.printed;
+  only_tidied = λ idle. done.only_tidied (idle.0, subst IsUnpulled (sym none) tt);
+  still = λ idle settled. done.still (idle.0, subst IsUnpulled (sym none) tt) settled;
+  holds = done.holds;
+  tidied = done.tidied;
+  text = done.text;
+  config = done.config;
+  shares = λ ok. done.shares none;
+  creates = λ ok. done.creates none;
+}
 
 -- the world in which the first leaves the view
 pub left_world : (held : Holdings) (a : Answer) (s t : State) (v w : View) → Performed held a (world_at s v) (Ok t) v w → world_at t w ≡ worlds_after held (world_at s v) (ops_of a)
 left_world held a s t v w done = world_held t (done.1 ∙ sym (worlds_state held (world_at s v) (ops_of a))) done.2.holds
 
--- where it is settled before
-pub left_rests : (held : Holdings) (a : Answer) (s t : State) {v : View} (w : View) → Rests s v → Performed held a (world_at s v) (Ok t) v w → Rests t w
-left_rests held a s t {v = v} w rests done = record {
+-- and all is at rest there
+pub left_rests : (held : Holdings) (a : Answer) (s t : State) (v w : View) → Performed held a (world_at s v) (Ok t) v w → Rests t w
+left_rests held a s t v w done = record {
   opens = subst (λ (q : State). Opens q w) (worlds_state held (world_at s v) (ops_of a) ∙ sym done.1) done.2.holds.opens;
-  settled = done.2.tidied (inl rests.settled);
+  settled = done.2.tidied;
 }
 
 -- ---- one answer after another, over an installation
@@ -324,8 +326,14 @@ module _ {A : Type 0} (item : A → Holdings → World → Answer) (held : Holdi
     pub done : IsDone held (unrefused pieces) (world_at s v) v w
 
   -- none is done
-  pub first_stage : (all : List A) (s : State) {v : View} → Opens s v → StageOver all all s s v v
-  first_stage all s {v = v} opens = record { pieces = []; same = refl; state = refl; files = files_stay; done = none_done held (unrefused []) (world_at s v) v refl (holds_at s v opens) }
+  pub first_stage : (all : List A) (s : State) {v : View} → Rests s v → StageOver all all s s v v
+  first_stage all s {v = v} rests = record {
+    pieces = [];
+    same = refl;
+    state = refl;
+    files = files_stay;
+    done = none_done held (unrefused []) (world_at s v) v refl (holds_at s v rests.opens) rests.settled;
+  }
 
   module _ (all : List A) (a : A) (left : List A) (s t : State) {v w : View} (stage : StageOver all (a ∷ left) s t v w) where
     -- the world that was reached
@@ -366,10 +374,10 @@ module _ {A : Type 0} (item : A → Holdings → World → Answer) (held : Holdi
         (failed_followed held next_answer later_answer (world_at t w) e w z failed))
 
   -- what was reached is at rest
-  pub stage_rests : (all left : List A) (s t : State) {v w : View} → Rests s v → StageOver all left s t v w → Rests t w
-  stage_rests all left s t {v = v} {w = w} rests stage = record {
+  pub stage_rests : (all left : List A) (s t : State) {v w : View} → StageOver all left s t v w → Rests t w
+  stage_rests all left s t {v = v} {w = w} stage = record {
     opens = subst (λ (q : State). Opens q w) (worlds_state held (world_at s v) (ops_in stage.pieces) ∙ sym stage.state) stage.done.holds.opens;
-    settled = stage.done.tidied (inl rests.settled);
+    settled = stage.done.tidied;
   }
 
   -- all are done
@@ -379,4 +387,4 @@ module _ {A : Type 0} (item : A → Holdings → World → Answer) (held : Holdi
       let opens = subst (λ (q : State). Opens q w) (worlds_state held (world_at s v) (ops_in stage.pieces) ∙ sym stage.state) stage.done.holds.opens in
       subst (λ (q : Answer). Performed held q (world_at s v) (Ok t) v w) (sym stage.same)
       (performed_onto held stage.pieces nothing (world_at s v) (world_at t w) (Ok t) v w w x stage.done stage.files files_stay
-      (refl, refl, none_done held nothing (world_at t w) w refl (holds_at t w opens)))
+      (refl, refl, none_done held nothing (world_at t w) w refl (holds_at t w opens) stage.done.tidied))

@@ -2,8 +2,11 @@
 use Rattle.std.specs.Prelude.{◌≡◌, ◌⊎◌, ℕ, Some}
 use Rattle.fp_host.specs.Paths.{Elements, Slot, file}
 use Rattle.fp_host.specs.View.{View}
+use Rattle.fp_host.specs.Frame.{NoPath}
 use Rattle.fp_small.specs.Files.{KeepsFiles}
+use Rattle.fp_small.specs.Shares.{Shares}
 use Rattle.fp_small.specs.Config.{config_text}
+use Rattle.fp_small.specs.declared.limits.TheConstants.{FILE_MODE}
 use Rattle.fp_small.specs.declared.state.State.{State}
 use Rattle.dep_states.specs.Links.{Links}
 use Rattle.dep_states.specs.Names.{config}
@@ -28,6 +31,11 @@ pub record Changes (May : Op → Type 0) (u w : View) : Type 0 where
 pub record OnlyTidied (s : State) (u w : View) : Type 0 where
   pub names : (q : Elements) → (w.names q ≡ u.names q) ⊎ MayTidy s q (w.names q)
 
+-- No name changes, and no new file has a byte.
+pub record IsStill (u w : View) : Type 0 where
+  pub names : (q : Elements) → w.names q ≡ u.names q
+  pub unwritten : Shares NoPath u w
+
 -- Nothing changes but what is printed: no name, nothing that a stop may bring back at one, and no file; none is new, and
 -- nothing was put at a name.
 pub record IsUntouched (u w : View) : Type 0 where
@@ -41,4 +49,4 @@ pub record IsUntouched (u w : View) : Type 0 where
 pub record HasText (s : State) (v : View) : Type 0 where
   pub id : ℕ
   pub name : v.names config ≡ file id
-  pub row : v.files id ≡ Some (record { mode = 420; bytes = config_text (settings_of s) })
+  pub row : v.files id ≡ Some (record { mode = FILE_MODE; bytes = config_text (settings_of s) })

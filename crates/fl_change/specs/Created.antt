@@ -1,12 +1,16 @@
 -- Which objects operations make in the store.
-use Rattle.std.specs.Prelude.{◌≡◌, ◌⊎◌, ℕ, List, [], ◌∷◌, true, None, map}
+use Rattle.std.specs.Prelude.{◌≡◌, ℕ, List, [], ◌∷◌, true, None, map}
 use Rattle.fp_host.specs.Remote.{Holdings}
+use Rattle.fp_host.specs.View.{View}
 use Rattle.fp_name.specs.Hex.{is_digest}
 use Rattle.fp_base.specs.declared.object.ObjKind.{ObjKind}
+use Rattle.fp_small.specs.Files.{KeepsFiles}
+use Rattle.fp_small.specs.Places.{repo}
 use Rattle.fp_small.specs.declared.op.Op.{Op}
 use Rattle.fp_small.specs.declared.op.Op.TheVariants.{Install, Update, Uninstall, AddPin, DropPin, AddRemote, ModifyRemote, DropRemote, SetOverride, DropOverride, Migrate, Rollback}
 use Rattle.ost_model.specs.Objects.{Have}
 use Rattle.ost_model.specs.Order.{In, order}
+use Rattle.ost_store.specs.Created.{Creates, NoObject}
 use Rattle.ost_walk.specs.Steps.{place_name}
 use Rattle.dep_states.specs.After.{Done}
 use Rattle.fl_change.specs.World.{World, supplied, world_after}
@@ -32,7 +36,10 @@ LacksFor held x (DropOverride name) o = ⊥
 LacksFor held x Migrate o = ⊥
 LacksFor held x (Rollback name commit) o = ⊥
 
--- one of the operations lacks it, over the world that those before it leave
-abbrev pub IsCreated : Holdings → World → List Done → List ℕ × ObjKind → Type 0
-IsCreated held x [] o = ⊥
-IsCreated held x (done ∷ rest) o = LacksFor held x done.op o ⊎ IsCreated held (world_after held x done) rest o
+-- From u to w these operations make objects one after another: each just those that it lacks over the world that those before it
+-- leave, and where none is left no object is made.
+abbrev pub CreatesInTurn : Holdings → World → List Done → View → View → Type 0
+CreatesInTurn held x [] u w = Creates repo NoObject u w
+CreatesInTurn held x (done ∷ rest) u w =
+    (v : View) × KeepsFiles u v × KeepsFiles v w × Creates repo (LacksFor held x done.op) u v
+    × CreatesInTurn held (world_after held x done) rest v w

@@ -1,5 +1,5 @@
 -- What a command does over an installation that was opened.
-use Rattle.std.specs.Prelude.{◌≡◌, ◌≢◌, ◌⊎◌, true, false, [], Option, ◌++◌, List, Some, None, Result, Ok, Err, IsErrOf}
+use Rattle.std.specs.Prelude.{◌≡◌, true, false, Option, ◌++◌, List, Some, None, Result, Ok, Err, IsErrOf}
 use Rattle.fp_host.specs.Causes.{IsCaused}
 use Rattle.fp_host.specs.Frame.{AtEnd}
 use Rattle.fp_host.specs.Moments.{Goes, Always}
@@ -27,8 +27,8 @@ use Rattle.fl_lines.specs.Lines.{op_text}
 use Rattle.fl_change.specs.World.{World, world_at, used_of, supplied, world_after, worlds_after}
 use Rattle.fl_change.specs.Answer.{Answer, Piece, joined, ops_in, ops_of, lines_of, sets_config, set_config, keeps_commits, IsIdle}
 use Rattle.fl_change.specs.Refs.{op_over}
-use Rattle.fl_change.specs.Changes.{Changes, OnlyTidied, HasText}
-use Rattle.fl_change.specs.Created.{LacksFor, IsCreated}
+use Rattle.fl_change.specs.Changes.{Changes, OnlyTidied, IsStill, HasText}
+use Rattle.fl_change.specs.Created.{LacksFor, CreatesInTurn}
 use Rattle.fl_change.specs.declared.end.RunEnd.{RunEnd}
 use Rattle.fl_change.specs.declared.end.RunEnd.TheVariants.{Refused, Fault, RemoteFault, NoMemory}
 
@@ -49,12 +49,14 @@ pub record IsSome (a : Answer) (acknowledged : List Done) (s : State) (disk : Di
   pub sound : Sound disk
 
 -- At every moment: the first pieces are said, each file that was there is as it was, and every stop leaves the state after a prefix
--- of the operations. Where there are none, and nothing is pulled, names only changed by tidying.
+-- of the operations. Where there are none, and nothing is pulled, names only changed by tidying; and where all was settled besides,
+-- no name changed and no new file has a byte.
 pub record Performs (a : Answer) (s : State) (v w : View) : Type 0 where
   pub said : List Piece
   pub so_far : Printed a said v w
   pub files : KeepsFiles v w
   pub only_tidied : IsIdle a → OnlyTidied s v w
+  pub still : IsIdle a → Settled (shows v) → IsStill v w
   pub some : (disk : Disk) → Leaves w disk → IsSome a (ops_in said) s disk
 
 -- every outcome shows the world's state and is Sound, and what the state's commits use are the world's objects
@@ -62,18 +64,19 @@ pub record Holds (x : World) (v : View) : Type 0 where
   pub opens : Opens x.state v
   pub have : x.have ≡ used_of x.state (store repo (shows v))
 
--- All that isn't the line of a refusal was printed, every stop leaves the state after all operations, and all is settled,
--- where it was or an operation was done. Where one of them set it, `config` has just its text; else it is as it was. Without
--- a refusal each new file that has bytes came to a lasting name, and just the objects were made that the operations lacked.
+-- All that isn't the line of a refusal was printed, every stop leaves the state after all operations, and all is settled.
+-- Where one of them set it, `config` has just its text; else it is as it was. Without a refusal each new file that has bytes came
+-- to a lasting name, and each operation in turn made just the objects that it lacked.
 pub record IsDone (held : Holdings) (a : Answer) (x : World) (v w : View) : Type 0 where
   pub printed : w.printed ≡ v.printed ++ joined a.pieces
   pub only_tidied : IsIdle a → OnlyTidied x.state v w
+  pub still : IsIdle a → Settled (shows v) → IsStill v w
   pub holds : Holds (worlds_after held x (ops_of a)) w
-  pub tidied : Settled (shows v) ⊎ (ops_of a ≢ []) → Settled (shows w)
+  pub tidied : Settled (shows w)
   pub text : set_config (ops_of a) ≡ true → HasText (after_all x.state (ops_of a)) w
   pub config : set_config (ops_of a) ≡ false → w.names config ≡ v.names config
   pub shares : a.refusal ≡ None → Shares IsLasting v w
-  pub creates : a.refusal ≡ None → Creates repo (IsCreated held x (ops_of a)) v w
+  pub creates : a.refusal ≡ None → CreatesInTurn held x (ops_of a) v w
 
 -- every stop leaves the state after the acknowledged operations
 pub record IsHalted (a : Answer) (s : State) (v w : View) : Type 0 where

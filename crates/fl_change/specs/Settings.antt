@@ -1,11 +1,12 @@
 -- What speaks against a change of the settings.
-use Rattle.std.specs.Prelude.{ℕ, List, Bool, length, nat_le, find, Option, Some, None, option_map, if◌then◌else◌}
+use Rattle.std.specs.Prelude.{ℕ, ◌+◌, List, Bool, length, nat_le, find, Option, Some, None, option_map, if◌then◌else◌}
 use Rattle.std.specs.List.{list_any}
 use Rattle.std.specs.Str.{bytes_eq}
 use Rattle.fp_base.specs.declared.what.What.TheVariants.{Pins, Remotes}
 use Rattle.fp_name.specs.Refs.{Ref}
 use Rattle.fp_small.specs.Config.{name_of}
 use Rattle.fp_small.specs.Order.{has_name}
+use Rattle.fp_small.specs.declared.limits.TheConstants.{MOST_PINS, MOST_REMOTES}
 use Rattle.fp_small.specs.declared.state.State.{State}
 use Rattle.fp_small.specs.declared.state.RefRow.{RefRow}
 use Rattle.fp_small.specs.declared.state.RemoteRow.{RemoteRow}
@@ -17,14 +18,14 @@ is_pinned pins pin = list_any (bytes_eq pin) pins
 
 -- there may be 1,024 pins
 abbrev pub add_pin_refusal : List (List ℕ) → List ℕ → Option Refusal
-add_pin_refusal pins pin = if is_pinned pins pin then Some (PinExists pin) else (if nat_le 1024 (length pins) then Some (Limit Pins 1025) else None)
+add_pin_refusal pins pin = if is_pinned pins pin then Some (PinExists pin) else (if nat_le MOST_PINS (length pins) then Some (Limit Pins (MOST_PINS + 1)) else None)
 
 abbrev pub drop_pin_refusal : List (List ℕ) → List ℕ → Option Refusal
 drop_pin_refusal pins pin = if is_pinned pins pin then None else Some (NoSuchPin pin)
 
 -- there may be 256 remotes
 abbrev pub add_remote_refusal : List RemoteRow → List ℕ → Option Refusal
-add_remote_refusal remotes name = if has_name name_of remotes name then Some (RemoteExists name) else (if nat_le 256 (length remotes) then Some (Limit Remotes 257) else None)
+add_remote_refusal remotes name = if has_name name_of remotes name then Some (RemoteExists name) else (if nat_le MOST_REMOTES (length remotes) then Some (Limit Remotes (MOST_REMOTES + 1)) else None)
 
 abbrev pub remote_refusal : List RemoteRow → List ℕ → Option Refusal
 remote_refusal remotes name = if has_name name_of remotes name then None else Some (NoSuchRemote name)

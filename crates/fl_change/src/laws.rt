@@ -1,12 +1,13 @@
 //! Laws of worlds, of changes in turn, and of what changes of the settings answer. Each is the contract of a function that does
 //! nothing.
-ghost use Rattle.std.specs.Prelude.{◌≡◌, ◌≤◌, ◌<◌, ℕ, List, [], ◌∷◌, true, false, length, Some, None};
+ghost use Rattle.std.specs.Prelude.{◌≡◌, ◌≤◌, ◌<◌, ◌+◌, ℕ, List, [], ◌∷◌, true, false, length, Some, None};
 ghost use Rattle.fp_base.specs.declared.object.ObjKind.{ObjKind};
 ghost use Rattle.fp_base.specs.declared.what.What.TheVariants as whats;
 ghost use Rattle.fp_host.specs.Remote.{Holdings};
 ghost use Rattle.fp_name.specs.Refs.{Ref};
 ghost use Rattle.fp_small.specs.Config.{name_of};
 ghost use Rattle.fp_small.specs.Order.{has_name};
+ghost use Rattle.fp_small.specs.declared.limits.TheConstants.{MOST_PINS, MOST_REMOTES};
 ghost use Rattle.fp_small.specs.declared.op.Op.{Op};
 ghost use Rattle.fp_small.specs.declared.op.Op.TheVariants as ops;
 ghost use Rattle.fp_small.specs.declared.refusal.Refusal.{Refusal};
@@ -79,11 +80,11 @@ pub fn pins_answer()
         → is_pinned x.state.pins pin ≡ true
         → change_over (changes.Pin pin) held x ≡ refusal_answer (refusals.PinExists pin) }
     ensures limit { (held : Holdings) (x : World) (pin : List ℕ)
-        → is_pinned x.state.pins pin ≡ false → 1024 ≤ length x.state.pins
+        → is_pinned x.state.pins pin ≡ false → MOST_PINS ≤ length x.state.pins
         → change_over (changes.Pin pin) held x
-        ≡ refusal_answer (refusals.Limit whats.Pins 1025) }
+        ≡ refusal_answer (refusals.Limit whats.Pins (MOST_PINS + 1)) }
     ensures pins { (held : Holdings) (x : World) (pin : List ℕ)
-        → is_pinned x.state.pins pin ≡ false → length x.state.pins < 1024
+        → is_pinned x.state.pins pin ≡ false → length x.state.pins < MOST_PINS
         → change_over (changes.Pin pin) held x ≡ op_answer (ops.AddPin pin) }
     ensures absent { (held : Holdings) (x : World) (pin : List ℕ)
         → is_pinned x.state.pins pin ≡ false
@@ -100,11 +101,11 @@ pub fn remotes_answer()
         → change_over (changes.RemoteAdd row) held x
         ≡ refusal_answer (refusals.RemoteExists row.name) }
     ensures limit { (held : Holdings) (x : World) (row : RemoteRow)
-        → has_name name_of x.state.remotes row.name ≡ false → 256 ≤ length x.state.remotes
+        → has_name name_of x.state.remotes row.name ≡ false → MOST_REMOTES ≤ length x.state.remotes
         → change_over (changes.RemoteAdd row) held x
-        ≡ refusal_answer (refusals.Limit whats.Remotes 257) }
+        ≡ refusal_answer (refusals.Limit whats.Remotes (MOST_REMOTES + 1)) }
     ensures adds { (held : Holdings) (x : World) (row : RemoteRow)
-        → has_name name_of x.state.remotes row.name ≡ false → length x.state.remotes < 256
+        → has_name name_of x.state.remotes row.name ≡ false → length x.state.remotes < MOST_REMOTES
         → change_over (changes.RemoteAdd row) held x ≡ op_answer (ops.AddRemote row) }
     ensures absent { (held : Holdings) (x : World) (row : RemoteRow)
         → has_name name_of x.state.remotes row.name ≡ false

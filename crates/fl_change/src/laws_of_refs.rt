@@ -1,11 +1,15 @@
 //! Laws of what changes of refs and of overrides answer. Each is the contract of a function that does nothing.
-ghost use Rattle.std.specs.Prelude.{◌≡◌, ℕ, List, [], ◌∷◌, ◌++◌, map, true, false, Option, Some, None, Ok, Err, codes};
+ghost use Rattle.std.specs.Prelude.{◌≡◌, ℕ, List, [], ◌∷◌, ◌++◌, map, true, false, Option, Some, None, Ok, Err, Contains, codes};
 ghost use Rattle.fp_base.specs.declared.object.ObjKind.{ObjKind};
 ghost use Rattle.fp_base.specs.declared.object.ObjKind.TheVariants as kinds;
+ghost use Rattle.fp_host.specs.Paths.{Elements, IsAbove, file};
 ghost use Rattle.fp_host.specs.Remote.{Holdings};
+ghost use Rattle.fp_host.specs.View.{View};
 ghost use Rattle.fp_name.specs.Hex.{is_digest};
 ghost use Rattle.fp_name.specs.Refs.{Ref};
 ghost use Rattle.fp_small.specs.Config.{name_of};
+ghost use Rattle.fp_small.specs.Files.{KeepsFiles};
+ghost use Rattle.fp_small.specs.Places.{repo};
 ghost use Rattle.fp_small.specs.declared.op.Op.{Op};
 ghost use Rattle.fp_small.specs.declared.op.Op.TheVariants as ops;
 ghost use Rattle.fp_small.specs.declared.refusal.Refusal.{Refusal};
@@ -15,6 +19,8 @@ ghost use Rattle.fp_small.specs.declared.state.Previous.{Previous};
 ghost use Rattle.fp_small.specs.declared.state.RefRow.{RefRow};
 ghost use Rattle.fp_small.specs.declared.state.RemoteRow.{RemoteRow};
 ghost use Rattle.ost_model.specs.Order.{In, order};
+ghost use Rattle.ost_model.specs.Stores.{objects_folder};
+ghost use Rattle.ost_store.specs.Created.{Creates};
 ghost use Rattle.ost_walk.specs.Steps.{place_name};
 ghost use Rattle.ost_head.specs.Offers.{offered};
 ghost use Rattle.dep_states.specs.After.{Done, plain, row_at};
@@ -32,7 +38,7 @@ ghost use Rattle.fl_lines.specs.Lines.{op_text, skipped_text};
 ghost use Rattle.fl_words.specs.declared.command.Change.TheVariants as changes;
 ghost use Rattle.fl_change.specs.World.{World, supplied, world_after};
 ghost use Rattle.fl_change.specs.Answer.{Answer, done_answer, each_over, nothing, op_answer, refusal_answer};
-ghost use Rattle.fl_change.specs.Created.{IsCreated};
+ghost use Rattle.fl_change.specs.Created.{LacksFor, CreatesInTurn};
 ghost use Rattle.fl_change.specs.Refs.{drop_over, ops_over, skipped, target_over};
 ghost use Rattle.fl_change.specs.Sample as sample;
 ghost use Rattle.fl_change.specs.Turns.{change_over};
@@ -284,27 +290,34 @@ pub fn sample_runtime_is_updated()
         ≡ refusal_answer (refusals.Older platform 8 7) }
 {}
 
-/// An install or an update creates the objects of its commit's order that the world hasn't, and nothing else creates one. What an
-/// operation created isn't created by those after it. The runtime's install creates the object of its commit, but where the runtime
-/// is installed.
+/// An install or an update lacks the objects of its commit's order that the world hasn't, and no other
+/// operation lacks one. The runtime's install lacks the object of its commit, but where the runtime is
+/// installed. Operations make objects in turn: each just those that it lacks over the world that those
+/// before it leave. Where there is no operation, no file comes to a name below the store's objects.
 pub fn operations_create_what_is_lacked()
-    ensures none { (held : Holdings) (x : World) (o : List ℕ × ObjKind) → IsCreated held x [] o → ⊥ }
     ensures lacked { (held : Holdings) (x : World) (name : Ref) (origin commit : List ℕ)
-        (timestamp : ℕ) (o : List ℕ × ObjKind) → is_digest o.0 ≡ true
+        (o : List ℕ × ObjKind) → is_digest o.0 ≡ true
         → In (map place_name (order (supplied held x (ops.Install name origin commit)) commit)) o
-        → x.have o.0 o.1 ≡ None
-        → IsCreated held x (record { op = ops.Install name origin commit; timestamp = timestamp } ∷ []) o }
+        → x.have o.0 o.1 ≡ None → LacksFor held x (ops.Install name origin commit) o }
     ensures other { (held : Holdings) (x : World) (name : Ref) (origin commit : List ℕ)
-        (timestamp : ℕ) (o : List ℕ × ObjKind)
+        (o : List ℕ × ObjKind)
         → (In (map place_name (order (supplied held x (ops.Install name origin commit)) commit)) o
-        → ⊥)
-        → IsCreated held x (record { op = ops.Install name origin commit; timestamp = timestamp } ∷ []) o → ⊥ }
-    ensures had { (held : Holdings) (x : World) (d : Done) (o : List ℕ × ObjKind)
-        → (x.have o.0 o.1 ≡ None → ⊥) → IsCreated held x (d ∷ []) o → ⊥ }
+        → ⊥) → LacksFor held x (ops.Install name origin commit) o → ⊥ }
+    ensures had { (held : Holdings) (x : World) (op : Op) (o : List ℕ × ObjKind)
+        → (x.have o.0 o.1 ≡ None → ⊥) → LacksFor held x op o → ⊥ }
     ensures plainly { (held : Holdings) (x : World) (name : Ref) (o : List ℕ × ObjKind)
-        → IsCreated held x (plain (ops.Uninstall name) ∷ []) o → ⊥ }
-    ensures later { (held : Holdings) (x : World) (d : Done) (more : List Done) (o : List ℕ × ObjKind)
-        → IsCreated held (world_after held x d) more o → IsCreated held x (d ∷ more) o }
-    ensures sample { IsCreated sample.holdings sample.fresh (sample.install ∷ []) (commit, kinds.Commit) }
-    ensures again { IsCreated sample.holdings sample.installed (sample.install ∷ []) (commit, kinds.Commit) → ⊥ }
+        → LacksFor held x (ops.Uninstall name) o → ⊥ }
+    ensures sample { LacksFor sample.holdings sample.fresh sample.install.op (commit, kinds.Commit) }
+    ensures again { LacksFor sample.holdings sample.installed sample.install.op (commit, kinds.Commit)
+        → ⊥ }
+    ensures none { (held : Holdings) (x : World) (v : View) → CreatesInTurn held x [] v v }
+    ensures alone { (held : Holdings) (x : World) (d : Done) (u w : View) → KeepsFiles u w
+        → Creates repo (LacksFor held x d.op) u w → CreatesInTurn held x (d ∷ []) u w }
+    ensures nothing_else { (held : Holdings) (x : World) (u w : View) (q : Elements) (id : ℕ)
+        → CreatesInTurn held x [] u w → IsAbove (objects_folder repo) q
+        → (Contains u.stood (q, file id) → ⊥) → Contains w.stood (q, file id) → ⊥ }
+    ensures in_order { (held : Holdings) (x : World) (d : Done) (more : List Done) (u w : View)
+        → CreatesInTurn held x (d ∷ more) u w
+        → (v : View) × KeepsFiles u v × KeepsFiles v w × Creates repo (LacksFor held x d.op) u v
+        × CreatesInTurn held (world_after held x d) more v w }
 {}

@@ -27,12 +27,12 @@ use fl_words::OverrideName;
 use fp_base::{Items, Text, What};
 use fp_host::{Host, Remotes};
 use fp_keyfile::KeyFile;
-use fp_small::{Op, OverrideRow, Refusal, State};
+use fp_small::{MOST_TEXT_BYTES, Op, OverrideRow, Refusal, State};
 use std::alloc::{AllocError, Global};
 use std::thread::Threads;
 
 /// The most bytes of the text of an override.
-const OVERRIDE_MOST: usize = 1024 * 1024;
+const OVERRIDE_MOST: usize = MOST_TEXT_BYTES as usize;
 
 /// The first override whose name has this text.
 fn find_text<'a>(rows: &'a [OverrideRow], text: &str) -> Option<&'a OverrideRow>

@@ -14,6 +14,12 @@ use fp_small::{
     MOST_PINS, MOST_REMOTES, Op, RefRow, Refusal, RemoteRow, State, has_pin, has_remote,
 };
 
+/// One pin more than there may be.
+const TOO_MANY_PINS: u64 = MOST_PINS as u64 + 1;
+
+/// One remote more than there may be.
+const TOO_MANY_REMOTES: u64 = MOST_REMOTES as u64 + 1;
+
 /// A pin is added, where it isn't there and where there are few enough.
 pub(crate) fn add_pin(state: &State, pin: &PinPattern) -> Result<Op, RunEnd>
     ensures asked { IsAsked (add_pin_refusal state.now.pins pin.now) (ops.AddPin pin.now) result }
@@ -26,7 +32,7 @@ pub(crate) fn add_pin(state: &State, pin: &PinPattern) -> Result<Op, RunEnd>
     if pins.len() >= MOST_PINS {
         return Err(RunEnd::Refused(Refusal::Limit {
             what: What::Pins,
-            number: 1025,
+            number: TOO_MANY_PINS,
         }));
     }
     Ok(Op::AddPin(pin.copy()?))
@@ -56,7 +62,7 @@ pub(crate) fn add_remote(state: &State, row: &RemoteRow) -> Result<Op, RunEnd>
     if remotes.len() >= MOST_REMOTES {
         return Err(RunEnd::Refused(Refusal::Limit {
             what: What::Remotes,
-            number: 257,
+            number: TOO_MANY_REMOTES,
         }));
     }
     Ok(Op::AddRemote(row.copy()?))

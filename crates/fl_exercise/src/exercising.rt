@@ -5,7 +5,7 @@ ghost use Rattle.ost_walk.specs.Ends.{outside};
 ghost use Rattle.dep_states.specs.After.{IsGood};
 ghost use Rattle.dep_states.specs.Sound.{Opens};
 ghost use Rattle.fl_gen.specs.Exercise.{exercise_changes};
-ghost use Rattle.fl_change.specs.Performs.{Acts};
+ghost use Rattle.fl_change.specs.Performs.{Acts, Rests};
 ghost use Rattle.fl_change.specs.Turns.{MayDo};
 ghost use Rattle.fl_exercise.specs.Exercising.{is_of, end_text, end_answer, exercising};
 
@@ -49,7 +49,7 @@ fn say_end<H: Host, R: Remotes>(
     opened: Opened,
     apps: &AppCount,
 ) -> Result<Opened, RunEnd>
-    ensures acts { Acts (Opens opened) (MayDo (exercise_changes apps.now)) (end_answer apps.now) opened result
+    ensures acts { Acts (Rests opened) (MayDo (exercise_changes apps.now)) (end_answer apps.now) opened result
         (outside (H.moments host.old) (H.faults host.old) (R.holds remotes.old) (R.faults remotes.old))
         (outside (H.moments host.new) (H.faults host.new) (R.holds remotes.new) (R.faults remotes.new)) }
 {

@@ -23,7 +23,7 @@ use Rattle.fp_small.specs.declared.state.State.{State}
 use Rattle.fp_small.proofs.Replacement.{ancestors_above}
 use Rattle.fp_small.proofs.Emptying.{above_longer}
 use Rattle.fp_small.proofs.Keeping.{files_on, files_stay}
-use Rattle.fp_small.proofs.Sharing.{shares_on, shares_to}
+use Rattle.fp_small.proofs.Sharing.{shares_empty, shares_on, shares_refl, shares_start, shares_to}
 use Rattle.ost_model.specs.Objects.{Have, object_at, object_path, store}
 use Rattle.ost_model.specs.Remotes.{Stores}
 use Rattle.ost_store.proofs.Creating.{creates_none}
@@ -128,15 +128,20 @@ pub refreshes_by : {s : State} {rows : List ExportRow} {u w : View} → IsTree u
 refreshes_by {s = s} {rows = rows} {u = u} {w = w} tree is brings = record {
   opens = λ opens. frame_law exports_spare brings.alters.follows opens;
   names = brings.alters.names;
-  idle = λ opens right q. let are = subst (λ (l : List ExportRow). ExportsAre l (shows u)) (sym is) right in
-      ap (λ (x : View). x.names q) (brings.idle (stale_of tree are) (record { each = are.each }));
+  idle = λ opens right q. ap (λ (x : View). x.names q) (same right);
+  unwritten = λ opens right. shares_start (same right);
   files = brings.alters.files;
   links = refresh_links brings.alters.names;
   printed = brings.alters.printed;
 }
+  where
+    same : ExportsAre (exported_in s u) (shows u) → w ≡ u
+    same right =
+        let are = subst (λ (l : List ExportRow). ExportsAre l (shows u)) (sym is) right in
+        brings.idle (stale_of tree are) (record { each = are.each })
 
 pub refreshes_none : {s : State} {v : View} → Refreshes s v v
-refreshes_none = record { opens = λ opens. opens; names = λ q. inl refl; idle = λ opens right q. refl; files = files_stay; links = links_refl; printed = refl }
+refreshes_none = record { opens = λ opens. opens; names = λ q. inl refl; idle = λ opens right q. refl; unwritten = λ opens right. shares_refl; files = files_stay; links = links_refl; printed = refl }
 
 pub refreshes_same : {s : State} {v w : View} → w ≡ v → Refreshes s v w
 refreshes_same {s = s} {v = v} same = subst (Refreshes s v) (sym same) refreshes_none
@@ -211,6 +216,7 @@ synced {u = u} {v = v} {w = w} first keeps =
         | inr none ↦ absurd none
       ];
       idle = λ opens right q. elim (keeps.names q) [ inl same ↦ same ∙ first.idle opens right q | inr none ↦ absurd none ];
+      unwritten = λ opens right. shares_on (first.unwritten opens right) (shares_empty keeps) step.files;
       files = files_on first.files step.files;
       links = links_on first.links (links_still (λ q. elim (keeps.names q) [ inl same ↦ same | inr none ↦ absurd none ])) step.files;
       printed = step.printed ∙ first.printed;

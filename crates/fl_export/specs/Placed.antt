@@ -5,6 +5,7 @@ use Rattle.fp_host.specs.Paths.{Elements}
 use Rattle.fp_host.specs.Outcome.{Spot, gone, folder, holds, points, Disk}
 use Rattle.fp_small.specs.Clear.{IsWithin}
 use Rattle.fp_small.specs.Move.{IsNew}
+use Rattle.fp_small.specs.declared.limits.TheConstants.{FILE_MODE}
 use Rattle.fl_export.specs.declared.rows.ExportRow.{ExportRow}
 use Rattle.fl_export.specs.declared.rows.ExportWhat.{ExportWhat}
 use Rattle.fl_export.specs.declared.rows.ExportWhat.TheVariants as what
@@ -38,7 +39,7 @@ pub record ExportsAre (rows : List ExportRow) (disk : Disk) : Type 0 where
 -- ---- as tests
 
 abbrev pub has_bits : Spot → Bool
-has_bits (holds id mode bytes) = mode == 420
+has_bits (holds id mode bytes) = mode == FILE_MODE
 has_bits gone = false
 has_bits folder = false
 has_bits (points text) = false

@@ -6,6 +6,7 @@ use Rattle.fp_host.specs.View.{View}
 use Rattle.fp_host.specs.Calls.{IsLeaf}
 use Rattle.fp_host.specs.Outcome.{Spot, gone, folder, Follows, IsSettled, shows}
 use Rattle.fp_host.specs.Frame.{NoPath, Only}
+use Rattle.fp_host.specs.declared.limits.TheConstants.{MOST_LINK_BYTES}
 use Rattle.fp_host.specs.declared.host.Stat.{Stat}
 use Rattle.fp_host.specs.declared.host.Stat.TheVariants.{Absent, Dir, File as StatFile, Link}
 use Rattle.fp_small.specs.Places.{repo, tmp, new_name}
@@ -14,6 +15,7 @@ use Rattle.fp_small.specs.Files.{KeepsFiles}
 use Rattle.fp_small.specs.Folders.{AreFree, IsFree}
 use Rattle.fp_small.specs.Replace.{folders_of}
 use Rattle.fp_small.specs.Shares.{Shares}
+use Rattle.fp_small.specs.declared.limits.TheConstants.{MOST_ELEMENTS}
 use Rattle.fp_small.specs.declared.state.State.{State}
 use Rattle.ost_model.specs.Objects.{store}
 use Rattle.ost_store.specs.Created.{Creates, NoObject}
@@ -37,7 +39,7 @@ pub record Alters (G : Elements → Spot → Type 0) (W : Elements → Slot → 
 
 -- What a refresh may give, and where: anything at or below `exports`, unless it is too deep; the folders of work; and work.
 pub data Exports (q : Elements) (spot : Spot) : Type 0 where
-  in_exports : IsWithin exports q → (spot ≡ gone) ⊎ (length q ≤ 128) → Exports q spot
+  in_exports : IsWithin exports q → (spot ≡ gone) ⊎ (length q ≤ MOST_ELEMENTS) → Exports q spot
   in_store : (q ≡ repo) ⊎ (q ≡ tmp) → spot ≡ folder → Exports q spot
   in_work : (k : ℕ) → q ≡ new_name k ∷ tmp → Exports q spot
 
@@ -109,7 +111,7 @@ pub record WasPut (place : Elements) (what : ExportWhat) (u w : View) : Type 0 w
 -- the link's text is one, but for its spelling in UTF-8
 abbrev pub HasLinkText : ExportWhat → Type 0
 HasLinkText (what.Text bytes) = Unit {0}
-HasLinkText (what.Link text) = (1 ≤ length text) × (length text ≤ 4095) × (list_all (λ b. not (b == 0)) text ≡ true)
+HasLinkText (what.Link text) = (1 ≤ length text) × (length text ≤ MOST_LINK_BYTES) × (list_all (λ b. not (b == 0)) text ≡ true)
 
 -- where it may be put there
 pub record CanPut (place : Elements) (what : ExportWhat) (v : View) : Type 0 where
@@ -187,12 +189,13 @@ abbrev pub exported_in : State → View → List ExportRow
 exported_in s v = exported (store repo (shows v)) s
 
 -- At every moment: what every stop left before it leaves now; only names of exports and of work change, and where all is right
--- already none does. Each file that was there keeps its mode and its bytes, and nothing is printed. No file came to a commit's
--- folder.
+-- already none does and no new file has a byte. Each file that was there keeps its mode and its bytes, and nothing is printed.
+-- No file came to a commit's folder.
 pub record Refreshes (s : State) (u w : View) : Type 0 where
   pub opens : Opens s u → Opens s w
   pub names : (q : Elements) → (w.names q ≡ u.names q) ⊎ MayRefresh q (w.names q)
   pub idle : Opens s u → ExportsAre (exported_in s u) (shows u) → (q : Elements) → w.names q ≡ u.names q
+  pub unwritten : Opens s u → ExportsAre (exported_in s u) (shows u) → Shares NoPath u w
   pub files : KeepsFiles u w
   pub links : Links u w
   pub printed : w.printed ≡ u.printed

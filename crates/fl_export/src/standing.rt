@@ -8,11 +8,8 @@ ghost use Rattle.fl_export.specs.Placed as spec;
 use crate::rows::ExportWhat;
 use fp_base::{Blob, Text};
 use fp_host::{Host, HostEnd, Path, Stat};
-use fp_small::{Loaded, load};
+use fp_small::{FILE_MODE, Loaded, load};
 use std::alloc::Global;
-
-/// The permission bits of a file that is exported.
-const MODE: u32 = 0o644;
 
 /// Whether a file with these permission bits is there.
 fn has_bits<H: Host>(host: &mut H, place: &Path) -> Result<bool, HostEnd>
@@ -23,7 +20,7 @@ fn has_bits<H: Host>(host: &mut H, place: &Path) -> Result<bool, HostEnd>
         (H.moments host.old) (H.faults host.old) (H.faults host.new) }
 {
     match host.stat(place)? {
-        Stat::File { mode, .. } => Ok(mode == MODE),
+        Stat::File { mode, .. } => Ok(mode == FILE_MODE),
         _ => Ok(false),
     }
 }

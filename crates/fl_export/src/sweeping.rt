@@ -11,11 +11,11 @@ ghost use Rattle.fl_export.specs.Steps.{Sweeps, SweepsAt, HasNoStaleIn, Cleans, 
 
 use crate::places::exports_path;
 use fp_host::{Host, HostEnd, Path, Stat};
-use fp_small::take_away;
+use fp_small::{MOST_ELEMENTS, take_away};
 use std::alloc::Global;
 
-/// No path below `exports` is so many folders deep: a path of an installation has at most 128 elements.
-const MOST_LEVELS: usize = 127;
+/// No path below `exports` is more folders deep: a path of an installation has at most one element more.
+const MOST_LEVELS: usize = MOST_ELEMENTS - 1;
 
 /// Whether the path is one of these.
 fn has_path(paths: &[Path], path: &Path) -> bool
@@ -108,7 +108,7 @@ pub(crate) fn sweep<H: Host>(alloc: Global, host: &mut H, places: &[Path]) -> Re
     ensures on_success { OnOk result (AtEnd (λ u w. HasNoStale places.now w)
         (H.moments host.old) (H.moments host.new)) }
     ensures fault_has_cause { IsCaused (IsErrOf result HostEnd.Fault) (H.moments host.old)
-        (Reaches exports 127) (H.faults host.old) (H.faults host.new) }
+        (Reaches exports MOST_LEVELS) (H.faults host.old) (H.faults host.new) }
 {
     let exports = exports_path(alloc)?;
     sweep_within(alloc, host, places, &exports, MOST_LEVELS)

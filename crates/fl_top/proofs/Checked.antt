@@ -163,6 +163,7 @@ runs_checked : (t : Told) (u w : View) → IsFoundIn t u → ChecksOver u w → 
 runs_checked t u w found p = record {
   runs = λ given gave shown counts may. p.runs given.report (found given gave) shown counts;
   changes = λ known. alter_untouched p.untouched;
+  rests = λ change. absurd (cc change);
   untouched = λ why. p.untouched;
 }
 

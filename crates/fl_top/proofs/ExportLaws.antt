@@ -1,15 +1,17 @@
 -- What is promised of exported files can be met.
-use Rattle.std.proofs.Common.{◌≡◌, ◌≢◌, inl, inr, ℕ, List, [], ◌∷◌, ◌++◌, Contains, refl, sym, ◌∙◌, ap, subst, codes}
+use Rattle.std.proofs.Common.{◌≡◌, ◌≢◌, inl, inr, ℕ, List, [], ◌∷◌, ◌++◌, Option, Contains, refl, sym, ◌∙◌, ap, subst, codes}
 use Rattle.std.specs.List.{AllByRecursion}
 use Rattle.fp_host.specs.Paths.{Elements, absent}
+use Rattle.fp_host.specs.Remote.{Holdings}
 use Rattle.fp_host.specs.View.{View, IsTree}
-use Rattle.fp_host.specs.Outcome.{Spot, Disk, IsSettled, spot_of}
+use Rattle.fp_host.specs.Outcome.{Spot, Disk, IsSettled, shows, spot_of}
 use Rattle.fp_host.proofs.Settled.{settled_disk}
 use Rattle.fp_small.specs.Clear.{IsWithin}
 use Rattle.fp_small.specs.Places.{repo}
 use Rattle.ost_model.specs.Objects.{store}
 use Rattle.ost_store.proofs.Lists.{in_none, in_cases, in_first, in_rest}
-use Rattle.dep_states.specs.Samples.{empty_state}
+use Rattle.dep_states.specs.Samples.{empty_disk, empty_state}
+use Rattle.dep_states.proofs.Empty.{empty_settled}
 use Rattle.dep_states.proofs.Images.{bare_opens}
 use Rattle.dep_states.proofs.Rows.{each_at}
 use Rattle.fl_export.specs.Exported.{exported, desktop_row, icon_row}
@@ -18,8 +20,9 @@ use Rattle.fl_export.specs.Sample as sample
 use Rattle.fl_export.specs.declared.rows.ExportRow.{ExportRow}
 use Rattle.fl_export.proofs.Samples.{stable_exported}
 use Rattle.fl_change.specs.Answer.{text_answer}
+use Rattle.fl_change.proofs.Same.{same_settled, now_left}
 use Rattle.fl_top.specs.Answer.{listed}
-use Rattle.fl_top.specs.Exports.{exports_text, LeavesExports}
+use Rattle.fl_top.specs.Exports.{exports_text, LeavesExports, IsInStep}
 use Rattle.fl_top.specs.ExportSample.{desktop_text, desktop_place, icon_place, placed_rows, placed_disk, stale_place, stale_disk, listed_text}
 use Rattle.fl_words.specs.declared.command.Listing.TheVariants as listings
 
@@ -35,7 +38,7 @@ within_some [] (inl same) none = cc same
 within_some [] (inr none) same = none
 within_some (x ∷ up) within none = cc none
 
-pub bare_exports : (v : View) → IsTree v → IsSettled v → ((x : List ℕ) (up : Elements) → v.names (x ∷ up) ≡ absent) → LeavesExports v
+bare_exports : (v : View) → IsTree v → IsSettled v → ((x : List ℕ) (up : Elements) → v.names (x ∷ up) ≡ absent) → LeavesExports v
 bare_exports v tree settled none disk left = record {
   state = empty_state;
   shown = (bare_opens v tree settled none).shown disk left;
@@ -45,6 +48,17 @@ bare_exports v tree settled none disk left = record {
     gone_at : (q : Elements) → IsWithin exports q → IsLeafSpot (disk q) → ⊥
     gone_at [] within leaf = within_some [] within refl
     gone_at (x ∷ up) within leaf = subst IsLeafSpot (settled_disk v tree settled disk left (x ∷ up) ∙ ap (spot_of v.files) (none x up)) leaf
+
+-- and nothing stands there that isn't settled
+pub bare_in_step : (holds : Option Holdings) (v : View) → IsTree v → IsSettled v → ((x : List ℕ) (up : Elements) → v.names (x ∷ up) ≡ absent) → IsInStep holds v
+bare_in_step holds v tree settled none = record {
+  exports = bare_exports v tree settled none;
+  rests = λ held is. record { settled = same_settled stands empty_settled; exports = bare_exports v tree settled none (shows v) (now_left v) };
+}
+  where
+    stands : (q : Elements) → shows v q ≡ empty_disk q
+    stands [] = settled_disk v tree settled (shows v) (now_left v) [] ∙ ap (spot_of v.files) tree.root
+    stands (x ∷ up) = settled_disk v tree settled (shows v) (now_left v) (x ∷ up) ∙ ap (spot_of v.files) (none x up)
 
 -- ---- the files and links of a small application
 

@@ -41,8 +41,8 @@ use Rattle.fl_top.specs.declared.input.InputEnd.TheVariants as input
 use Rattle.fl_top.specs.Input.{input_most, IsWhole, IsTaken, IsDrained, InputStops}
 use Rattle.fl_top.specs.Ends.{end_of_run, end_of_input, end_of_batch}
 use Rattle.fl_change.specs.Performs.{AsksBy}
-use Rattle.fl_change.proofs.Changing.{not_touched}
-use Rattle.fl_top.specs.Exports.{Alters}
+use Rattle.fl_change.proofs.Changing.{not_touched, keeps_files, still_not, still_on, still_untouched}
+use Rattle.fl_top.specs.Exports.{Alters, StaysAtRest}
 use Rattle.fl_top.specs.Remotes.{MakesFor, MadeBy, MadeFor}
 use Rattle.fl_top.proofs.Altering.{alter_on, alter_to, alter_not, alter_untouched}
 use Rattle.fl_top.proofs.Asked.{asks_to}
@@ -152,6 +152,10 @@ runs_change command t May f u w known p = record {
       subst (λ (x : Answer). Runs x u w) (is shown)
       (p.runs (ready_for command (f given.held) given u shown known.changes (known.late given.held) (is shown) may) given.held (holds_told command t given known.asks gave) shown (counts_for command (f given.held) given u shown is counts));
   changes = λ ready. alter_to known.may (p.changes (λ asks. ready (asks_to known.may asks)));
+  rests = λ change given gave shown counts may.
+      let is = known.is given gave in
+      subst (λ (x : Answer). StaysAtRest x u w) (is shown)
+      (p.rests (ready_for command (f given.held) given u shown known.changes (known.late given.held) (is shown) may) given.held (holds_told command t given known.asks gave) shown (counts_for command (f given.held) given u shown is counts));
   untouched = λ why. elim why [ inl looks ↦ absurd (let both : true ≡ false = sym looks ∙ looks_not command known.changes in cc both) | inr none ↦ p.untouched none.1 ];
 }
 
@@ -187,6 +191,7 @@ runs_look : (command : Command) (t : Told) (f : World → Answer) (u w : View) �
 runs_look command t f u w is p = record {
   runs = λ given gave shown counts may. subst (λ (x : Answer). Runs x u w) (is given shown) (p.runs shown (counts_for command f given u shown (is given) counts));
   changes = λ known. alter_untouched p.untouched;
+  rests = λ change given gave shown counts may rest idle none. still_untouched p.untouched;
   untouched = λ why. p.untouched;
 }
 
@@ -278,7 +283,12 @@ caused_after n m k le goes leads cause passes = record {
 
 -- nothing was done
 pub not_begun : (command : Command) (t : Told) (u : View) → RunsOn command t u u
-not_begun command t u = record { runs = λ given gave shown counts may. begun (answer_over command given shown) unchanged (λ why. not_touched); changes = λ known. alter_not; untouched = λ why. not_touched }
+not_begun command t u = record {
+  runs = λ given gave shown counts may. begun (answer_over command given shown) unchanged (λ why. not_touched);
+  changes = λ known. alter_not;
+  rests = λ change given gave shown counts may rest idle none. still_not;
+  untouched = λ why. not_touched;
+}
 
 -- What ends a command before the installation is looked at: so it ends whatever the image gives.
 pub record EndsEarly (command : Command) (given : Given) (e : CommandEnd) : Type 0 where
@@ -467,6 +477,7 @@ goes_refused command t r result known_b first second =
     (λ u v w tree p q s. record {
       runs = λ given gave shown counts may. let e = q.ended given gave shown counts may in refusing given.held (answer_over command given shown) r e.0 (p.runs given gave shown counts may) e.1 s;
       changes = λ known. alter_on u v w (p.changes known) (alter_untouched s.untouched);
+      rests = λ change given gave shown counts may rest idle none. still_on (p.rests change given gave shown counts may rest idle none) (still_untouched s.untouched) (keeps_files s.untouched);
       untouched = λ why. untouched_on (p.untouched why) s;
     })
     (λ u v w tree p q s last. record {
@@ -498,6 +509,9 @@ goes_command words t command status known is goes = begins known goes
     (λ u w tree r. record {
       runs = λ given gave shown counts may. subst (λ (a : Answer). Runs a u w) (answer_is words command given is shown) (r.runs given (given_to words command t given is gave) shown (counted u given shown counts) (may_answer words command u given shown is may));
       changes = λ known. subst (λ (o : Option Command). Alters (OpsFor o t.left) (MakesFor o) u w) (sym is) (r.changes (λ asks. known (subst (λ (o : Option Command). AsksBy (OpsFor o t.left)) (sym is) asks)));
+      rests = λ change given gave shown counts may.
+          subst (λ (a : Answer). StaysAtRest a u w) (answer_is words command given is shown)
+          (r.rests (subst IsChange is change) given (given_to words command t given is gave) shown (counted u given shown counts) (may_answer words command u given shown is may));
       untouched = λ why. r.untouched (elim why [ inl looks ↦ inl (subst Looks is looks) | inr none ↦ inr (subst MakesNone is none.0, none.1) ]);
     })
     (λ u w tree r q. record {
@@ -514,6 +528,7 @@ goes_no_command words t index result known none is goes = begins known goes
     (λ u w tree s. record {
       runs = λ given gave shown counts may. subst (λ (a : Answer). Runs a u w) (no_answer words index given none is shown) (runs given.held u w s);
       changes = λ known. alter_untouched s.untouched;
+      rests = λ change. absurd (subst IsChange none change);
       untouched = λ why. s.untouched;
     })
     (λ u w tree s e. record {
@@ -528,7 +543,12 @@ goes_no_command words t index result known none is goes = begins known goes
 -- out of memory for the words
 pub goes_unread : {a : Option Moments} (words : List (List ℕ)) (t : Told) → IsTold a → Goes a a (RunsBy words t) (RanBy words t 6)
 goes_unread words t known = stays known
-    (λ u. record { runs = λ given gave shown counts may. begun (answer words given shown) unchanged (λ why. not_touched); changes = λ known. alter_not; untouched = λ why. not_touched })
+    (λ u. record {
+      runs = λ given gave shown counts may. begun (answer words given shown) unchanged (λ why. not_touched);
+      changes = λ known. alter_not;
+      rests = λ change given gave shown counts may rest idle none. still_not;
+      untouched = λ why. not_touched;
+    })
     (λ u tree. record {
       ran = λ given gave shown counts may. ran_halted given.held (answer words given shown) 6 (omega arith) (begun (answer words given shown) unchanged (λ why. not_touched)) (stood (answer words given shown) unchanged);
       given = λ given gave answered. absurd (not_answered 6 (omega arith) answered);

@@ -31,7 +31,7 @@ use Rattle.fl_change.specs.Changes.{IsUntouched}
 use Rattle.fl_change.specs.Performs.{Printed as SaysPieces}
 use Rattle.fl_change.specs.declared.end.RunEnd.{RunEnd}
 use Rattle.fl_change.specs.declared.end.RunEnd.TheVariants as run
-use Rattle.fl_change.proofs.Changing.{none_made, same_untouched, keeps_files}
+use Rattle.fl_change.proofs.Changing.{none_made, same_untouched, still_untouched, keeps_files}
 use Rattle.fl_top.proofs.Altering.{alter_untouched, rest_none}
 use Rattle.fl_change.proofs.Same.{same_shown, same_settled}
 use Rattle.fl_change.proofs.Working.{is_err}
@@ -278,6 +278,7 @@ runs_told : (command : Command) (t : Told) (by : Result World Elements → Answe
 runs_told command t by is u w looks = record {
   runs = λ given gave shown counts may. subst (λ (x : Answer). Runs x u w) (is given gave shown) (looks.runs shown (over_same by (answer_over command given) (shows u) shown (is given gave) counts));
   changes = λ known. alter_untouched looks.untouched;
+  rests = λ change given gave shown counts may rest idle none. still_untouched looks.untouched;
   untouched = λ why. looks.untouched;
 }
 

@@ -19,3 +19,4 @@ pub mod Shown
 mod Checked
 mod Making
 pub mod Exercises
+mod Idle

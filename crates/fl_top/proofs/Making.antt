@@ -127,6 +127,7 @@ module _ (remote : List ℕ) (r : Ref) (t : Told) (bytes : List ℕ) (whole : Is
   made_on makes = record {
     runs = λ given gave shown counts may. runs_made makes given gave shown;
     changes = λ known. alter_made makes;
+    rests = λ change. absurd (cc change);
     untouched = λ why. elim why [ inl looks ↦ absurd (cc looks) | inr none ↦ absurd (cc none.0) ];
   }
 
@@ -205,6 +206,7 @@ module _ (remote : List ℕ) (r : Ref) (t : Told) (bytes : List ℕ) (whole : Is
     said_on {u = u} {v = v} {w = w} h says = record {
       runs = λ given gave shown counts may. subst (λ (a : Answer). Runs a u w) (said_answer h given gave shown) (runs_said h says);
       changes = λ known. alter_on u v w (alter_made h.makes) (alter_untouched says.untouched);
+      rests = λ change. absurd (cc change);
       untouched = λ why. elim why [ inl looks ↦ absurd (cc looks) | inr none ↦ absurd (cc none.0) ];
     }
 

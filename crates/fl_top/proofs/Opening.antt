@@ -17,6 +17,7 @@ use Rattle.fp_small.specs.declared.state.State.{State}
 use Rattle.ost_walk.specs.Ends.{Outside}
 use Rattle.dep_states.specs.Sound.{IsSound, Opens}
 use Rattle.dep_states.specs.Shown.{Shows}
+use Rattle.dep_states.specs.Settled.{Settled}
 use Rattle.dep_states.specs.After.{after_all}
 use Rattle.dep_open.specs.Open.{Opened, IsOpened, StaysUnread}
 use Rattle.dep_open.specs.declared.open_end.OpenEnd.{OpenEnd}
@@ -118,13 +119,15 @@ goes_failed {a = a} May f s e r {u = u} {w = w} late known known_b frame unread 
 -- ---- what the changes left
 
 -- The changes were made: over an image that showed one state another is left, which is that state after the operations of each
--- answer that counts.
+-- answer that counts. Where the remotes tell what they hold, all is settled.
 pub record Changed (holds : Option Holdings) (May : Op → Type 0) (f : Holdings → World → Answer) (t : State) (u w : View) : Type 0 where
   pub before : State
   pub at : Shows (shows u) before
   pub ended : EndedOver holds f (Ok tt) u w
   pub after : IsReady u → (held : Holdings) → holds ≡ Some held → OverView (f held) u (λ a. t ≡ after_all before (ops_of a))
   pub opens : AreToldFor May holds → IsSound u → Opens t w
+  pub tree : IsTree u
+  pub settled : IsReady u → (held : Holdings) → holds ≡ Some held → Settled (shows w)
 
 ends_where : {a b : Option Moments} {R Q T : View → View → Type 0} (F : Type 0) → Goes a b R Q → (F → AtEnd T a b) → Goes a b R (λ u w. Q u w × (F → T u w))
 ends_where {T = T} F one two = record {
@@ -154,6 +157,8 @@ changed_over holds May f s t {u = u} {v = v} w begun tree work is opens = record
       let opened = begun.opened.opens (ready_sound begun.opened.shown ready) in
       subst (λ (a : Answer). t ≡ after_all s (ops_of a)) (ap (f held) (begun_world s begun tree) ∙ sym (over_is (f held) (shows u) shown s begun.opened.shown counts)) (is.performed held told opened).1;
   opens = λ told sound. opens told (begun.opened.opens sound);
+  tree = begun.before;
+  settled = λ ready held told. (is.performed held told (begun.opened.opens (ready_sound begun.opened.shown ready))).2.tidied;
 }
 
 pub goes_changed : {a : Option Moments} (May : Op → Type 0) (f : Holdings → World → Answer) (s t : State) {u w : Outside} → IsLate f → IsTold a → IsTold u.told → Frame Nothing NoName NoPath a u.told → Goes a u.told StaysUnread StaysUnread → AtEnd (IsOpened s) a u.told

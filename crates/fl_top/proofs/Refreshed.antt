@@ -40,22 +40,24 @@ use Rattle.dep_states.proofs.Single.{one_state}
 use Rattle.dep_states.proofs.Sparing.{word_apart}
 use Rattle.dep_states.proofs.Switching.{second, word_no_repo}
 use Rattle.dep_open.specs.Open.{IsOpened}
-use Rattle.fl_export.specs.Placed.{exports}
-use Rattle.fl_export.specs.Steps.{MayRefresh, some_export, some_work, store_folder, work_folder, Refreshes, WasRefreshed}
+use Rattle.fl_export.specs.Placed.{exports, ExportsAre}
+use Rattle.fl_export.specs.Steps.{exported_in, MayRefresh, some_export, some_work, store_folder, work_folder, Refreshes, WasRefreshed}
 use Rattle.fl_export.proofs.PutRows.{same_shows}
 use Rattle.fl_export.proofs.Spared.{outward_is, exports_top, work_top, no_repo}
-use Rattle.fl_change.specs.World.{World}
+use Rattle.fl_change.specs.World.{World, world_at}
 use Rattle.fl_change.specs.Answer.{Answer, ops_of}
+use Rattle.fl_change.specs.Changes.{IsStill}
 use Rattle.fl_change.specs.Ends.{end_of_host}
 use Rattle.fl_change.specs.Performs.{Acts}
 use Rattle.fl_change.specs.declared.end.RunEnd.{RunEnd}
 use Rattle.fl_change.specs.declared.end.RunEnd.TheVariants as run
-use Rattle.fl_change.proofs.Changing.{text_on}
+use Rattle.fl_change.proofs.Changing.{text_on, still_on}
+use Rattle.fl_change.proofs.Created.{created_on}
 use Rattle.fl_change.proofs.Same.{now_left}
 use Rattle.fl_change.proofs.Working.{is_err}
 use Rattle.fl_top.specs.Answer.{over, IsAtOnce}
 use Rattle.fl_top.specs.Asked.{AreToldFor}
-use Rattle.fl_top.specs.Exports.{HasExports, LeavesExports}
+use Rattle.fl_top.specs.Exports.{HasExports, LeavesExports, IsInStep}
 use Rattle.fl_top.specs.Runs.{IsJust, Runs, Stands, IsReady}
 use Rattle.fl_top.specs.RunsOver.{RunsOver, Completes, EndedOver}
 use Rattle.fl_top.proofs.Altering.{alter_on, alter_refreshes, rest_on, rest_refreshes}
@@ -63,8 +65,8 @@ use Rattle.fl_top.proofs.Ending.{prefix_all, before_last}
 use Rattle.fl_top.proofs.Opening.{Changed}
 use Rattle.fl_top.proofs.Over.{counts_shown}
 use Rattle.fl_top.proofs.Starting.{shown_after, ready_sound}
-use Rattle.ost_store.proofs.Creating.{creates_on}
 use Rattle.fp_small.proofs.Keeping.{files_on}
+use Rattle.fp_small.specs.Files.{KeepsFiles}
 
 -- ---- where exported files are brought in step
 
@@ -173,6 +175,35 @@ exports_left {t = t} {w = w} tree opens was disk left = subst HasExports (λ k q
     one : (q : Elements) → disk q ≡ shows w q
     one q = settled_disk w tree was.lasts disk left q ∙ sym (settled_disk w tree was.lasts (shows w) (now_left w) q)
 
+-- where the remotes tell what they hold, all is settled before
+in_step : {t : State} {v w : View} (holds : Option Holdings) → IsTree v → IsTree w → Opens t w → Refreshes t v w → WasRefreshed t v w → ((held : Holdings) → holds ≡ Some held → Settled (shows v)) → IsInStep holds w
+in_step {w = w} holds tree next opens step was settled =
+    let left : LeavesExports w = exports_left next opens was in
+    record {
+      exports = left;
+      rests = λ held is. record { settled = settled_refreshed tree next step was (settled held is); exports = left (shows w) (now_left w) };
+    }
+
+-- and whatever other remotes hold
+pub step_anyhow : {held : Holdings} {given : Option Holdings} {w : View} → given ≡ Some held → IsInStep given w → (holds : Option Holdings) → IsInStep holds w
+step_anyhow {held = held} told step holds = record { exports = step.exports; rests = λ other is. step.rests held told }
+
+-- ---- where all is at rest
+
+-- the exports are right for a view that has the same names and files
+still_right : {t : State} {u v : View} → IsTree u → IsTree v → KeepsFiles u v → IsStill u v → HasExports (shows u) → Opens t v → ExportsAre (exported_in t v) (shows v)
+still_right {t = t} {v = v} before tree files still right opens =
+    let has : HasExports (shows v) = subst HasExports (λ k q. (sym (same_shows before tree files q (still.names q))) k) right in
+    let one : has.state ≡ t = one_state (shows v) has.state t has.shown (opens.shown (shows v) (now_left v)) in
+    subst (λ (z : State). ExportsAre (exported_in z v) (shows v)) one has.are
+
+-- so a refresh after it writes nothing
+still_refreshed : {t : State} {u v w : View} → IsTree u → IsTree v → KeepsFiles u v → IsStill u v → HasExports (shows u) → Opens t v → Refreshes t v w → IsStill u w
+still_refreshed {t = t} {v = v} {w = w} before tree files still right opens step =
+    let are : ExportsAre (exported_in t v) (shows v) = still_right before tree files still right opens in
+    let second : IsStill v w = record { names = step.idle opens are; unwritten = step.unwritten opens are } in
+    still_on still second step.files
+
 -- ---- the answer that was given
 
 module _ (held : Holdings) (a : Answer) (before t : State) {u v w : View} (at : Shows (shows u) before) (after : t ≡ after_all before (ops_of a)) (none : a.refusal ≡ None) (done : Completes held a u v) (step : Refreshes t v w) (opens : IsSound u → Opens t w) where
@@ -205,7 +236,7 @@ module _ (held : Holdings) (a : Answer) (before t : State) {u v w : View} (at : 
     text = λ some s is. text_on (config_same step) step.files (done.text some s is);
     shares = λ ok. shares_on (done.shares ok) (shares_to (λ q above. an_export above) was.shares) step.files;
     files = files_on done.files step.files;
-    creates = λ ok s is. creates_on (done.creates ok s is) was.creates done.files step.files;
+    creates = λ ok s is. created_on held (world_at s u) (ops_of a) (done.creates ok s is) was.creates done.files step.files;
   }
 
 -- ---- over each answer that counts
@@ -214,12 +245,16 @@ module _ (holds : Option Holdings) (May : Op → Type 0) (f : Holdings → World
   opened : (held : Holdings) → holds ≡ Some held → IsSound u → Opens t w
   opened held is sound = step.opens (changed.opens (λ asks. (held, is)) sound)
 
-  runs_on : RunsOver holds May f u v → RunsOver holds May f u w
-  runs_on runs = record {
+  runs_on : IsTree v → RunsOver holds May f u v → RunsOver holds May f u w
+  runs_on tree runs = record {
     runs = λ ready held is shown counts.
         let e = changed.ended.ended ready held is shown counts in
         runs_left held (over (f held) shown) changed.before t changed.at (changed.after ready held is shown counts) e.0 e.1 step (opened held is) (runs.runs ready held is shown counts);
     changes = λ known. alter_on u v w (runs.changes known) (alter_refreshes step);
+    rests = λ ready held is shown counts rest idle none.
+        let e = changed.ended.ended ready held is shown counts in
+        let opens = changed.opens (λ asks. (held, is)) (ready_sound changed.at ready) in
+        still_refreshed changed.tree tree e.1.files (runs.rests ready held is shown counts rest idle none) rest.exports opens step;
     untouched = λ none. absurd (none changed.before changed.at);
   }
 
@@ -249,15 +284,15 @@ module _ {a b c : Option Moments} (holds : Option Holdings) (May : Op → Type 0
   in_trees end = ends_tree known_c (goes_known second end) (λ v w tree q. (tree, q))
 
   pub goes_refreshed : AtEnd (WasRefreshed t) b c → Goes a c (RunsOver holds May f) (EndedOver holds f (Ok tt))
-  goes_refreshed end = goes_on known_b first (in_trees end) (λ u v w tree r q step. runs_on holds May f t q step r) (λ u v w tree r q step last. ended_on holds May f t q step tree last.0 last.1.1)
+  goes_refreshed end = goes_on known_b first (in_trees end) (λ u v w tree r q step. runs_on holds May f t q step tree r) (λ u v w tree r q step last. ended_on holds May f t q step tree last.0 last.1.1)
 
   pub goes_not_refreshed : (e : HostEnd) (r : Result (Unit {0}) RunEnd) → IsErrAnd r (λ end. end ≡ end_of_host e) → Goes a c (RunsOver holds May f) (EndedOver holds f r)
   goes_not_refreshed e r is = subst (λ (x : Result (Unit {0}) RunEnd). Goes a c (RunsOver holds May f) (EndedOver holds f x)) (sym (is_err r (end_of_host e) is))
-      (goes_on known_b first second (λ u v w tree q k step. runs_on holds May f t k step q) (λ u v w tree q k step last. halted_on holds May f t k step e))
+      (goes_on known_b first second (λ u v w tree q k step. runs_on holds May f t k step tree q) (λ u v w tree q k step last. halted_on holds May f t k step e))
 
-  pub exports_stand : IsTold a → AtEnd (WasRefreshed t) b c → AreToldFor May holds → AtEnd (λ u w. IsSound u → LeavesExports w) a c
+  pub exports_stand : IsTold a → AtEnd (WasRefreshed t) b c → AreToldFor May holds → AtEnd (λ u w. IsSound u → IsInStep holds w) a c
   exports_stand known_a end told = ends_on (ends_goes known_b (in_trees end)) (ends_goes known_a first) known_b
-      (λ u v w tree q last sound. exports_left last.0 (last.1.0.opens (q.opens told sound)) last.1.1)
+      (λ u v w tree q last sound. in_step holds tree last.0 (last.1.0.opens (q.opens told sound)) last.1.0 last.1.1 (q.settled (inl sound)))
 
 -- ---- the cause of its fault
 

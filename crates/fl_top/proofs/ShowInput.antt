@@ -69,6 +69,7 @@ runs_shown : (thing : Shown) (t : Told) (bytes text : List ℕ) → IsWhole t.le
 runs_shown thing t bytes text whole shown u w said = record {
   runs = λ given gave image counts may. subst (λ (a : Answer). Runs a u w) (sym shown ∙ shown_is thing t bytes whole given gave image) (telling text said);
   changes = λ known. alter_untouched said.untouched;
+  rests = λ change. absurd (cc change);
   untouched = λ why. said.untouched;
 }
 

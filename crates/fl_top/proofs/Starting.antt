@@ -34,16 +34,18 @@ use Rattle.fl_change.specs.Performs.{Printed, Performs, IsDone, IsHalted, Perfor
 use Rattle.fl_top.specs.RunsOver.{RunsOver, Completes, Ended, EndedOver, LookedOver}
 use Rattle.fl_change.specs.declared.end.RunEnd.{RunEnd}
 use Rattle.fl_change.specs.declared.end.RunEnd.TheVariants.{Refused, Fault, RemoteFault, NoMemory}
-use Rattle.fl_change.specs.Changes.{IsUntouched, HasText, OnlyTidied}
-use Rattle.fl_change.proofs.Changing.{change_on, change_none, tidied_on, tidied_none, same_untouched}
+use Rattle.fl_change.specs.Changes.{IsUntouched, HasText, OnlyTidied, IsStill}
+use Rattle.fl_change.proofs.Changing.{change_on, change_none, tidied_on, tidied_none, still_on, same_untouched}
 use Rattle.fl_change.proofs.Same.{unmoved, same_shown, same_sound, same_settled, now_left}
 use Rattle.fl_top.proofs.Altering.{alter_none, alter_changes, rest_none, rest_tidied}
 use Rattle.fl_top.proofs.Over.{over_is, over_damaged, not_shown, counts_shown, counts_damaged}
 use Rattle.fl_change.proofs.Worlds.{store_same, shows_same, worlds_state}
 use Rattle.fl_change.proofs.Doing.{none_yet}
 use Rattle.ost_store.specs.Created.{Creates, NoObject}
-use Rattle.ost_store.proofs.Creating.{creates_refl, creates_frame, creates_after}
-use Rattle.fl_change.specs.Created.{IsCreated}
+use Rattle.ost_store.proofs.Creating.{creates_refl, creates_frame}
+use Rattle.fl_change.specs.Created.{CreatesInTurn}
+use Rattle.fl_change.proofs.Created.{created_off}
+use Rattle.fl_top.specs.Exports.{StaysAtRest}
 
 -- ---- nothing is printed and nothing shown changes, no new file gets a byte, and no object is made
 
@@ -57,6 +59,9 @@ pub record Keeping (u w : View) : Type 0 where
 
 pub kept : {u w : View} → Keeps Nothing NoName NoPath u w → Keeping u w
 kept keeps = record { printed = keeps.printed; follows = keeps.follows; names = λ q. elim (keeps.names q) [ inl same ↦ same | inr put ↦ absurd put ]; files = files_kept keeps; empty = shares_empty keeps; creates = creates_frame NoName keeps (λ q id below put. put) }
+
+pub still_keeping : {u w : View} → Keeping u w → IsStill u w
+still_keeping keeping = record { names = keeping.names; unwritten = keeping.empty }
 
 -- a step that gives nothing leaves what some stop before would have left
 pub shows_before : {u w : View} → Follows Nothing u w → IsSound u → (disk : Disk) → Leaves w disk → IsJust [] u disk
@@ -93,6 +98,7 @@ pub begun_over : (holds : Option Holdings) (May : Op → Type 0) (f : Holdings �
 begun_over holds May f late {u = u} keeping unread = record {
   runs = λ ready held is shown counts. begun (over (f held) shown) keeping (λ at_once. absurd (over_late (f held) (late held) shown at_once));
   changes = λ known. alter_none keeping.names keeping.files;
+  rests = λ ready held is shown counts rest idle none. still_keeping keeping;
   untouched = λ none. same_untouched (unread none);
 }
 
@@ -145,6 +151,11 @@ runs_opened a s {u = u} {w = w} late opened keeping performs = record {
   untouched = λ at_once. absurd (late at_once);
 }
 
+-- where all is at rest and nothing is done
+stays_opened : (a : Answer) (s : State) {u v w : View} → ((q : Elements) → shows v q ≡ shows u q) → Keeping u v → Performs a s v w → StaysAtRest a u w
+stays_opened a s seen keeping performs = λ rest idle none.
+    still_on (still_keeping keeping) (performs.still idle (same_settled seen rest.settled)) performs.files
+
 -- what is known at each moment of work that may do these operations
 pub record Working (holds : Option Holdings) (May : Op → Type 0) (f : Holdings → World → Answer) (s : State) (v w : View) : Type 0 where
   pub performs : PerformsOver (Opens s) holds f s v w
@@ -157,17 +168,21 @@ runs_over holds May f s {u = u} {v = v} {w = w} late begun tree work = record {
       subst (λ (a : Answer). Runs a u w) (ap (f held) (begun_world s begun tree) ∙ sym (over_is (f held) (shows u) shown s begun.opened.shown counts))
       (runs_opened (f held (world_at s v)) s (late held (world_at s v)) begun.opened begun.keeping (work.performs.performs held is opens));
   changes = λ known. alter_changes (change_on u v w (change_none begun.keeping.names begun.keeping.files) (work.changes (λ asks. (known asks).0) (λ asks. begun.opened.opens (ready_sound begun.opened.shown (known asks).1))));
+  rests = λ ready held is shown counts.
+      let opens = begun.opened.opens (ready_sound begun.opened.shown ready) in
+      subst (λ (a : Answer). StaysAtRest a u w) (ap (f held) (begun_world s begun tree) ∙ sym (over_is (f held) (shows u) shown s begun.opened.shown counts))
+      (stays_opened (f held (world_at s v)) s (begun_seen begun tree) begun.keeping (work.performs.performs held is opens));
   untouched = λ none. absurd (none s begun.opened.shown);
 }
 
-completes : (held : Holdings) (a : Answer) (s : State) (x : World) {u v w : View} → x.state ≡ s → ((q : Elements) → shows v q ≡ shows u q) → IsOpened s u v → Keeping u v → KeepsFiles v w → world_at s u ≡ x → IsDone held a x v w → Completes held a u w
-completes held a s x {u = u} {w = w} same seen opened keeping files here is = record {
+completes : (held : Holdings) (a : Answer) (s : State) (x : World) {u v w : View} → x.state ≡ s → IsOpened s u v → Keeping u v → KeepsFiles v w → world_at s u ≡ x → IsDone held a x v w → Completes held a u w
+completes held a s x {u = u} {w = w} same opened keeping files here is = record {
   printed = is.printed ∙ ap (λ (p : List ℕ). p ++ joined a.pieces) keeping.printed;
   just = λ sound disk left. record { shown = shown_after u s (ops_of a) disk opened.shown (opens.shown disk left); sound = opens.sound disk left };
   shown = λ sound t at.
       let one : s ≡ t = one_state (shows u) s t opened.shown at in
       subst (λ (z : State). Shows (shows w) (after_all z (ops_of a))) one (opens.shown (shows w) (now_left w));
-  tidied = λ sound why. is.tidied (elim why [ inl settled ↦ inl (same_settled seen settled) | inr some ↦ inr some ]);
+  tidied = λ sound why. is.tidied;
   text = λ some t at.
       let one : s ≡ t = one_state (shows u) s t opened.shown at in
       subst (λ (z : State). HasText (after_all z (ops_of a)) w) (same ∙ one) (is.text some);
@@ -175,7 +190,8 @@ completes held a s x {u = u} {w = w} same seen opened keeping files here is = re
   shares = λ none. shares_on (shares_to (λ q no. absurd no) keeping.empty) (is.shares none) files;
   creates = λ none t at.
       let one : s ≡ t = one_state (shows u) s t opened.shown at in
-      subst (λ (z : World). Creates repo (IsCreated held z (ops_of a)) u w) (sym here ∙ ap (λ (z : State). world_at z u) one) (creates_after keeping.creates (is.creates none) keeping.files files);
+      subst (λ (z : World). CreatesInTurn held z (ops_of a) u w) (sym here ∙ ap (λ (z : State). world_at z u) one)
+      (created_off held x (ops_of a) keeping.creates (is.creates none) keeping.files files);
 }
   where
     opens : Opens (after_all s (ops_of a)) w
@@ -189,7 +205,7 @@ stands a s {u = u} opened keeping is = record {
 }
 
 ended : (held : Holdings) (a : Answer) (s : State) (e : RunEnd) {u v : View} (w : View) → Begun s u v → IsTree v → KeepsFiles v w → Performed held a (world_at s v) (Err e) v w → Ended held a (Err e) u w
-ended held a s (Refused refusal) {v = v} w begun tree files is = (is.0, completes held a s (world_at s v) refl (begun_seen begun tree) begun.opened begun.keeping files (sym (begun_world s begun tree)) is.1)
+ended held a s (Refused refusal) {v = v} w begun tree files is = (is.0, completes held a s (world_at s v) refl begun.opened begun.keeping files (sym (begun_world s begun tree)) is.1)
 ended held a s Fault w begun tree files is = tt
 ended held a s RemoteFault {v = v} w begun tree files is = stands a s begun.opened begun.keeping is
 ended held a s NoMemory w begun tree files is = stands a s begun.opened begun.keeping is
@@ -209,7 +225,7 @@ done_over holds f s t {u = u} {v = v} w begun tree work is = record {
       let opens = begun.opened.opens (ready_sound begun.opened.shown ready) in
       let done = is.performed held told opens in
       subst (λ (a : Answer). Ended held a (Ok tt) u w) (ap (f held) (begun_world s begun tree) ∙ sym (over_is (f held) (shows u) shown s begun.opened.shown counts))
-      (done.0, completes held (f held (world_at s v)) s (world_at s v) refl (begun_seen begun tree) begun.opened begun.keeping (work.performs held told opens).files (sym (begun_world s begun tree)) done.2);
+      (done.0, completes held (f held (world_at s v)) s (world_at s v) refl begun.opened begun.keeping (work.performs held told opens).files (sym (begun_world s begun tree)) done.2);
   given = λ held by. counts_shown (over (f held)) (shows u) s begun.opened.shown;
 }
 

@@ -1,14 +1,16 @@
 -- What is exported: as it is listed, as it stands, and which names a run changes for it.
-use Rattle.std.specs.Prelude.{◌≡◌, ◌⊎◌, ℕ, List, None, flat_map}
+use Rattle.std.specs.Prelude.{◌≡◌, ◌⊎◌, ℕ, List, Option, Some, None, flat_map}
 use Rattle.fp_host.specs.Paths.{Elements, Slot}
 use Rattle.fp_host.specs.View.{View}
-use Rattle.fp_host.specs.Outcome.{Disk, Leaves}
+use Rattle.fp_host.specs.Outcome.{Disk, Leaves, shows}
+use Rattle.fp_host.specs.Remote.{Holdings}
 use Rattle.fp_small.specs.Files.{KeepsFiles}
 use Rattle.fp_small.specs.Places.{repo}
 use Rattle.fp_small.specs.declared.op.Op.{Op}
 use Rattle.fp_small.specs.declared.state.State.{State}
 use Rattle.ost_model.specs.Objects.{store}
 use Rattle.dep_states.specs.Links.{Links}
+use Rattle.dep_states.specs.Settled.{Settled}
 use Rattle.dep_states.specs.Shown.{Shows}
 use Rattle.dep_tidy.specs.Tidy.{MayTidy}
 use Rattle.fl_export.specs.Exported.{exported}
@@ -18,8 +20,8 @@ use Rattle.fl_export.specs.declared.rows.ExportRow.{ExportRow}
 use Rattle.fp_name.specs.Refs.{Ref}
 use Rattle.fl_lines.specs.Lines.{export_line, made_text}
 use Rattle.fl_make.specs.Making.{MayMake}
-use Rattle.fl_change.specs.Answer.{Answer, text_answer}
-use Rattle.fl_change.specs.Changes.{MayHold}
+use Rattle.fl_change.specs.Answer.{Answer, text_answer, IsIdle}
+use Rattle.fl_change.specs.Changes.{MayHold, IsStill}
 
 -- ---- what is listed
 
@@ -41,6 +43,20 @@ pub record HasExports (disk : Disk) : Type 0 where
 -- so it is at every stop
 abbrev pub LeavesExports : View → Type 0
 LeavesExports v = (disk : Disk) → Leaves v disk → HasExports disk
+
+-- All is settled, and the exported files and links are those of the state.
+pub record IsAtRest (v : View) : Type 0 where
+  pub settled : Settled (shows v)
+  pub exports : HasExports (shows v)
+
+-- Every stop leaves the exported files and links of the state; and where the remotes tell what they hold, all is at rest.
+pub record IsInStep (holds : Option Holdings) (v : View) : Type 0 where
+  pub exports : LeavesExports v
+  pub rests : (held : Holdings) → holds ≡ Some held → IsAtRest v
+
+-- Where all is at rest and nothing is done, pulled or refused, no name changes and no new file has a byte.
+abbrev pub StaysAtRest : Answer → View → View → Type 0
+StaysAtRest a u w = IsAtRest u → IsIdle a → a.refusal ≡ None → IsStill u w
 
 -- ---- what changes
 

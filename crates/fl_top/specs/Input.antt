@@ -1,12 +1,13 @@
 -- What reading the input tells.
-use Rattle.std.specs.Prelude.{◌≡◌, ◌≤◌, ◌<◌, ◌*◌, ℕ, Bool, true, false, List, [], ◌++◌, length, Option, Some}
+use Rattle.std.specs.Prelude.{◌≡◌, ◌≤◌, ◌<◌, ℕ, Bool, true, false, List, [], ◌++◌, length, Option, Some}
 use Rattle.fp_host.specs.Moments.{Rose}
+use Rattle.fl_top.specs.declared.input.TheConstants.{MOST_INPUT}
 use Rattle.fl_top.specs.declared.input.InputEnd.{InputEnd}
 use Rattle.fl_top.specs.declared.input.InputEnd.TheVariants.{TooLong, Fault, NoMemory}
 
 -- 64 MiB
 abbrev pub input_most : ℕ
-input_most = 64 * 1024 * 1024
+input_most = MOST_INPUT
 
 -- The bytes are all that was left, and at most 64 MiB. Where the source doesn't tell what it has left, nothing is said of them.
 abbrev pub IsWhole : Option (List ℕ) → List ℕ → Type 0

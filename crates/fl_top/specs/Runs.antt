@@ -5,10 +5,8 @@ use Rattle.fp_host.specs.Remote.{Holdings}
 use Rattle.fp_host.specs.View.{View}
 use Rattle.fp_host.specs.Moments.{Moments}
 use Rattle.fp_host.specs.Outcome.{Disk, Leaves, shows}
-use Rattle.fp_small.specs.Places.{repo}
 use Rattle.fp_small.specs.Shares.{Shares}
 use Rattle.fp_small.specs.declared.state.State.{State}
-use Rattle.ost_store.specs.Created.{Creates}
 use Rattle.ost_fsck.specs.declared.report.Report.{Report}
 use Rattle.dep_states.specs.Lasting.{IsLasting}
 use Rattle.dep_states.specs.Shown.{Shows}
@@ -24,9 +22,9 @@ use Rattle.fl_change.specs.Answer.{Answer, Piece, lines_of, joined, ops_in, ops_
 use Rattle.fl_top.specs.Answer.{Given, answer, IsOver, IsAtOnce}
 use Rattle.fl_top.specs.Input.{IsDrained}
 use Rattle.fl_change.specs.Changes.{IsUntouched, HasText}
-use Rattle.fl_change.specs.Created.{IsCreated}
+use Rattle.fl_change.specs.Created.{CreatesInTurn}
 use Rattle.fl_top.specs.Fsck.{Finds, IsListable}
-use Rattle.fl_top.specs.Exports.{Alters, OnlyRests}
+use Rattle.fl_top.specs.Exports.{Alters, OnlyRests, StaysAtRest}
 use Rattle.fl_top.specs.Status.{status_at, IsAnswered, only_looks, changes_state, makes_remote, reads_input, asks_remotes, checks_store}
 use Rattle.fl_change.specs.Performs.{Printed, AsksBy}
 use Rattle.fp_small.specs.declared.op.Op.{Op}
@@ -78,8 +76,8 @@ pub record Stands (a : Answer) (u w : View) : Type 0 where
 
 -- The whole answer was printed; what stands now is the state after its operations. Where one was done, or all was settled before,
 -- all is settled. Where one of them set it, `config` has exactly its text, and the permission bits 0644. Without
--- a refusal each new file that has bytes came to a lasting name, and just the objects were made that the operations lacked, by what
--- the remotes hold.
+-- a refusal each new file that has bytes came to a lasting name, and each operation in turn made just the objects that it lacked, by
+-- what the remotes hold.
 pub record Answers (held : Holdings) (a : Answer) (status : ℕ) (u w : View) : Type 0 where
   pub status_is : status ≡ status_at a
   pub printed : w.printed ≡ u.printed ++ joined (lines_of a)
@@ -87,7 +85,7 @@ pub record Answers (held : Holdings) (a : Answer) (status : ℕ) (u w : View) : 
   pub tidied : IsSound u → Settled (shows u) ⊎ (ops_of a ≢ []) → Settled (shows w)
   pub text : set_config (ops_of a) ≡ true → (s : State) → Shows (shows u) s → HasText (after_all s (ops_of a)) w
   pub shares : a.refusal ≡ None → Shares IsLasting u w
-  pub creates : a.refusal ≡ None → (s : State) → Shows (shows u) s → Creates repo (IsCreated held (world_at s u) (ops_of a)) u w
+  pub creates : a.refusal ≡ None → (s : State) → Shows (shows u) s → CreatesInTurn held (world_at s u) (ops_of a) u w
 
 -- At the return. 3 says that the host failed, 4 that the remotes did, 5 that the input did, and 6 that there was no memory.
 pub record Ran (held : Holdings) (a : Answer) (status : ℕ) (u w : View) : Type 0 where
@@ -201,12 +199,15 @@ MayAnswer command v a = Serves command v ⊎ IsAtOnce a.refusal
 -- At every moment the run is that of each answer that counts. Whatever the source tells, no name changed but those that the
 -- command's operations, tidying and a refresh of the exported files change, or where a remote is made what that changes, each file
 -- that was there keeps its mode and its bytes, and each that came to a commit's folder is its record or a file of the store: where a
--- commit may be brought, over remotes that tell what they hold and an installation that is ready. Words that are no command, a command that only looks, and one that sees no state change nothing, but one that makes a
--- remote, which doesn't look.
+-- commit may be brought, over remotes that tell what they hold and an installation that is ready. Where a command that may change the
+-- state has nothing to do, and all is at rest, it stays so. Words that are no command, a command that only looks, and one that sees no
+-- state change nothing, but one that makes a remote, which doesn't look.
 pub record RunsBy (words : List (List ℕ)) (t : Told) (u w : View) : Type 0 where
   pub changes : IsKnown (OpsFor (command_of words) t.left) t.holds u → Alters (OpsFor (command_of words) t.left) (MakesFor (command_of words)) u w
   pub runs : (given : Given) → IsGiven t (command_of words) given → (shown : Result World Elements)
       → IsOver (answer words given) (shows u) shown → MayAnswer (command_of words) u (answer words given shown) → Runs (answer words given shown) u w
+  pub rests : IsChange (command_of words) → (given : Given) → IsGiven t (command_of words) given → (shown : Result World Elements)
+      → IsOver (answer words given) (shows u) shown → MayAnswer (command_of words) u (answer words given shown) → StaysAtRest (answer words given shown) u w
   pub untouched : Looks (command_of words) ⊎ (MakesNone (command_of words) × NotShown (shows u)) → IsUntouched u w
 
 -- At the return the run was that of each answer that counts. Where the whole answer was given, there is one that counts (so

@@ -5,10 +5,8 @@ use Rattle.fp_host.specs.Remote.{Holdings}
 use Rattle.fp_host.specs.View.{View}
 use Rattle.fp_host.specs.Outcome.{Disk, Leaves, shows}
 use Rattle.fp_small.specs.Files.{KeepsFiles}
-use Rattle.fp_small.specs.Places.{repo}
 use Rattle.fp_small.specs.Shares.{Shares}
 use Rattle.fp_small.specs.declared.state.State.{State}
-use Rattle.ost_store.specs.Created.{Creates}
 use Rattle.ost_fsck.specs.declared.report.Report.{Report}
 use Rattle.dep_states.specs.Lasting.{IsLasting}
 use Rattle.dep_states.specs.Shown.{Shows}
@@ -25,11 +23,11 @@ use Rattle.fl_top.specs.Fsck.{Finds, HasReport}
 use Rattle.fl_top.specs.Asked.{OpsBy}
 use Rattle.fl_top.specs.Runs.{Runs, Ran, Stands, IsJust, Told, IsGivenTo, IsReady, IsKnown, MayAnswer}
 use Rattle.fl_change.specs.Changes.{IsUntouched, HasText}
-use Rattle.fl_change.specs.Created.{IsCreated}
-use Rattle.fl_top.specs.Exports.{Alters, NoMaking}
+use Rattle.fl_change.specs.Created.{CreatesInTurn}
+use Rattle.fl_top.specs.Exports.{Alters, NoMaking, StaysAtRest}
 use Rattle.fl_top.specs.Remotes.{MakesBy, MadeBy}
 use Rattle.fl_top.specs.Input.{IsDrained}
-use Rattle.fl_top.specs.Status.{IsAnswered, only_looks, makes_remote, reads_input}
+use Rattle.fl_top.specs.Status.{IsAnswered, only_looks, changes_state, makes_remote, reads_input}
 use Rattle.fl_change.specs.declared.end.RunEnd.{RunEnd}
 use Rattle.fl_change.specs.declared.end.RunEnd.TheVariants.{Refused, Fault, RemoteFault, NoMemory}
 use Rattle.fl_top.specs.declared.command_end.CommandEnd.{CommandEnd}
@@ -43,6 +41,7 @@ OverView f u Is = (shown : Result World Elements) → IsOver (over f) (shows u) 
 pub record RunsOver (holds : Option Holdings) (May : Op → Type 0) (f : Holdings → World → Answer) (u w : View) : Type 0 where
   pub runs : IsReady u → (held : Holdings) → holds ≡ Some held → OverView (f held) u (λ a. Runs a u w)
   pub changes : IsKnown May holds u → Alters May NoMaking u w
+  pub rests : IsReady u → (held : Holdings) → holds ≡ Some held → OverView (f held) u (λ a. StaysAtRest a u w)
   pub untouched : NotShown (shows u) → IsUntouched u w
 
 -- and nothing changes
@@ -51,8 +50,8 @@ pub record LooksOver (f : World → Answer) (u w : View) : Type 0 where
   pub untouched : IsUntouched u w
 
 -- All that isn't the line of a refusal was printed, and what stands is the state after the operations. Each file that was there is
--- as it was. Without a refusal each new file that has bytes came to a lasting name, and just the objects were made that the operations
--- lacked, by what the remotes hold.
+-- as it was. Without a refusal each new file that has bytes came to a lasting name, and each operation in turn made just the objects
+-- that it lacked, by what the remotes hold.
 pub record Completes (held : Holdings) (a : Answer) (u w : View) : Type 0 where
   pub printed : w.printed ≡ u.printed ++ joined a.pieces
   pub just : IsSound u → (disk : Disk) → Leaves w disk → IsJust (ops_of a) u disk
@@ -61,7 +60,7 @@ pub record Completes (held : Holdings) (a : Answer) (u w : View) : Type 0 where
   pub text : set_config (ops_of a) ≡ true → (s : State) → Shows (shows u) s → HasText (after_all s (ops_of a)) w
   pub files : KeepsFiles u w
   pub shares : a.refusal ≡ None → Shares IsLasting u w
-  pub creates : a.refusal ≡ None → (s : State) → Shows (shows u) s → Creates repo (IsCreated held (world_at s u) (ops_of a)) u w
+  pub creates : a.refusal ≡ None → (s : State) → Shows (shows u) s → CreatesInTurn held (world_at s u) (ops_of a) u w
 
 abbrev pub Ended : Holdings → Answer → Result (Unit {0}) RunEnd → View → View → Type 0
 Ended held a (Ok t) u w = (a.refusal ≡ None) × Completes held a u w
@@ -121,11 +120,13 @@ abbrev pub HasAnswer : Command → Told → View → Type 0 → Type 0
 HasAnswer asked t u Where = (given : Given) → IsGivenTo asked t given → Where
     → (shown : Result World Elements) × IsOver (answer_over asked given) (shows u) shown
 
--- Whatever it is given these are the changes, where what it brings is known; and a command that only looks, or sees no state, changes
--- nothing, but one that makes a remote, which doesn't look.
+-- Whatever it is given these are the changes, where what it brings is known; where all is at rest, and a command that may change the
+-- state has nothing to do, it stays so; and a command that only looks, or sees no state, changes nothing, but one that makes a remote,
+-- which doesn't look.
 pub record RunsOn (asked : Command) (t : Told) (u w : View) : Type 0 where
   pub changes : IsKnown (OpsBy asked t.left) t.holds u → Alters (OpsBy asked t.left) (MakesBy asked) u w
   pub runs : OverAll asked t u (λ held a. Runs a u w)
+  pub rests : changes_state asked ≡ true → OverAll asked t u (λ held a. StaysAtRest a u w)
   pub untouched : (only_looks asked ≡ true) ⊎ ((makes_remote asked ≡ false) × NotShown (shows u)) → IsUntouched u w
 
 -- so a command ends; where the input failed, nothing was done

@@ -1,8 +1,9 @@
 //! An exercise: the changes of made remotes.
-ghost use Rattle.std.specs.Prelude.{◌≡◌, ◌≤◌, false, Some, IfOk, IfErr, OnOk, IsErrOf};
+ghost use Rattle.std.specs.Prelude.{◌≡◌, ◌≤◌, false, Option, Some, IfOk, IfErr, OnOk, IsErrOf};
 ghost use Rattle.fp_host.specs.Causes.{IsCaused};
 ghost use Rattle.fp_host.specs.Frame.{AtEnd};
 ghost use Rattle.fp_host.specs.Moments.{Goes};
+ghost use Rattle.fp_host.specs.Remote.{Holdings};
 ghost use Rattle.dep_states.specs.Sound.{IsSound};
 ghost use Rattle.fl_words.specs.declared.command.Command.TheVariants.{Exercise as Exercising};
 ghost use Rattle.fl_gen.specs.Exercise.{exercise_changes};
@@ -10,7 +11,7 @@ ghost use Rattle.fl_change.specs.Turns.{MayDo};
 ghost use Rattle.fl_exercise.specs.Exercising.{exercising};
 ghost use Rattle.fl_top.specs.Asked.{AreToldFor, AsksRemotes};
 ghost use Rattle.fl_top.specs.Exercises.{is_exercise, IsExercised};
-ghost use Rattle.fl_top.specs.Exports.{LeavesExports};
+ghost use Rattle.fl_top.specs.Exports.{IsInStep};
 ghost use Rattle.fl_top.specs.Runs.{IsReady, HasCauses};
 ghost use Rattle.fl_top.specs.RunsOver.{RunsOver, EndedOver};
 ghost use Rattle.fl_top.specs.Status.{IsOfCommand};
@@ -58,8 +59,8 @@ pub(crate) fn run_exercise<T: Threads + Sync, H: Host, I: Source, G: Gate + Sync
     ensures runs { IsExercised apps (I.left input.old) result (H.moments host.old) (H.moments host.new) }
     ensures fault_has_cause { IsCaused (result ≡ 3) (H.moments host.old)
         (HasCauses (Some (Exercising apps))) (H.faults host.old) (H.faults host.new) }
-    ensures exports { result ≡ 0 → AtEnd (λ u w. IsSound u → LeavesExports w)
-        (H.moments host.old) (H.moments host.new) }
+    ensures exports { (holds : Option Holdings) → result ≡ 0
+        → AtEnd (λ u w. IsSound u → IsInStep holds w) (H.moments host.old) (H.moments host.new) }
     ensures no_remote_fault { result ≡ 4 → ⊥ }
     ensures left { I.left input.new ≡ I.left input.old }
     ensures later { I.faults input.old ≤ I.faults input.new }
@@ -86,7 +87,8 @@ pub(crate) fn exercise<T: Threads + Sync, H: Host, R: Remotes>(
         (RunsOver (R.holds remotes.old) (MayDo (exercise_changes apps.now)) (exercising apps.now))
         (EndedOver (R.holds remotes.old) (exercising apps.now) result) }
     ensures exports { OnOk result (AreToldFor (MayDo (exercise_changes apps.now)) (R.holds remotes.old)
-        → AtEnd (λ u w. IsSound u → LeavesExports w) (H.moments host.old) (H.moments host.new)) }
+        → AtEnd (λ u w. IsSound u → IsInStep (R.holds remotes.old) w)
+        (H.moments host.old) (H.moments host.new)) }
     ensures fault_has_cause { IsCaused (AreToldFor (MayDo (exercise_changes apps.now)) (R.holds remotes.old)
         × IsErrOf result RunEnd.Fault) (H.moments host.old) IsReady
         (H.faults host.old) (H.faults host.new) }

@@ -1,21 +1,27 @@
 //! Laws of runs. Each is the contract of a function that does nothing.
-ghost use Rattle.std.specs.Prelude.{◌≡◌, ◌∷◌, [], ℕ, List, None, Result};
+ghost use Rattle.std.specs.Prelude.{◌≡◌, ◌∷◌, [], ℕ, List, Option, Some, None, Result};
 ghost use Rattle.fp_host.specs.Paths.{Elements, absent};
+ghost use Rattle.fp_host.specs.Remote.{Holdings};
 ghost use Rattle.fp_host.specs.View.{View, IsTree};
 ghost use Rattle.fp_host.specs.Outcome.{Disk, Leaves, IsSettled, shows};
+ghost use Rattle.fp_small.specs.Files.{KeepsFiles};
 ghost use Rattle.fp_small.specs.declared.state.State.{State};
 ghost use Rattle.dep_states.specs.Shown.{Shows};
 ghost use Rattle.dep_states.specs.Sound.{IsSound};
 ghost use Rattle.fl_words.specs.Forms.{command_of};
+ghost use Rattle.fl_words.specs.declared.command.Change.TheVariants.{UpdateAll};
+ghost use Rattle.fl_words.specs.declared.command.Command.TheVariants.{Change as Changing};
 ghost use Rattle.fl_words.specs.declared.command.Listing.TheVariants as listings;
 ghost use Rattle.fl_export.specs.Placed.{ExportsAre};
 ghost use Rattle.fl_export.specs.Sample as sample;
-ghost use Rattle.fl_change.specs.Answer.{text_answer};
+ghost use Rattle.fl_change.specs.Answer.{text_answer, ops_of};
+ghost use Rattle.fl_change.specs.Changes.{IsStill};
 ghost use Rattle.fl_top.specs.Answer.{answer, listed, Given, IsOver};
-ghost use Rattle.fl_top.specs.Exports.{LeavesExports};
+ghost use Rattle.fl_top.specs.Exports.{IsInStep};
 ghost use Rattle.fl_top.specs.ExportSample.{desktop_text, placed_disk, stale_disk, listed_text};
 ghost use Rattle.fl_change.specs.World.{World};
 ghost use Rattle.fl_top.specs.History.{Stretch, History, IsReached};
+ghost use Rattle.fl_top.specs.Runs.{Told, RunsBy, RanBy};
 
 /// The answers to words that count are the same. There is one over a view that is sound; and to words that are no command
 /// there is one over each image.
@@ -44,10 +50,24 @@ pub fn runs_join()
 /// What is promised of exported files can be met: where the root stands alone nothing is exported, and nothing stands there. The
 /// files and links of a small application may stand just so; with a link of another application they don't.
 pub fn exports_can_stand()
-    ensures bare { (v : View) → IsTree v → IsSettled v
-        → ((x : List ℕ) (up : Elements) → v.names (x ∷ up) ≡ absent) → LeavesExports v }
+    ensures bare { (holds : Option Holdings) (v : View) → IsTree v → IsSettled v
+        → ((x : List ℕ) (up : Elements) → v.names (x ∷ up) ≡ absent) → IsInStep holds v }
     ensures placed { ExportsAre (sample.exports sample.stable desktop_text) placed_disk }
     ensures stale { ExportsAre (sample.exports sample.stable desktop_text) stale_disk → ⊥ }
+{}
+
+/// An update of all that was done leaves nothing to do: another one, over what it left and with the same remotes, has no operation
+/// and is not refused; at every moment no name has changed, each file keeps its mode and its bytes, and no new file has a byte.
+pub fn idle_updates_write_nothing()
+    ensures answer { (words : List (List ℕ)) (first : Told) (given : Given) (held : Holdings)
+        (u v : View) (shown : Result World Elements) → command_of words ≡ Some (Changing UpdateAll)
+        → IsSound u → first.holds ≡ Some held → RanBy words first 0 u v → given.held ≡ held
+        → IsOver (answer words given) (shows v) shown
+        → (ops_of (answer words given shown) ≡ []) × ((answer words given shown).refusal ≡ None) }
+    ensures unwritten { (words : List (List ℕ)) (first second : Told) (held : Holdings)
+        (u v w : View) → command_of words ≡ Some (Changing UpdateAll) → IsSound u
+        → first.holds ≡ Some held → second.holds ≡ Some held → RanBy words first 0 u v
+        → IsInStep first.holds v → RunsBy words second v w → IsStill v w × KeepsFiles v w }
 {}
 
 /// What `list --exports` prints of a small application.

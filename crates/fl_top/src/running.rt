@@ -13,7 +13,7 @@ ghost use Rattle.fl_change.specs.Turns.{changing, MayDo};
 ghost use Rattle.fp_host.specs.Outcome.{shows};
 ghost use Rattle.dep_states.specs.Sound.{IsSound};
 ghost use Rattle.fl_top.specs.Fsck.{HasReport};
-ghost use Rattle.fl_top.specs.Exports.{LeavesExports};
+ghost use Rattle.fl_top.specs.Exports.{IsInStep};
 ghost use Rattle.fl_top.specs.Asked.{OpsBy, AsksFor, AreToldFor, AsksRemotes};
 ghost use Rattle.fl_top.specs.Exercises.{IsRun};
 ghost use Rattle.fl_top.specs.RunsOver.{RunsOver, EndedOver, RunsOn, EndedOn, RanOn, Takes, TakenBy, IsClosedBy};
@@ -66,10 +66,10 @@ pub fn run<H: Host, R: Remotes, I: Source>(
     ensures found { Checks (command_of (map string_bytes words.now)) → IsAnswered result → AtEnd
         (λ u w. HasReport (shows u)) (H.moments host.old) (H.moments host.new) }
     // Where a command that changes something was done, every stop leaves as the files and links at or below `exports` exactly those
-    // that the applications of its state export.
+    // that the applications of its state export; and all is settled, where the remotes tell what they hold.
     ensures exports { IsChange (command_of (map string_bytes words.now)) → result ≡ 0
         → AreToldFor (AsksFor (command_of (map string_bytes words.now)) (I.left input.old))
-        (R.holds remotes.old) → AtEnd (λ u w. IsSound u → LeavesExports w)
+        (R.holds remotes.old) → AtEnd (λ u w. IsSound u → IsInStep (R.holds remotes.old) w)
         (H.moments host.old) (H.moments host.new) }
     // The remotes stay as they are. For an exercise, and where the command brings no commit, they aren't asked, and the status
     // isn't 4; else it comes only where their count rose.
@@ -107,7 +107,7 @@ pub fn run_gated<H: Host, R: Remotes, I: Source, G: Gate + Sync>(
         (λ u w. HasReport (shows u)) (H.moments host.old) (H.moments host.new) }
     ensures exports { IsChange (command_of (map string_bytes words.now)) → result ≡ 0
         → AreToldFor (AsksFor (command_of (map string_bytes words.now)) (I.left input.old))
-        (R.holds remotes.old) → AtEnd (λ u w. IsSound u → LeavesExports w)
+        (R.holds remotes.old) → AtEnd (λ u w. IsSound u → IsInStep (R.holds remotes.old) w)
         (H.moments host.old) (H.moments host.new) }
     ensures remotes { AsksRemotes (AsksFor (command_of (map string_bytes words.now)) (I.left input.old))
         (result ≡ 4) (R.holds remotes.old) (R.holds remotes.new)
@@ -149,7 +149,8 @@ pub(crate) fn run_command<T: Threads + Sync, H: Host, R: Remotes, I: Source, G: 
         (H.moments host.old) (H.moments host.new) }
     ensures exports { IsChange (Some command) → result ≡ 0 → AreToldFor
         (OpsBy command (I.left input.old)) (R.holds remotes.old) → AtEnd
-        (λ u w. IsSound u → LeavesExports w) (H.moments host.old) (H.moments host.new) }
+        (λ u w. IsSound u → IsInStep (R.holds remotes.old) w)
+        (H.moments host.old) (H.moments host.new) }
     ensures remotes { AsksRemotes (OpsBy command (I.left input.old)) (result ≡ 4)
         (R.holds remotes.old) (R.holds remotes.new) (R.faults remotes.old) (R.faults remotes.new) }
     ensures input { result ≡ 5 → Rose (I.faults input.old) (I.faults input.new) × Unchanged
@@ -187,7 +188,8 @@ fn perform<T: Threads + Sync, H: Host, R: Remotes, I: Source, G: Gate + Sync>(
         (H.moments host.old) (H.moments host.new) }
     ensures exports { IsChange (Some command) → OnOk result (AreToldFor
         (OpsBy command (I.left input.old)) (R.holds remotes.old) → AtEnd
-        (λ u w. IsSound u → LeavesExports w) (H.moments host.old) (H.moments host.new)) }
+        (λ u w. IsSound u → IsInStep (R.holds remotes.old) w)
+        (H.moments host.old) (H.moments host.new)) }
     ensures remotes { AsksRemotes (OpsBy command (I.left input.old))
         (IsErrOf result CommandEnd.RemoteFault) (R.holds remotes.old) (R.holds remotes.new)
         (R.faults remotes.old) (R.faults remotes.new) }
@@ -269,7 +271,7 @@ fn batch<T: Threads + Sync, H: Host, R: Remotes, I: Source>(
         (RunsOn Batch (told (I.left input.old) (R.holds remotes.old) (H.moments host.old)))
         (EndedOn Batch (told (I.left input.old) (R.holds remotes.old) (H.moments host.old)) result) }
     ensures exports { OnOk result (AreToldFor (OpsBy Batch (I.left input.old))
-        (R.holds remotes.old) → AtEnd (λ u w. IsSound u → LeavesExports w)
+        (R.holds remotes.old) → AtEnd (λ u w. IsSound u → IsInStep (R.holds remotes.old) w)
         (H.moments host.old) (H.moments host.new)) }
     ensures fault_has_cause { IsCaused (AreToldFor (OpsBy Batch (I.left input.old))
         (R.holds remotes.old) × IsErrOf result CommandEnd.Fault) (H.moments host.old) IsReady
@@ -301,7 +303,8 @@ fn make_changes<T: Threads + Sync, H: Host, R: Remotes>(
         (RunsOver (R.holds remotes.old) (MayDo changes.now) (changing changes.now))
         (EndedOver (R.holds remotes.old) (changing changes.now) result) }
     ensures exports { OnOk result (AreToldFor (MayDo changes.now) (R.holds remotes.old)
-        → AtEnd (λ u w. IsSound u → LeavesExports w) (H.moments host.old) (H.moments host.new)) }
+        → AtEnd (λ u w. IsSound u → IsInStep (R.holds remotes.old) w)
+        (H.moments host.old) (H.moments host.new)) }
     ensures fault_has_cause { IsCaused (AreToldFor (MayDo changes.now) (R.holds remotes.old)
         × IsErrOf result RunEnd.Fault) (H.moments host.old) IsReady
         (H.faults host.old) (H.faults host.new) }

@@ -4,8 +4,8 @@ use fp_base::{Blob, ObjKind, Text};
 use fp_host::{Path, is_link_text};
 use fp_name::{Digest, RefName};
 use fpk_case_text::{
-    Action, CommitLine, Fault, Fixture, FixtureKind, Harm, Name, ObjectWords, Owner, Step, Wrong,
-    message, name_of,
+    Action, CaseError, CommitLine, Fixture, FixtureKind, Harm, Name, ObjectWords, Owner, Step,
+    Wrong, message, name_of,
 };
 use ost_commit::{BuildError, Built, BuiltObject, TreeRow, commit_tree};
 use ost_content::{file_digest, is_permission, link_digest};
@@ -300,7 +300,7 @@ impl Wares {
 fn read_name(alloc: Global, name: &str) -> Result<Option<Name>, AllocError> {
     match name_of(alloc, name) {
         Ok(name) => Ok(Some(name)),
-        Err(Fault::NoMemory) => Err(AllocError),
+        Err(CaseError::NoMemory) => Err(AllocError),
         Err(_) => Ok(None),
     }
 }

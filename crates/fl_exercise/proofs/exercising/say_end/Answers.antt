@@ -3,14 +3,14 @@ use Rattle.fp_host.specs.Causes.{end_of}
 use Rattle.ost_walk.specs.Ends.{outside}
 use Rattle.fl_change.specs.Ends.{end_of_host}
 use Rattle.fl_change.specs.declared.end.RunEnd.TheVariants.{NoMemory}
-use Rattle.fl_change.proofs.Acting.{acts_err}
+use Rattle.fl_change.proofs.Acting.{acts_err, acts_halted}
 use Rattle.fl_change.proofs.Composing.{Saying}
 use Rattle.fl_exercise.specs.Exercising.{end_text, end_answer}
-use Rattle.fl_exercise.proofs.Lines.{acts_halted, acts_told, acts_not_told}
+use Rattle.fl_exercise.proofs.Lines.{acts_told, acts_not_told}
 use Rattle.fl_exercise.proofs.exercising.say_end.Goals as goal
 
 pub returns-in_err-line : goal.returns-in_err-line
-returns-in_err-line g c = record { acts = acts_err c.from_residual.result NoMemory c.from_residual.ensures.1 (acts_halted (end_answer c.args.apps.now) c.args.opened (g.met.H.Host.is_tree c.args.host.now)) }
+returns-in_err-line g c = record { acts = acts_err c.from_residual.result NoMemory c.from_residual.ensures.1 (acts_halted (end_answer c.args.apps.now) (g.met.H.Host.is_tree c.args.host.now)) }
 
 pub returns-in_err-say : goal.returns-in_err-say
 returns-in_err-say g c =

@@ -1,6 +1,8 @@
 use Rattle.std.proofs.Common.{ℕ, inr, refl, subst, arith}
 use Rattle.fl_gen.specs.Generator.{IsGenerated, holdings_of}
+use Rattle.fp_host.proofs.Ending.{ends_to}
 use Rattle.fl_top.proofs.Exercises.{exercise_made, nothing_done}
+use Rattle.fl_top.proofs.Refreshed.{step_anyhow}
 use Rattle.fl_top.proofs.exercising.run_exercise.Goals as goal
 
 -- ---- over the remotes that are made
@@ -16,7 +18,9 @@ returns-in-Ok-clause-fault_has_cause g c =
     record { later = cause.later; fault = λ three. cause.fault ((λ asks. (holdings_of c.in-Ok.remotes, c.in-Ok.ensures.holds)), three) }
 
 pub returns-in-Ok-clause-exports : goal.returns-in-Ok-clause-exports
-returns-in-Ok-clause-exports g c = λ done. c.run_command.ensures.exports refl done (λ asks. (holdings_of c.in-Ok.remotes, c.in-Ok.ensures.holds))
+returns-in-Ok-clause-exports g c = λ holds done.
+    ends_to (c.run_command.ensures.exports refl done (λ asks. (holdings_of c.in-Ok.remotes, c.in-Ok.ensures.holds)))
+    (λ u w step sound. step_anyhow c.in-Ok.ensures.holds (step sound) holds)
 
 -- their count of faults stands at 0
 pub returns-in-Ok-clause-no_remote_fault : goal.returns-in-Ok-clause-no_remote_fault

@@ -3,7 +3,7 @@ use Rattle.fp_host.specs.Causes.{IsCaused}
 use Rattle.fp_host.specs.Frame.{AtEnd}
 use Rattle.fp_host.specs.Moments.{Goes}
 use Rattle.dep_states.specs.Sound.{IsSound}
-use Rattle.fl_top.specs.Exports.{LeavesExports}
+use Rattle.fl_top.specs.Exports.{IsInStep}
 use Rattle.fl_words.specs.Batch.{IsBadBatch, batch_of}
 use Rattle.fl_words.specs.declared.command.Change.{Change}
 use Rattle.fl_words.specs.declared.command.Command.TheVariants.{Batch}
@@ -104,5 +104,5 @@ returns-clause-exports g c tells =
     let t = told (g.I.Source.left c.args.input.now) holds (g.H.Host.moments c.args.host.now) in
     let read : batch_of c.in_ok-bytes.bytes ≡ Ok c.in_ok-changes.changes = subst (λ (b : List ℕ). batch_of b ≡ Ok c.in_ok-changes.changes) c.as_slice.ensures c.in_ok-changes.ensures.ok in
     let known : IsChanging Batch t (MayDo c.in_ok-changes.changes) (changing c.in_ok-changes.changes) = batch_changes t c.in_ok-bytes.bytes c.in_ok-changes.changes c.in_ok-bytes.ensures.ok read in
-    let stand = subst (λ (l : List Change). AreToldFor (MayDo l) holds → AtEnd (λ u w. IsSound u → LeavesExports w) (g.H.Host.moments c.args.host.now) (g.H.Host.moments c.make_changes.new.host)) c.as_slice-2.ensures c.in_ok-make_changes.ensures.exports in
+    let stand = subst (λ (l : List Change). AreToldFor (MayDo l) holds → AtEnd (λ u w. IsSound u → IsInStep holds w) (g.H.Host.moments c.args.host.now) (g.H.Host.moments c.make_changes.new.host)) c.as_slice-2.ensures c.in_ok-make_changes.ensures.exports in
     stand (λ asks. tells (asks_to known.may asks))

@@ -4,7 +4,7 @@ use Rattle.fp_host.specs.Causes.{IsCaused}
 use Rattle.fp_host.specs.Frame.{AtEnd}
 use Rattle.fp_host.specs.Moments.{Goes}
 use Rattle.dep_states.specs.Sound.{IsSound}
-use Rattle.fl_top.specs.Exports.{LeavesExports}
+use Rattle.fl_top.specs.Exports.{IsInStep}
 use Rattle.fl_words.specs.declared.command.Command.{Command}
 use Rattle.fl_words.specs.declared.command.Command.TheVariants.{Change as Changing, List as Listed, Show as Showing, Filter as Filtering, Batch, Fsck, Export as Exporting, Exercise as Exercising}
 use Rattle.fl_top.specs.Asked.{OpsBy, AreToldFor, AsksRemotes}
@@ -162,7 +162,7 @@ pub returns-in_ok-make_changes-in-Change-clause-exports : goal.returns-in_ok-mak
 returns-in_ok-make_changes-in-Change-clause-exports g c change =
     let left = g.I.Source.left c.args.input.now in
     let holds = g.R.Remotes.holds c.args.remotes.now in
-    subst (λ (k : Command). AreToldFor (OpsBy k left) holds → AtEnd (λ u w. IsSound u → LeavesExports w) (g.H.Host.moments c.args.host.now) (g.H.Host.moments c.make_changes.new.host)) (sym c.in-Change.is) c.in_ok-make_changes-in-Change.ensures.exports
+    subst (λ (k : Command). AreToldFor (OpsBy k left) holds → AtEnd (λ u w. IsSound u → IsInStep holds w) (g.H.Host.moments c.args.host.now) (g.H.Host.moments c.make_changes.new.host)) (sym c.in-Change.is) c.in_ok-make_changes-in-Change.ensures.exports
 
 pub returns-in_ok-list-in-List-clause-exports : goal.returns-in_ok-list-in-List-clause-exports
 returns-in_ok-list-in-List-clause-exports g c change = absurd (not_changes c.args.command (Listed c.in-List.listing) c.in-List.is refl change)
@@ -180,7 +180,7 @@ pub returns-in-Batch-clause-exports : goal.returns-in-Batch-clause-exports
 returns-in-Batch-clause-exports g c change =
     let left = g.I.Source.left c.args.input.now in
     let holds = g.R.Remotes.holds c.args.remotes.now in
-    subst (λ (k : Command). OnOk c.batch.result (AreToldFor (OpsBy k left) holds → AtEnd (λ u w. IsSound u → LeavesExports w) (g.H.Host.moments c.args.host.now) (g.H.Host.moments c.batch.new.host))) (sym c.in-Batch.is) c.batch.ensures.exports
+    subst (λ (k : Command). OnOk c.batch.result (AreToldFor (OpsBy k left) holds → AtEnd (λ u w. IsSound u → IsInStep holds w) (g.H.Host.moments c.args.host.now) (g.H.Host.moments c.batch.new.host))) (sym c.in-Batch.is) c.batch.ensures.exports
 
 -- ---- a remote is made
 
@@ -261,4 +261,4 @@ pub returns-in_ok-exercise-in-Exercise-clause-exports : goal.returns-in_ok-exerc
 returns-in_ok-exercise-in-Exercise-clause-exports g c change =
     let left = g.I.Source.left c.args.input.now in
     let holds = g.R.Remotes.holds c.args.remotes.now in
-    subst (λ (k : Command). AreToldFor (OpsBy k left) holds → AtEnd (λ u w. IsSound u → LeavesExports w) (g.H.Host.moments c.args.host.now) (g.H.Host.moments c.exercise.new.host)) (sym c.in-Exercise.is) c.in_ok-exercise-in-Exercise.ensures.exports
+    subst (λ (k : Command). AreToldFor (OpsBy k left) holds → AtEnd (λ u w. IsSound u → IsInStep holds w) (g.H.Host.moments c.args.host.now) (g.H.Host.moments c.exercise.new.host)) (sym c.in-Exercise.is) c.in_ok-exercise-in-Exercise.ensures.exports

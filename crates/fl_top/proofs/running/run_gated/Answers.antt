@@ -31,7 +31,7 @@ returns-in-Ok-exercise_in-clause-found g c =
     exercised_found (map string_bytes c.args.words.now) c.in-Ok-exercise_in.apps (g.I.Source.left c.args.input.now) (g.R.Remotes.holds c.args.remotes.now) c.run_exercise.result (c.in-Ok.ensures.ok ∙ ap (λ (k : Command). Some k) c.in-Ok-exercise_in.ensures.exercise)
 
 pub returns-in-Ok-exercise_in-clause-exports : goal.returns-in-Ok-exercise_in-clause-exports
-returns-in-Ok-exercise_in-clause-exports g c change done tells = c.run_exercise.ensures.exports done
+returns-in-Ok-exercise_in-clause-exports g c change done tells = c.run_exercise.ensures.exports (g.R.Remotes.holds c.args.remotes.now) done
 
 pub returns-in-Ok-exercise_in-clause-remotes : goal.returns-in-Ok-exercise_in-clause-remotes
 returns-in-Ok-exercise_in-clause-remotes g c = not_asked (AsksFor (command_of (map string_bytes c.args.words.now)) (g.I.Source.left c.args.input.now)) (c.run_exercise.result ≡ 4) (g.R.Remotes.holds c.args.remotes.now) (g.R.Remotes.faults c.args.remotes.now) c.run_exercise.ensures.no_remote_fault
