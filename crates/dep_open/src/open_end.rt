@@ -1,4 +1,4 @@
-// How opening ends where there is nothing to go on with.
+//! How opening ends where there is nothing to go on with.
 ghost use Rattle.std.specs.Prelude.{◌≡◌};
 
 use fp_host::{HostEnd, HostError, Path};

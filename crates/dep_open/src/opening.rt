@@ -1,4 +1,4 @@
-// Opening an installation.
+//! Opening an installation.
 ghost use Rattle.std.specs.Prelude.{◌≡◌, IfOk, IsErrOf};
 ghost use Rattle.fp_host.specs.Causes.{IsCounted};
 ghost use Rattle.fp_host.specs.Frame.{AtEnd, Frame, NoPath, NoName};

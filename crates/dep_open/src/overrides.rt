@@ -1,4 +1,4 @@
-// The overrides.
+//! The overrides.
 ghost use Rattle.std.specs.Prelude.{◌≡◌, true, IfOk, OnOk, IsErrOf};
 ghost use Rattle.fp_host.specs.Causes.{IsCounted};
 ghost use Rattle.fp_host.specs.Frame.{AtEnd, Unchanged};

@@ -1,4 +1,4 @@
-// What is found of the parts of the state.
+//! What is found of the parts of the state.
 ghost use Rattle.std.specs.Prelude.{◌≡◌, Some, OnOk};
 ghost use Rattle.dep_open.specs.Parts.{lesser, seen_in, Puts, Adds};
 

@@ -1,4 +1,4 @@
-// The paths of the small files.
+//! The paths of the small files.
 ghost use Rattle.std.specs.Prelude.{◌≡◌, ◌∷◌, [], codes, IfOk};
 ghost use Rattle.dep_states.specs.Names.{config, remotes_conf, pins_file, overrides_folder};
 

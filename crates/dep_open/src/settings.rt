@@ -1,4 +1,4 @@
-// The settings of an installation, as its files say.
+//! The settings of an installation, as its files say.
 ghost use Rattle.std.specs.Prelude.{◌≡◌, [], Some, None, IfOk, IsErrOf};
 ghost use Rattle.fp_host.specs.Causes.{IsCounted};
 ghost use Rattle.fp_host.specs.Frame.{AtEnd, Unchanged};

@@ -1,4 +1,4 @@
-// What the value of a `deploy` says.
+//! What the value of a `deploy` says.
 ghost use Rattle.std.specs.Prelude.{◌≡◌, option_copied, IfOk};
 ghost use Rattle.gv_value.specs.Reading.{value_of};
 ghost use Rattle.gv_value.specs.Tree.{tuple, just};

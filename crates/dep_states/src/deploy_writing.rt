@@ -1,4 +1,4 @@
-// The value of a `deploy`.
+//! The value of a `deploy`.
 ghost use Rattle.std.specs.Prelude.{◌≡◌, ◌<◌, ◌^◌, true, Some, IfOk, OnOk};
 ghost use Rattle.fp_name.specs.Grammar.{is_remote_name};
 ghost use Rattle.fp_name.specs.Hex.{hex, is_digest};

@@ -1,4 +1,4 @@
-// An installation that was opened.
+//! An installation that was opened.
 ghost use Rattle.std.specs.Prelude.{◌≡◌};
 
 use fp_small::State;

@@ -1,4 +1,4 @@
-// The settings of an installation, and how it keeps them.
+//! The settings of an installation, and how it keeps them.
 use fp_small::{Layout, Settings};
 
 /// The settings of an installation, and how it keeps them.

@@ -1,4 +1,4 @@
-// The paths of a switch.
+//! The paths of a switch.
 ghost use Rattle.std.specs.Prelude.{◌≡◌, ◌∷◌, [], codes, true, IfOk, OnOk};
 ghost use Rattle.fp_host.specs.Paths.{is_link_text};
 ghost use Rattle.fp_name.specs.Hex.{hex, is_digest};

@@ -1,4 +1,4 @@
-// What is made before a switch.
+//! What is made before a switch.
 ghost use Rattle.std.specs.Prelude.{◌≡◌, ◌≤◌, true, false, Some, length, IfOk, OnOk, IsErrOf};
 ghost use Rattle.fp_host.specs.Paths.{is_link_text};
 ghost use Rattle.fp_host.specs.Causes.{IsCaused};

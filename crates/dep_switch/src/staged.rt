@@ -1,4 +1,4 @@
-// A switch that is staged.
+//! A switch that is staged.
 ghost use Rattle.std.specs.Prelude.{◌≡◌, false, IfOk, OnOk, IsErr, IsErrOf};
 ghost use Rattle.fp_host.specs.Causes.{IsCaused};
 ghost use Rattle.fp_host.specs.Frame.{AtEnd};

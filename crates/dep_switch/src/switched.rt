@@ -1,4 +1,4 @@
-// A state whose change is done.
+//! A state whose change is done.
 ghost use Rattle.std.specs.Prelude.{◌≡◌};
 
 use dep_states::Opened;

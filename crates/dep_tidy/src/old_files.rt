@@ -1,4 +1,4 @@
-// The files of layout 1.
+//! The files of layout 1.
 ghost use Rattle.std.specs.Prelude.{OnOk, IsErrOf};
 ghost use Rattle.fp_host.specs.Causes.{IsCaused};
 ghost use Rattle.fp_host.specs.Frame.{AtEnd};

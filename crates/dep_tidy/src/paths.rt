@@ -1,4 +1,4 @@
-// The paths that tidying looks at.
+//! The paths that tidying looks at.
 ghost use Rattle.std.specs.Prelude.{◌≡◌, ◌∷◌, [], codes, IfOk};
 ghost use Rattle.fp_small.specs.Places.{repo, tmp};
 ghost use Rattle.dep_states.specs.Names.{config, remotes_conf, pins_file};

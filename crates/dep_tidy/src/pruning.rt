@@ -1,4 +1,4 @@
-// Objects that no kept commit uses.
+//! Objects that no kept commit uses.
 ghost use Rattle.std.specs.Prelude.{◌≡◌, OnOk, IsErrOf};
 ghost use Rattle.fp_host.specs.Causes.{IsCaused};
 ghost use Rattle.fp_host.specs.Frame.{AtEnd};

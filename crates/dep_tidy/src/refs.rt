@@ -1,4 +1,4 @@
-// The files of refs.
+//! The files of refs.
 ghost use Rattle.std.specs.Prelude.{◌≡◌, ◌↔◌, ◌∷◌, [], true, IsTrue, OnOk, IfOk, IsErrOf};
 ghost use Rattle.fp_host.specs.Causes.{IsCaused};
 ghost use Rattle.fp_host.specs.Frame.{Frame, AtEnd, NoPath};

@@ -1,4 +1,4 @@
-// The rows of a state, and the commits that they keep.
+//! The rows of a state, and the commits that they keep.
 ghost use Rattle.std.specs.Prelude.{◌≡◌, ◌↔◌, ◌++◌, true, IsTrue, IfOk, OnOk, option_copied};
 ghost use Rattle.fp_name.specs.Grammar.{is_remote_name};
 ghost use Rattle.fp_name.specs.Refs.{is_ref, ref_text};

@@ -1,4 +1,4 @@
-// Work that was left.
+//! Work that was left.
 ghost use Rattle.std.specs.Prelude.{OnOk, IsErrOf};
 ghost use Rattle.fp_host.specs.Causes.{IsCaused};
 ghost use Rattle.fp_host.specs.Frame.{Frame, AtEnd, NoPath};

@@ -1,4 +1,4 @@
-// How a change ends that isn't done.
+//! How a change ends that isn't done.
 ghost use Rattle.std.specs.Prelude.{◌≡◌};
 
 use dep_open::OpenEnd;

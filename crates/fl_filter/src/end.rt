@@ -1,4 +1,4 @@
-// How a filter ends where not all of the recording was filtered.
+//! How a filter ends where not all of the recording was filtered.
 ghost use Rattle.std.specs.Prelude.{◌≡◌};
 
 use bus_proxy::FilterError;

@@ -1,4 +1,4 @@
-// Texts that others made, as they are printed.
+//! Texts that others made, as they are printed.
 ghost use Rattle.std.specs.Prelude.{◌≡◌, ◌||◌, ◌==◌, ◌/◌, ◌%◌, ◌<◌, ◌++◌, ◌∷◌, [], false, is_ok, nat_lt, IfOk, OnOk, string_bytes, encode_utf8};
 ghost use Rattle.fl_lines.specs.Lines.{is_escaped, escape_of, escaped};
 

@@ -1,4 +1,4 @@
-// How it ends where no remote was made.
+//! How it ends where no remote was made.
 ghost use Rattle.std.specs.Prelude.{◌≡◌};
 
 use fp_host::HostEnd;

@@ -1,4 +1,4 @@
-// How a command ends where it isn't done.
+//! How a command ends where it isn't done.
 ghost use Rattle.std.specs.Prelude.{◌≡◌};
 
 use crate::input::InputEnd;

@@ -1,4 +1,4 @@
-// The input of a command.
+//! The input of a command.
 ghost use Rattle.std.specs.Prelude.{◌≡◌, ◌≤◌, ◌<◌, IfOk, IfErr, length};
 ghost use Rattle.fl_top.specs.Input.{input_most, IsWhole, IsTaken, InputStops, Adds, StepStops};
 

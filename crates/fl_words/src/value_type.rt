@@ -1,4 +1,4 @@
-// The type of a value that is to be shown.
+//! The type of a value that is to be shown.
 ghost use Rattle.std.specs.Prelude.{◌≡◌, ◌↔◌, Some, true, false, IfOk, OnOk, IsErrOf};
 ghost use Rattle.gv_value.specs.TypeText.{type_of};
 ghost use Rattle.gv_value.specs.Views.{shape_of};

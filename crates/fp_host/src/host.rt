@@ -1,4 +1,4 @@
-// The host: a tree of names over files, its syncs, and what is printed.
+//! The host: a tree of names over files, its syncs, and what is printed.
 ghost use Rattle.std.specs.Prelude.{◌≡◌, ◌⊎◌, ◌≤◌, ℕ, List, [], ◌∷◌, Option, Some, length, IfOk, OnOk, OnErr, MatchResult};
 ghost use Rattle.fp_host.specs.View.{View, IsTree};
 ghost use Rattle.fp_host.specs.Calls.{Change, Step, Creates, makes_dir, appends, links, makes_link, renames, unlinks, removes_dir, syncs, says};

@@ -1,4 +1,4 @@
-// A path below the host's root, seen as the list of its elements, the innermost first.
+//! A path below the host's root, seen as the list of its elements, the innermost first.
 ghost use Rattle.std.specs.Prelude.{◌≡◌, ◌≢◌, ◌↔◌, ◌⊎◌, ℕ, List, ◌∷◌, ◌<◌, ◌≤◌, ◌+◌, [], length, drop, IsTrue, IsOk, IfOk, IfSome, IsNone, IsErrOf, MatchOption, false, count_by, ◌==◌};
 ghost use Rattle.std.specs.List.{list_all};
 ghost use Rattle.fp_host.specs.Paths.{is_element, is_name_byte, cut, elements_of, path_text, path_eq, IsAbove};

@@ -1,4 +1,4 @@
-// Where objects come from.
+//! Where objects come from.
 ghost use Rattle.std.specs.Prelude.{◌≡◌, ◌≤◌, Option, Some, None, ℕ, length, IfOk, IsErrOf};
 ghost use Rattle.fp_host.specs.Moments.{Rose};
 ghost use Rattle.fp_host.specs.Remote.{Holdings, IsNode, HasNodeBits, bytes_of, CameFrom};

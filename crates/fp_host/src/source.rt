@@ -1,4 +1,4 @@
-// What a command reads.
+//! What a command reads.
 ghost use Rattle.std.specs.Prelude.{◌≡◌, ◌≤◌, ℕ, List, Option, length};
 ghost use Rattle.fp_host.specs.Moments.{Rose};
 ghost use Rattle.fp_host.specs.Remote.{Takes, IsWithin};

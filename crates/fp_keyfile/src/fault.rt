@@ -1,3 +1,4 @@
+//! What is wrong with a key file, and why bytes could not be read as one.
 ghost use Rattle.std.specs.Prelude.{◌≡◌};
 ghost use Rattle.fp_keyfile.specs.declared.fault.KeyError.TheVariants.{NoMemory};
 

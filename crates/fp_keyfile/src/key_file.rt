@@ -1,3 +1,4 @@
+//! A key file: its groups, looked up, changed, read and written.
 ghost use Rattle.std.specs.Prelude.{◌≡◌, [], Ok, IsTrue, OnOk, OnErr, IfOk};
 ghost use Rattle.std.specs.Option.{option_copied};
 ghost use Rattle.fp_keyfile.specs.Grammar.{is_name, is_key, is_value};

@@ -1,4 +1,4 @@
-// The images that a stop may leave of a scene.
+//! The images that a stop may leave of a scene.
 ghost use Rattle.std.specs.Prelude.{◌≡◌, Some, true, IfOk, IsTrue, length};
 ghost use Rattle.std.specs.List.{list_all};
 ghost use Rattle.std.specs.Option.{option_copied};

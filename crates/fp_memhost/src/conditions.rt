@@ -1,4 +1,4 @@
-// The conditions of the calls that change something.
+//! The conditions of the calls that change something.
 ghost use Rattle.std.specs.Prelude.{◌≡◌, ◌≢◌, ◌↔◌, ◌≤◌, ◌==◌, [], true, not, IsTrue};
 ghost use Rattle.std.specs.Option.{option_copied};
 ghost use Rattle.fp_host.specs.Paths.{dir};

@@ -1,4 +1,4 @@
-// Bytes that go into a buffer.
+//! Bytes that go into a buffer.
 ghost use Rattle.std.specs.Prelude.{◌≡◌, ◌≤◌, ◌-◌, length, take, drop, min};
 
 /// Copies bytes from the front, as many as there are, as there is room for and as are wanted at most.

@@ -1,4 +1,4 @@
-// What a name holds, once more.
+//! What a name holds, once more.
 ghost use Rattle.std.specs.Prelude.{◌≡◌, IfOk};
 ghost use Rattle.std.specs.Option.{option_copied};
 

@@ -1,4 +1,4 @@
-// What was done, as it is kept.
+//! What was done, as it is kept.
 ghost use Rattle.std.specs.Prelude.{◌≡◌, IfSome};
 ghost use Rattle.fp_host.specs.Calls.{makes_dir, creates, appends, links, makes_link, renames, unlinks, removes_dir, says};
 ghost use Rattle.fp_memhost.specs.Replay.{change_of, is_sync};

@@ -1,4 +1,4 @@
-// The files of a host.
+//! The files of a host.
 ghost use Rattle.std.specs.Prelude.{◌≡◌, None, OnOk, OnErr, MatchOption};
 ghost use Rattle.std.specs.Option.{option_copied};
 ghost use Rattle.fp_memhost.specs.Files.{IsFileAt, SameFiles, AddsFile, GrowsFile, SettlesFiles, file_at, files_of, dirty_of};

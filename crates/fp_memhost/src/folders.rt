@@ -1,4 +1,4 @@
-// What stands in a folder.
+//! What stands in a folder.
 ghost use Rattle.std.specs.Prelude.{◌≡◌, ◌↔◌, ◌<◌, [], length, drop, IsTrue, IsNone, IfOk, IfSome, is_some};
 ghost use Rattle.std.specs.List.{list_all, list_any};
 ghost use Rattle.fp_host.specs.Paths.{elements_of, is_element};

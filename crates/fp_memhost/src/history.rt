@@ -1,4 +1,4 @@
-// What was done since the start.
+//! What was done since the start.
 ghost use Rattle.std.specs.Prelude.{◌≡◌, ◌≤◌, ◌+◌, ◌-◌, ◌^◌, ◌++◌, ◌∷◌, [], false, IfOk, IsTrue, min};
 ghost use Rattle.fp_host.specs.View.{IsTree};
 ghost use Rattle.fp_host.specs.Calls.{Can};

@@ -1,4 +1,4 @@
-// The calls of the host in memory.
+//! The calls of the host in memory.
 ghost use Rattle.std.specs.Prelude.{◌≡◌, ◌≤◌, ℕ, List, Option, Some, length, IfOk};
 ghost use Rattle.fp_host.specs.Calls.{Step, Creates, makes_dir, creates, appends, links, makes_link, renames, unlinks, removes_dir, syncs, says};
 ghost use Rattle.fp_host.specs.Moments.{Moments, Makes, HasCause, NeedsNoMemory};

@@ -1,4 +1,4 @@
-// What is found on a disk, and what may be chosen of it.
+//! What is found on a disk, and what may be chosen of it.
 ghost use Rattle.std.specs.Prelude.{◌≡◌, ◌↔◌, IsTrue};
 ghost use Rattle.std.specs.Option.{option_copied};
 ghost use Rattle.fp_memhost.specs.Names.{slot_of};

@@ -1,4 +1,4 @@
-// The host in memory.
+//! The host in memory.
 ghost use Rattle.std.specs.Prelude.{◌≡◌, ◌≤◌, ◌+◌, ◌-◌, ◌^◌, ℕ, List, Option, Some, Ok, Err, IsTrue, IfOk, IfSome, OnOk, OnErr, min, length};
 ghost use Rattle.fp_host.specs.Calls.{Can};
 ghost use Rattle.fp_memhost.specs.Scenes.{seen};

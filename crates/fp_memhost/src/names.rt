@@ -1,4 +1,4 @@
-// The names of a host, ascending by their texts.
+//! The names of a host, ascending by their texts.
 ghost use Rattle.std.specs.Prelude.{◌≡◌, ◌↔◌, ℕ, ◌+◌, ◌≤◌, ◌<◌, ◌++◌, ◌∷◌, [], List, true, IsTrue, IsNone, IsErr, OnOk, OnErr, IfOk, IfSome, MatchResult, length, take, drop};
 ghost use Rattle.std.specs.List.{list_all};
 ghost use Rattle.std.specs.Option.{option_copied};

@@ -1,4 +1,4 @@
-// The calls that change nothing.
+//! The calls that change nothing.
 ghost use Rattle.std.specs.Prelude.{◌≡◌, ◌≢◌, ◌↔◌, ◌∷◌, ◌≤◌, ◌-◌, ℕ, List, Some, None, IfOk, IsErrOf, Contains, length, min, take, drop, MatchOption};
 ghost use Rattle.std.specs.Option.{option_copied};
 ghost use Rattle.fp_host.specs.Paths.{absent, dir, file, link};

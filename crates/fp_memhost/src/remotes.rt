@@ -1,4 +1,4 @@
-// The remotes in memory.
+//! The remotes in memory.
 ghost use Rattle.std.specs.Prelude.{◌≡◌, ◌≤◌, ◌↔◌, None, Some, IsTrue, IfOk, IfSome, OnOk, OnErr, IsErrOf, MatchOption, true, length, eqb};
 ghost use Rattle.std.specs.List.{list_all, list_any};
 ghost use Rattle.std.specs.Option.{option_copied};

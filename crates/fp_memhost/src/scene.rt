@@ -1,4 +1,4 @@
-// What stands at one moment, and what a stop may bring back.
+//! What stands at one moment, and what a stop may bring back.
 ghost use Rattle.std.specs.Prelude.{◌≡◌, OnOk, OnErr, IfOk};
 ghost use Rattle.fp_memhost.specs.Names.{IsAscending};
 

@@ -1,4 +1,4 @@
-// The source in memory.
+//! The source in memory.
 ghost use Rattle.std.specs.Prelude.{◌≡◌, ◌≢◌, Some};
 ghost use Rattle.fp_memhost.specs.Supply.{fails_now};
 

@@ -1,4 +1,4 @@
-// What was put at a name.
+//! What was put at a name.
 ghost use Rattle.std.specs.Prelude.{◌≡◌, IfOk};
 ghost use Rattle.std.specs.Option.{option_copied};
 ghost use Rattle.fp_memhost.specs.Stood.{stood_of};

@@ -1,4 +1,4 @@
-// What a fake keeps of its calls.
+//! What a fake keeps of its calls.
 
 /// A fake, which keeps what its calls were and what they left.
 pub trait Recorder {

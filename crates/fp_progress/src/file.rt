@@ -1,4 +1,4 @@
-// An open file whose reads are counted.
+//! An open file whose reads are counted.
 use crate::line::Progress;
 use std::fs::{FileTimes, Metadata, OpenFile, Permissions};
 use std::io::{self, Eprint, Read, Seek, SeekFrom, Write};

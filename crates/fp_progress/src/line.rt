@@ -1,4 +1,4 @@
-// How far a command is, as one line that is rewritten in place.
+//! How far a command is, as one line that is rewritten in place.
 use std::cell::Cell;
 use std::io::Eprint;
 use std::time::{Clock, Duration};

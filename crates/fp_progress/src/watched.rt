@@ -1,4 +1,4 @@
-// A system that is watched: what a command reads of remotes, and what it syncs.
+//! A system that is watched: what a command reads of remotes, and what it syncs.
 ghost use Rattle.std.specs.Thread.{IsSync};
 
 use crate::file::WatchedFile;

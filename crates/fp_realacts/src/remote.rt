@@ -1,4 +1,4 @@
-// A folder as a remote, and what is to be found there.
+//! A folder as a remote, and what is to be found there.
 use fp_host::{Node, Path, RemoteError, Remotes};
 use fp_realinput::DirRemotes;
 use fp_reallog::Log;

@@ -1,4 +1,4 @@
-// A test as data: what is done one after another in a folder, and what is to come of it.
+//! A test as data: what is done one after another in a folder, and what is to come of it.
 use crate::remote::{Remote, ask_remote};
 use fp_realhost::HostDir;
 use fp_reallog::{Kind, Log, Logged};

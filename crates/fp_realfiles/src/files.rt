@@ -1,4 +1,4 @@
-// Files of ours that are opened, also where their own permission bits are in the way.
+//! Files of ours that are opened, also where their own permission bits are in the way.
 use fp_system::{Cause, Found, Kind, known, look};
 use std::fs;
 use std::fs::{OpenOptions, Permissions};

@@ -1,4 +1,4 @@
-// The names in a folder.
+//! The names in a folder.
 ghost use Rattle.std.specs.Prelude.{◌≡◌, ◌↔◌, IfOk, IsTrue};
 ghost use Rattle.std.specs.List.{list_all};
 ghost use Rattle.std.specs.Ordering.{is_lt, nat_cmp};

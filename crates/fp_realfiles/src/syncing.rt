@@ -1,4 +1,4 @@
-// Files and folders that are made to last.
+//! Files and folders that are made to last.
 ghost use Rattle.std.specs.Prelude.{◌≡◌, ◌↔◌, IsTrue, IsNone, IfSome, IsSomeAnd, Some};
 ghost use Rattle.std.specs.Thread.{IsSync};
 

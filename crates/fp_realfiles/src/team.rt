@@ -1,4 +1,4 @@
-// The leave to start threads.
+//! The leave to start threads.
 use std::marker::PhantomData;
 use std::thread::Threads;
 

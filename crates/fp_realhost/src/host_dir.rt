@@ -1,4 +1,4 @@
-// A real folder as a host.
+//! A real folder as a host.
 ghost use Rattle.std.specs.Prelude.{◌≡◌, ◌≢◌, ◌↔◌, ◌≤◌, [], None, true, length, IfOk, OnOk};
 ghost use Rattle.fp_host.specs.Moments.{NeedsNoMemory};
 ghost use Rattle.fp_host.specs.Reads.{AreNames, HasBits};

@@ -1,4 +1,4 @@
-// What a host prints.
+//! What a host prints.
 ghost use Rattle.std.specs.Prelude.{◌≡◌, length, OnOk};
 ghost use Rattle.fp_system.specs.Counts.{many_more};
 

@@ -1,4 +1,4 @@
-// The standard output, shown so that nothing that is printed drives a terminal.
+//! The standard output, shown so that nothing that is printed drives a terminal.
 use std::alloc::{AllocError, Global};
 use std::fmt::{Display, Write};
 use std::io;

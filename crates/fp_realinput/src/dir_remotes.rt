@@ -1,4 +1,4 @@
-// Folders of the system as remotes.
+//! Folders of the system as remotes.
 ghost use Rattle.std.specs.Prelude.{◌≡◌, ◌↔◌, ◌≤◌, None, IfOk, IsErrOf, length};
 ghost use Rattle.fp_host.specs.Remote.{HasNodeBits};
 ghost use Rattle.fp_system.specs.Counts.{RemoteCounts};

@@ -1,4 +1,4 @@
-// What stands at the paths of remotes.
+//! What stands at the paths of remotes.
 ghost use Rattle.std.specs.Prelude.{◌≤◌, IfOk, length};
 ghost use Rattle.fp_host.specs.Remote.{HasNodeBits};
 

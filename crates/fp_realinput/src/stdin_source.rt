@@ -1,4 +1,4 @@
-// The standard input as a source.
+//! The standard input as a source.
 ghost use Rattle.std.specs.Prelude.{◌≡◌, ◌↔◌, ◌≤◌, ◌++◌, [], Some, None, IfSome, length, option_map};
 ghost use Rattle.fp_host.specs.Remote.{IsWithin};
 ghost use Rattle.fp_host.specs.declared.source.Taken.TheVariants.{Failed};

@@ -1,4 +1,4 @@
-// An input as a source.
+//! An input as a source.
 use fp_host::{Source, Taken};
 use fp_realinput::StdinSource;
 use fp_realplay::is_message;

@@ -1,4 +1,4 @@
-// Folders as remotes.
+//! Folders as remotes.
 use fp_host::{Path, Remotes};
 use fp_realacts::{Act, Remote, tell};
 use fp_realinput::DirRemotes;

@@ -1,4 +1,4 @@
-// The system that notes, over the real one.
+//! The system that notes, over the real one.
 use crate::log::{Log, out};
 use fp_realroot::{Access, Failure, System, Unsynced, sync_in_turn};
 use fp_system::{Call, known};

@@ -1,4 +1,4 @@
-// Files that were looked at, which needn't be looked at again.
+//! Files that were looked at, which needn't be looked at again.
 use fp_system::Found;
 use std::alloc::{AllocError, Global};
 use std::collections::BTreeMap;

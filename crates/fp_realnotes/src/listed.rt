@@ -1,4 +1,4 @@
-// The names in a folder, out of paths.
+//! The names in a folder, out of paths.
 use crate::made::MadeFile;
 use fp_base::Text;
 use std::alloc::{AllocError, Global};

@@ -1,4 +1,4 @@
-// What this host made, which needn't be looked at.
+//! What this host made, which needn't be looked at.
 ghost use Rattle.std.specs.Prelude.{IfSome};
 ghost use Rattle.fp_host.specs.Reads.{HasBits};
 

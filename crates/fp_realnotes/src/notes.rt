@@ -1,4 +1,4 @@
-// What is remembered of the folder.
+//! What is remembered of the folder.
 use crate::found_files::FoundFiles;
 use crate::grants::Grants;
 use crate::made::Made;

@@ -1,4 +1,4 @@
-// The lock of an installation.
+//! The lock of an installation.
 use fp_realacts::{Act, tell};
 use fp_reallog::Kind;
 use fp_realplay::{Made, Part, Step};

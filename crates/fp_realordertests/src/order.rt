@@ -1,4 +1,4 @@
-// What the system is asked, in order, and what a failure of it does.
+//! What the system is asked, in order, and what a failure of it does.
 use fp_realacts::{Act, tell};
 use fp_reallog::Kind;
 use fp_realplay::{Made, Part, Step};

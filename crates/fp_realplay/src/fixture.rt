@@ -1,4 +1,4 @@
-// What tests are made of: what stands before them, paths, and texts.
+//! What tests are made of: what stands before them, paths, and texts.
 use fp_host::Path;
 use fp_reallog::Log;
 use fp_system::SystemError;

@@ -1,4 +1,4 @@
-// What is asked of a host, as data, and what is to come of it.
+//! What is asked of a host, as data, and what is to come of it.
 use crate::fixture::path;
 use crate::step::{Step, change, shows};
 use fp_host::{Host, HostError, Path, Stat};

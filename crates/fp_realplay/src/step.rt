@@ -1,4 +1,4 @@
-// Calls of a host as data, and what a folder shows.
+//! Calls of a host as data, and what a folder shows.
 use crate::fixture::{bits_and_size, path};
 use fp_base::Text;
 use fp_host::{Host, HostError, Path, Stat};

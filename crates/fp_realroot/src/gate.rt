@@ -1,4 +1,4 @@
-// The root folder, and the lock.
+//! The root folder, and the lock.
 use crate::hold::Hold;
 use crate::roots::make_root;
 use fp_host::Path;

@@ -1,4 +1,4 @@
-// A lock file that is held to change an installation, and the mark of what is not yet synced.
+//! A lock file that is held to change an installation, and the mark of what is not yet synced.
 use fp_system::{Cause, known};
 use std::fs::OpenFile;
 use std::io::{Seek, SeekFrom, Write};

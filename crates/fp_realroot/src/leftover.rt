@@ -1,4 +1,4 @@
-// What an earlier run may have left that was stopped before its own sync.
+//! What an earlier run may have left that was stopped before its own sync.
 use crate::roots::{above_root, folder_at};
 use fp_base::Text;
 use fp_realfiles::read_names;

@@ -1,4 +1,4 @@
-// The root folder of a host and those above it.
+//! The root folder of a host and those above it.
 use fp_realfiles::set_bits;
 use fp_realsync::Touched;
 use fp_system::{Cause, has_folder, known};

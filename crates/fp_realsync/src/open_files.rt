@@ -1,4 +1,4 @@
-// New files that stay open until they are synced.
+//! New files that stay open until they are synced.
 use crate::system::System;
 use crate::touched::Touched;
 use fp_realfiles::Failure;

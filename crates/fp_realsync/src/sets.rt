@@ -1,4 +1,4 @@
-// Sets of paths that are made to last.
+//! Sets of paths that are made to last.
 use crate::system::System;
 use fp_realfiles::{Failure, Unsynced, is_denied, sync_at, sync_own};
 use std::alloc::{AllocError, Global};

@@ -1,4 +1,4 @@
-// What the adapters need of a system beside what std names.
+//! What the adapters need of a system beside what std names.
 ghost use Rattle.std.specs.Thread.{IsSync};
 
 use fp_realfiles::{Failure, sync_by_threads, sync_open_in_turn};

@@ -1,4 +1,4 @@
-// What was changed since the last sync.
+//! What was changed since the last sync.
 ghost use Rattle.std.specs.Prelude.{◌≡◌, Bool, true, OnOk};
 
 use crate::sets::sync_set;

@@ -1,4 +1,4 @@
-// What each call does to a real folder.
+//! What each call does to a real folder.
 use fp_realacts::{Act, tell};
 use fp_reallog::Kind;
 use fp_realplay::{Made, Part, Step};

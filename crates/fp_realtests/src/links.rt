@@ -1,4 +1,4 @@
-// Symlinks above a path, which no call follows.
+//! Symlinks above a path, which no call follows.
 use fp_realacts::{Act, FAULT, Remote, tell};
 use fp_reallog::Kind;
 use fp_realplay::{Made, Part, Step};

@@ -1,4 +1,4 @@
-// What is printed to a terminal.
+//! What is printed to a terminal.
 use fp_realhost::Screen;
 use fp_reallog::{Kind, Log, Logged};
 use std::panic::Expect;

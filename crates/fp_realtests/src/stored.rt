@@ -1,4 +1,4 @@
-// Times and bits of stored files.
+//! Times and bits of stored files.
 use fp_realacts::{Act, tell};
 use fp_reallog::Kind;
 use fp_realplay::{Part, Step};

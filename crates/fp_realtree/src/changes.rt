@@ -1,4 +1,4 @@
-// The calls of a host over a folder of the system that change it.
+//! The calls of a host over a folder of the system that change it.
 ghost use Rattle.std.specs.Prelude.{◌≢◌, ◌≤◌, [], OnOk};
 
 use crate::tree::Tree;

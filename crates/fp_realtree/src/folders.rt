@@ -1,4 +1,4 @@
-// Folders that are made.
+//! Folders that are made.
 use fp_realnotes::{Grants, Notes};
 use fp_system::{Cause, known, look};
 use std::fs;

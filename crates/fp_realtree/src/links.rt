@@ -1,4 +1,4 @@
-// Names that come into a folder or go, but for moves.
+//! Names that come into a folder or go, but for moves.
 use fp_realnotes::{Made, Notes};
 use fp_realroot::find_file;
 use fp_system::{Cause, Found, Kind, known, look};

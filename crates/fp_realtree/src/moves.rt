@@ -1,4 +1,4 @@
-// Files and symlinks that get another name.
+//! Files and symlinks that get another name.
 use crate::links::{find_leaf, leaf_kind};
 use crate::writer::Writer;
 use fp_realnotes::{Made, Notes};

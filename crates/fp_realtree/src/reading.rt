@@ -1,5 +1,5 @@
-// The calls of a host over a folder of the system that only read. They make nothing: a root that is absent reads as an
-// empty folder.
+//! The calls of a host over a folder of the system that only read. They make nothing: a root that is absent reads as an
+//! empty folder.
 ghost use Rattle.std.specs.Prelude.{◌≤◌, length, IfOk};
 ghost use Rattle.fp_host.specs.Reads.{AreNames, HasBits};
 

@@ -1,4 +1,4 @@
-// A folder of the system, with what was changed in it since the last sync.
+//! A folder of the system, with what was changed in it since the last sync.
 ghost use Rattle.std.specs.Prelude.{◌≡◌, true, OnOk};
 
 use crate::writer::Writer;

@@ -1,4 +1,4 @@
-// The file that was written last.
+//! The file that was written last.
 use fp_realroot::{OpenFiles, open_own, open_to_read};
 use fp_system::{Cause, known, note};
 use std::alloc::Global;

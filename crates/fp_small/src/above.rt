@@ -1,4 +1,4 @@
-// Folders that are made above a path.
+//! Folders that are made above a path.
 ghost use Rattle.std.specs.Prelude.{◌≡◌, OnOk, IsErrOf};
 ghost use Rattle.fp_host.specs.Causes.{IsCaused};
 ghost use Rattle.fp_host.specs.Frame.{Frame, AtEnd, NoPath};

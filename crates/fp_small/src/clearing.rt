@@ -1,4 +1,4 @@
-// Names that are taken away, with all that is below them.
+//! Names that are taken away, with all that is below them.
 ghost use Rattle.std.specs.Prelude.{◌≡◌, ◌-◌, length, OnOk, IsErrOf};
 ghost use Rattle.fp_host.specs.Paths.{dir};
 ghost use Rattle.fp_host.specs.Causes.{IsCaused};

@@ -1,4 +1,4 @@
-// The file `config`.
+//! The file `config`.
 ghost use Rattle.std.specs.Prelude.{◌≡◌};
 ghost use Rattle.fp_small.specs.ConfigErrors.{key_fault, name_fault};
 ghost use Rattle.fp_small.specs.declared.config.ConfigError.TheVariants.{NoMemory};

@@ -1,4 +1,4 @@
-// The file `config`, as it is read.
+//! The file `config`, as it is read.
 ghost use Rattle.std.specs.Prelude.{◌≡◌, ◌∷◌, [], codes, length, true, Some, None, IfOk, IsErrOf};
 ghost use Rattle.std.specs.List.{list_all, list_any};
 ghost use Rattle.std.specs.Option.{option_map, option_copied, is_some};

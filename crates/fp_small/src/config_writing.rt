@@ -1,4 +1,4 @@
-// The file `config`, as it is written.
+//! The file `config`, as it is written.
 ghost use Rattle.std.specs.Prelude.{◌≡◌, ◌∷◌, [], codes, map, Some, IfOk};
 ghost use Rattle.fp_small.specs.Config as spec;
 ghost use Rattle.fp_small.specs.Config.{IsSettings, config_of, config_text, config_file, pin_pair};

@@ -1,4 +1,4 @@
-// The file `pins` of layout 1, as it is read.
+//! The file `pins` of layout 1, as it is read.
 ghost use Rattle.std.specs.Prelude.{◌≡◌, true, false, Some, None, IfOk, OnOk, IsErrOf};
 ghost use Rattle.std.specs.List.{list_all};
 ghost use Rattle.std.specs.Ordering.{is_lt, nat_cmp};

@@ -1,4 +1,4 @@
-// The file `remotes.conf` of layout 1, as it is read.
+//! The file `remotes.conf` of layout 1, as it is read.
 ghost use Rattle.std.specs.Prelude.{◌≡◌, Some, None, IfOk, IsErrOf};
 ghost use Rattle.std.specs.List.{list_all};
 ghost use Rattle.std.specs.Option.{is_some};

@@ -1,4 +1,4 @@
-// One operation on an installation.
+//! One operation on an installation.
 use crate::state::{OverrideRow, RemoteRow};
 use fp_base::Text;
 use fp_name::{Digest, PinPattern, RefName, RemoteName};

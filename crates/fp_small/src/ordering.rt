@@ -1,4 +1,4 @@
-// Lists that ascend by name.
+//! Lists that ascend by name.
 ghost use Rattle.std.specs.Prelude.{◌≡◌, ◌≤◌, ◌↔◌, length, IsTrue, OnOk, OnErr, Contains};
 ghost use Rattle.std.specs.List.{insert};
 ghost use Rattle.fp_small.specs.Config.{name_of};

@@ -1,4 +1,4 @@
-// A small file that is written anew.
+//! A small file that is written anew.
 ghost use Rattle.std.specs.Prelude.{◌≡◌, ◌↔◌, ◌≢◌, ℕ, List, ◌∷◌, [], OnOk, IfOk, IsTrue, IsErrOf, Contains, string_bytes};
 ghost use Rattle.fp_host.specs.Paths.{Elements, absent, dir, is_element};
 ghost use Rattle.fp_host.specs.View.{View};

@@ -1,4 +1,4 @@
-// What an installation holds, apart from its objects.
+//! What an installation holds, apart from its objects.
 ghost use Rattle.std.specs.Prelude.{◌≡◌, IfOk};
 
 use fp_base::{Items, Text};

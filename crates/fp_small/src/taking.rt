@@ -1,4 +1,4 @@
-// A name that is taken away.
+//! A name that is taken away.
 ghost use Rattle.std.specs.Prelude.{◌≡◌, OnOk, IsErrOf};
 ghost use Rattle.fp_host.specs.Paths.{absent};
 ghost use Rattle.fp_host.specs.Calls.{IsNoDir};

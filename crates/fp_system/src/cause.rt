@@ -1,4 +1,4 @@
-// Why a call was refused, in a word.
+//! Why a call was refused, in a word.
 ghost use Rattle.std.specs.Prelude.{◌≡◌, IfOk};
 
 use std::alloc::AllocError;

@@ -1,4 +1,4 @@
-// What the system refused, and how often.
+//! What the system refused, and how often.
 ghost use Rattle.std.specs.Prelude.{◌≡◌, ◌↔◌, ◌≤◌, None};
 ghost use Rattle.fp_system.specs.Counts.{one_more};
 

@@ -1,4 +1,4 @@
-// The folders above a path, none of which may be a symlink.
+//! The folders above a path, none of which may be a symlink.
 use crate::cause::Cause;
 use crate::found::{Kind, kind_at};
 use crate::paths::folder_of;

@@ -1,4 +1,4 @@
-// What stands at a path of the system.
+//! What stands at a path of the system.
 ghost use Rattle.std.specs.Prelude.{◌≤◌, IfOk};
 ghost use Rattle.fp_host.specs.Reads.{HasBits};
 

@@ -1,4 +1,4 @@
-// Paths of the system, as texts.
+//! Paths of the system, as texts.
 use crate::cause::Cause;
 use std::alloc::AllocError;
 

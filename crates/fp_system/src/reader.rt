@@ -1,4 +1,4 @@
-// A file that stays open from one read to the next.
+//! A file that stays open from one read to the next.
 ghost use Rattle.std.specs.Prelude.{◌≤◌, length, IfOk};
 
 use crate::cause::{Cause, known};

@@ -1,4 +1,4 @@
-// How bytes and links are read.
+//! How bytes and links are read.
 ghost use Rattle.std.specs.Prelude.{◌≤◌, length, IfOk};
 
 use crate::cause::{Cause, known};

@@ -1,4 +1,4 @@
-// A commit that is fetched beside the state.
+//! A commit that is fetched beside the state.
 ghost use Rattle.std.specs.Prelude.{◌≡◌, Some, true, false, OnOk, IsErrOf};
 ghost use Rattle.fp_host.specs.Causes.{IsCaused};
 ghost use Rattle.fp_host.specs.Frame.{AtEnd};

@@ -1,4 +1,4 @@
-// What a commit that was pulled needs before it is recorded.
+//! What a commit that was pulled needs before it is recorded.
 ghost use Rattle.std.specs.Prelude.{◌≡◌, OnOk, IsErrOf};
 ghost use Rattle.fp_host.specs.Causes.{IsCaused};
 ghost use Rattle.fp_host.specs.Frame.{AtEnd};

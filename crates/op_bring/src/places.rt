@@ -1,4 +1,4 @@
-// The paths by which a commit is brought.
+//! The paths by which a commit is brought.
 ghost use Rattle.std.specs.Prelude.{◌≡◌, IfOk, OnOk, true};
 ghost use Rattle.dep_states.specs.Names.{branch_dir, commit_dir};
 ghost use Rattle.fp_name.specs.Hex.{is_digest};

@@ -1,4 +1,4 @@
-// The store of an installation, made ready for its first commit.
+//! The store of an installation, made ready for its first commit.
 ghost use Rattle.std.specs.Prelude.{◌≡◌, IfOk, OnOk, IsErrOf};
 ghost use Rattle.fp_host.specs.Causes.{IsCaused};
 ghost use Rattle.fp_host.specs.Frame.{AtEnd};

@@ -1,4 +1,4 @@
-// What stands in the way of a commit goes.
+//! What stands in the way of a commit goes.
 ghost use Rattle.std.specs.Prelude.{OnOk, IsErrOf};
 ghost use Rattle.fp_host.specs.Causes.{IsCaused};
 ghost use Rattle.fp_host.specs.Frame.{Frame, AtEnd, NoPath};

@@ -1,4 +1,4 @@
-// The row of a ref at a commit that is brought.
+//! The row of a ref at a commit that is brought.
 ghost use Rattle.std.specs.Prelude.{◌≡◌, ◌<◌, ◌^◌, true, false, IfOk, OnOk};
 ghost use Rattle.fp_name.specs.Grammar.{is_remote_name};
 ghost use Rattle.fp_name.specs.Refs.{is_ref};

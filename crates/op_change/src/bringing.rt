@@ -1,4 +1,4 @@
-// An operation that brings a commit.
+//! An operation that brings a commit.
 ghost use Rattle.std.specs.Prelude.{ℕ, ◌≡◌, Some, true, IfOk, OnOk, IsErrOf};
 ghost use Rattle.std.specs.Option.{option_copied};
 ghost use Rattle.std.specs.List.{find};

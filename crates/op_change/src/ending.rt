@@ -1,4 +1,4 @@
-// How an operation ends.
+//! How an operation ends.
 use fp_host::HostEnd;
 use fp_small::Refusal;
 use ost_head::PullEnd;

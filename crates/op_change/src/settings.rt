@@ -1,4 +1,4 @@
-// One operation on the settings.
+//! One operation on the settings.
 ghost use Rattle.std.specs.Prelude.{◌≡◌, IfOk, OnOk, IsErrOf};
 ghost use Rattle.fp_host.specs.Causes.{IsCaused};
 ghost use Rattle.fp_host.specs.Frame.{AtEnd};

@@ -1,4 +1,4 @@
-// The refs of a store in a list.
+//! The refs of a store in a list.
 ghost use Rattle.std.specs.Prelude.{IfOk, OnOk, IsErrOf};
 ghost use Rattle.fp_host.specs.Causes.{IsCounted};
 ghost use Rattle.fp_host.specs.Frame.{AtEnd, Unchanged};

@@ -1,4 +1,4 @@
-// The place that a path names.
+//! The place that a path names.
 ghost use Rattle.std.specs.Prelude.{◌≡◌, ◌≢◌, ◌∷◌, ◌≤◌, [], length, drop, IfOk};
 ghost use Rattle.ost_refs.specs.Found.{ref_named, remote_named, place_named};
 

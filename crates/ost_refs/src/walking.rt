@@ -1,4 +1,4 @@
-// The paths so many folders below a folder.
+//! The paths so many folders below a folder.
 ghost use Rattle.std.specs.Prelude.{IfOk, IsErrOf};
 ghost use Rattle.fp_host.specs.Causes.{IsCounted};
 ghost use Rattle.fp_host.specs.Frame.{AtEnd, Unchanged};

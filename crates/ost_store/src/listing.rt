@@ -1,4 +1,4 @@
-// The names of a store in a list.
+//! The names of a store in a list.
 ghost use Rattle.std.specs.Prelude.{◌-◌, IfOk, IsErrOf};
 ghost use Rattle.fp_host.specs.Causes.{IsCaused};
 ghost use Rattle.fp_host.specs.Frame.{AtEnd, Unchanged};

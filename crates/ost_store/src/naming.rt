@@ -1,4 +1,4 @@
-// The name that an object has in a store.
+//! The name that an object has in a store.
 ghost use Rattle.std.specs.Prelude.{◌≡◌, ◌++◌, codes, take, drop, true, IfOk, string_bytes};
 ghost use Rattle.fp_host.specs.Paths.{is_element, path_eq};
 ghost use Rattle.fp_name.specs.Hex.{hex, unhex, is_digest};

@@ -1,4 +1,4 @@
-// Objects that are looked up and read.
+//! Objects that are looked up and read.
 ghost use Rattle.std.specs.Prelude.{◌≡◌, ◌≤◌, length, IfOk, IsErrOf};
 ghost use Rattle.fp_host.specs.Causes.{IsCaused, IsCounted};
 ghost use Rattle.fp_host.specs.Frame.{AtEnd, Unchanged};

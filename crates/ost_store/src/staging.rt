@@ -1,4 +1,4 @@
-// Objects that are written on their way to their names.
+//! Objects that are written on their way to their names.
 ghost use Rattle.std.specs.Prelude.{◌≡◌, [], OnOk, IsErrOf};
 ghost use Rattle.fp_host.specs.Moments.{Always};
 ghost use Rattle.fp_host.specs.Causes.{IsCaused};
