@@ -76,7 +76,7 @@ abbrev pub Took : Bool → Draft → Option Recording → Type 0
 Took good new (Some r) = (good ≡ true) × (said new ≡ r) × Knows new
 Took good new None = good ≡ false
 
--- a recording, or the first bad line; want of memory says nothing
+-- a recording, or the first bad line; running out of memory says nothing
 abbrev pub AnswersRecording : Result Recording RecordError → Result Recording ℕ → Type 0
 AnswersRecording (Ok r) read = read ≡ Ok r
 AnswersRecording (Err (BadRecord number)) read = read ≡ Err number

@@ -88,7 +88,7 @@ previous_tree (Some p) = Tree.just (back_tree p)
 abbrev pub deploy_tree : DeployData → Tree
 deploy_tree d = Tree.tuple (tree (text_tree d.origin) (tree (text_tree (hex d.commit)) (tree (time_tree d.timestamp) (tree (previous_tree d.previous) no_trees))))
 
--- ---- what reading answers; nothing is said of want of memory
+-- ---- what reading answers; nothing is said of running out of memory
 
 abbrev pub Misses : {Y : Type 0} → DeployError → Option Y → Type 0
 Misses errors.Bad there = there ≡ None

@@ -51,7 +51,7 @@ module _ {May : Op → Type 0} {s : State} where
       })
       (λ x. tt) (λ no. cc no) (λ no. cc no)
 
-  -- want of memory
+  -- out of memory
   pub acts_halted : (f : Holdings → World → Answer) {o : Outside} → IsTold o.told → Acts (Rests s) May f s (Err NoMemory) o o
   acts_halted f {o = o} told = works_stays (Err NoMemory) told (λ x first. not_begun s f o.holdings x)
       (λ x first. record { performed = λ held known rests. halted (f held (world_at s x)) s rests.opens })

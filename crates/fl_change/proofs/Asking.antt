@@ -27,7 +27,7 @@ pub refuse_some : {A : Type 0} (refusal : Refusal) (a : A) (found : Option A) �
 refuse_some refusal a None is = absurd (cc is)
 refuse_some refusal a (Some b) is = let same : b ≡ a = cc is in ap (λ (x : _). Some x) same
 
--- ---- the answer is a refusal, or memory was wanting
+-- ---- the answer is a refusal, or memory ran out
 
 abbrev pub Refuses : State → Outside → (Holdings → World → Answer) → Refusal → Type 0
 Refuses s o f r = Known (Rests s) o s (λ held x. f held (world_at s x) ≡ refusal_answer r)

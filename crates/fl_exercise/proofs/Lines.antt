@@ -22,7 +22,7 @@ use Rattle.fl_change.proofs.Skipping.{acts_told as text_told, acts_not_told as t
 use Rattle.fl_change.proofs.Turning.{Both, left_rests, performs_first, failed_first, performs_second, performed_second}
 use Rattle.fl_change.proofs.Working.{works_as, works_on, works_stays}
 
--- want of memory
+-- out of memory
 pub acts_halted : {May : Op → Type 0} (f : Holdings → World → Answer) (s : State) {o : Outside}
     → IsTold o.told → Acts (Opens s) May f s (Err NoMemory) o o
 acts_halted f s {o = o} known = works_stays (Err NoMemory) known

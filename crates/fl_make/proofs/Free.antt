@@ -90,7 +90,7 @@ module _ (v : View) (remote : List ℕ) (r : Ref) (tree : IsTree v) (sound : IsS
       let p : Elements = take 2 (hex d) ∷ (codes "objects" ∷ made remote) in
       free_folder v tree p (then_fits (is_prefix (take 2 (hex d))) a_folder anything p (shows v p) (prefix_is_one d digits) (allowed p).fits)
 
-  -- the zone behind the tests of a ref's parts, which hold
+  -- the zone after the tests of a ref's parts, which hold
   by_kind : (z : Zone) (p : Elements) → Fits (if is_some (kind_of (kind_word r.kind)) then z else anything) p (shows v p) → Fits z p (shows v p)
   by_kind z p fits = then_fits (is_some (kind_of (kind_word r.kind))) z anything p (shows v p) (kind_is_one r.kind) fits
 

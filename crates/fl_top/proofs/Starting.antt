@@ -243,7 +243,7 @@ damaged held path {u = u} keeping none = record {
   creates = λ none. absurd (cc none);
 }
 
--- want of memory before anything is done
+-- out of memory before anything is done
 pub halted_look : (f : World → Answer) {u w : View} → Keeping u w → LookedOver f (Err NoMemory) u w
 halted_look f keeping = record { ended = λ shown counts held. stood (over f shown) keeping; given = λ by. absurd by }
 

@@ -38,7 +38,7 @@ pub record Adds (old new : Option (List ℕ)) (before after : List ℕ) (more : 
   pub grows : more ≡ true → length before < length after
   pub same : more ≡ false → after ≡ before
 
--- a step stops only at a failure of the source, or for want of memory
+-- a step stops only at a failure of the source, or because memory ran out
 abbrev pub StepStops : ℕ → ℕ → InputEnd → Type 0
 StepStops before now TooLong = ⊥
 StepStops before now Fault = Rose before now

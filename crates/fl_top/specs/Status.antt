@@ -6,7 +6,7 @@ use Rattle.fl_words.specs.declared.command.Command.{Command}
 use Rattle.fl_words.specs.declared.command.Command.TheVariants.{Change as Changing, List as Listed, Show as Showing, Filter as Filtering, Batch, Fsck, Export as Exporting, Exercise as Exercising}
 use Rattle.fl_change.specs.Answer.{Answer}
 
--- 0 done, 1 refused, 2 no command, 3 a fault of the host, 4 a fault of the remotes, 5 a fault of the input, 6 want of memory
+-- 0 done, 1 refused, 2 no command, 3 a fault of the host, 4 a fault of the remotes, 5 a fault of the input, 6 out of memory
 abbrev pub IsStatus : ℕ → Type 0
 IsStatus n = n ≤ 6
 
@@ -96,7 +96,7 @@ status_at a = status_by a.refusal
 abbrev pub IsOfCommand : Command → ℕ → Type 0
 IsOfCommand command n = (n ≡ 0) ⊎ ((n ≡ 1) ⊎ ((n ≡ 3) ⊎ (((n ≡ 4) × (changes_state command ≡ true)) ⊎ (((n ≡ 5) × (reads_input command ≡ true)) ⊎ (n ≡ 6)))))
 
--- Whatever the host: 2 comes exactly for words that are no command, where nothing fails and memory isn't wanting.
+-- Whatever the host: 2 comes exactly for words that are no command, where nothing fails and memory doesn't run out.
 abbrev pub IsOfWords : Option Command → ℕ → Type 0
 IsOfWords None status = (status ≡ 2) ⊎ ((status ≡ 3) ⊎ (status ≡ 6))
 IsOfWords (Some command) status = IsOfCommand command status

@@ -20,7 +20,7 @@ ghost use Rattle.fl_top.specs.Answer.{answer, listed, Given, IsOver};
 ghost use Rattle.fl_top.specs.Exports.{IsInStep};
 ghost use Rattle.fl_top.specs.ExportSample.{desktop_text, placed_disk, stale_disk, listed_text};
 ghost use Rattle.fl_change.specs.World.{World};
-ghost use Rattle.fl_top.specs.History.{Stretch, History, IsReached};
+ghost use Rattle.fl_top.specs.History.{Stretch, History, Reopens, IsReached};
 ghost use Rattle.fl_top.specs.Runs.{Told, RunsBy, RanBy};
 
 /// The answers to words that count are the same. There is one over a view that is sound; and to words that are no command
@@ -45,6 +45,11 @@ pub fn runs_join()
         IsSound w }
     ensures reached { (u w : View) (stretches : List Stretch) → IsSound u → History u stretches w →
         (disk : Disk) → Leaves w disk → (t : State) → Shows disk t → IsReached u stretches disk t }
+{}
+
+/// That runs join is said of something: where every stop leaves what stands, what a stop leaves is opened again as what stood.
+pub fn settled_views_reopen()
+    ensures as_it_stands { (v : View) → IsTree v → IsSettled v → Reopens v v }
 {}
 
 /// What is promised of exported files can be met: where the root stands alone nothing is exported, and nothing stands there. The

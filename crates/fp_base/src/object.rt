@@ -1,7 +1,7 @@
 //! The kinds of a repository's objects.
 
 /// The kinds of objects (OSTree, "Anatomy of an OSTree repository").
-#[derive(Clone, Copy, Debug, PartialEq, Eq)]
+#[derive(Clone, Copy, Debug, PartialEq, Eq, PartialOrd, Ord)]
 pub enum ObjKind {
     /// A commit: its root directory, its parent, its subject, its time.
     Commit,

@@ -80,7 +80,7 @@ fn are_name_bytes(bytes: &[u8]) -> bool
     bytes.iter().all(|b| !(*b == b'/' || *b == 0))
 }
 
-// What stands before the last slash, and after it.
+/// What stands before the last slash, and after it.
 fn around_last(text: &str) -> Option<(&str, &str)>
     ensures around { IfSome result (λ parts. cut text.now ≡ parts.1.now ∷ cut parts.0.now) }
     ensures shorter { IfSome result (λ parts. length parts.0.now < length text.now) }
@@ -90,7 +90,7 @@ fn around_last(text: &str) -> Option<(&str, &str)>
     Some((&text[..at], &text[at + 1..]))
 }
 
-// Whether the text is elements and slashes between them.
+/// Whether the text is elements and slashes between them.
 fn are_elements(text: &str) -> bool
     ensures { result ≡ list_all is_element (cut text.now) }
 {
@@ -104,7 +104,7 @@ fn are_elements(text: &str) -> bool
     is_element(left)
 }
 
-// The text without its last element.
+/// The text without its last element.
 fn front(text: &str) -> &str
     requires { IsTrue (list_all is_element (elements_of text.now)) }
     ensures front { elements_of result.now ≡ drop 1 (elements_of text.now) }
@@ -116,7 +116,7 @@ fn front(text: &str) -> &str
     }
 }
 
-// The last element.
+/// The last element.
 fn last(text: &str) -> &str
     requires { text.now ≢ [] }
     ensures { elements_of text.now ≡ result.now ∷ drop 1 (elements_of text.now) }

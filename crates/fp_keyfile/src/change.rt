@@ -8,7 +8,7 @@ use crate::places::group_place;
 use fp_base::{Items, Text};
 use std::alloc::AllocError;
 
-/// Sets the value of the key in the group. Want of memory changes nothing.
+/// Sets the value of the key in the group. Running out of memory changes nothing.
 pub(crate) fn set_pair(
     groups: &mut Items<Group>,
     name: &str,

@@ -72,7 +72,7 @@ impl Group {
         Some(pair.value.as_str())
     }
 
-    /// Sets the value at the key, at its place or in a new pair at the end. Want of memory changes nothing.
+    /// Sets the value at the key, at its place or in a new pair at the end. Running out of memory changes nothing.
     pub(crate) fn put(&mut self, key: &str, value: &str) -> Result<(), AllocError>
         ensures ok { OnOk result (self.new ≡ record self.old
             { pairs = with_key self.old.pairs key.now value.now }) }

@@ -94,7 +94,7 @@ impl KeyFile {
     }
 
     /// Sets the value of the key in the group, at its place or in a new pair at the end of the group. A group that
-    /// isn't there is added at the end. All else stays as it is. Want of memory changes nothing.
+    /// isn't there is added at the end. All else stays as it is. Running out of memory changes nothing.
     pub fn set(&mut self, group: &str, key: &str, value: &str) -> Result<(), AllocError>
         requires group { IsTrue (is_name group.now) }
         requires key { IsTrue (is_key key.now) }

@@ -14,7 +14,7 @@ pub record Story : Type 0 where
   pub after : ℕ → Option View
   -- whether the call of this number, from 0 on, is to fail, and then whether what it asks for is done
   pub fails : ℕ → Option Bool
-  -- how many calls failed for want of memory; the count stands still at 2^64 - 1
+  -- how many calls failed because memory ran out; the count stands still at 2^64 - 1
   pub starved : ℕ
   -- where each file was created, with its id, in order
   pub made : List (Elements × ℕ)
@@ -44,7 +44,7 @@ abbrev pub Obeys : {T : Type 0} → Option Bool → (Bool → View → View → 
 Obeys None fails result v w = IsErrOf result Failed → ⊥
 Obeys (Some late) fails result v w = IsErrOf result Failed × fails late v w
 
--- how a call ends: as it should, or for want of memory to keep it, with nothing changed
+-- how a call ends: as it should, or, where memory to keep it ran out, with nothing changed
 abbrev pub Ends : {T : Type 0} → (Bool → View → View → Type 0) → Story → Story → Result T HostError → View → View → Type 0
 Ends fails old new result v w =
     (Obeys (old.fails old.calls) fails result v w × (new.starved ≡ old.starved)) ⊎ (IsErrOf result Failed × (w ≡ v) × (new.starved ≡ min (old.starved + 1) (2 ^ 64 - 1)))

@@ -18,7 +18,7 @@ use fp_base::{Blob, Items};
 use fp_host::{Entry, Path};
 use std::alloc::{AllocError, Global};
 
-// How many entries a stop may bring back at the name with this text.
+/// How many entries a stop may bring back at the name with this text.
 fn count_earlier(names: &[Name], text: &str) -> usize
     requires { IsAscending names.now }
     ensures { result ≡ length (earlier_of names.now (elements_of text.now)) }
@@ -29,7 +29,7 @@ fn count_earlier(names: &[Name], text: &str) -> usize
     }
 }
 
-// Whether each listed name has an entry of its number.
+/// Whether each listed name has an entry of its number.
 fn have_entries(scene: &Scene, numbers: &[(Path, u64)]) -> bool
     ensures { result ≡ list_all (has_entry (seen scene.now)) numbers.now }
 {
@@ -41,7 +41,7 @@ fn have_entries(scene: &Scene, numbers: &[(Path, u64)]) -> bool
     true
 }
 
-// Whether each listed file was created since the last sync.
+/// Whether each listed file was created since the last sync.
 fn are_open(scene: &Scene, bytes: &[(u64, Blob)]) -> bool
     ensures { result ≡ list_all (is_open_file (seen scene.now)) bytes.now }
 {
@@ -60,7 +60,7 @@ pub fn can_choose(scene: &Scene, choice: &Choice) -> bool
     have_entries(scene, choice.names.as_slice()) && are_open(scene, choice.files.as_slice())
 }
 
-// Which entry of the name is chosen.
+/// Which entry of the name is chosen.
 fn number_for(numbers: &[(Path, u64)], path: &Path) -> u64
     ensures { result ≡ number_for numbers.now path.now }
 {
@@ -72,7 +72,7 @@ fn number_for(numbers: &[(Path, u64)], path: &Path) -> u64
     0
 }
 
-// Which bytes of the file are chosen, where some are.
+/// Which bytes of the file are chosen, where some are.
 fn bytes_for(chosen: &[(u64, Blob)], id: u64) -> Option<&Blob>
     ensures { option_copied result ≡ bytes_for chosen.now id }
 {
@@ -84,7 +84,7 @@ fn bytes_for(chosen: &[(u64, Blob)], id: u64) -> Option<&Blob>
     None
 }
 
-// The entry of this number.
+/// The entry of this number.
 fn entry_in(name: &Name, number: u64) -> Option<&Entry>
     ensures { slot_of (option_copied result) ≡ entry_in name.now number }
 {
@@ -98,7 +98,7 @@ fn entry_in(name: &Name, number: u64) -> Option<&Entry>
     name.earlier[at].as_ref()
 }
 
-// The names with the chosen entries.
+/// The names with the chosen entries.
 fn choose_names(
     alloc: Global,
     scene: &Scene,
@@ -117,7 +117,7 @@ fn choose_names(
     Ok(chosen)
 }
 
-// The chosen bytes of a file, or its own.
+/// The chosen bytes of a file, or its own.
 fn choose_bytes(alloc: Global, file: &Content, chosen: &[(u64, Blob)]) -> Result<Blob, AllocError>
     ensures { IfOk result (λ b. b ≡ bytes_of file.now.bytes.items
         (bytes_for chosen.now file.now.id)) }
@@ -128,7 +128,7 @@ fn choose_bytes(alloc: Global, file: &Content, chosen: &[(u64, Blob)]) -> Result
     }
 }
 
-// The files with the chosen bytes.
+/// The files with the chosen bytes.
 fn choose_files(
     alloc: Global,
     files: &[Content],
@@ -162,7 +162,7 @@ pub fn choose(alloc: Global, scene: &Scene, choice: &Choice) -> Result<Image, Al
     })
 }
 
-// The names at which a stop may bring something back.
+/// The names at which a stop may bring something back.
 fn choices_in(alloc: Global, names: &[Name]) -> Result<Vec<(Path, u64)>, AllocError>
     ensures { IfOk result (λ v. v.items ≡ choices_in names.now) }
 {

@@ -72,7 +72,7 @@ pub fn can_unlink(scene: &Scene, path: &Path) -> bool
     )
 }
 
-// Whether the two hold different entries, or the first is no file.
+/// Whether the two hold different entries, or the first is no file.
 fn are_apart(from: Option<&Entry>, to: Option<&Entry>) -> bool
     ensures { IsTrue result
         ↔ (IsFile (slot_of (option_copied from.entry)) → slot_of (option_copied from.entry) ≢ slot_of (option_copied to.entry)) }

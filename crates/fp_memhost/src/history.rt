@@ -29,7 +29,7 @@ pub struct History {
     ghost trees: { ∥ AreTrees (opened start) log.items ∥₁ },
 }
 
-// Whether there was memory for the step and for its note. Without it nothing that is told changes.
+/// Whether there was memory for the step and for its note. Without it nothing that is told changes.
 fn keep(scene: &mut Scene, log: &mut Vec<Noted>, noted: Noted) -> bool
     ensures yes_scene { IsTrue result → seen scene.new ≡ stepped noted (seen scene.old) }
     ensures yes_log { IsTrue result → log.new.items ≡ log.old.items ++ noted ∷ [] }
@@ -93,7 +93,7 @@ impl History {
         self.calls = self.calls.saturating_add(1);
         keep(&mut self.scene, &mut self.log, noted)
     }
-    // The allocator of what is kept.
+    /// The allocator of what is kept.
     fn alloc(&self) -> Global {
         *self.log.allocator()
     }
@@ -123,7 +123,7 @@ impl History {
         count
     }
 
-    // The size of the file that the event created below this path.
+    /// The size of the file that the event created below this path.
     fn grown_by(&self, front: &Path, event: &Event) -> u64
         ensures { result ≡ min (appended_below front.now (seen self.now.scene).files
             (made_by event.now)) (2 ^ 64 - 1) }

@@ -33,7 +33,7 @@ pub struct Choice {
     pub files: Items<(u64, Blob)>,
 }
 
-// The file with this id; the first counts.
+/// The file with this id; the first counts.
 fn row(files: &[FileRow], id: u64) -> Option<&FileRow>
     ensures { row_in (option_copied result) ≡ rows_of files.now id }
 {
@@ -45,7 +45,7 @@ fn row(files: &[FileRow], id: u64) -> Option<&FileRow>
     None
 }
 
-// Whether what a name holds may stand in an image with these files.
+/// Whether what a name holds may stand in an image with these files.
 fn is_good_entry(files: &[FileRow], entry: Option<&Entry>) -> bool
     ensures { result ≡ is_good_slot (rows_of files.now) (slot_of (option_copied entry.entry)) }
 {
@@ -57,7 +57,7 @@ fn is_good_entry(files: &[FileRow], entry: Option<&Entry>) -> bool
 }
 
 impl Image {
-    // Whether what counts at the path may stand there.
+    /// Whether what counts at the path may stand there.
     fn is_good_at(&self, path: &Path) -> bool
         ensures { result ≡ is_good_slot (rows_of self.now.files)
             (slots_of self.now.names path.now) }
@@ -82,7 +82,7 @@ impl Image {
         true
     }
 
-    // Whether the file that counts with this id has permission bits.
+    /// Whether the file that counts with this id has permission bits.
     fn has_bits(&self, id: u64) -> bool
         ensures { result ≡ is_good_row (rows_of self.now.files id) }
     {

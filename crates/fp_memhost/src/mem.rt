@@ -29,7 +29,7 @@ pub struct MemHost {
     starved: u64,
 }
 
-// Whether the change of a call is made; a failing sync changes nothing.
+/// Whether the change of a call is made; a failing sync changes nothing.
 fn is_to_be_done(verdict: Option<bool>, event: &Event) -> bool
     ensures { result ≡ done_by verdict event.now }
 {
@@ -149,7 +149,7 @@ impl MemHost {
         Ok(())
     }
 
-    // Whether the next call is to fail, and then whether what it asks for is done.
+    /// Whether the next call is to fail, and then whether what it asks for is done.
     fn verdict(&self) -> Option<bool>
         ensures { result ≡ fails_at self.now.failing.items self.now.history.calls }
     {
@@ -162,7 +162,7 @@ impl MemHost {
         None
     }
 
-    // A call that changes nothing, with this answer where it isn't to fail.
+    /// A call that changes nothing, with this answer where it isn't to fail.
     pub(crate) fn look<T: Drop>(&mut self, answer: Result<T, HostError>) -> Result<T, HostError>
         ensures { Looked answer self.old self.new result }
     {
@@ -177,7 +177,7 @@ impl MemHost {
         }
     }
 
-    // A call for whose own note there is no memory.
+    /// A call for whose own note there is no memory.
     fn starve(&mut self) -> Result<(), HostError>
         ensures { IsStarved self.old self.new result }
     {
@@ -187,7 +187,7 @@ impl MemHost {
         Err(HostError::Failed)
     }
 
-    // A call that changes something, where its condition holds and there was memory for its note.
+    /// A call that changes something, where its condition holds and there was memory for its note.
     pub(crate) fn play(&mut self, can: bool, event: Option<Event>) -> Result<(), HostError>
         requires { IsTrue can → IfSome event (λ e. Can (change_of e)
             (seen self.old.history.scene)) }
@@ -219,7 +219,7 @@ impl MemHost {
         *self.failing.allocator()
     }
 
-    // What stands now.
+    /// What stands now.
     pub(crate) fn scene(&self) -> &Scene
         ensures { result.now ≡ self.now.history.scene }
     {

@@ -32,7 +32,7 @@ pub fn listed<'a>(names: &'a [(Path, Entry)], text: &str) -> Option<&'a Entry>
     None
 }
 
-// Whether a folder stands there.
+/// Whether a folder stands there.
 fn is_folder(names: &[(Path, Entry)], text: &str) -> bool
     requires { IsTrue (list_all is_element (elements_of text.now)) }
     ensures { result ≡ is_folder (slots_of names.now (elements_of text.now)) }
@@ -43,7 +43,7 @@ fn is_folder(names: &[(Path, Entry)], text: &str) -> bool
     }
 }
 
-// Whether each folder above the path is there.
+/// Whether each folder above the path is there.
 fn is_open(names: &[(Path, Entry)], path: &Path) -> bool
     ensures { result ≡ is_open names.now path.now }
 {
@@ -57,14 +57,14 @@ fn is_open(names: &[(Path, Entry)], path: &Path) -> bool
     true
 }
 
-// Whether the name counts, and isn't the root.
+/// Whether the name counts, and isn't the root.
 fn may_stand(names: &[(Path, Entry)], path: &Path) -> bool
     ensures { result ≡ may_stand names.now path.now }
 {
     !path.is_root() && is_open(names, path)
 }
 
-// The name stands there now, where it counts.
+/// The name stands there now, where it counts.
 fn add_name(
     opened: &mut Vec<Name>,
     counts: bool,
@@ -85,7 +85,7 @@ fn add_name(
     Ok(())
 }
 
-// The names that count. The last is added first, so that the first of a path counts.
+/// The names that count. The last is added first, so that the first of a path counts.
 fn add_names(opened: &mut Vec<Name>, names: &[(Path, Entry)]) -> Result<(), AllocError>
     requires { IsAscending opened.old.items }
     ensures ascending { IsAscending opened.new.items }
@@ -101,7 +101,7 @@ fn add_names(opened: &mut Vec<Name>, names: &[(Path, Entry)]) -> Result<(), Allo
     Ok(())
 }
 
-// The files of an image.
+/// The files of an image.
 fn open_files(alloc: Global, rows: &[FileRow]) -> Result<Vec<Content>, AllocError>
     ensures { IfOk result (λ v. OpensFiles rows.now v.items) }
 {
@@ -118,7 +118,7 @@ fn open_files(alloc: Global, rows: &[FileRow]) -> Result<Vec<Content>, AllocErro
     Ok(files)
 }
 
-// What is remembered of these names.
+/// What is remembered of these names.
 fn remembered(alloc: Global, names: &[(Path, Entry)]) -> Result<Vec<Stood>, AllocError>
     ensures { IfOk result (λ v. map stood_of v.items ≡ map put_of names.now) }
 {

@@ -19,7 +19,7 @@ use fp_base::{Items, Text};
 use fp_host::{Entry, HostError, Path, Stat};
 use std::alloc::Global;
 
-// The file's id, where the entry is one.
+/// The file's id, where the entry is one.
 fn file_id(entry: Option<&Entry>) -> Option<u64>
     ensures { MatchOption result (IsFile (slot_of (option_copied entry.entry)) → ⊥)
         (λ id. slot_of (option_copied entry.entry) ≡ file id) }
@@ -30,7 +30,7 @@ fn file_id(entry: Option<&Entry>) -> Option<u64>
     }
 }
 
-// What stands where there is no file.
+/// What stands where there is no file.
 fn other_stat(entry: Option<&Entry>) -> Stat
     requires { IsFile (slot_of (option_copied entry)) → ⊥ }
     ensures tells { IsOtherStat (slot_of (option_copied entry.entry)) result }
@@ -108,7 +108,7 @@ pub fn read_of(scene: &Scene, path: &Path, at: u64, into: &mut [u8]) -> Result<u
     }
 }
 
-// A file's id, mode and length.
+/// A file's id, mode and length.
 fn stat_file(file: &Content) -> Stat
     ensures { result ≡ Stat.File file.now.id file.now.mode (length file.now.bytes.items) }
 {

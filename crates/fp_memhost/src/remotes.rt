@@ -22,7 +22,7 @@ pub enum MemNode {
     Link(Text),
 }
 
-// What was put at a path of a url.
+/// What was put at a path of a url.
 #[derive(Drop)]
 struct Row {
     url: String,
@@ -41,7 +41,7 @@ pub struct MemRemotes {
 }
 
 impl MemNode {
-    // Whether the permission bits are within 0o7777.
+    /// Whether the permission bits are within 0o7777.
     fn has_bits(&self) -> bool
         ensures { result ≡ node_bits self.now }
     {
@@ -52,14 +52,14 @@ impl MemNode {
     }
 }
 
-// Whether this is the row of the url and the path.
+/// Whether this is the row of the url and the path.
 fn is_row(row: &Row, url: &str, path: &Path) -> bool
     ensures { result ≡ is_row url.now path.now row.now }
 {
     url == row.url.as_str() && path.is(&row.path)
 }
 
-// The place of the row of this url and path.
+/// The place of the row of this url and path.
 fn find_row(rows: &[Row], url: &str, path: &Path) -> Option<usize>
     ensures { MatchOption result (row_at rows.now url.now path.now ≡ None)
         (IsRowAt rows.now url.now path.now) }
@@ -72,7 +72,7 @@ fn find_row(rows: &[Row], url: &str, path: &Path) -> Option<usize>
     None
 }
 
-// The row of this url and path.
+/// The row of this url and path.
 fn find<'a>(rows: &'a [Row], url: &str, path: &Path) -> Option<&'a Row>
     ensures { option_copied result ≡ row_at rows.now url.now path.now }
 {
@@ -82,21 +82,21 @@ fn find<'a>(rows: &'a [Row], url: &str, path: &Path) -> Option<&'a Row>
     }
 }
 
-// Whether a row is below the path.
+/// Whether a row is below the path.
 fn is_folder(rows: &[Row], url: &str, path: &Path) -> bool
     ensures { result ≡ list_any (covers url.now path.now) rows.now }
 {
     rows.iter().any(|row| url == row.url.as_str() && is_below(&row.path, path.text()))
 }
 
-// Whether a row is above the path.
+/// Whether a row is above the path.
 fn has_leaf_above(rows: &[Row], url: &str, path: &Path) -> bool
     ensures { result ≡ list_any (stands_over url.now path.now) rows.now }
 {
     rows.iter().any(|row| url == row.url.as_str() && is_below(path, row.path.text()))
 }
 
-// Whether the path is a folder.
+/// Whether the path is a folder.
 fn holds_folder(rows: &[Row], url: &str, path: &Path) -> bool
     ensures { IsTrue result ↔ (held_of rows.now url.now path.now ≡ directory) }
 {
@@ -106,7 +106,7 @@ fn holds_folder(rows: &[Row], url: &str, path: &Path) -> bool
     }
 }
 
-// Puts the node in the place of the row of this url and path, or adds a row.
+/// Puts the node in the place of the row of this url and path, or adds a row.
 fn put_row(rows: &mut Vec<Row>, url: &str, path: &Path, node: MemNode) -> Result<(), AllocError>
     ensures ok { OnOk result (PutsRow url.now path.now node rows.old.items rows.new.items) }
     ensures err { OnErr result (rows.new.items ≡ rows.old.items) }
@@ -193,7 +193,7 @@ impl MemRemotes {
         Ok(())
     }
 
-    // Counts the call; whether it is to fail, which counts a fault.
+    /// Counts the call; whether it is to fail, which counts a fault.
     fn fails(&mut self) -> bool
         ensures { Fails self.old self.new result }
     {
@@ -219,7 +219,7 @@ impl Keeper for MemRemotes {
     ghost keeping = { keeping_of };
 }
 
-// What stands in a row, or else a folder or nothing.
+/// What stands in a row, or else a folder or nothing.
 fn node_of(alloc: Global, row: Option<&Row>, is_folder: bool) -> Result<Node, RemoteError>
     requires { IfSome row (λ r. has_bits r.now ≡ true) }
     ensures node { IfOk result (IsNode (held_in (option_copied row.entry) is_folder)) }
@@ -295,7 +295,7 @@ impl Remotes for MemRemotes {
     }
 }
 
-// Bytes of a file; anything else has none.
+/// Bytes of a file; anything else has none.
 fn read_row(row: &Row, at: u64, into: &mut [u8]) -> usize
     ensures came { CameFrom (bytes_of (node_held row.now.node)) at into.new result }
     ensures bound { result ≤ length into.old }

@@ -48,7 +48,7 @@ impl Scene {
         })
     }
 
-    // The name holds this now.
+    /// The name holds this now.
     fn put(&mut self, path: &Path, entry: Option<Entry>) -> Result<(), AllocError>
         ensures ok { OnOk result (seen self.new ≡ put path.now (slot_of entry) (seen self.old)) }
         ensures err { OnErr result (seen self.new ≡ seen self.old) }
@@ -60,7 +60,7 @@ impl Scene {
         Ok(())
     }
 
-    // A stop may leave this at the name.
+    /// A stop may leave this at the name.
     fn may_put(&mut self, path: &Path, entry: Option<Entry>) -> Result<(), AllocError>
         ensures ok { OnOk result (seen self.new ≡ may_put path.now (slot_of entry)
             (seen self.old)) }
@@ -71,7 +71,7 @@ impl Scene {
         Ok(())
     }
 
-    // An empty file more, which the name holds.
+    /// An empty file more, which the name holds.
     fn create(&mut self, path: &Path, mode: u32, id: u64) -> Result<(), AllocError>
         ensures ok { OnOk result (seen self.new ≡ put path.now (file id)
             (with_file id mode (seen self.old))) }
@@ -86,7 +86,7 @@ impl Scene {
         Ok(())
     }
 
-    // An empty file more, which a stop may leave at the name.
+    /// An empty file more, which a stop may leave at the name.
     fn may_create(&mut self, path: &Path, mode: u32, id: u64) -> Result<(), AllocError>
         ensures ok { OnOk result (seen self.new ≡ may_put path.now (file id)
             (with_file id mode (seen self.old))) }
@@ -98,7 +98,7 @@ impl Scene {
         Ok(())
     }
 
-    // Bytes more in the file that the name holds.
+    /// Bytes more in the file that the name holds.
     fn append(&mut self, path: &Path, bytes: &[u8]) -> Result<(), AllocError>
         ensures ok { OnOk result (seen self.new ≡ done (appends path.now bytes.now)
             (seen self.old)) }
@@ -113,7 +113,7 @@ impl Scene {
         }
     }
 
-    // The entry of one name at another.
+    /// The entry of one name at another.
     fn rename(&mut self, from: &Path, to: &Path) -> Result<(), AllocError>
         ensures ok { OnOk result (seen self.new ≡ done (renames from.now to.now) (seen self.old)) }
         ensures err { OnErr result (seen self.new ≡ seen self.old) }
@@ -131,7 +131,7 @@ impl Scene {
         Ok(())
     }
 
-    // A stop may leave the entry of one name at another, and the first one absent.
+    /// A stop may leave the entry of one name at another, and the first one absent.
     fn may_rename(&mut self, from: &Path, to: &Path) -> Result<(), AllocError>
         ensures ok { OnOk result (seen self.new ≡ half (renames from.now to.now) (seen self.old)) }
         ensures err { OnErr result (seen self.new ≡ seen self.old) }
@@ -144,7 +144,7 @@ impl Scene {
         Ok(())
     }
 
-    // What stands lasts.
+    /// What stands lasts.
     fn sync(&mut self)
         ensures { seen self.new ≡ done syncs (seen self.old) }
     {
@@ -152,7 +152,7 @@ impl Scene {
         settle(&mut self.files);
     }
 
-    // A piece more is printed.
+    /// A piece more is printed.
     fn say(&mut self, piece: &[u8]) -> Result<(), AllocError>
         ensures ok { OnOk result (seen self.new ≡ done (says piece.now) (seen self.old)) }
         ensures err { OnErr result (seen self.new ≡ seen self.old) }
@@ -160,7 +160,7 @@ impl Scene {
         self.printed.extend_from_slice(piece)
     }
 
-    // The change is made.
+    /// The change is made.
     fn make(&mut self, event: &Event) -> Result<(), AllocError>
         ensures ok { OnOk result (seen self.new ≡ done (change_of event.now) (seen self.old)) }
         ensures err { OnErr result (seen self.new ≡ seen self.old) }
@@ -187,7 +187,7 @@ impl Scene {
         }
     }
 
-    // The change is not made, and a stop may bring it about.
+    /// The change is not made, and a stop may bring it about.
     fn may_make(&mut self, event: &Event) -> Result<(), AllocError>
         ensures ok { OnOk result (seen self.new ≡ half (change_of event.now) (seen self.old)) }
         ensures err { OnErr result (seen self.new ≡ seen self.old) }

@@ -81,7 +81,7 @@ impl Source for MemSource {
     }
 }
 
-// Whether this is the call with the number.
+/// Whether this is the call with the number.
 fn is_call(fail_at: Option<u64>, call: u64) -> bool
     ensures { result ≡ fails_now fail_at call }
 {

@@ -3,12 +3,12 @@ use std::cell::Cell;
 use std::io::Eprint;
 use std::time::{Clock, Duration};
 
-// How many milliseconds a command takes before its line comes, and how many are between two lines.
+/// How many milliseconds a command takes before its line comes, and how many are between two lines.
 const FIRST: u64 = 500;
 
 const BETWEEN: u64 = 100;
 
-// What a line is written over with.
+/// What a line is written over with.
 const BLANK: &str =
     "                                                                               ";
 
@@ -60,7 +60,7 @@ impl<'a, R: Clock> Progress<'a, R> {
     }
 }
 
-// The time after these milliseconds. None where the clock tells none.
+/// The time after these milliseconds. None where the clock tells none.
 fn time_in<R: Clock>(rt: &R, millis: u64) -> Option<Duration> {
     match rt.monotonic() {
         Ok(now) => now.checked_add(Duration::from_millis(millis)),

@@ -13,7 +13,7 @@ use std::rt::Files;
 use std::thread::Threads;
 use std::time::Clock;
 
-// How many files or folders are synced between two lines.
+/// How many files or folders are synced between two lines.
 const PART: usize = 1000;
 
 /// A system, and how far the command is that it is used for. The line of the command is taken away before anything is printed.
@@ -214,7 +214,7 @@ impl<R: System + Clock> System for Watched<'_, R> {
     }
 }
 
-// The same failure, where the list before the one that it was met in has this length.
+/// The same failure, where the list before the one that it was met in has this length.
 fn failure_after(before: usize, failure: Failure) -> Failure {
     Failure {
         place: before.saturating_add(failure.place),

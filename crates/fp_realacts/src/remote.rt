@@ -19,7 +19,7 @@ pub struct Remote<'a> {
 /// What stands at a path where both calls fail.
 pub const FAULT: &str = "a fault";
 
-// Notes where the remote is otherwise, or a call at one of the other urls doesn't fail.
+/// Notes where the remote is otherwise, or a call at one of the other urls doesn't fail.
 pub(crate) fn ask_remote(rt: &HostRuntime, log: &Log<'_>, remote: &Remote<'_>) {
     let url = url_of(rt, log, remote.folder);
     let mut remotes = DirRemotes::new(rt, log.alloc);
@@ -50,7 +50,7 @@ fn all_fail<M: Remotes>(log: &Log<'_>, remotes: &mut M, urls: &[&str]) {
     }
 }
 
-// Whether this is shown there.
+/// Whether this is shown there.
 fn is_node<M: Remotes>(alloc: Global, remotes: &mut M, url: &str, at: &Path, want: &str) -> bool {
     match remotes.node(alloc, url, at) {
         Ok(node) => is_shown(alloc, &node, want),
@@ -58,7 +58,7 @@ fn is_node<M: Remotes>(alloc: Global, remotes: &mut M, url: &str, at: &Path, wan
     }
 }
 
-// Whether a node is shown so.
+/// Whether a node is shown so.
 fn is_shown(alloc: Global, node: &Node, want: &str) -> bool {
     match node {
         Node::Absent => want == "absent",
@@ -75,7 +75,7 @@ fn is_file(alloc: Global, mode: u32, size: u64, want: &str) -> bool {
     }
 }
 
-// Whether this many bytes come from the seventh on, or the call fails.
+/// Whether this many bytes come from the seventh on, or the call fails.
 fn gives<M: Remotes>(remotes: &mut M, url: &str, at: &Path, want: &str, n: usize) -> bool {
     match remotes.read_at(url, at, 6, &mut [0u8; 8]) {
         Ok(read) => read == n && want != FAULT,

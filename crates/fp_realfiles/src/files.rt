@@ -6,7 +6,7 @@ use std::io::ErrorKind;
 use std::os::unix::fs::PermissionsExt;
 use std::rt::Files;
 
-// The system's number of the error that nothing stands there.
+/// The system's number of the error that nothing stands there.
 const NO_ENTRY: i32 = 2;
 
 /// The file at the path. What is none is an error.

@@ -83,7 +83,7 @@ fn push_name(alloc: Global, name: &str, names: &mut Vec<Text>) -> Result<(), All
     Ok(())
 }
 
-// Whether each may be an element of a path, and each comes before the next.
+/// Whether each may be an element of a path, and each comes before the next.
 fn are_names(names: &[Text]) -> bool
     ensures { IsTrue result → AreNames names.now }
 {

@@ -24,10 +24,10 @@ pub struct Failure {
     pub unsynced: Unsynced,
 }
 
-// How many threads sync at one time. A disk takes many syncs together in about the time of one.
+/// How many threads sync at one time. A disk takes many syncs together in about the time of one.
 const THREADS: usize = 8;
 
-// As many at least are cut in halves.
+/// As many at least are cut in halves.
 const LEAST: usize = 32;
 
 /// What makes something last, and answers why it could not. What is gone is left out.
@@ -57,8 +57,8 @@ pub fn sync_by_threads<T: Threads + Sync, I: Sync, S: Syncer<I> + Sync>(
     sync_parts(threads, syncer, 0, items, items.len().div_ceil(THREADS))
 }
 
-// Cuts them in halves, down to this length, and each half is synced by a thread of its own. The first one has this place in the
-// list.
+/// Cuts them in halves, down to this length, and each half is synced by a thread of its own. The first one has this place in the
+/// list.
 fn sync_parts<T: Threads + Sync, I: Sync, S: Syncer<I> + Sync>(
     threads: &T,
     syncer: &S,
@@ -84,7 +84,7 @@ fn sync_parts<T: Threads + Sync, I: Sync, S: Syncer<I> + Sync>(
     gravest(first, second)
 }
 
-// The first failure, but a sync that failed before all others: the system tells that once.
+/// The first failure, but a sync that failed before all others: the system tells that once.
 fn gravest(first: Option<Failure>, second: Option<Failure>) -> Option<Failure>
     ensures is_told { IfSome first (λ early. early.unsynced.call ≡ Call.Sync →
         IsSomeAnd result (λ met. met.unsynced.call ≡ Call.Sync)) }
@@ -118,7 +118,7 @@ fn is_told_once(failure: Failure) -> bool
     failure.unsynced.call == Call::Sync
 }
 
-// Syncs one after another. The first one has this place in the list.
+/// Syncs one after another. The first one has this place in the list.
 fn sync_part<I, S: Syncer<I>>(syncer: &S, start: usize, items: &[I]) -> Option<Failure> {
     for (i, item) in items.iter().enumerate() {
         if let Some(unsynced) = syncer.sync_one(item) {
@@ -192,7 +192,7 @@ fn sync_opened<F: OpenFile>(opened: &F) -> Option<Unsynced> {
     }
 }
 
-// What is gone was taken away since.
+/// What is gone was taken away since.
 fn not_opened(cause: Cause, spares: bool) -> Option<Unsynced> {
     if cause.is_absence() || spares && cause.is(ErrorKind::PermissionDenied) {
         return None;

@@ -19,7 +19,7 @@ use std::thread::Threads;
 /// A folder of the system as a host, and where it prints.
 ///
 /// It tells nothing of its content. Whatever the system refuses, and whatever breaks a call's condition, is counted and
-/// answered `Failed`, and so is want of memory in a call that may not answer `NoMemory`; no call answers `Clash`.
+/// answered `Failed`, and so is running out of memory in a call that may not answer `NoMemory`; no call answers `Clash`.
 ///
 /// It is opened to look or to change. At its first call, but for `say`, it takes the advisory lock (`flock`) of the file
 /// `.lock` at the top of the root, shared to look and alone to change, and keeps it as long as it is there. Where another
@@ -107,7 +107,7 @@ impl<'a, R: Files, T, O> HostDir<'a, R, T, O> {
         self.faults.last()
     }
 
-    // Counts what was refused.
+    /// Counts what was refused.
     fn fail(&mut self, refusal: SystemError) -> HostError
         ensures answer { result ≡ Failed }
         ensures more { self.new ≡ record self.old { faults = one_more self.old.faults } }
@@ -117,7 +117,7 @@ impl<'a, R: Files, T, O> HostDir<'a, R, T, O> {
         HostError::Failed
     }
 
-    // The answer of a call on a path. Each error is a fault.
+    /// The answer of a call on a path. Each error is a fault.
     fn answer<A>(&mut self, call: Call, path: &Path, done: Result<A, Cause>) -> Result<A, HostError>
         ensures counts { Counts self.old.faults self.new.faults result }
         ensures needs_no_memory { NeedsNoMemory result }
@@ -132,7 +132,7 @@ impl<'a, R: Files, T, O> HostDir<'a, R, T, O> {
         }
     }
 
-    // The same of a call that may answer `NoMemory`.
+    /// The same of a call that may answer `NoMemory`.
     fn answer_or_starve<A>(
         &mut self,
         call: Call,
@@ -151,7 +151,7 @@ impl<'a, R: Files, T, O> HostDir<'a, R, T, O> {
 }
 
 impl<R: System, T, O> HostDir<'_, R, T, O> {
-    // Changes what stands at the path.
+    /// Changes what stands at the path.
     fn change(&mut self, call: Call, path: &Path, change: Change<'_>) -> Result<(), HostError>
         ensures counts { Counts self.old.faults self.new.faults result }
         ensures needs_no_memory { NeedsNoMemory result }

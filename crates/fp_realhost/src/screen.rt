@@ -50,7 +50,7 @@ impl<R: Print> Print for Screen<'_, R> {
     }
 }
 
-// The bytes with escapes.
+/// The bytes with escapes.
 fn shown(alloc: Global, bytes: &[u8]) -> Result<String, AllocError> {
     let mut text = String::new(alloc);
     let pushed = match std::str::from_utf8(bytes) {
@@ -88,7 +88,7 @@ fn push_bytes(shown: &mut String, bytes: &[u8]) -> Result<(), AllocError> {
     Ok(())
 }
 
-// Whether a terminal may do something else at the character than show it.
+/// Whether a terminal may do something else at the character than show it.
 fn is_driving(letter: char) -> bool {
     match letter {
         '\n' => false,

@@ -14,7 +14,7 @@ use std::rt::Files;
 /// of faults.
 ///
 /// It tells nothing of what they hold. Whatever the system refuses, a url of another form and a socket, pipe or device
-/// are counted and answered `Failed`, and so is want of memory in `read_at`.
+/// are counted and answered `Failed`, and so is running out of memory in `read_at`.
 ///
 /// The folder that a url names may be a symlink or stand below one. Below it no symlink is followed: a call fails where one
 /// stands in the place of a folder above its path. Each folder is looked at once: a symlink that another program puts in
@@ -69,7 +69,7 @@ impl<'a, R: Files> DirRemotes<'a, R> {
         self.faults.last()
     }
 
-    // The answer of a call at a path of a remote. Each error is a fault.
+    /// The answer of a call at a path of a remote. Each error is a fault.
     fn answer<T>(
         &mut self,
         call: Call,

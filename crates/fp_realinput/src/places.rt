@@ -9,7 +9,7 @@ use fp_system::{
 use std::alloc::Global;
 use std::rt::Files;
 
-// The folders of remotes that were looked at, and the file that was read last.
+/// The folders of remotes that were looked at, and the file that was read last.
 pub struct Places<'a, R: Files> {
     rt: &'a R,
     alloc: Global,
@@ -50,8 +50,8 @@ impl<'a, R: Files> Places<'a, R> {
         self.alloc
     }
 
-    // Finds the path for the system, and answers whether all folders above it are there. No symlink stands above it, below the
-    // folder of the url.
+    /// Finds the path for the system, and answers whether all folders above it are there. No symlink stands above it, below the
+    /// folder of the url.
     fn reach(&mut self, url: &str, path: &Path) -> Result<bool, Cause> {
         match write_path(url, path, &mut self.at) {
             Ok(below) => self.folders.look_above(self.rt, &self.at, below),
@@ -86,12 +86,12 @@ impl<'a, R: Files> Places<'a, R> {
     }
 }
 
-// The folder that the url names, which is absolute in a url of a remote.
+/// The folder that the url names, which is absolute in a url of a remote.
 fn folder_of_url(url: &str) -> &str {
     url.strip_prefix("file://").unwrap_or("")
 }
 
-// Writes the path for the system: the folder of the url, a slash and the elements. Answers where the elements begin.
+/// Writes the path for the system: the folder of the url, a slash and the elements. Answers where the elements begin.
 fn write_path(url: &str, path: &Path, into: &mut String) -> Result<usize, Cause> {
     let folder = folder_of_url(url);
     if !folder.starts_with('/') {
@@ -103,7 +103,7 @@ fn write_path(url: &str, path: &Path, into: &mut String) -> Result<usize, Cause>
     }
 }
 
-// What a call at a path of a remote met.
+/// What a call at a path of a remote met.
 pub fn refusal(alloc: Global, call: Call, url: &str, path: &Path, cause: Cause) -> SystemError {
     let mut at = String::new(alloc);
     match write_path(url, path, &mut at) {
@@ -154,7 +154,7 @@ fn link_at<R: Files>(rt: &R, alloc: Global, at: &str) -> Result<Node, Cause>
     }
 }
 
-// Keeps the path where there is memory.
+/// Keeps the path where there is memory.
 fn remember(at: &str, into: &mut String) {
     into.clear();
     if into.push_str(at).is_err() {
@@ -162,7 +162,7 @@ fn remember(at: &str, into: &mut String) {
     }
 }
 
-// What is no file has no bytes.
+/// What is no file has no bytes.
 fn read_piece<R: Files>(
     rt: &R,
     at: &str,
@@ -180,7 +180,7 @@ fn read_piece<R: Files>(
     }
 }
 
-// Opens the file where the read begins it. Answers whether there is one.
+/// Opens the file where the read begins it. Answers whether there is one.
 fn begin<R: Files>(
     rt: &R,
     at: &str,
@@ -204,7 +204,7 @@ fn open<R: Files>(rt: &R, at: &str, reader: &mut Reader<R::File>) -> Result<bool
     }
 }
 
-// Whether a file is at the path. What was found there last isn't looked at again.
+/// Whether a file is at the path. What was found there last isn't looked at again.
 fn is_file<R: Files>(rt: &R, at: &str, file: &str) -> Result<bool, Cause> {
     if at == file {
         return Ok(true);

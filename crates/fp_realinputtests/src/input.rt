@@ -7,7 +7,7 @@ use std::cell::Cell;
 use std::io;
 use std::io::{BufRead, ErrorKind, Input, Lines, Read};
 
-// An input whose reads are interrupted, give two bytes, fail, and are at the end, in turn.
+/// An input whose reads are interrupted, give two bytes, fail, and are at the end, in turn.
 #[derive(Drop)]
 struct Turns<'a> {
     turn: &'a Cell<u8>,
@@ -55,7 +55,7 @@ impl<'a> Input for Turns<'a> {
     }
 }
 
-// Three takes with room for four bytes, and one without room.
+/// Three takes with room for four bytes, and one without room.
 fn takes<S: Source>(source: &mut S) -> [Taken; 4] {
     let mut into = [0u8; 4];
     [
@@ -66,7 +66,7 @@ fn takes<S: Source>(source: &mut S) -> [Taken; 4] {
     ]
 }
 
-// Whether the four takes answer this in turn, and the fault is counted and told.
+/// Whether the four takes answer this in turn, and the fault is counted and told.
 fn is_source(alloc: Global) -> bool {
     let turn = Cell::new(0);
     let turns = Turns { turn: &turn };

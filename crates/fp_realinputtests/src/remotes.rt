@@ -12,7 +12,7 @@ const MADE: [Made<'static>; 4] = [
     Made::Link("file", "remote/link"),
 ];
 
-// A path, what stands there, and how many bytes it has from the seventh on.
+/// A path, what stands there, and how many bytes it has from the seventh on.
 const HELD: [(&str, &str, usize); 5] = [
     ("", "dir", 0),
     ("file", "640 11", 5),
@@ -41,7 +41,7 @@ const OTHER_URLS: [&str; 7] = [
     "https:///",
 ];
 
-// All faults are counted, and the last is told.
+/// All faults are counted, and the last is told.
 const OTHERS: [Act<'static>; 1] = [Act::Remote(Remote {
     folder: "",
     holds: &[],
@@ -58,7 +58,7 @@ fn folders_are_remotes_and_other_urls_are_faults(rt: HostRuntime) {
     assert!(rt; tell(&rt, &rt, "others", Kind::Plain, &OTHERS));
 }
 
-// Whether a path is looked at once when its node is asked for, and not again when it is read.
+/// Whether a path is looked at once when its node is asked for, and not again when it is read.
 fn reads_found<M: Remotes>(
     log: &Log<'_>,
     remotes: &mut M,
@@ -77,7 +77,7 @@ fn looks_once(rt: &HostRuntime, log: &Log<'_>, folder: &str, file: &str, at: &Pa
     reads_found(log, &mut remotes, folder, file, at)
 }
 
-// Whether the file of the remote is.
+/// Whether the file of the remote is.
 fn is_found(rt: &HostRuntime, log: &Log<'_>) -> bool {
     let folder = url_of(rt, log, "remote");
     let file = url_of(rt, log, "remote/file");

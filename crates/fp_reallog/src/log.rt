@@ -56,7 +56,7 @@ impl<'a> Log<'a> {
         !is_wrong
     }
 
-    // Notes a call, and answers whether it is to be done.
+    /// Notes a call, and answers whether it is to be done.
     pub(crate) fn lets(&self, what: &str, at: &str) -> bool {
         let mut lines = self.take();
         let is_noted = add_line(&mut lines, what, at);
@@ -82,7 +82,7 @@ impl<'a> Log<'a> {
         matches!(self.kind, Kind::Busy)
     }
 
-    // The same for a call of which no more is done.
+    /// The same for a call of which no more is done.
     pub(crate) fn answer(&self, what: &str, at: &str) -> io::Result<()> {
         if self.lets(what, at) {
             Ok(())
@@ -124,7 +124,7 @@ fn is_line(line: &str, what: &str, at: &str) -> bool {
     }
 }
 
-// The error of a call that fails.
+/// The error of a call that fails.
 pub(crate) fn out() -> io::Error {
     io::Error::other("the cable is out")
 }

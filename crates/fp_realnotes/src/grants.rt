@@ -11,7 +11,7 @@ pub struct Grants {
     folders: BTreeSet<String>,
 }
 
-// The bits that are known to be granted.
+/// The bits that are known to be granted.
 const GRANTED: u32 = 0o755;
 
 impl Grants {

@@ -4,7 +4,7 @@ use fp_base::Text;
 use std::alloc::{AllocError, Global};
 use std::collections::{BTreeMap, BTreeSet};
 
-// The names of what stands in the folder, the files' and the others', in no order.
+/// The names of what stands in the folder, the files' and the others', in no order.
 pub fn names_in(
     alloc: Global,
     at: &str,
@@ -17,7 +17,7 @@ pub fn names_in(
     Ok(names)
 }
 
-// What is below a folder stands together, after the folder and a slash.
+/// What is below a folder stands together, after the folder and a slash.
 fn first_below(alloc: Global, at: &str) -> Result<String, AllocError> {
     format!(in alloc; "{at}/")
 }
@@ -52,7 +52,7 @@ fn add_others(
     Ok(())
 }
 
-// The part of the path below the folder.
+/// The part of the path below the folder.
 fn below<'a>(at: &str, path: &'a str) -> Option<&'a str> {
     match path.strip_prefix(at) {
         Some(rest) => rest.strip_prefix('/'),
@@ -60,7 +60,7 @@ fn below<'a>(at: &str, path: &'a str) -> Option<&'a str> {
     }
 }
 
-// Adds what is in the folder itself.
+/// Adds what is in the folder itself.
 fn add_name(alloc: Global, rest: &str, names: &mut Vec<Text>) -> Result<(), AllocError> {
     if !rest.contains('/') {
         names.push(Text::from_string(rest.to_string(alloc)?))?;

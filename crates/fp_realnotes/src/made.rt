@@ -11,7 +11,7 @@ use std::collections::{BTreeMap, BTreeSet};
 
 const PERMISSION_BITS: u32 = 0o7777;
 
-// A file that was made. Its size is known as long as each write of it succeeded.
+/// A file that was made. Its size is known as long as each write of it succeeded.
 #[derive(Clone, Copy)]
 pub struct MadeFile {
     id: u64,

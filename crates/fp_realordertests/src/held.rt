@@ -4,8 +4,8 @@ use fp_reallog::Kind;
 use fp_realplay::{Made, Part, Step};
 use fp_realroot::Access;
 
-// What a host is opened for, its call, and whether others could look then, and change. What is printed holds no lock, so that an
-// input may be waited for. Afterwards nobody holds the lock.
+/// What a host is opened for, its call, and whether others could look then, and change. What is printed holds no lock, so that an
+/// input may be waited for. Afterwards nobody holds the lock.
 const FREE: [Act<'static>; 6] = [
     Act::Run(
         Access::Change,
@@ -39,7 +39,7 @@ const FREE: [Act<'static>; 6] = [
     Act::Free("held/.lock"),
 ];
 
-// Who may not change an installation may still open its lock to look.
+/// Who may not change an installation may still open its lock to look.
 const READABLE: [Act<'static>; 2] = [
     Act::Run(
         Access::Change,
@@ -50,7 +50,7 @@ const READABLE: [Act<'static>; 2] = [
     Act::Bits("read/.lock", 0o644),
 ];
 
-// Each needs a host that changes.
+/// Each needs a host that changes.
 const CHANGES: [Step<'static>; 6] = [
     Step::MakeDir("d"),
     Step::Create("f", 0o644),
@@ -60,7 +60,7 @@ const CHANGES: [Step<'static>; 6] = [
     Step::RemoveDir("d"),
 ];
 
-// Each change is refused, and the last one says why.
+/// Each change is refused, and the last one says why.
 const LOOKED: [Act<'static>; 2] = [
     Act::Run(
         Access::Look,
@@ -78,7 +78,7 @@ const WAITS: &str = "lock busy/.lock\n\
     complain fpk: waiting for another fpk that works on busy\n\
     wait for busy/.lock\n";
 
-// The folder was there before its lock file.
+/// The folder was there before its lock file.
 const CHANGE_WAITS: &str = "lock busy/.lock\n\
     complain fpk: waiting for another fpk that works on busy\n\
     wait for busy/.lock\n\
@@ -86,7 +86,7 @@ const CHANGE_WAITS: &str = "lock busy/.lock\n\
 
 const TWICE: [Step<'static>; 2] = [Step::Stat("none"), Step::List("")];
 
-// What a host is opened for, and what is noted of it when it looks twice.
+/// What a host is opened for, and what is noted of it when it looks twice.
 const NOTED: [Act<'static>; 4] = [
     Act::Make(&[Made::Folder("busy")]),
     Act::Logged(Access::Look, "busy", &[Part::Done(&TWICE), Part::Asked("")]),

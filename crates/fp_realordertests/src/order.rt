@@ -4,7 +4,7 @@ use fp_reallog::Kind;
 use fp_realplay::{Made, Part, Step};
 use fp_realroot::Access;
 
-// Calls, and what the system is asked for each.
+/// Calls, and what the system is asked for each.
 const ASKED: [(Step<'static>, &str); 24] = [
     (
         Step::List(""),
@@ -71,7 +71,7 @@ const ASKED: [(Step<'static>, &str); 24] = [
     ),
 ];
 
-// An object that waits for the store is dated once it is written.
+/// An object that waits for the store is dated once it is written.
 const WAITING: [(Step<'static>, &str); 14] = [
     (
         Step::Stat("none"),
@@ -144,7 +144,7 @@ const CHANGES: [Step<'static>; 5] = [
     Step::Say("words"),
 ];
 
-// What the system fails at, the call that fails by it, and whether a sync succeeds afterwards.
+/// What the system fails at, the call that fails by it, and whether a sync succeeds afterwards.
 const FAILURES: [(&str, usize, bool); 11] = [
     ("make fails/root", 0, false),
     ("lock fails/root/.lock", 0, false),
@@ -168,7 +168,7 @@ fn what_the_system_fails_at_is_not_done(rt: HostRuntime) {
     }
 }
 
-// What a run does that is stopped.
+/// What a run does that is stopped.
 const UNSYNCED: [(Step<'static>, &str); 3] = [
     (
         Step::MakeDir("d"),
@@ -179,7 +179,7 @@ const UNSYNCED: [(Step<'static>, &str); 3] = [
     (Step::Symlink("f", "d/l"), "link left/root/d/l\n"),
 ];
 
-// The next run that syncs makes all of it last, and the one after it nothing.
+/// The next run that syncs makes all of it last, and the one after it nothing.
 const CAUGHT_UP: [(Step<'static>, &str); 3] = [
     (Step::Stat("d"), "lock left/root/.lock\n"),
     (
@@ -201,14 +201,14 @@ const LEFT: [Act<'static>; 3] = [
     Act::Logged(Access::Change, "left/root", &[Part::Ask(&IDLE)]),
 ];
 
-// The mark of an earlier start of the machine means nothing.
+/// The mark of an earlier start of the machine means nothing.
 const MARKED: [Act<'static>; 3] = [
     Act::Logged(Access::Change, "left/root", &[Part::Ask(&UNSYNCED)]),
     Act::Make(&[Made::File("left/root/.lock", "0-0\n")]),
     Act::Logged(Access::Change, "left/root", &[Part::Ask(&IDLE)]),
 ];
 
-// A folder that was there without a lock file may hold what was left.
+/// A folder that was there without a lock file may hold what was left.
 const UNKNOWN: [(Step<'static>, &str); 2] = [
     (
         Step::Stat("f"),
@@ -226,8 +226,8 @@ const UNLOCKED: [Act<'static>; 2] = [
     Act::Logged(Access::Change, "old/root", &[Part::Ask(&UNKNOWN)]),
 ];
 
-// What is looked at: the root, and what isn't known to be there or absent. A file that was written while it had two names is looked
-// at again.
+/// What is looked at: the root, and what isn't known to be there or absent. A file that was written while it had two names is looked
+/// at again.
 const LOOKS: [(Step<'static>, &str); 27] = [
     (
         Step::Stat("none"),
@@ -281,9 +281,9 @@ fn the_system_is_asked_in_order(rt: HostRuntime) {
     assert!(rt; tell(&rt, &rt, "looks", Kind::TellingLooks, &LOOKING));
 }
 
-// How many files are made, and the sync that fails. Where 192 files are open beside the one that is written, they are synced before
-// the next one is created, and the sync makes the others last. They are synced by their names, up to the first that fails: before
-// f150 are f00 to f09, six of two figures from f10 on, and the fifty of f100 to f149.
+/// How many files are made, and the sync that fails. Where 192 files are open beside the one that is written, they are synced before
+/// the next one is created, and the sync makes the others last. They are synced by their names, up to the first that fails: before
+/// f150 are f00 to f09, six of two figures from f10 on, and the fifty of f100 to f149.
 const MANY: [(u32, &str, (usize, usize, bool)); 4] = [
     (60, "", (0, 60, true)),
     (60, "sync many/root/f47", (0, 48, false)),

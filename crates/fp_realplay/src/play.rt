@@ -53,7 +53,7 @@ fn play<H: Host>(rt: &HostRuntime, log: &Log<'_>, host: &mut H, part: &Part<'_>)
     }
 }
 
-// The calls are answered with this.
+/// The calls are answered with this.
 fn all_are<H: Host>(log: &Log<'_>, host: &mut H, steps: &[Step<'_>], want: Option<HostError>) {
     for (i, step) in steps.iter().enumerate() {
         log.demand(change(log, host, *step) == want, i, "a call");
@@ -78,7 +78,7 @@ fn stat_at<H: Host>(log: &Log<'_>, host: &mut H, at: &str) -> Option<Stat> {
     host.stat(&path(log, at)).ok()
 }
 
-// Whether two names show the same, where both can be looked at.
+/// Whether two names show the same, where both can be looked at.
 fn are_one<H: Host>(log: &Log<'_>, host: &mut H, a: &str, b: &str) -> Option<bool> {
     match (stat_at(log, host, a), stat_at(log, host, b)) {
         (Some(one), Some(other)) => Some(one == other),
@@ -92,7 +92,7 @@ fn all_give<H: Host>(log: &Log<'_>, host: &mut H, file: &Path, rows: &[(u64, usi
     }
 }
 
-// Whether the file gives this from a place on.
+/// Whether the file gives this from a place on.
 fn gives<H: Host>(host: &mut H, file: &Path, row: &(u64, usize, [u8; 4])) -> bool {
     let (at, n, want) = row;
     let mut into = *b"....";
@@ -112,7 +112,7 @@ fn is_open_to(rt: &HostRuntime, log: &Log<'_>, at: &str, looks: bool, changes: b
     log.demand(is_free(rt, at, Access::Change) == Some(changes), 1, at);
 }
 
-// The first of the calls that fails.
+/// The first of the calls that fails.
 fn first_failure<H: Host>(log: &Log<'_>, host: &mut H, steps: &[Step<'_>]) -> Option<usize> {
     for (i, step) in steps.iter().enumerate() {
         if change(log, host, *step) == Some(HostError::Failed) {
@@ -128,7 +128,7 @@ fn stop<H: Host>(log: &Log<'_>, host: &mut H, steps: &[Step<'_>], at: usize, syn
     log.demand(host.sync().is_ok() == syncs, at, "a sync afterwards");
 }
 
-// Makes a file of this number, and answers whether it is done.
+/// Makes a file of this number, and answers whether it is done.
 fn makes_one<H: Host>(log: &Log<'_>, host: &mut H, number: u32) -> bool {
     match format!(in log.alloc; "f{number:02}") {
         Ok(name) => change(log, host, Step::Create(&name, 0o644)).is_none(),
@@ -136,14 +136,14 @@ fn makes_one<H: Host>(log: &Log<'_>, host: &mut H, number: u32) -> bool {
     }
 }
 
-// Makes this many files.
+/// Makes this many files.
 fn make_many<H: Host>(log: &Log<'_>, host: &mut H, count: u32) {
     for i in 0..count {
         log.demand(makes_one(log, host, i), 0, "a file");
     }
 }
 
-// How many files the system was asked to sync since the last look.
+/// How many files the system was asked to sync since the last look.
 fn count_synced(log: &Log<'_>) -> usize {
     let lines = log.take();
     lines

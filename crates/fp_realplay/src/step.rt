@@ -25,7 +25,7 @@ pub enum Step<'a> {
 }
 
 impl<'a> Step<'a> {
-    // Its path; of two, the last one.
+    /// Its path; of two, the last one.
     fn place(self) -> &'a str {
         match self {
             Step::MakeDir(at) | Step::Create(at, _) | Step::Append(at, _) => at,
@@ -36,7 +36,7 @@ impl<'a> Step<'a> {
         }
     }
 
-    // The first path of two.
+    /// The first path of two.
     fn source(self) -> &'a str {
         match self {
             Step::Link(from, _) | Step::Rename(from, _) => from,
@@ -45,7 +45,7 @@ impl<'a> Step<'a> {
     }
 }
 
-// Makes a call, and answers why it was not done.
+/// Makes a call, and answers why it was not done.
 pub(crate) fn change<H: Host>(log: &Log<'_>, host: &mut H, step: Step<'_>) -> Option<HostError> {
     let from = path(log, step.source());
     let at = path(log, step.place());
@@ -77,7 +77,7 @@ fn change_at<H: Host>(
     }
 }
 
-// Whether the path shows this: a folder's names, a file's permission bits, size and first bytes, a symlink's text.
+/// Whether the path shows this: a folder's names, a file's permission bits, size and first bytes, a symlink's text.
 pub(crate) fn shows<H: Host>(log: &Log<'_>, host: &mut H, at: &str, want: &str) -> bool {
     shows_at(log.alloc, host, &path(log, at), want)
 }
@@ -102,14 +102,14 @@ fn is_link<H: Host>(alloc: Global, host: &mut H, at: &Path, want: &str) -> bool 
     }
 }
 
-// What is left of a text after the permission bits and the size.
+/// What is left of a text after the permission bits and the size.
 fn after_bits(alloc: Global, bits: (u32, u64), text: &str) -> Option<&str> {
     let (mode, size) = bits;
     let head = bits_and_size(alloc, mode, size)?;
     after_word(text.strip_prefix(head.as_str()), "")
 }
 
-// Whether the file's first bytes are these.
+/// Whether the file's first bytes are these.
 fn holds<H: Host>(host: &mut H, at: &Path, want: Option<&str>) -> bool {
     let mut into = [0u8; 16];
     match (host.read_at(at, 0, &mut into), want) {
@@ -133,7 +133,7 @@ fn are_names(names: &[Text], want: &str) -> bool {
     rest == Some("")
 }
 
-// What is left of a text after a blank and a word.
+/// What is left of a text after a blank and a word.
 fn after_word<'a>(text: Option<&'a str>, word: &str) -> Option<&'a str> {
     text?.strip_prefix(' ')?.strip_prefix(word)
 }

@@ -13,10 +13,10 @@ use std::os::unix::fs::{OpenOptionsExt, PermissionsExt};
 /// The name of the file at the top of an installation that is locked. No command looks at it.
 pub const LOCK_NAME: &str = ".lock";
 
-// Its permission bits: who may not open it looks without a lock.
+/// Its permission bits: who may not open it looks without a lock.
 const LOCK_BITS: u32 = 0o644;
 
-// What is known of the root folder.
+/// What is known of the root folder.
 #[derive(Clone, Copy, PartialEq, Eq)]
 enum Root {
     // It was not looked at, or is no folder.
@@ -25,7 +25,7 @@ enum Root {
     There,
 }
 
-// What keeps others out.
+/// What keeps others out.
 enum Lock<F> {
     // It was not asked for.
     NotYet,
@@ -136,7 +136,7 @@ impl<F: Write + Seek + OpenFile + Drop> Gate<F> {
         }
     }
 
-    // Where there is no root there is no lock yet.
+    /// Where there is no root there is no lock yet.
     fn enter_to_look<R: System<File = F>>(&mut self, rt: &R) -> Result<(), Cause> {
         match look_in(rt, &self.lock_at, &self.root) {
             Ok(Some(lock)) => {
@@ -166,7 +166,7 @@ impl<F: Write + Seek + OpenFile + Drop> Gate<F> {
         }
     }
 
-    // A lock file that is absent from a folder that was there before says nothing of earlier runs.
+    /// A lock file that is absent from a folder that was there before says nothing of earlier runs.
     fn take<R: System<File = F>>(&mut self, rt: &R, found: Entry) -> Result<(), Cause> {
         let mut hold = take_lock(rt, &self.lock_at, &self.root, found)?;
         let is_unknown = found == Entry::Unlocked;
@@ -194,7 +194,7 @@ impl<F: Write + Seek + OpenFile + Drop> Gate<F> {
     }
 }
 
-// How a host that changes finds the root.
+/// How a host that changes finds the root.
 #[derive(Clone, Copy, PartialEq, Eq)]
 enum Entry {
     // It was made.
@@ -205,7 +205,7 @@ enum Entry {
     Old,
 }
 
-// Makes the root where it is absent.
+/// Makes the root where it is absent.
 fn find_or_make_root<R: System>(
     rt: &R,
     touched: &mut Touched,
@@ -234,7 +234,7 @@ fn make_new_root<R: System>(rt: &R, touched: &mut Touched, root: &str) -> Result
     }
 }
 
-// The lock to look, and none where there is no root.
+/// The lock to look, and none where there is no root.
 fn look_in<R: System>(rt: &R, at: &str, root: &str) -> Result<Option<Lock<R::File>>, Cause> {
     match has_folder(rt, root) {
         Ok(true) => some_lock(rt, at, root),
@@ -250,7 +250,7 @@ fn some_lock<R: System>(rt: &R, at: &str, root: &str) -> Result<Option<Lock<R::F
     }
 }
 
-// The lock to look, where there is a file for it that may be opened: who may only read an installation looks without it.
+/// The lock to look, where there is a file for it that may be opened: who may only read an installation looks without it.
 fn find_lock<R: System>(rt: &R, at: &str, root: &str) -> Result<Lock<R::File>, Cause> {
     match known(fs::open(rt, at)) {
         Ok(file) => share(rt, file, root),
@@ -266,7 +266,7 @@ fn share<R: System>(rt: &R, file: R::File, root: &str) -> Result<Lock<R::File>, 
     }
 }
 
-// The lock to change. Its file is made where it is absent, so that all may read it, whatever the umask.
+/// The lock to change. Its file is made where it is absent, so that all may read it, whatever the umask.
 fn take_lock<R: System>(
     rt: &R,
     at: &str,
@@ -308,7 +308,7 @@ fn hold<R: System>(rt: &R, file: R::File, at: &str, root: &str) -> Result<Hold<R
     }
 }
 
-// Takes the lock. Who has to wait says so once.
+/// Takes the lock. Who has to wait says so once.
 fn wait<R: System>(rt: &R, file: &R::File, access: Access, root: &str) -> Result<(), Cause> {
     match known(rt.try_lock(file, access)) {
         Ok(true) => Ok(()),

@@ -5,14 +5,14 @@ use std::io::{Seek, SeekFrom, Write};
 use std::rt::Files;
 use std::{fs, io};
 
-// Where Linux tells a text that is another one after each start of the machine.
+/// Where Linux tells a text that is another one after each start of the machine.
 const BOOT_ID: &str = "/proc/sys/kernel/random/boot_id";
 
-// The mark where the system tells no such text.
+/// The mark where the system tells no such text.
 const UNKNOWN: &str = "unknown\n";
 
-// A lock file that is open and locked. While changes are not yet synced, it holds the text of the machine's start as a mark.
-// What is seen of an earlier start is on the disk, so its mark means nothing.
+/// A lock file that is open and locked. While changes are not yet synced, it holds the text of the machine's start as a mark.
+/// What is seen of an earlier start is on the disk, so its mark means nothing.
 pub struct Hold<F> {
     file: F,
     boot: Option<String>,
@@ -30,7 +30,7 @@ impl<F: Drop> Drop for Hold<F> {
 }
 
 impl<F: Write + Seek + OpenFile + Drop> Hold<F> {
-    // Of a file that is locked.
+    /// Of a file that is locked.
     pub fn new<R: Files<File = F> + AllocGlobal>(rt: &R, file: F, at: &str) -> Self {
         let boot = fs::read_to_string(rt, BOOT_ID).ok();
         let is_marked = has_mark(rt, at, &boot);
@@ -45,7 +45,7 @@ impl<F: Write + Seek + OpenFile + Drop> Hold<F> {
         self.is_marked
     }
 
-    // A change comes that is not yet synced.
+    /// A change comes that is not yet synced.
     pub fn mark(&mut self) -> Result<(), Cause> {
         if self.is_marked {
             return Ok(());
@@ -55,7 +55,7 @@ impl<F: Write + Seek + OpenFile + Drop> Hold<F> {
         marked
     }
 
-    // All changes are synced.
+    /// All changes are synced.
     pub fn clear(&mut self) -> Result<(), Cause> {
         if !self.is_marked {
             return Ok(());
@@ -73,8 +73,8 @@ fn mark_of(boot: &Option<String>) -> &str {
     }
 }
 
-// Whether the file holds a mark of this start of the machine, or one of a start that the system didn't name. A file that can't
-// be read may hold one.
+/// Whether the file holds a mark of this start of the machine, or one of a start that the system didn't name. A file that can't
+/// be read may hold one.
 fn has_mark<R: Files + AllocGlobal>(rt: &R, at: &str, boot: &Option<String>) -> bool {
     match fs::read_to_string(rt, at) {
         Ok(text) => is_mark(text.as_str(), boot),
@@ -89,7 +89,7 @@ fn is_mark(text: &str, boot: &Option<String>) -> bool {
     }
 }
 
-// The file held nothing, or a mark of an earlier start of the machine.
+/// The file held nothing, or a mark of an earlier start of the machine.
 fn write_mark<F: Write + Seek>(file: &mut F, mark: &str) -> io::Result<()> {
     match file.seek(SeekFrom::Start(0)) {
         Ok(_) => file.write_all(mark.as_bytes()),

@@ -42,7 +42,7 @@ fn push_path(
     Ok(())
 }
 
-// Goes through the folders, and those that are found in them.
+/// Goes through the folders, and those that are found in them.
 fn add_folders<R: Files + AllocGlobal>(
     rt: &R,
     alloc: Global,
@@ -89,7 +89,7 @@ fn add_named<R: Files>(
     Ok(())
 }
 
-// Notes the file or folder that stands there.
+/// Notes the file or folder that stands there.
 fn add_found<R: Files>(
     rt: &R,
     at: String,

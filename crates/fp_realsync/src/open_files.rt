@@ -6,8 +6,8 @@ use std::alloc::{AllocError, Global};
 use std::collections::BTreeMap;
 use std::thread::Threads;
 
-// As many are open at most. A thread costs a dozen calls of the system, so they are synced many at a time. Where a process may have
-// no more than 256 open files, that leaves enough for what is read and for what the process was given.
+/// As many are open at most. A thread costs a dozen calls of the system, so they are synced many at a time. Where a process may have
+/// no more than 256 open files, that leaves enough for what is read and for what the process was given.
 const MOST: usize = 192;
 
 /// New files that stay open, by their paths, so that none is opened again for its sync.
@@ -97,7 +97,7 @@ fn list_of<'a, F>(alloc: Global, files: &'a BTreeMap<String, F>) -> Result<Vec<&
     Ok(list)
 }
 
-// Notes that the files are synced, or which of them is not.
+/// Notes that the files are synced, or which of them is not.
 fn tell<F>(files: &BTreeMap<String, F>, met: Option<Failure>, touched: &mut Touched) {
     match met {
         Some(failure) => tell_failure(files, failure, touched),

@@ -5,8 +5,8 @@ use std::alloc::{AllocError, Global};
 use std::collections::BTreeSet;
 use std::thread::Threads;
 
-// Makes all of a set last but what is synced already, by several threads where the system has them. The path of a failure is kept
-// where there is memory. What may not be opened is spared where others may own it.
+/// Makes all of a set last but what is synced already, by several threads where the system has them. The path of a failure is kept
+/// where there is memory. What may not be opened is spared where others may own it.
 pub fn sync_set<R: System, T: Threads + Sync>(
     rt: &R,
     threads: &T,
@@ -36,8 +36,8 @@ fn list_of<'a>(
     Ok(list)
 }
 
-// What may not be opened as it is, is opened one after another: its permission bits are widened meanwhile, and a file may
-// stand in the list under several names.
+/// What may not be opened as it is, is opened one after another: its permission bits are widened meanwhile, and a file may
+/// stand in the list under several names.
 fn sync_list<R: System, T: Threads + Sync>(
     rt: &R,
     threads: &T,
@@ -50,7 +50,7 @@ fn sync_list<R: System, T: Threads + Sync>(
     }
 }
 
-// The paths before this place are synced.
+/// The paths before this place are synced.
 fn sync_rest<R: System>(rt: &R, paths: &[&str], place: usize, spares: bool) -> Option<Failure> {
     match paths.split_at_checked(place) {
         Some((_, rest)) => sync_own(rt, place, rest, spares),
@@ -78,7 +78,7 @@ fn keep(at: &str, refused: &mut String) {
     let _kept = refused.push_str(at);
 }
 
-// One after another, where there is no memory for a list.
+/// One after another, where there is no memory for a list.
 fn sync_each<R: System>(
     rt: &R,
     set: &BTreeSet<String>,

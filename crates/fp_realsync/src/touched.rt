@@ -206,7 +206,7 @@ impl Touched {
     }
 }
 
-// What the sync of an open file met, with its path in the buffer, or else that something may be lost.
+/// What the sync of an open file met, with its path in the buffer, or else that something may be lost.
 fn told(met: Option<Unsynced>, met_at: &str, at: &mut String) -> Unsynced {
     at.clear();
     match met {

@@ -4,7 +4,7 @@ use fp_reallog::Kind;
 use fp_realplay::{Made, Part, Step};
 use fp_realroot::Access;
 
-// Calls, a path, and what it shows after each.
+/// Calls, a path, and what it shows after each.
 const ASKED: [(Step<'static>, &str, &str); 22] = [
     (Step::Sync, "", "dir"),
     (Step::MakeDir("d"), "", "dir d"),
@@ -52,7 +52,7 @@ const MADE: [(Step<'static>, &str, &str); 8] = [
     ),
 ];
 
-// Calls whose condition doesn't hold there.
+/// Calls whose condition doesn't hold there.
 const REFUSED: [Step<'static>; 29] = [
     Step::MakeDir(""),
     Step::MakeDir("link"),
@@ -85,7 +85,7 @@ const REFUSED: [Step<'static>; 29] = [
     Step::ReadLink("old"),
 ];
 
-// Each call is a fault, and the last one is told.
+/// Each call is a fault, and the last one is told.
 const REFUSING: [Act<'static>; 1] = [Act::Run(
     Access::Change,
     "refused",
@@ -96,7 +96,7 @@ const REFUSING: [Act<'static>; 1] = [Act::Run(
     ),
 )];
 
-// A file in the place of the root is a fault.
+/// A file in the place of the root is a fault.
 const IN_THE_WAY: [Act<'static>; 2] = [
     Act::Make(&[Made::Folder("above"), Made::File("above/file", "")]),
     Act::Run(
@@ -116,7 +116,7 @@ const IDS: [(Step<'static>, &str, &str); 3] = [
     (Step::Link("a", "c"), "c", "644 0 "),
 ];
 
-// Hard links have one id.
+/// Hard links have one id.
 const LINKING: [Act<'static>; 1] = [Act::Run(
     Access::Change,
     "ids",
@@ -128,7 +128,7 @@ const LINKING: [Act<'static>; 1] = [Act::Run(
     (0, ""),
 )];
 
-// A place in `hello world`, how many bytes come from there, and the buffer after.
+/// A place in `hello world`, how many bytes come from there, and the buffer after.
 const PIECES: [(u64, usize, [u8; 4]); 5] = [
     (0, 4, *b"hell"),
     (6, 4, *b"worl"),
@@ -137,7 +137,7 @@ const PIECES: [(u64, usize, [u8; 4]); 5] = [
     (u64::MAX, 0, *b"...."),
 ];
 
-// Bytes are read in pieces.
+/// Bytes are read in pieces.
 const READING: [Act<'static>; 2] = [
     Act::Make(&[
         Made::Folder("pieces"),

@@ -4,8 +4,8 @@ use fp_reallog::Kind;
 use fp_realplay::{Made, Part, Step};
 use fp_realroot::Access;
 
-// A folder `links` with a root whose `repo` leads to the folder `outside` beside it, and that is itself reached by the
-// symlink `way`.
+/// A folder `links` with a root whose `repo` leads to the folder `outside` beside it, and that is itself reached by the
+/// symlink `way`.
 const LINKS: [Made<'static>; 5] = [
     Made::Folder("links/root/d"),
     Made::Folder("links/outside/tmp"),
@@ -31,7 +31,7 @@ const BELOW: [Step<'static>; 14] = [
     Step::RemoveDir("repo/tmp"),
 ];
 
-// What a symlink that is put in the place of a folder meanwhile does.
+/// What a symlink that is put in the place of a folder meanwhile does.
 const SWAPPED: [Step<'static>; 6] = [
     Step::Create("d/f", 0o644),
     Step::Unlink("d/f"),
@@ -41,7 +41,7 @@ const SWAPPED: [Step<'static>; 6] = [
     Step::ReadLink("d"),
 ];
 
-// No call follows the symlink, and each is a fault; nor is a symlink followed that the host put in the place of a folder.
+/// No call follows the symlink, and each is a fault; nor is a symlink followed that the host put in the place of a folder.
 const FOLLOWING: [Act<'static>; 4] = [
     Act::Make(&LINKS),
     Act::Run(
@@ -72,7 +72,7 @@ const LINKED_REMOTE: [Made<'static>; 4] = [
     Made::Link("../outside", "links_there/root/repo"),
 ];
 
-// Both calls of a remote fail below a symlink, and the symlink itself is shown.
+/// Both calls of a remote fail below a symlink, and the symlink itself is shown.
 const LINKED: [Act<'static>; 2] = [
     Act::Make(&LINKED_REMOTE),
     Act::Remote(Remote {
@@ -83,7 +83,7 @@ const LINKED: [Act<'static>; 2] = [
     }),
 ];
 
-// A look at a folder that is not there makes nothing.
+/// A look at a folder that is not there makes nothing.
 const READS: [Step<'static>; 4] = [
     Step::List(""),
     Step::Stat(""),

@@ -4,7 +4,7 @@ use fp_reallog::{Kind, Log, Logged};
 use std::panic::Expect;
 use std::process::Abort;
 
-// What drives a terminal, and what is shown in its place.
+/// What drives a terminal, and what is shown in its place.
 const SHOWN: [(&str, &str); 5] = [
     ("plain\n", "plain\n"),
     (
@@ -19,7 +19,7 @@ const SHOWN: [(&str, &str); 5] = [
     ("", ""),
 ];
 
-// Prints these bytes.
+/// Prints these bytes.
 fn print_bytes(
     rt: &HostRuntime,
     test: &impl Abort,
@@ -32,7 +32,7 @@ fn print_bytes(
     screen.write_all(bytes).expect(test, "a write");
 }
 
-// Whether the text is shown so on a terminal, and elsewhere as it is.
+/// Whether the text is shown so on a terminal, and elsewhere as it is.
 fn is_shown(rt: &HostRuntime, test: &impl Abort, log: &Log<'_>, text: &str, want: &str) -> bool {
     print_bytes(rt, test, log, true, text.as_bytes());
     let terminal = log.is_one("print", want);

@@ -14,7 +14,7 @@ use std::os::unix::fs::OpenOptionsExt;
 use std::rt::Files;
 use std::thread::Threads;
 
-// Where the objects of the store are.
+/// Where the objects of the store are.
 const STORED: &str = "repo/objects/";
 
 /// A change at one path.
@@ -143,7 +143,7 @@ fn create<R: Files>(
     }
 }
 
-// Makes a new file that is written at its end. The umask may take some of its permission bits.
+/// Makes a new file that is written at its end. The umask may take some of its permission bits.
 fn create_new<R: Files>(rt: &R, at: &str, mode: u32) -> Result<R::File, Cause> {
     let created = OpenOptions::new()
         .append(true)
@@ -206,7 +206,7 @@ fn rename_at<R: Files>(
     done
 }
 
-// A name was taken away, or holds something else now.
+/// A name was taken away, or holds something else now.
 fn forget<F: OpenFile + Write + Drop>(
     at: &str,
     reader: &mut Reader<F>,

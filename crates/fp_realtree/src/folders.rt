@@ -6,10 +6,10 @@ use std::fs::{DirBuilder, Permissions};
 use std::os::unix::fs::{DirBuilderExt, PermissionsExt};
 use std::rt::Files;
 
-// The permission bits of a folder.
+/// The permission bits of a folder.
 const FOLDER_BITS: u32 = 0o755;
 
-// Makes a folder that all may read and its owner may change, whatever the umask.
+/// Makes a folder that all may read and its owner may change, whatever the umask.
 pub fn make_dir<R: Files>(rt: &R, at: &str, notes: &mut Notes) -> Result<(), Cause> {
     let done = make(rt, at, &mut notes.grants);
     match done {
@@ -27,7 +27,7 @@ fn make<R: Files>(rt: &R, at: &str, grants: &mut Grants) -> Result<(), Cause> {
     }
 }
 
-// The umask may have taken some bits.
+/// The umask may have taken some bits.
 fn give_bits<R: Files>(rt: &R, at: &str, grants: &mut Grants) -> Result<(), Cause> {
     if grants.has(at, FOLDER_BITS) {
         return Ok(());

@@ -6,10 +6,10 @@ use std::fs;
 use std::os::unix;
 use std::rt::Files;
 
-// The system's number of the error that nothing stands there.
+/// The system's number of the error that nothing stands there.
 const NO_ENTRY: i32 = 2;
 
-// Gives a file a second name.
+/// Gives a file a second name.
 pub fn link<R: Files>(rt: &R, from: &str, to: &str, notes: &mut Notes) -> Result<(), Cause> {
     match link_file(rt, from, to, &notes.made) {
         Ok(()) => {
@@ -47,7 +47,7 @@ pub fn symlink<R: Files>(rt: &R, text: &str, at: &str, notes: &mut Notes) -> Res
     }
 }
 
-// Takes a file or symlink away.
+/// Takes a file or symlink away.
 pub fn unlink<R: Files>(rt: &R, at: &str, notes: &mut Notes) -> Result<(), Cause> {
     match unlink_leaf(rt, at, &notes.made) {
         Ok(()) => {
@@ -65,7 +65,7 @@ fn unlink_leaf<R: Files>(rt: &R, at: &str, made: &Made) -> Result<(), Cause> {
     }
 }
 
-// Whether a file or a symlink is at the path. What is neither is an error.
+/// Whether a file or a symlink is at the path. What is neither is an error.
 pub fn leaf_kind<R: Files>(rt: &R, at: &str, made: &Made) -> Result<Kind, Cause> {
     if made.is_file(at) {
         return Ok(Kind::File);
@@ -76,7 +76,7 @@ pub fn leaf_kind<R: Files>(rt: &R, at: &str, made: &Made) -> Result<Kind, Cause>
     }
 }
 
-// The file or symlink at the path.
+/// The file or symlink at the path.
 pub fn find_leaf<R: Files>(rt: &R, at: &str) -> Result<Found, Cause> {
     match look(rt, at) {
         Ok(found) if found.is_leaf() => Ok(found),

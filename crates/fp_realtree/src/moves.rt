@@ -8,7 +8,7 @@ use std::fs::OpenFile;
 use std::io::Write;
 use std::rt::Files;
 
-// Moves a file or symlink to nothing, or in the place of another one. A file that goes into the store is dated.
+/// Moves a file or symlink to nothing, or in the place of another one. A file that goes into the store is dated.
 pub fn rename<F: Write + OpenFile + Drop, R: Files<File = F>>(
     rt: &R,
     from: &str,
@@ -53,7 +53,7 @@ fn rename_dated<F: Write + OpenFile + Drop, R: Files<File = F>>(
     }
 }
 
-// What the first is, which may be moved to the second.
+/// What the first is, which may be moved to the second.
 fn check_rename<R: Files>(rt: &R, from: &str, to: &str, made: &Made) -> Result<Kind, Cause> {
     if made.is_absent(to) {
         return leaf_kind(rt, from, made);

@@ -60,12 +60,12 @@ impl<R: System> Tree<'_, R> {
     }
 }
 
-// Whether a file was found or made there.
+/// Whether a file was found or made there.
 fn is_file(at: &str, notes: &Notes) -> bool {
     notes.files.has(at) || notes.made.is_file(at)
 }
 
-// What stands at the path. What is remembered isn't looked at again.
+/// What stands at the path. What is remembered isn't looked at again.
 fn stat_at<R: Files>(rt: &R, at: &str, below: usize, notes: &mut Notes) -> Result<Stat, Cause>
     ensures { IfOk result HasBits }
 {
@@ -88,7 +88,7 @@ fn stat_at<R: Files>(rt: &R, at: &str, below: usize, notes: &mut Notes) -> Resul
     }
 }
 
-// The same of a path above which no symlink stands.
+/// The same of a path above which no symlink stands.
 fn stat_below<R: Files>(rt: &R, at: &str, notes: &mut Notes) -> Result<Stat, Cause>
     ensures { IfOk result HasBits }
 {
@@ -101,7 +101,7 @@ fn stat_below<R: Files>(rt: &R, at: &str, notes: &mut Notes) -> Result<Stat, Cau
     }
 }
 
-// All but the file that is locked.
+/// All but the file that is locked.
 fn list_root<R: System>(
     rt: &R,
     alloc: Global,
@@ -132,7 +132,7 @@ fn list_folder<R: System>(
     }
 }
 
-// The same of a folder that the host didn't make.
+/// The same of a folder that the host didn't make.
 fn list_found<R: System>(
     rt: &R,
     alloc: Global,
@@ -164,7 +164,7 @@ fn read_piece<R: Files>(
     }
 }
 
-// Opens the file where the read begins it. One that was found isn't looked at again.
+/// Opens the file where the read begins it. One that was found isn't looked at again.
 fn begin<R: Files>(
     rt: &R,
     at: &str,

@@ -89,7 +89,7 @@ impl<'a, R: Files> Tree<'a, R> {
     }
 }
 
-// Before the root is known no call comes further.
+/// Before the root is known no call comes further.
 fn refusal<F>(alloc: Global, gate: &Gate<F>, call: Call, path: &Path, cause: Cause) -> SystemError {
     if !gate.is_known() {
         return SystemError::on(alloc, Call::Enter, gate.root(), cause);
@@ -109,7 +109,7 @@ fn refusal_of_sync(alloc: Global, at: &str, met: Unsynced) -> SystemError {
 }
 
 impl<R: System> Tree<'_, R> {
-    // Writes the path for the system, and answers where its part below the root begins.
+    /// Writes the path for the system, and answers where its part below the root begins.
     pub(crate) fn locate(&mut self, path: &Path) -> Result<usize, Cause> {
         match self.gate.enter(self.rt, &mut self.notes.touched) {
             Ok(()) => locate(&self.gate, path, &mut self.at),
@@ -117,7 +117,7 @@ impl<R: System> Tree<'_, R> {
         }
     }
 
-    // The same. No symlink stands above the path.
+    /// The same. No symlink stands above the path.
     pub(crate) fn reach(&mut self, path: &Path) -> Result<(), Cause> {
         match self.locate(path) {
             Ok(below) => look_above(self.rt, &self.at, below, &mut self.notes.folders),
@@ -125,7 +125,7 @@ impl<R: System> Tree<'_, R> {
         }
     }
 
-    // The same for a change, which waits for a sync.
+    /// The same for a change, which waits for a sync.
     pub(crate) fn reach_to_change(&mut self, path: &Path) -> Result<(), Cause> {
         match self.reach(path) {
             Ok(()) => self.gate.mark(),
@@ -133,7 +133,7 @@ impl<R: System> Tree<'_, R> {
         }
     }
 
-    // The same for a change with two paths.
+    /// The same for a change with two paths.
     pub(crate) fn reach_both(&mut self, from: &Path, to: &Path) -> Result<(), Cause> {
         match self.reach(from) {
             Ok(()) => {
@@ -144,7 +144,7 @@ impl<R: System> Tree<'_, R> {
         }
     }
 
-    // Notes what an earlier run may have left.
+    /// Notes what an earlier run may have left.
     fn catch_up(&mut self) -> Result<(), Cause> {
         match self.gate.enter(self.rt, &mut self.notes.touched) {
             Ok(()) => self.note_left(),
@@ -208,8 +208,8 @@ fn look_above<R: Files>(
     }
 }
 
-// Notes the folders above the root, and what is below it where an earlier run may have left something. Where nothing was
-// changed or left, it does nothing and answers that.
+/// Notes the folders above the root, and what is below it where an earlier run may have left something. Where nothing was
+/// changed or left, it does nothing and answers that.
 fn add_left<R: System>(
     rt: &R,
     alloc: Global,

@@ -9,10 +9,10 @@ use std::os::unix::fs::PermissionsExt;
 use std::rt::Files;
 use std::time::UNIX_EPOCH;
 
-// Where objects wait until they are moved into the store.
+/// Where objects wait until they are moved into the store.
 const WAITING: &str = "/repo/tmp/pull/objects/";
 
-// At most one open file, with its path. An object that waits for the store is dated when it was written, while it is open.
+/// At most one open file, with its path. An object that waits for the store is dated when it was written, while it is open.
 pub struct Writer<F> {
     alloc: Global,
     at: String,
@@ -42,7 +42,7 @@ impl<F: Drop> Writer<F> {
         }
     }
 
-    // The path has no file any more, or another one.
+    /// The path has no file any more, or another one.
     pub fn close_at(&mut self, at: &str) {
         self.dated.remove(at);
         if self.at.as_str() == at {
@@ -54,7 +54,7 @@ impl<F: Drop> Writer<F> {
         self.file.is_some() && self.at.as_str() == at
     }
 
-    // Keeps the file in the place of the one before.
+    /// Keeps the file in the place of the one before.
     fn keep(&mut self, at: &str, file: F) -> Result<(), Cause> {
         self.at.clear();
         match self.at.push_str(at) {
@@ -71,7 +71,7 @@ impl<F: Drop> Writer<F> {
 }
 
 impl<F: Write + OpenFile + Drop> Writer<F> {
-    // Keeps a file that was created, and gives it exactly these permission bits, unless it is known to have them.
+    /// Keeps a file that was created, and gives it exactly these permission bits, unless it is known to have them.
     pub fn keep_new(&mut self, at: &str, file: F, mode: u32, is_given: bool) -> Result<(), Cause> {
         let given = give_bits(&file, mode, is_given);
         match self.keep(at, file) {
@@ -80,8 +80,8 @@ impl<F: Write + OpenFile + Drop> Writer<F> {
         }
     }
 
-    // Lets the file go that was written last, which stays open until it is synced. Where it is an object that waits for the store,
-    // it is dated; where that fails, it is dated later.
+    /// Lets the file go that was written last, which stays open until it is synced. Where it is an object that waits for the store,
+    /// it is dated; where that fails, it is dated later.
     pub fn finish(&mut self, open: &mut OpenFiles<F>) {
         if let Some(file) = self.file.take() {
             if self.at.contains(WAITING) && date(&file).is_ok() {
@@ -91,7 +91,7 @@ impl<F: Write + OpenFile + Drop> Writer<F> {
         }
     }
 
-    // Writes at the end of a file of ours.
+    /// Writes at the end of a file of ours.
     pub fn append<R: Files<File = F>>(
         &mut self,
         rt: &R,
@@ -124,7 +124,7 @@ impl<F: Write + OpenFile + Drop> Writer<F> {
         }
     }
 
-    // Dates the last change of a file of ours to the beginning of 1970, as OSTree dates what it stores.
+    /// Dates the last change of a file of ours to the beginning of 1970, as OSTree dates what it stores.
     pub fn date<R: Files<File = F>>(&self, rt: &R, at: &str) -> Result<(), Cause> {
         if self.dated.contains(at) {
             return Ok(());
@@ -136,7 +136,7 @@ impl<F: Write + OpenFile + Drop> Writer<F> {
     }
 }
 
-// The umask may have taken some bits.
+/// The umask may have taken some bits.
 fn give_bits<F: OpenFile>(file: &F, mode: u32, is_given: bool) -> Result<(), Cause> {
     if is_given {
         return Ok(());

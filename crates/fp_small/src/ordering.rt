@@ -48,7 +48,7 @@ fn place_of<T: Named>(items: &[T], name: &str) -> usize
     items.len()
 }
 
-/// Puts an item where its name belongs. Want of memory changes nothing.
+/// Puts an item where its name belongs. Running out of memory changes nothing.
 pub(crate) fn insert_by_name<T: Named + Drop>(items: &mut Vec<T>, item: T) -> Result<(), AllocError>
     ensures ok { OnOk result (items.new.items ≡ inserted T.name_of items.old.items item) }
     ensures err { OnErr result (items.new.items ≡ items.old.items) }
@@ -58,7 +58,7 @@ pub(crate) fn insert_by_name<T: Named + Drop>(items: &mut Vec<T>, item: T) -> Re
     Ok(())
 }
 
-/// Puts a pin among others where it belongs by its bytes. Want of memory changes nothing.
+/// Puts a pin among others where it belongs by its bytes. Running out of memory changes nothing.
 pub fn insert_pin(pins: &mut Vec<PinPattern>, pin: PinPattern) -> Result<(), AllocError>
     ensures ok { OnOk result (pins.new.items ≡ inserted (λ p. p) pins.old.items pin) }
     ensures err { OnErr result (pins.new.items ≡ pins.old.items) }
@@ -85,7 +85,7 @@ pub fn has_pin(pins: &[PinPattern], pin: &PinPattern) -> bool
     false
 }
 
-/// Puts a remote among others where it belongs by the bytes of its name. Want of memory changes nothing.
+/// Puts a remote among others where it belongs by the bytes of its name. Running out of memory changes nothing.
 pub fn insert_remote(remotes: &mut Vec<RemoteRow>, row: RemoteRow) -> Result<(), AllocError>
     ensures ok { OnOk result (remotes.new.items ≡ inserted name_of remotes.old.items row) }
     ensures err { OnErr result (remotes.new.items ≡ remotes.old.items) }

@@ -66,7 +66,7 @@ impl Cause {
         matches!(self.kind(), ErrorKind::NotFound | ErrorKind::NotADirectory)
     }
 
-    // The words for what no system refused.
+    /// The words for what no system refused.
     fn words(self) -> &'static str {
         match self {
             Cause::Number(_) | Cause::Kind(_) => "",

@@ -72,7 +72,7 @@ impl Folders {
         }
     }
 
-    // Remembers what stands at the path, and answers whether it is a folder.
+    /// Remembers what stands at the path, and answers whether it is a folder.
     fn remember(&mut self, at: &str, kind: Kind) -> Result<bool, Cause> {
         match kind {
             Kind::Dir => self.add(at),
@@ -86,7 +86,7 @@ impl Folders {
     }
 }
 
-// The part of the path up to this place of its text, where a slash stands there.
+/// The part of the path up to this place of its text, where a slash stands there.
 fn above_at(at: &str, end: usize) -> Option<&str> {
     match at.split_at_checked(end) {
         Some((above, rest)) if rest.starts_with('/') => Some(above),

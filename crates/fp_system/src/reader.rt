@@ -8,7 +8,7 @@ use std::fs;
 use std::io::{Read, Seek, SeekFrom};
 use std::rt::Files;
 
-// The most bytes that a file of the system can have.
+/// The most bytes that a file of the system can have.
 const LONGEST: u64 = i64::MAX as u64;
 
 /// At most one open file, with its path and the place that it is read from next.
@@ -50,7 +50,7 @@ impl<F: Drop> Reader<F> {
         from == 0 || self.file.is_none() || self.at.as_str() != at
     }
 
-    // Keeps the file in the place of the one before.
+    /// Keeps the file in the place of the one before.
     fn keep(&mut self, at: &str, file: F) -> Result<(), Cause> {
         self.at.clear();
         self.place = 0;
@@ -88,7 +88,7 @@ impl<F: Read + Seek + Drop> Reader<F> {
     }
 }
 
-// Reads from a place on, and notes where the next read begins.
+/// Reads from a place on, and notes where the next read begins.
 fn read_from<F: Read + Seek>(
     file: &mut F,
     place: &mut u64,

@@ -11,7 +11,7 @@ use Rattle.gv_decode.specs.declared.error.DecodeError.{DecodeError}
 use Rattle.gv_decode.specs.declared.framing.Frame.{Frame}
 use Rattle.gv_decode.specs.declared.error.DecodeError.TheVariants as errors
 
--- Why bytes that are short enough are not read. Nothing is said of want of memory.
+-- Why bytes that are short enough are not read. Nothing is said of running out of memory.
 abbrev pub Fails : {Y : Type 0} → DecodeError → Option Y → Type 0
 Fails errors.TooLong read = ⊥
 Fails errors.NotNormal read = read ≡ None

@@ -12,7 +12,7 @@ pub record IsAdded (before after bytes : List ℕ) : Type 0 where
   pub added : after ≡ before ++ bytes
   pub short : length after ≤ max_bytes
 
--- Why bytes are not added to others. Nothing is said of want of memory.
+-- Why bytes are not added to others. Nothing is said of running out of memory.
 abbrev pub Fails : EncodeError → List ℕ → List ℕ → Type 0
 Fails errors.NotOfType before bytes = ⊥
 Fails errors.TooLong before bytes = max_bytes < length before + length bytes

@@ -3,7 +3,7 @@ use Rattle.std.specs.Prelude.{◌≡◌, ⊤, Option, Some, None, Result, Ok, Er
 use Rattle.gv_value.specs.declared.error.TypeError.{TypeError}
 use Rattle.gv_value.specs.declared.error.TypeError.TheVariants as errors
 
--- nothing is said of want of memory
+-- nothing is said of running out of memory
 abbrev pub Fails : {Y : Type 0} → TypeError → Option Y → Type 0
 Fails errors.Bad read = read ≡ None
 Fails errors.NoMemory read = ⊤

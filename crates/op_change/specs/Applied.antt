@@ -95,7 +95,7 @@ op_refusal have (Install name origin commit) = brought_refusal have name commit
 op_refusal have (Update name origin commit) = brought_refusal have name commit
 op_refusal have op = None
 
--- What was answered is the state after, or what the operation is refused for. Nothing is said of faults and of want of memory.
+-- What was answered is the state after, or what the operation is refused for. Nothing is said of faults and of running out of memory.
 abbrev pub AppliesWith : Have → State → Op → Result State ApplyEnd → Type 0
 AppliesWith have s op (Ok t) = (op_refusal have op ≡ None) × (t ≡ after s (done_with have op))
 AppliesWith have s op (Err (ends.Refused refusal)) = op_refusal have op ≡ Some refusal

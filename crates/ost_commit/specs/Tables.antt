@@ -32,7 +32,7 @@ pub record IsOtherThere (table : List (List ℕ × Object)) (d : List ℕ) (obje
   pub there : object_in table d ≡ Some other
   pub apart : other ≢ object
 
--- why an object doesn't come to its digest: for want of memory, or because another has it
+-- why an object doesn't come to its digest: because memory ran out, or because another has it
 abbrev pub IsFaultOfPut : List (List ℕ × Object) → List ℕ → Object → BuildError → Type 0
 IsFaultOfPut table d object (error.Row n) = ⊥
 IsFaultOfPut table d object error.Collision = IsOtherThere table d object
@@ -67,7 +67,7 @@ pub record Collide : Type 0 where
   pub apart : first ≢ second
   pub same : digest_of first ≡ digest_of second
 
--- why no table is made: for want of memory, because objects are too large, or because two have one digest
+-- why no table is made: because memory ran out, because objects are too large, or because two have one digest
 abbrev pub IsFaultOfTables : BuildError → Type 0
 IsFaultOfTables (error.Row n) = ⊥
 IsFaultOfTables error.Collision = Collide

@@ -2,7 +2,7 @@
 use Rattle.ost_commit.specs.declared.built.BuildError.{BuildError}
 use Rattle.ost_commit.specs.declared.built.BuildError.TheVariants as error
 
--- for want of memory, or because they are too large
+-- because memory ran out, or because they are too large
 abbrev pub IsWantOfRoom : BuildError → Type 0
 IsWantOfRoom (error.Row n) = ⊥
 IsWantOfRoom error.Collision = ⊥

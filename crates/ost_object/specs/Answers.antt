@@ -1,4 +1,4 @@
--- What reading and writing answer, by what the definitions read. Nothing is said of want of memory.
+-- What reading and writing answer, by what the definitions read. Nothing is said of running out of memory.
 use Rattle.std.specs.Prelude.{◌≡◌, ⊤, List, [], ◌∷◌, Bool, if◌then◌else◌, Option, Some, None, option_map, option_and_then, Result, Ok, Err}
 use Rattle.std.specs.Option.{IsSome}
 use Rattle.fp_base.specs.declared.rule.Rule.{Rule}

@@ -1,4 +1,4 @@
--- What reading a value that was kept as bytes answers. Nothing is said of want of memory.
+-- What reading a value that was kept as bytes answers. Nothing is said of running out of memory.
 use Rattle.std.specs.Prelude.{◌≡◌, Result, Ok, Err}
 use Rattle.gv_value.specs.declared.value.GvValue.{GvValue}
 use Rattle.gv_value.specs.Shape.{Shape}

@@ -1,4 +1,4 @@
--- What writing answers, by what the readers read. Nothing is said of want of memory.
+-- What writing answers, by what the readers read. Nothing is said of running out of memory.
 use Rattle.std.specs.Prelude.{◌≡◌, ◌≢◌, ℕ, ⊤, List, Option, unwrap_or, Result, Ok, Err}
 use Rattle.gv_value.specs.Shape.{Shape}
 use Rattle.gv_value.specs.Spelled.{Spelled}

@@ -45,7 +45,7 @@ abbrev pub unread_end : List ℕ → ObjKind → ObjectError → WalkEnd
 unread_end d kind (unread.Malformed rule) = refusal d kind (faults.Malformed rule)
 unread_end d kind unread.NoMemory = ends.NoMemory
 
--- What is known of a refusal. Nothing is said of a fault of the host or the remotes, and of want of memory.
+-- What is known of a refusal. Nothing is said of a fault of the host or the remotes, and of running out of memory.
 abbrev pub RefusesBy : (WalkFault → Type 0) → WalkEnd → Type 0
 RefusesBy refused (ends.Refused w) = refused w
 RefusesBy refused ends.HostFault = ⊤
