@@ -6,6 +6,7 @@ use Rattle.std.proofs.lemmas.Bool.{eqb-true, eq-eqb, eqb-false, cases_Bool, fals
 use Rattle.std.proofs.lemmas.Option.{cond_some}
 use Rattle.std.proofs.lemmas.List.{length-append, append-nil, take-append-drop}
 use Rattle.std.proofs.lemmas.Slice.Eq.{bytes_eq-Decides}
+use Rattle.bus_frame.specs.declared.limits.TheConstants.{MOST_ARRAY_BYTES}
 use Rattle.bus_frame.specs.declared.header.Header.{Header}
 use Rattle.bus_frame.specs.Steps.{◌>>=◌, Gives, first_of, remainder_byte}
 use Rattle.bus_frame.specs.Places.{Place, bytes_at, long_text_at}
@@ -179,7 +180,7 @@ three_law h message found fits is a b c =
 
 -- the elements of an array, and nothing after them
 record Elements (little : Bool) (p q : Place) : Type 0 where
-  fits : length q.rest ≤ 67108864
+  fits : length q.rest ≤ MOST_ARRAY_BYTES
   spelled : p.rest ≡ array_head little 4 p.at (length q.rest) ++ q.rest
   at : q.at ≡ p.at + length (array_head little 4 p.at (length q.rest))
 
@@ -195,11 +196,11 @@ elements_take little p q fits e =
     let spelled : p.rest ≡ array_head little 4 p.at (length body.0.0) ++ body.0.0 =
     before.0.parts ∙ ap (λ (l : List ℕ). array_head little 4 p.at head.0.0 ++ l) all ∙ ap (λ (n : ℕ). array_head little 4 p.at n ++ body.0.0) (sym taken.1) in
     let at_is : head.0.1.at ≡ p.at + length (array_head little 4 p.at (length body.0.0)) = before.0.at ∙ ap (λ (n : ℕ). p.at + length (array_head little 4 p.at n)) (sym taken.1) in
-    let le : length body.0.0 ≤ 67108864 = subst (λ (n : ℕ). n ≤ 67108864) (sym taken.1) before.1 in
+    let le : length body.0.0 ≤ MOST_ARRAY_BYTES = subst (λ (n : ℕ). n ≤ MOST_ARRAY_BYTES) (sym taken.1) before.1 in
     let found : Elements little p (place head.0.1.at body.0.0) = record { fits = le; spelled = spelled; at = at_is } in
     subst (λ (r : Place). Elements little p r) end.1 found
 
-elements_again : (little : Bool) (p : Place) (elements : List ℕ) → length elements ≤ 67108864 → p.rest ≡ array_head little 4 p.at (length elements) ++ elements
+elements_again : (little : Bool) (p : Place) (elements : List ℕ) → length elements ≤ MOST_ARRAY_BYTES → p.rest ≡ array_head little 4 p.at (length elements) ++ elements
     → elements_place little p ≡ Some (place (p.at + length (array_head little 4 p.at (length elements))) elements)
 unfolding elements_place
 elements_again little p elements le spelled =

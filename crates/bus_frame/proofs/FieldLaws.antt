@@ -4,6 +4,7 @@ use Rattle.std.specs.Prelude.{◌&&◌, ◌||◌, ◌⊎◌, option_map}
 use Rattle.std.proofs.lemmas.Bool.{eqb-true, eqb-false, eq-eqb, ne_eqb, or_cases, cases_Bool, false≢true}
 use Rattle.std.proofs.lemmas.Option.{some_pair_parts}
 use Rattle.std.proofs.lemmas.List.{length-append, append-nil}
+use Rattle.bus_frame.specs.declared.limits.TheConstants.{MOST_CONTAINERS, MOST_ARRAYS, MOST_STRUCTS}
 use Rattle.bus_frame.specs.Steps.{◌>>=◌, first_of}
 use Rattle.bus_frame.specs.Types.{Ty, Tys, basic, variant, array, struct, entry, none, more, type_text, types_text, is_basic, is_type}
 use Rattle.bus_frame.specs.Places.{Place, byte_at, aligned_at, number_at, long_text_at, short_text_at}
@@ -80,7 +81,7 @@ abbrev as_other : Ended → Content × Place
 as_other r = (other, r.1)
 
 abbrev other_end : Bool → List ℕ → Place → Option (Content × Place)
-other_end little types p = option_map as_other (value_at little 63 32 32 types p)
+other_end little types p = option_map as_other (value_at little (MOST_CONTAINERS - 1) MOST_ARRAYS MOST_STRUCTS types p)
 
 abbrev number_end : ℕ → Bool → List ℕ → Place → Option (Content × Place)
 number_end code little types p = cond (eqb code 117) (option_map as_number (number_at little p)) (other_end little types p)
@@ -147,20 +148,20 @@ module _ (little : Bool) (t : Ty) (p : Place) (c : Content) (q : Place) (fits : 
         is = subst (λ (d : Content). IsContent little t p.at d v.0) c_is (begins t 117 g refl, v.2);
       }
 
-  other_says : is_type false t 32 32 ≡ true → is_telling t ≡ false → other_end little (type_text t) p ≡ Some (c, q) → Says little t p c q
+  other_says : is_type false t MOST_ARRAYS MOST_STRUCTS ≡ true → is_telling t ≡ false → other_end little (type_text t) p ≡ Some (c, q) → Says little t p c q
   other_says complete silent e =
-      let x = map_some (value_at little 63 32 32 (type_text t) p) as_other (c, q) e in
+      let x = map_some (value_at little (MOST_CONTAINERS - 1) MOST_ARRAYS MOST_STRUCTS (type_text t) p) as_other (c, q) e in
       let c_is : other ≡ c = ap (λ (r : Content × Place). r.0) x.2 in
       let q_is : x.0.1 ≡ q = ap (λ (r : Content × Place). r.1) x.2 in
-      let read : value_at little 63 32 32 (type_text t ++ []) p ≡ Some x.0 = ap (λ (l : List ℕ). value_at little 63 32 32 l p) (append-nil (type_text t)) ∙ x.1 in
-      let v = value_takes little 63 32 32 t false 32 32 [] complete (omega arith) (omega arith) p x.0 fits read in
+      let read : value_at little (MOST_CONTAINERS - 1) MOST_ARRAYS MOST_STRUCTS (type_text t ++ []) p ≡ Some x.0 = ap (λ (l : List ℕ). value_at little (MOST_CONTAINERS - 1) MOST_ARRAYS MOST_STRUCTS l p) (append-nil (type_text t)) ∙ x.1 in
+      let v = value_takes little (MOST_CONTAINERS - 1) MOST_ARRAYS MOST_STRUCTS t false MOST_ARRAYS MOST_STRUCTS [] complete (omega arith) (omega arith) p x.0 fits read in
       record {
         value = v.value;
         takes = subst (λ (r : Place). Takes p v.value r) q_is v.takes;
         is = subst (λ (d : Content). IsContent little t p.at d v.value) c_is (silent, v.is);
       }
 
-  content_takes : is_type false t 32 32 ≡ true → content_at little (type_text t) p ≡ Some (c, q) → Says little t p c q
+  content_takes : is_type false t MOST_ARRAYS MOST_STRUCTS ≡ true → content_at little (type_text t) p ≡ Some (c, q) → Says little t p c q
   content_takes complete e =
       let k = tag t in
       let types = type_text t in
@@ -183,7 +184,7 @@ at_long little p code types e = at_yes (eqb code 115 || eqb code 111) (option_ma
 at_short : (little : Bool) (p : Place) (code : ℕ) (types : List ℕ) → (eqb code 115 || eqb code 111) ≡ false → long_end code little types p ≡ short_end code little types p
 at_short little p code types e = at_no (eqb code 115 || eqb code 111) (option_map (as_word code) (long_text_at little p)) (short_end code little types p) e
 
-pub content_again : (little : Bool) (t : Ty) (p : Place) (c : Content) (v rest : List ℕ) → is_type false t 32 32 ≡ true → p.rest ≡ v ++ rest → IsContent little t p.at c v → content_at little (type_text t) p ≡ Some (c, place (p.at + length v) rest)
+pub content_again : (little : Bool) (t : Ty) (p : Place) (c : Content) (v rest : List ℕ) → is_type false t MOST_ARRAYS MOST_STRUCTS ≡ true → p.rest ≡ v ++ rest → IsContent little t p.at c v → content_at little (type_text t) p ≡ Some (c, place (p.at + length v) rest)
 content_again little t p (word code text) v rest complete parts (inl is) =
     let q = place (p.at + length v) rest in
     let read = map_is (long_text_at little p) (as_word code) (text, q) (long_text_again little p text v rest parts is.2) in
@@ -209,11 +210,11 @@ content_again little t p other v rest complete parts is =
     let k = tag t in
     let types = type_text t in
     let tests = telling_parts t is.0 in
-    let value : value_at little 63 32 32 types p ≡ Some ([], q) = ap (λ (l : List ℕ). value_at little 63 32 32 l p) (sym (append-nil types)) ∙ value_again little 63 32 32 t false 32 32 [] complete (omega arith) (omega arith) p v rest parts is.1 in
+    let value : value_at little (MOST_CONTAINERS - 1) MOST_ARRAYS MOST_STRUCTS types p ≡ Some ([], q) = ap (λ (l : List ℕ). value_at little (MOST_CONTAINERS - 1) MOST_ARRAYS MOST_STRUCTS l p) (sym (append-nil types)) ∙ value_again little (MOST_CONTAINERS - 1) MOST_ARRAYS MOST_STRUCTS t false MOST_ARRAYS MOST_STRUCTS [] complete (omega arith) (omega arith) p v rest parts is.1 in
     at_content little p t ∙ at_short little p k types tests.0
     ∙ at_no (eqb k 103) (option_map (as_word k) (short_text_at p)) (number_end k little types p) tests.1
     ∙ at_no (eqb k 117) (option_map as_number (number_at little p)) (other_end little types p) tests.2
-    ∙ map_is (value_at little 63 32 32 types p) as_other ([], q) value
+    ∙ map_is (value_at little (MOST_CONTAINERS - 1) MOST_ARRAYS MOST_STRUCTS types p) as_other ([], q) value
 
 -- ---- fields
 

@@ -4,6 +4,7 @@ use Rattle.std.specs.Prelude.{◌⊎◌}
 use Rattle.std.proofs.lemmas.Bool.{ltb-false, le-ltb, ltb-true, not-false, or_cases, eqb-true, eqb-false}
 use Rattle.fp_base.specs.declared.frame_rule.FrameRule.{FrameRule}
 use Rattle.fp_base.specs.declared.frame_rule.FrameRule.TheVariants.{Order, ZeroType, Version, Serial, Length}
+use Rattle.bus_frame.specs.declared.limits.TheConstants.{MOST_ARRAY_BYTES, MOST_MESSAGE_BYTES}
 use Rattle.bus_frame.specs.declared.fixed.Fixed.{Fixed}
 use Rattle.bus_frame.specs.declared.header.Header.{Header}
 use Rattle.bus_frame.specs.Fields.{Known}
@@ -50,8 +51,8 @@ pub record IsSound (f : Fixed) : Type 0 where
   pub kind : f.kind ≡ 0 → ⊥
   pub version : f.version ≡ 1
   pub serial : f.serial ≡ 0 → ⊥
-  pub array : f.array_len ≤ 67108864
-  pub all : message_len f ≤ 16777216
+  pub array : f.array_len ≤ MOST_ARRAY_BYTES
+  pub all : message_len f ≤ MOST_MESSAGE_BYTES
 
 none_else : (b : Bool) (rule : FrameRule) (x : Option FrameRule) → cond b (Some rule) x ≡ None → (b ≡ false) × (x ≡ None)
 none_else true rule x e = absurd cc
@@ -72,8 +73,8 @@ sound_fixed f e =
     let kind = none_else (eqb f.kind 0) ZeroType _ order.1 in
     let version = none_else (not (eqb f.version 1)) Version _ kind.1 in
     let serial = none_else (eqb f.serial 0) Serial _ version.1 in
-    let lengths = none_else (ltb 67108864 f.array_len || ltb 16777216 (message_len f)) Length _ serial.1 in
-    let both = or_false (ltb 67108864 f.array_len) (ltb 16777216 (message_len f)) lengths.0 in
+    let lengths = none_else (ltb MOST_ARRAY_BYTES f.array_len || ltb MOST_MESSAGE_BYTES (message_len f)) Length _ serial.1 in
+    let both = or_false (ltb MOST_ARRAY_BYTES f.array_len) (ltb MOST_MESSAGE_BYTES (message_len f)) lengths.0 in
     record {
       order = letter f.order (or_cases (eqb f.order 108) (eqb f.order 66) (not-false _ order.0));
       kind = eqb-false _ _ kind.0;
@@ -87,7 +88,7 @@ sound_fixed f e =
 pub record HasBody (h : Header) (n bytes_len : ℕ) : Type 0 where
   pub start : 16 ≤ h.body_at
   pub end : h.body_at + h.body_len ≡ n
-  pub limit : n ≤ 16777216
+  pub limit : n ≤ MOST_MESSAGE_BYTES
   pub within : n ≤ bytes_len
 
 body_of_read : (bytes : List ℕ) (f : Fixed) (k : Known) (h : Header) (n : ℕ) → IsRead bytes f k h n → HasBody h n (length bytes)

@@ -5,6 +5,7 @@ use Rattle.std.specs.Prelude.{◌&&◌, ◌||◌, ◌⊎◌}
 use Rattle.std.proofs.lemmas.Bool.{ltb-true, lt-ltb, eqb-true, eqb-false, eq-eqb, ne_eqb, and_parts, and_from, or_cases, cases_Bool, false≢true}
 use Rattle.std.proofs.lemmas.Option.{cond_some, some_pair_parts}
 use Rattle.std.proofs.lemmas.List.{length-append, append-nil, nil_from_length}
+use Rattle.bus_frame.specs.declared.limits.TheConstants.{MOST_CONTAINERS, MOST_ARRAYS, MOST_STRUCTS}
 use Rattle.bus_frame.specs.Steps.{◌>>=◌, or_else, first_of, remainder_byte}
 use Rattle.bus_frame.specs.Types.{Ty, Tys, basic, variant, array, struct, entry, none, more, type_text, types_text, is_basic, is_type, are_types, entry_after, element_after, members_after, type_step, type_after, whole_type_after, is_one_type}
 use Rattle.bus_frame.proofs.Taking.{bind_some, bind_is, none_if}
@@ -264,21 +265,21 @@ type_takes (suc all) a s types rest e =
     step_takes (suc all) a s (type_after (suc all - 1)) types rest (λ lt x y u v h. type_takes all x y u v (ap (λ (n : ℕ). type_after n x y u) below ∙ h)) (sym (step (suc all) a s types) ∙ e)
 
 -- one complete type, and nothing else
-pub complete_takes : (types : List ℕ) → is_one_type types ≡ true → (t : Ty) × (is_type false t 32 32 ≡ true) × (types ≡ type_text t)
+pub complete_takes : (types : List ℕ) → is_one_type types ≡ true → (t : Ty) × (is_type false t MOST_ARRAYS MOST_STRUCTS ≡ true) × (types ≡ type_text t)
 complete_takes types e = from_read (whole_type_after types) refl e
   where
-    from_read : (o : Option (List ℕ)) → whole_type_after types ≡ o → option_map_or (λ rest. eqb (length rest) 0) o false ≡ true → (t : Ty) × (is_type false t 32 32 ≡ true) × (types ≡ type_text t)
+    from_read : (o : Option (List ℕ)) → whole_type_after types ≡ o → option_map_or (λ rest. eqb (length rest) 0) o false ≡ true → (t : Ty) × (is_type false t MOST_ARRAYS MOST_STRUCTS ≡ true) × (types ≡ type_text t)
     from_read None is h = absurd (false≢true h)
     from_read (Some rest) is h =
-        let held = type_takes 64 32 32 types rest is in
+        let held = type_takes MOST_CONTAINERS MOST_ARRAYS MOST_STRUCTS types rest is in
         let nothing : rest ≡ [] = nil_from_length rest (eqb-true (length rest) 0 h) in
         (held.0, held.1, held.2 ∙ ap (λ (l : List ℕ). type_text held.0 ++ l) nothing ∙ append-nil (type_text held.0))
 
-pub complete_again : (t : Ty) → is_type false t 32 32 ≡ true → is_one_type (type_text t) ≡ true
+pub complete_again : (t : Ty) → is_type false t MOST_ARRAYS MOST_STRUCTS ≡ true → is_one_type (type_text t) ≡ true
 complete_again t good =
-    let read : whole_type_after (type_text t) ≡ Some [] = ap whole_type_after (sym (append-nil (type_text t))) ∙ again t false 64 32 32 [] good (omega arith) in
+    let read : whole_type_after (type_text t) ≡ Some [] = ap whole_type_after (sym (append-nil (type_text t))) ∙ again t false MOST_CONTAINERS MOST_ARRAYS MOST_STRUCTS [] good (omega arith) in
     ap (λ (o : Option (List ℕ)). option_map_or (λ rest. eqb (length rest) 0) o false) read
 
 -- an element's type is skipped
-pub element_skipped : (t : Ty) (rest : List ℕ) → is_type true t 32 32 ≡ true → element_after whole_type_after (type_text t ++ rest) ≡ Some rest
-element_skipped t rest good = again t true 64 32 32 rest good (omega arith)
+pub element_skipped : (t : Ty) (rest : List ℕ) → is_type true t MOST_ARRAYS MOST_STRUCTS ≡ true → element_after whole_type_after (type_text t ++ rest) ≡ Some rest
+element_skipped t rest good = again t true MOST_CONTAINERS MOST_ARRAYS MOST_STRUCTS rest good (omega arith)

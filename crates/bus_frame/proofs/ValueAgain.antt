@@ -4,6 +4,7 @@ use Rattle.std.specs.Prelude.{◌&&◌, ◌||◌, ◌⊎◌, option_map, MatchBo
 use Rattle.std.specs.List.{concat}
 use Rattle.std.proofs.lemmas.Bool.{ltb-true, ltb-false, lt-ltb, le-ltb, eqb-true, eqb-false, eq-eqb, ne_eqb, and_parts, and_from, cases_Bool, false≢true, MatchBool-at_true, MatchBool-at_false}
 use Rattle.std.proofs.lemmas.List.{length-append, append-nil, nil_from_length}
+use Rattle.bus_frame.specs.declared.limits.TheConstants.{MOST_ARRAY_BYTES, MOST_ARRAYS, MOST_STRUCTS}
 use Rattle.bus_frame.specs.Steps.{◌>>=◌, or_else, first_of}
 use Rattle.bus_frame.specs.Types.{Ty, Tys, basic, variant, array, struct, entry, none, more, type_text, types_text, is_basic, is_type, are_types, element_after, whole_type_after, is_one_type}
 use Rattle.bus_frame.specs.Numbers.{padding}
@@ -151,7 +152,7 @@ members_again one P b a s left close (suc n) t (more u us) again good lt p v res
 
 -- ---- containers
 
-pub array_head_again : (little : Bool) (t : Ty) (left : List ℕ) (p : Place) (n : ℕ) (rest : List ℕ) → p.rest ≡ array_head little (type_alignment t) p.at n ++ rest → n ≤ 67108864
+pub array_head_again : (little : Bool) (t : Ty) (left : List ℕ) (p : Place) (n : ℕ) (rest : List ℕ) → p.rest ≡ array_head little (type_alignment t) p.at n ++ rest → n ≤ MOST_ARRAY_BYTES
     → array_head_at little (type_text t ++ left) p ≡ Some (n, place (p.at + length (array_head little (type_alignment t) p.at n)) rest)
 unfolding array_head_at
 array_head_again little t left p n rest parts le =
@@ -164,10 +165,10 @@ array_head_again little t left p n rest parts le =
     let r = place ((p.at + length count) + length pad) rest in
     let a = number_again little p n count (pad ++ rest) grouped (record { fits = omega (arith, le); spelled = refl }) in
     let b : aligned_at (alignment code.0) q ≡ Some r = ap (λ (k : ℕ). aligned_at k q) code.3 ∙ aligned_again (type_alignment t) q rest refl in
-    bind_is (number_at little p) (λ k. first_of types >>= λ c. aligned_at (alignment c.0) k.1 >>= λ x. cond (ltb 67108864 k.0) None (Some (k.0, x))) (n, q) a
-    ∙ bind_is (first_of types) (λ c. aligned_at (alignment c.0) q >>= λ x. cond (ltb 67108864 n) None (Some (n, x))) (code.0, code.1) code.2
-    ∙ bind_is (aligned_at (alignment code.0) q) (λ x. cond (ltb 67108864 n) None (Some (n, x))) r b
-    ∙ at_no (ltb 67108864 n) None (Some (n, r)) (le-ltb 67108864 n le)
+    bind_is (number_at little p) (λ k. first_of types >>= λ c. aligned_at (alignment c.0) k.1 >>= λ x. cond (ltb MOST_ARRAY_BYTES k.0) None (Some (k.0, x))) (n, q) a
+    ∙ bind_is (first_of types) (λ c. aligned_at (alignment c.0) q >>= λ x. cond (ltb MOST_ARRAY_BYTES n) None (Some (n, x))) (code.0, code.1) code.2
+    ∙ bind_is (aligned_at (alignment code.0) q) (λ x. cond (ltb MOST_ARRAY_BYTES n) None (Some (n, x))) r b
+    ∙ at_no (ltb MOST_ARRAY_BYTES n) None (Some (n, r)) (le-ltb MOST_ARRAY_BYTES n le)
     ∙ ap (λ (x : Place). Some (n, x)) (remainder_both p.at count pad (count ++ pad) rest refl)
 
 array_row : (one : List ℕ → Place → Option Ended) (P : ℕ → List ℕ → Type 0) (t : Ty) (left : List ℕ) → CompleteAt one (type_text t ++ left) left P → ((at : ℕ) (v : List ℕ) → P at v → 0 < length v) → element_after whole_type_after (type_text t ++ left) ≡ Some left
@@ -229,7 +230,7 @@ variant_type_again p t x rest parts is =
     ∙ at_yes (eqb 0 0 && is_one_type text) (Some (text, w)) None good
     ∙ ap (λ (k : ℕ). Some (text, place k rest)) (omega (arith, length-append text (0 ∷ []), ap (λ (l : List ℕ). length l) is.spelled))
 
-variant_again : (one : List ℕ → Place → Option Ended) (P : Ty → ℕ → List ℕ → Type 0) → ((t : Ty) → is_type false t 32 32 ≡ true → CompleteAt one (type_text t) [] (P t)) → ReadsAt (variant_at one) (IsVariant P)
+variant_again : (one : List ℕ → Place → Option Ended) (P : Ty → ℕ → List ℕ → Type 0) → ((t : Ty) → is_type false t MOST_ARRAYS MOST_STRUCTS ≡ true → CompleteAt one (type_text t) [] (P t)) → ReadsAt (variant_at one) (IsVariant P)
 unfolding variant_at
 variant_again one P again p v rest parts is =
     let grouped : p.rest ≡ is.text ++ (is.value ++ rest) = parts ∙ ap (λ (l : List ℕ). l ++ rest) is.spelled ∙ append_assoc is.text is.value rest in
@@ -294,9 +295,9 @@ value_some little (suc all) a s (entry key t) at v is =
     omega (arith, here, ap (λ (l : List ℕ). length l) is.spelled, length-append (zeros 8 at) is.members, ap (λ (l : List ℕ). length l) is.each.2, length-append first is.each.1)
 
 abbrev Inner : Bool → ℕ → Type 0
-Inner little all = (a s : ℕ) (t : Ty) (e : Bool) (x y : ℕ) (left : List ℕ) → is_type e t x y ≡ true → x ≤ 32 → y ≤ 32 → CompleteAt (value_at little all a s) (type_text t ++ left) left (IsValue little all a s t)
+Inner little all = (a s : ℕ) (t : Ty) (e : Bool) (x y : ℕ) (left : List ℕ) → is_type e t x y ≡ true → x ≤ MOST_ARRAYS → y ≤ MOST_STRUCTS → CompleteAt (value_at little all a s) (type_text t ++ left) left (IsValue little all a s t)
 
-inner_all : (little : Bool) (all : ℕ) → Inner little all → (a s : ℕ) (ts : Tys) (x y : ℕ) → are_types ts x y ≡ true → x ≤ 32 → y ≤ 32 → CompleteAll (value_at little all a s) (IsValue little all a s) ts
+inner_all : (little : Bool) (all : ℕ) → Inner little all → (a s : ℕ) (ts : Tys) (x y : ℕ) → are_types ts x y ≡ true → x ≤ MOST_ARRAYS → y ≤ MOST_STRUCTS → CompleteAll (value_at little all a s) (IsValue little all a s) ts
 unfolding CompleteAll
 inner_all little all ih a s none x y good lx ly = tt
 inner_all little all ih a s (more t ts) x y good lx ly =
@@ -325,14 +326,14 @@ value_again little (suc all) a s (basic c) e x y left good lx ly p v rest parts 
 value_again little (suc all) a s variant e x y left good lx ly p v rest parts is =
     let one = value_at little all a s in
     let P = IsValue little all a s in
-    let again = λ (u : Ty) (complete : is_type false u 32 32 ≡ true). subst (λ (l : List ℕ). CompleteAt one l [] (P u)) (append-nil (type_text u)) (value_again little all a s u false 32 32 [] complete (omega arith) (omega arith)) in
+    let again = λ (u : Ty) (complete : is_type false u MOST_ARRAYS MOST_STRUCTS ≡ true). subst (λ (l : List ℕ). CompleteAt one l [] (P u)) (append-nil (type_text u)) (value_again little all a s u false MOST_ARRAYS MOST_STRUCTS [] complete (omega arith) (omega arith)) in
     at_no (eqb (suc all) 0) None (option_map (λ q. (left, q)) (variant_at one p)) (some_all all)
     ∙ map_is (variant_at one p) (λ q. (left, q)) (place (p.at + length v) rest) (variant_again one P again p v rest parts is)
 value_again little (suc all) zero s (array t) e x y left good lx ly p v rest parts is = elim is [ ]
 value_again little (suc all) (suc a) s (array t) e x y left good lx ly p v rest parts is =
     let goods = and_parts (ltb 0 x) (is_type true t (x - 1) y) good in
     let types = type_text t ++ left in
-    let skipped = element_skipped t left (wider t true (x - 1) y 32 32 (omega arith) ly goods.1) in
+    let skipped = element_skipped t left (wider t true (x - 1) y MOST_ARRAYS MOST_STRUCTS (omega arith) ly goods.1) in
     at_no (eqb (suc all) 0 || eqb (suc a) 0) None (array_at little (value_at little all (suc a - 1) s) types p) (some_both all a)
     ∙ ap (λ (n : ℕ). array_at little (value_at little all n s) types p) (less_one a)
     ∙ array_again little (value_at little all a s) (IsValue little all a s t) t left (value_again little all a s t true (x - 1) y left goods.1 (omega arith) ly) (value_some little all a s t) skipped p v rest parts is

@@ -5,6 +5,7 @@ use Rattle.std.specs.List.{concat}
 use Rattle.std.proofs.lemmas.Bool.{ltb-true, ltb-false, lt-ltb, leb-true, eqb-true, eqb-false, eq-eqb, ne_eqb, and_parts, and_from, or_cases, cases_Bool, false≢true}
 use Rattle.std.proofs.lemmas.Option.{cond_some, some_pair_parts}
 use Rattle.std.proofs.lemmas.List.{length-append, append-nil, nil_from_length}
+use Rattle.bus_frame.specs.declared.limits.TheConstants.{MOST_ARRAY_BYTES, MOST_ARRAYS, MOST_STRUCTS}
 use Rattle.bus_frame.specs.Steps.{◌>>=◌, or_else, first_of}
 use Rattle.bus_frame.specs.Types.{Ty, Tys, basic, variant, array, struct, entry, none, more, type_text, types_text, is_basic, is_type, are_types, element_after, whole_type_after, is_one_type}
 use Rattle.bus_frame.specs.Numbers.{padding}
@@ -220,15 +221,15 @@ first_alignment (array t) left = (97, type_text t ++ left, refl, refl)
 first_alignment (struct t ts) left = (40, ((type_text t ++ types_text ts) ++ 41 ∷ []) ++ left, refl, refl)
 first_alignment (entry key t) left = (123, key ∷ ((type_text t ++ 125 ∷ []) ++ left), refl, refl)
 
-pub array_head_takes : (little : Bool) (t : Ty) (left : List ℕ) (p : Place) (n : ℕ) (q : Place) → IsBytes p.rest → array_head_at little (type_text t ++ left) p ≡ Some (n, q) → Takes p (array_head little (type_alignment t) p.at n) q × (n ≤ 67108864)
+pub array_head_takes : (little : Bool) (t : Ty) (left : List ℕ) (p : Place) (n : ℕ) (q : Place) → IsBytes p.rest → array_head_at little (type_text t ++ left) p ≡ Some (n, q) → Takes p (array_head little (type_alignment t) p.at n) q × (n ≤ MOST_ARRAY_BYTES)
 unfolding array_head_at
 array_head_takes little t left p n q fits e =
     let types = type_text t ++ left in
     let code = first_alignment t left in
-    let a = bind_some (number_at little p) (λ k. first_of types >>= λ c. aligned_at (alignment c.0) k.1 >>= λ r. cond (ltb 67108864 k.0) None (Some (k.0, r))) (n, q) e in
-    let b = bind_some (first_of types) (λ c. aligned_at (alignment c.0) a.0.1 >>= λ r. cond (ltb 67108864 a.0.0) None (Some (a.0.0, r))) (n, q) a.2 in
-    let d = bind_some (aligned_at (alignment b.0.0) a.0.1) (λ r. cond (ltb 67108864 a.0.0) None (Some (a.0.0, r))) (n, q) b.2 in
-    let g = none_if (ltb 67108864 a.0.0) (a.0.0, d.0) (n, q) d.2 in
+    let a = bind_some (number_at little p) (λ k. first_of types >>= λ c. aligned_at (alignment c.0) k.1 >>= λ r. cond (ltb MOST_ARRAY_BYTES k.0) None (Some (k.0, r))) (n, q) e in
+    let b = bind_some (first_of types) (λ c. aligned_at (alignment c.0) a.0.1 >>= λ r. cond (ltb MOST_ARRAY_BYTES a.0.0) None (Some (a.0.0, r))) (n, q) a.2 in
+    let d = bind_some (aligned_at (alignment b.0.0) a.0.1) (λ r. cond (ltb MOST_ARRAY_BYTES a.0.0) None (Some (a.0.0, r))) (n, q) b.2 in
+    let g = none_if (ltb MOST_ARRAY_BYTES a.0.0) (a.0.0, d.0) (n, q) d.2 in
     let count = number_takes little p a.0.0 a.0.1 fits a.1 in
     let n_is : a.0.0 ≡ n = ap (λ (r : ℕ × Place). r.0) g.1 in
     let q_is : d.0 ≡ q = ap (λ (r : ℕ × Place). r.1) g.1 in
@@ -240,7 +241,7 @@ array_head_takes little t left p n q fits e =
     let after = aligned_takes (alignment b.0.0) a.0.1 d.0 d.1 in
     let pad_is : zeros (alignment b.0.0) a.0.1.at ≡ zeros (type_alignment t) (p.at + length head) = ap (λ (k : ℕ). zeros k a.0.1.at) align_is ∙ ap (λ (k : ℕ). zeros (type_alignment t) k) at_is in
     let whole = Takes-then p a.0.1 d.0 head (zeros (type_alignment t) (p.at + length head)) (subst (λ (l : List ℕ). Takes p l a.0.1) head_is count.1) (subst (λ (l : List ℕ). Takes a.0.1 l d.0) pad_is after) in
-    (subst (λ (r : Place). Takes p (array_head little (type_alignment t) p.at n) r) q_is whole, subst (λ (k : ℕ). k ≤ 67108864) n_is (ltb-false _ _ g.0))
+    (subst (λ (r : Place). Takes p (array_head little (type_alignment t) p.at n) r) q_is whole, subst (λ (k : ℕ). k ≤ MOST_ARRAY_BYTES) n_is (ltb-false _ _ g.0))
 
 -- what one reads elements with, and how an empty array's type is skipped
 array_takes : (little : Bool) (one : List ℕ → Place → Option Ended) (P : ℕ → List ℕ → Type 0) (t : Ty) (left : List ℕ) → SoundAt one (type_text t ++ left) left P → element_after whole_type_after (type_text t ++ left) ≡ Some left → SoundAt (array_at little one) (type_text t ++ left) left (IsArray little (type_alignment t) P)
@@ -275,7 +276,7 @@ array_takes little one P t left sound skipped p end fits e =
       takes = subst (λ (r : Place). Takes p bytes r) (ap (λ (r : Ended). r.1) end_is) whole;
       is = record {
         elements = row.elements;
-        fits = subst (λ (k : ℕ). k ≤ 67108864) count_is head.1;
+        fits = subst (λ (k : ℕ). k ≤ MOST_ARRAY_BYTES) count_is head.1;
         spelled = ap (λ (l : List ℕ). l ++ b.0.0) head_is ∙ ap (λ (l : List ℕ). array_head little (type_alignment t) p.at (length (concat row.elements)) ++ l) row.parts;
         each = subst (λ (k : ℕ). AreInRow P k row.elements) (head.0.at ∙ ap (λ (l : List ℕ). p.at + length l) head_is) row.each;
       };
@@ -330,7 +331,7 @@ variant_type_takes p text q fits e =
       sym text_is ∙ held.2,
     )
 
-variant_takes : (one : List ℕ → Place → Option Ended) (P : Ty → ℕ → List ℕ → Type 0) → ((t : Ty) → is_type false t 32 32 ≡ true → SoundAt one (type_text t) [] (P t)) → (p q : Place) → IsBytes p.rest → variant_at one p ≡ Some q → Spells (IsVariant P) p q
+variant_takes : (one : List ℕ → Place → Option Ended) (P : Ty → ℕ → List ℕ → Type 0) → ((t : Ty) → is_type false t MOST_ARRAYS MOST_STRUCTS ≡ true → SoundAt one (type_text t) [] (P t)) → (p q : Place) → IsBytes p.rest → variant_at one p ≡ Some q → Spells (IsVariant P) p q
 unfolding variant_at
 variant_takes one P sound p q fits e =
     let a = bind_some (variant_type_at p) (λ types. one types.0 types.1 >>= λ r. Some r.1) q e in
@@ -381,9 +382,9 @@ mutual
 
 -- what holds of the values within
 abbrev Inner : Bool → ℕ → Type 0
-Inner little all = (a s : ℕ) (t : Ty) (e : Bool) (x y : ℕ) (left : List ℕ) → is_type e t x y ≡ true → x ≤ 32 → y ≤ 32 → SoundAt (value_at little all a s) (type_text t ++ left) left (IsValue little all a s t)
+Inner little all = (a s : ℕ) (t : Ty) (e : Bool) (x y : ℕ) (left : List ℕ) → is_type e t x y ≡ true → x ≤ MOST_ARRAYS → y ≤ MOST_STRUCTS → SoundAt (value_at little all a s) (type_text t ++ left) left (IsValue little all a s t)
 
-inner_all : (little : Bool) (all : ℕ) → Inner little all → (a s : ℕ) (ts : Tys) (x y : ℕ) → are_types ts x y ≡ true → x ≤ 32 → y ≤ 32 → SoundAll (value_at little all a s) (IsValue little all a s) ts
+inner_all : (little : Bool) (all : ℕ) → Inner little all → (a s : ℕ) (ts : Tys) (x y : ℕ) → are_types ts x y ≡ true → x ≤ MOST_ARRAYS → y ≤ MOST_STRUCTS → SoundAll (value_at little all a s) (IsValue little all a s) ts
 inner_all little all ih a s none x y good lx ly = tt
 inner_all little all ih a s (more t ts) x y good lx ly =
     let goods = and_parts (is_type false t x y) (are_types ts x y) good in
@@ -429,7 +430,7 @@ value_takes little (suc all) a s variant e x y left good lx ly p end fits h =
     let P = IsValue little all a s in
     let room = has_room (eqb (suc all) 0) (option_map (λ q. (left, q)) (variant_at one p)) end h in
     let m = map_some (variant_at one p) (λ q. (left, q)) end room.1 in
-    let sound = λ (u : Ty) (complete : is_type false u 32 32 ≡ true). subst (λ (l : List ℕ). SoundAt one l [] (P u)) (append-nil (type_text u)) (value_takes little all a s u false 32 32 [] complete (omega arith) (omega arith)) in
+    let sound = λ (u : Ty) (complete : is_type false u MOST_ARRAYS MOST_STRUCTS ≡ true). subst (λ (l : List ℕ). SoundAt one l [] (P u)) (append-nil (type_text u)) (value_takes little all a s u false MOST_ARRAYS MOST_STRUCTS [] complete (omega arith) (omega arith)) in
     let v = variant_takes one P sound p m.0 fits m.1 in
     record {
       left_is = sym (ap (λ (r : Ended). r.0) m.2);
@@ -443,7 +444,7 @@ value_takes little (suc all) zero s (array t) e x y left good lx ly p end fits h
 value_takes little (suc all) (suc a) s (array t) e x y left good lx ly p end fits h =
     let goods = and_parts (ltb 0 x) (is_type true t (x - 1) y) good in
     let read : array_at little (value_at little all a s) (type_text t ++ left) p ≡ Some end = subst (λ (n : ℕ). array_at little (value_at little all n s) (type_text t ++ left) p ≡ Some end) (less_one a) (has_room (eqb (suc all) 0 || eqb (suc a) 0) (array_at little (value_at little all (suc a - 1) s) (type_text t ++ left) p) end h).1 in
-    let skipped = element_skipped t left (wider t true (x - 1) y 32 32 (omega arith) ly goods.1) in
+    let skipped = element_skipped t left (wider t true (x - 1) y MOST_ARRAYS MOST_STRUCTS (omega arith) ly goods.1) in
     array_takes little (value_at little all a s) (IsValue little all a s t) t left (value_takes little all a s t true (x - 1) y left goods.1 (omega arith) ly) skipped p end fits read
 value_takes little (suc all) a zero (struct t ts) e x y left good lx ly p end fits h =
     let types = ((type_text t ++ types_text ts) ++ 41 ∷ []) ++ left in

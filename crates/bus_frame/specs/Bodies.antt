@@ -1,6 +1,7 @@
 -- The bodies that a filter reads and writes: texts, and lists of names.
 use Rattle.std.specs.Prelude.{◌≡◌, ◌≤◌, ℕ, zero, suc, ◌+◌, ◌-◌, Bool, ◌==◌, nat_lt, if◌then◌else◌, List, [], ◌∷◌, ◌++◌, length, take, drop, codes, Option, Some, None, option_map, unwrap_or}
 use Rattle.std.specs.Str.{bytes_eq}
+use Rattle.bus_frame.specs.declared.limits.TheConstants.{MOST_ARRAY_BYTES}
 use Rattle.bus_frame.specs.declared.header.Header.{Header}
 use Rattle.bus_frame.specs.Steps.{◌>>=◌, first_of, remainder_byte}
 use Rattle.bus_frame.specs.Places.{Place, bytes_at, long_text_at}
@@ -47,7 +48,7 @@ pub record AreThreeTexts (h : Header) (message a b c : List ℕ) : Type 0 where
 pub record AreNames (h : Header) (message : List ℕ) (names : List (List ℕ)) : Type 0 where
   pub typed : signature_text h ≡ codes "as"
   pub elements : List ℕ
-  pub fits : length elements ≤ 67108864
+  pub fits : length elements ≤ MOST_ARRAY_BYTES
   pub spelled : body_bytes h message ≡ array_head h.little 4 h.body_at (length elements) ++ elements
   pub are : AreTexts h.little (h.body_at + length (array_head h.little 4 h.body_at (length elements))) names elements
 

@@ -1,5 +1,6 @@
 -- The fields of a header, after the D-Bus specification's "Message Protocol", "Header Fields".
-use Rattle.std.specs.Prelude.{◌≡◌, ℕ, zero, suc, Bool, true, false, ◌||◌, ◌==◌, not, if◌then◌else◌, List, length, Option, Some, None, is_some, option_map, Result, Ok, Err}
+use Rattle.std.specs.Prelude.{◌≡◌, ℕ, zero, suc, ◌-◌, Bool, true, false, ◌||◌, ◌==◌, not, if◌then◌else◌, List, length, Option, Some, None, is_some, option_map, Result, Ok, Err}
+use Rattle.bus_frame.specs.declared.limits.TheConstants.{MOST_CONTAINERS, MOST_ARRAYS, MOST_STRUCTS}
 use Rattle.fp_base.specs.declared.frame_rule.FrameRule.{FrameRule}
 use Rattle.fp_base.specs.declared.frame_rule.FrameRule.TheVariants.{Fields, Code, Double, Kind, Value}
 use Rattle.bus_frame.specs.declared.known.Grammar.{Grammar}
@@ -40,7 +41,7 @@ content_at little types p = do
   if code.0 == 115 || code.0 == 111 then option_map (λ t. (word code.0 t.0, t.1)) (long_text_at little p)
       else (if code.0 == 103 then option_map (λ t. (word code.0 t.0, t.1)) (short_text_at p)
       else (if code.0 == 117 then option_map (λ n. (number n.0, n.1)) (number_at little p)
-      else option_map (λ r. (other, r.1)) (value_at little 63 32 32 types p)))
+      else option_map (λ r. (other, r.1)) (value_at little (MOST_CONTAINERS - 1) MOST_ARRAYS MOST_STRUCTS types p)))
 
 -- a code and a variant, at a multiple of 8
 unfoldable pub field_at : Bool → Place → Option (Field × Place)

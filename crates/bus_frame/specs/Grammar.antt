@@ -1,7 +1,8 @@
 -- What values and fields are, by the bytes that spell them at a place: the D-Bus specification's "Marshaling" and
 -- "Message Protocol". Places are counted from the message's first byte.
-use Rattle.std.specs.Prelude.{◌≡◌, ◌⊎◌, ℕ, zero, suc, ◌+◌, ◌^◌, ◌<◌, ◌≤◌, Bool, true, false, ◌||◌, ◌&&◌, ◌==◌, MatchBool, List, [], ◌∷◌, ◌++◌, length}
+use Rattle.std.specs.Prelude.{◌≡◌, ◌⊎◌, ℕ, zero, suc, ◌+◌, ◌-◌, ◌^◌, ◌<◌, ◌≤◌, Bool, true, false, ◌||◌, ◌&&◌, ◌==◌, MatchBool, List, [], ◌∷◌, ◌++◌, length}
 use Rattle.std.specs.List.{concat}
+use Rattle.bus_frame.specs.declared.limits.TheConstants.{MOST_ARRAY_BYTES, MOST_CONTAINERS, MOST_ARRAYS, MOST_STRUCTS}
 use Rattle.bus_frame.specs.Types.{Ty, Tys, basic, variant, array, struct, entry, none, more, type_text, is_type}
 use Rattle.bus_frame.specs.Numbers.{padding, is_text}
 use Rattle.bus_frame.specs.Values.{fixed_size, alignment}
@@ -56,10 +57,10 @@ array_head little align at len =
     let count = zeros 4 at ++ number_bytes little len in
     count ++ zeros align (at + length count)
 
--- an array of at most 2^26 bytes
+-- an array of at most 64 MiB
 pub record IsArray (little : Bool) (align : ℕ) (P : ℕ → List ℕ → Type 0) (at : ℕ) (bytes : List ℕ) : Type 0 where
   pub elements : List (List ℕ)
-  pub fits : length (concat elements) ≤ 67108864
+  pub fits : length (concat elements) ≤ MOST_ARRAY_BYTES
   pub spelled : bytes ≡ array_head little align at (length (concat elements)) ++ concat elements
   pub each : AreInRow P (at + length (array_head little align at (length (concat elements)))) elements
 
@@ -77,7 +78,7 @@ pub record IsStruct (P : Ty → ℕ → List ℕ → Type 0) (ts : Tys) (at : �
 
 -- the text of a complete type, with its length before it and a zero byte after it
 pub record IsTypeText (t : Ty) (bytes : List ℕ) : Type 0 where
-  pub complete : is_type false t 32 32 ≡ true
+  pub complete : is_type false t MOST_ARRAYS MOST_STRUCTS ≡ true
   pub fits : length (type_text t) < 256
   pub spelled : bytes ≡ length (type_text t) ∷ type_text t ++ 0 ∷ []
 
@@ -122,7 +123,7 @@ IsContent little t at (word code text) bytes =
     ((t ≡ basic code) × ((code ≡ 115) ⊎ (code ≡ 111)) × IsLongText little at text bytes)
     ⊎ ((t ≡ basic code) × (code ≡ 103) × IsShortText text bytes)
 IsContent little t at (number n) bytes = (t ≡ basic 117) × IsNumber little at n bytes
-IsContent little t at other bytes = (is_telling t ≡ false) × IsValue little 63 32 32 t at bytes
+IsContent little t at other bytes = (is_telling t ≡ false) × IsValue little (MOST_CONTAINERS - 1) MOST_ARRAYS MOST_STRUCTS t at bytes
 
 -- a field: a code and a variant, at a multiple of 8
 pub record IsField (little : Bool) (at : ℕ) (f : Field) (bytes : List ℕ) : Type 0 where

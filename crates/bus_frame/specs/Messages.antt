@@ -20,8 +20,5 @@ type_code type.Signal = 4
 type_code (type.Unknown n) = n
 
 -- NO_REPLY_EXPECTED, the lowest bit
-abbrev pub no_reply_expected : Flags
-no_reply_expected = record { bits = 1 }
-
 abbrev pub wants_no_reply : Flags → Bool
 wants_no_reply f = f.bits % 2 == 1

@@ -1,6 +1,7 @@
 -- Valid names, after the D-Bus specification: "Valid Object Paths" and "Valid Names".
 use Rattle.std.specs.Prelude.{ℕ, Bool, true, false, not, ◌&&◌, ◌||◌, ◌==◌, nat_lt, nat_le, List, [], ◌∷◌, length}
 use Rattle.std.specs.List.{list_all, list_any, slice_split}
+use Rattle.bus_frame.specs.declared.limits.TheConstants.{MOST_NAME_BYTES}
 use Rattle.bus_frame.specs.declared.names.Alphabet.{Alphabet}
 use Rattle.bus_frame.specs.declared.names.Alphabet.TheVariants.{Interface, WellKnown, Unique, Path}
 
@@ -43,18 +44,18 @@ abbrev pub is_dotted : Alphabet → List ℕ → Bool
 is_dotted alphabet bytes = list_any (λ c. c == 46) bytes && are_elements alphabet 46 bytes
 
 unfoldable pub is_interface : List ℕ → Bool
-is_interface bytes = nat_le (length bytes) 255 && is_dotted Interface bytes
+is_interface bytes = nat_le (length bytes) MOST_NAME_BYTES && is_dotted Interface bytes
 
 unfoldable pub is_member : List ℕ → Bool
-is_member bytes = nat_le (length bytes) 255 && is_element Interface bytes
+is_member bytes = nat_le (length bytes) MOST_NAME_BYTES && is_element Interface bytes
 
 -- `:`, and then elements
 unfoldable pub is_unique : List ℕ → Bool
 is_unique [] = false
-is_unique (c ∷ name) = c == 58 && nat_le (length (c ∷ name)) 255 && is_dotted Unique name
+is_unique (c ∷ name) = c == 58 && nat_le (length (c ∷ name)) MOST_NAME_BYTES && is_dotted Unique name
 
 unfoldable pub is_well_known : List ℕ → Bool
-is_well_known bytes = nat_le (length bytes) 255 && is_dotted WellKnown bytes
+is_well_known bytes = nat_le (length bytes) MOST_NAME_BYTES && is_dotted WellKnown bytes
 
 unfoldable pub is_bus : List ℕ → Bool
 is_bus bytes = is_unique bytes || is_well_known bytes

@@ -1,5 +1,6 @@
 -- Reading a message, after the D-Bus specification's "Message Protocol": what stands at the front of some bytes.
 use Rattle.std.specs.Prelude.{◌≡◌, ℕ, ◌+◌, ◌-◌, Bool, true, false, ◌||◌, ◌&&◌, ◌==◌, not, nat_lt, if◌then◌else◌, List, [], length, take, drop, slice_index, Option, Some, None, is_none, option_map, unwrap_or, Result, Ok, Err}
+use Rattle.bus_frame.specs.declared.limits.TheConstants.{MOST_ARRAY_BYTES, MOST_MESSAGE_BYTES}
 use Rattle.fp_base.specs.declared.frame_rule.FrameRule.{FrameRule}
 use Rattle.fp_base.specs.declared.frame_rule.FrameRule.TheVariants.{Order, ZeroType, Version, Serial, Length, Padding, Required, Body}
 use Rattle.bus_frame.specs.declared.fixed.Fixed.{Fixed}
@@ -43,14 +44,14 @@ body_start f = array_end f + padding 8 (array_end f)
 abbrev pub message_len : Fixed → ℕ
 message_len f = body_start f + f.body_len
 
--- the first rule of the fixed part that is broken: at most 2^26 bytes of fields, and 2^24 in all
+-- the first rule of the fixed part that is broken: at most 64 MiB of fields, and 16 MiB in all
 unfoldable pub fixed_fault : Fixed → Option FrameRule
 fixed_fault f =
     if not (f.order == 108 || f.order == 66) then Some Order
     else (if f.kind == 0 then Some ZeroType
     else (if not (f.version == 1) then Some Version
     else (if f.serial == 0 then Some Serial
-    else (if nat_lt 67108864 f.array_len || nat_lt 16777216 (message_len f) then Some Length
+    else (if nat_lt MOST_ARRAY_BYTES f.array_len || nat_lt MOST_MESSAGE_BYTES (message_len f) then Some Length
     else None))))
 
 -- whether a field that messages of this type need isn't there

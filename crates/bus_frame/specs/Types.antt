@@ -1,6 +1,7 @@
 -- Complete types and signatures, after the D-Bus specification's "Type System".
 use Rattle.std.specs.Prelude.{ℕ, zero, suc, ◌-◌, Bool, true, false, ◌&&◌, ◌||◌, ◌==◌, nat_lt, nat_le, if◌then◌else◌, List, [], ◌∷◌, ◌++◌, length, Option, Some, None}
 use Rattle.std.specs.Option.{option_map_or}
+use Rattle.bus_frame.specs.declared.limits.TheConstants.{MOST_SIGNATURE_BYTES, MOST_CONTAINERS, MOST_ARRAYS, MOST_STRUCTS}
 use Rattle.bus_frame.specs.Steps.{◌>>=◌, or_else, first_of, remainder_byte}
 
 -- the code of a basic type: y b n q i u x t d s o g h
@@ -81,7 +82,7 @@ type_after (suc all) arrays structs types = type_step (suc all) arrays structs (
 
 -- what follows a whole type: at most 32 arrays and 32 structs nest
 abbrev pub whole_type_after : List ℕ → Option (List ℕ)
-whole_type_after = type_after 64 32 32
+whole_type_after = type_after MOST_CONTAINERS MOST_ARRAYS MOST_STRUCTS
 
 -- one complete type and nothing after it
 abbrev pub is_one_type : List ℕ → Bool
@@ -94,4 +95,4 @@ are_types_text (suc n) types = length types == 0 || option_map_or (are_types_tex
 
 -- a signature: complete types in at most 255 bytes
 unfoldable pub is_signature : List ℕ → Bool
-is_signature types = nat_le (length types) 255 && are_types_text (length types) types
+is_signature types = nat_le (length types) MOST_SIGNATURE_BYTES && are_types_text (length types) types

@@ -1,6 +1,7 @@
 -- Reading a value of a type, after the D-Bus specification's "Marshaling": what follows the type and where the value
 -- ends. The types are well formed, as reading them has shown before.
 use Rattle.std.specs.Prelude.{ℕ, zero, suc, ◌-◌, Bool, ◌||◌, ◌&&◌, ◌==◌, nat_lt, if◌then◌else◌, List, length, Option, Some, None, option_map}
+use Rattle.bus_frame.specs.declared.limits.TheConstants.{MOST_ARRAY_BYTES}
 use Rattle.bus_frame.specs.Steps.{◌>>=◌, or_else, first_of}
 use Rattle.bus_frame.specs.Types.{element_after, whole_type_after, is_one_type}
 use Rattle.bus_frame.specs.Places.{Place, bytes_at, byte_at, aligned_at, number_at, long_text_at, short_text_at}
@@ -69,13 +70,13 @@ abbrev pub array_type_after : (List ℕ → Place → Option Ended) → List ℕ
 array_type_after one types at body =
     if length body == 0 then element_after whole_type_after types else elements_at one (length body) types (record { at = at; rest = body })
 
--- how many bytes the elements have, at most 2^26, and the place of the first
+-- how many bytes the elements have, at most 64 MiB, and the place of the first
 unfoldable pub array_head_at : Bool → List ℕ → Place → Option (ℕ × Place)
 array_head_at little types p = do
   n ← number_at little p
   code ← first_of types
   q ← aligned_at (alignment code.0) n.1
-  if nat_lt 67108864 n.0 then None else Some (n.0, q)
+  if nat_lt MOST_ARRAY_BYTES n.0 then None else Some (n.0, q)
 
 unfoldable pub array_at : Bool → (List ℕ → Place → Option Ended) → List ℕ → Place → Option Ended
 array_at little one types p = do

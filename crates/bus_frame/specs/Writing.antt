@@ -5,7 +5,9 @@ use Rattle.bus_frame.specs.declared.header.Header.{Header}
 use Rattle.bus_frame.specs.declared.message.MessageType.{MessageType}
 use Rattle.bus_frame.specs.declared.message.MessageType.TheVariants as type
 use Rattle.bus_frame.specs.declared.message.Flags.{Flags}
-use Rattle.bus_frame.specs.Messages.{type_code, no_reply_expected}
+use Rattle.bus_frame.specs.declared.message.TheConstants.Flags.{NO_REPLY_EXPECTED}
+use Rattle.bus_frame.specs.declared.limits.TheConstants.{GREATEST_SERIAL}
+use Rattle.bus_frame.specs.Messages.{type_code}
 use Rattle.bus_frame.specs.Numbers.{padding}
 use Rattle.bus_frame.specs.Fields.{Content, word, number, other, Field}
 
@@ -62,7 +64,7 @@ bare_bytes little kind flags serial fields =
 
 -- the answer: an error that wants no reply, with the greatest serial
 unfoldable pub error_bytes : Bool → List ℕ → ℕ → Option (List ℕ) → List ℕ
-error_bytes little name reply to = bare_bytes little type.Error no_reply_expected 4294967295 (error_fields name reply to)
+error_bytes little name reply to = bare_bytes little type.Error NO_REPLY_EXPECTED GREATEST_SERIAL (error_fields name reply to)
 
 -- the elements of an array of texts, from a place on
 abbrev pub element_bytes : Bool → ℕ → List ℕ → List ℕ

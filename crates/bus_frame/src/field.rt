@@ -5,6 +5,7 @@ ghost use Rattle.bus_frame.specs.Places.{place_of};
 ghost use Rattle.bus_frame.specs.Fields.{content_of, field_of, content_at, field_at};
 
 use crate::cursor::Cursor;
+use crate::limits::{MOST_ARRAYS, MOST_CONTAINERS, MOST_STRUCTS};
 use crate::room::Room;
 use crate::steps::first_byte;
 use crate::value::{value, variant_type};
@@ -52,9 +53,9 @@ fn content<'a>(
         }
         _ => {
             let room = Room {
-                containers: 63,
-                arrays: 32,
-                structs: 32,
+                containers: MOST_CONTAINERS - 1,
+                arrays: MOST_ARRAYS,
+                structs: MOST_STRUCTS,
             };
             let (_, remainder) = value(room, little, types, place)?;
             Some((RawContent::Other, remainder))

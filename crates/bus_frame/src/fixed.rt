@@ -5,12 +5,9 @@ ghost use Rattle.bus_frame.specs.Numbers.{number_from};
 ghost use Rattle.bus_frame.specs.Reading.{is_little, type_of, fixed_of, array_end, body_start, message_len, fixed_fault};
 
 use crate::cursor::number;
+use crate::limits::{MOST_ARRAY_BYTES, MOST_MESSAGE_BYTES};
 use crate::message::{Flags, MessageType};
 use fp_base::FrameRule;
-
-const MAX_ARRAY: u64 = 67_108_864;
-
-const MAX_MESSAGE: u64 = 16_777_216;
 
 /// The fixed part: byte order, message type, flags, protocol version, and three numbers.
 #[derive(Clone, Copy)]
@@ -106,7 +103,7 @@ impl Fixed {
         if self.serial == 0 {
             return Some(FrameRule::Serial);
         }
-        if u64::from(self.array_len) > MAX_ARRAY || self.len() > MAX_MESSAGE {
+        if self.array_len > MOST_ARRAY_BYTES || self.len() > MOST_MESSAGE_BYTES {
             return Some(FrameRule::Length);
         }
         None

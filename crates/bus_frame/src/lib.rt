@@ -8,6 +8,7 @@ mod field;
 mod fixed;
 mod header;
 mod known;
+mod limits;
 mod message;
 mod names;
 mod reading;
@@ -21,6 +22,10 @@ mod writing;
 pub use bodies::{first_string, is_names, names_body, three_strings};
 pub use error::FrameError;
 pub use header::{Header, ReadFrame};
+pub use limits::{
+    GREATEST_SERIAL, MOST_ARRAY_BYTES, MOST_ARRAYS, MOST_CONTAINERS, MOST_MESSAGE_BYTES,
+    MOST_NAME_BYTES, MOST_SIGNATURE_BYTES, MOST_STRUCTS,
+};
 pub use message::{Flags, MessageType};
 pub use names::{
     are_name_elements, is_bus_name, is_interface_name, is_member_name, is_object_path,

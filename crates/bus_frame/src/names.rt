@@ -4,6 +4,8 @@ ghost use Rattle.std.specs.Prelude.{◌≡◌, ◌==◌};
 ghost use Rattle.std.specs.List.{list_all, slice_split};
 ghost use Rattle.bus_frame.specs.Names.{begins_element, continues_element, is_element, are_elements, is_dotted, is_interface, is_member, is_unique, is_well_known, is_bus, is_path};
 
+use crate::limits::MOST_NAME_BYTES;
+
 /// Which characters the elements of a name have.
 #[derive(Clone, Copy)]
 pub enum Alphabet {
@@ -73,7 +75,7 @@ fn dotted(alphabet: Alphabet, bytes: &[u8]) -> bool
 pub fn is_interface_name(bytes: &[u8]) -> bool
     ensures { result ≡ is_interface bytes.now }
 {
-    bytes.len() <= 255 && dotted(Alphabet::Interface, bytes)
+    bytes.len() <= MOST_NAME_BYTES && dotted(Alphabet::Interface, bytes)
 }
 
 /// Whether the bytes are the name of a method or a signal: one element of at most 255 bytes.
@@ -81,7 +83,7 @@ pub fn is_interface_name(bytes: &[u8]) -> bool
 pub fn is_member_name(bytes: &[u8]) -> bool
     ensures { result ≡ is_member bytes.now }
 {
-    bytes.len() <= 255 && element(Alphabet::Interface, bytes)
+    bytes.len() <= MOST_NAME_BYTES && element(Alphabet::Interface, bytes)
 }
 
 /// Whether the bytes are a unique bus name: at most 255 bytes, `:` and then two elements or more of letters, digits,
@@ -91,7 +93,7 @@ pub fn is_unique_name(bytes: &[u8]) -> bool
     ensures { result ≡ is_unique bytes.now }
 {
     match bytes {
-        [b':', name @ ..] => bytes.len() <= 255 && dotted(Alphabet::Unique, name),
+        [b':', name @ ..] => bytes.len() <= MOST_NAME_BYTES && dotted(Alphabet::Unique, name),
         _ => false,
     }
 }
@@ -101,7 +103,7 @@ pub fn is_unique_name(bytes: &[u8]) -> bool
 pub fn is_well_known_name(bytes: &[u8]) -> bool
     ensures { result ≡ is_well_known bytes.now }
 {
-    bytes.len() <= 255 && dotted(Alphabet::WellKnown, bytes)
+    bytes.len() <= MOST_NAME_BYTES && dotted(Alphabet::WellKnown, bytes)
 }
 
 /// Whether the bytes are elements of a bus name that isn't unique: one or more with dots between, and of any length.

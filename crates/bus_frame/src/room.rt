@@ -1,4 +1,8 @@
+//! How deep containers nest.
+
 ghost use Rattle.std.specs.Prelude.{◌≡◌, ◌-◌, ◌≤◌, ◌==◌, ◌||◌, if◌then◌else◌, Some, None};
+
+use crate::limits::{MOST_ARRAYS, MOST_CONTAINERS, MOST_STRUCTS};
 
 /// How many containers may still be opened: of any kind, and of them arrays and structs.
 #[derive(Clone, Copy)]
@@ -11,9 +15,9 @@ pub struct Room {
 impl Room {
     /// The room of a whole value: 64 containers, among them 32 arrays and 32 structs.
     pub const WHOLE: Room = Room {
-        containers: 64,
-        arrays: 32,
-        structs: 32,
+        containers: MOST_CONTAINERS,
+        arrays: MOST_ARRAYS,
+        structs: MOST_STRUCTS,
     };
 
     /// The room within an array.

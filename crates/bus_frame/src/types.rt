@@ -4,6 +4,7 @@ ghost use Rattle.std.specs.Prelude.{◌≡◌, ◌==◌, ◌||◌, length};
 ghost use Rattle.bus_frame.specs.Steps.{Gives};
 ghost use Rattle.bus_frame.specs.Types.{is_basic, element_after, members_after, type_after, is_one_type, is_signature, are_types_text};
 
+use crate::limits::MOST_SIGNATURE_BYTES;
 use crate::room::Room;
 use crate::steps::{after_byte, first_byte};
 
@@ -79,7 +80,7 @@ pub fn is_complete_type(types: &[u8]) -> bool
 pub fn is_type_signature(types: &[u8]) -> bool
     ensures { result ≡ is_signature types.now }
 {
-    types.len() <= 255 && are_complete_types(types)
+    types.len() <= MOST_SIGNATURE_BYTES && are_complete_types(types)
 }
 
 fn are_complete_types(types: &[u8]) -> bool

@@ -7,11 +7,10 @@ ghost use Rattle.bus_frame.specs.Places.{place_of};
 ghost use Rattle.bus_frame.specs.Values.{fixed_size, alignment, fixed_at, truth_at, basic_at, closed, members_at, elements_at, array_type_after, array_head_at, array_at, variant_type_at, variant_at, struct_at, value_at};
 
 use crate::cursor::Cursor;
+use crate::limits::MOST_ARRAY_BYTES;
 use crate::room::Room;
 use crate::steps::first_byte;
 use crate::types::{after_element, is_complete_type};
-
-const MAX_ARRAY: u32 = 67_108_864;
 
 fn size_of_fixed(code: u8) -> usize
     ensures { result ≡ fixed_size code }
@@ -90,7 +89,7 @@ pub fn array_head<'m>(little: bool, types: &[u8], place: Cursor<'m>) -> Option<(
     let (count, remainder) = place.number(little)?;
     let (code, _) = first_byte(types)?;
     let first = remainder.aligned(alignment_of(code))?;
-    if count > MAX_ARRAY {
+    if count > MOST_ARRAY_BYTES {
         return None;
     }
     Some((count as usize, first))

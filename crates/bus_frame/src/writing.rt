@@ -6,8 +6,10 @@ ghost use Rattle.std.specs.List.{list_any};
 ghost use Rattle.std.specs.Option.{ForSome};
 ghost use Rattle.std.specs.Prelude.{◌==◌};
 ghost use Rattle.bus_frame.specs.Numbers.{padding};
+ghost use Rattle.bus_frame.specs.declared.limits.TheConstants.{MOST_NAME_BYTES};
 ghost use Rattle.bus_frame.specs.Writing.{number_bytes, zeros, text_bytes, field_bytes, fields_bytes, fixed_bytes, error_fields, error_bytes};
 
+use crate::limits::GREATEST_SERIAL;
 use crate::message::{Flags, MessageType};
 use byteorder::{BigEndian, ByteOrder, LittleEndian};
 use fp_base::Blob;
@@ -51,7 +53,7 @@ pub fn put_text(out: &mut Vec<u8>, little: bool, text: &str) -> Result<(), Alloc
 /// Adds a field of the type `s` to a field array, which begins at byte 16 of its message.
 fn put_word(fields: &mut Vec<u8>, little: bool, code: u8, text: &str) -> Result<(), AllocError>
     requires room { length fields.old.items < 2 ^ 32 }
-    requires text_len { length text.now ≤ 255 }
+    requires text_len { length text.now ≤ MOST_NAME_BYTES }
     ensures { OnOk result (fields.new.items ≡ fields.old.items
         ++ field_bytes little (16 + length fields.old.items) (record { code = code; content = word_content 115 text.now })) }
 {
@@ -84,8 +86,8 @@ fn error_array(
     reply: u32,
     to: Option<&str>,
 ) -> Result<Vec<u8>, AllocError>
-    requires name_len { length name.now ≤ 255 }
-    requires to_len { ForSome to (λ t. length t.now ≤ 255) }
+    requires name_len { length name.now ≤ MOST_NAME_BYTES }
+    requires to_len { ForSome to (λ t. length t.now ≤ MOST_NAME_BYTES) }
     ensures bound { IfOk result (λ v. vec_len v < 2 ^ 32) }
     ensures fields { IfOk result (λ v. v.items ≡ fields_bytes little 16
         (error_fields name.now reply (option_map (λ t. t.now) to.entry))) }
@@ -130,8 +132,8 @@ pub fn error_frame(
     reply: u32,
     to: Option<&str>,
 ) -> Result<Blob, AllocError>
-    requires name_len { length name.now ≤ 255 }
-    requires to_len { ForSome to (λ t. length t.now ≤ 255) }
+    requires name_len { length name.now ≤ MOST_NAME_BYTES }
+    requires to_len { ForSome to (λ t. length t.now ≤ MOST_NAME_BYTES) }
     ensures bytes { IfOk result (λ b. b ≡ error_bytes little name.now reply
         (option_map (λ t. t.now) to.entry)) }
 {
@@ -142,7 +144,7 @@ pub fn error_frame(
         little,
         MessageType::Error,
         Flags::NO_REPLY_EXPECTED,
-        u32::MAX,
+        GREATEST_SERIAL,
         fields.len() as u32,
     )?;
     out.extend_from_slice(&fields)?;

@@ -1,3 +1,5 @@
+//! Levels.
+
 ghost use Rattle.std.specs.Prelude.{◌≡◌};
 ghost use Rattle.bus_policy.specs.Levels.{rank, greater, is_at_least};
 

@@ -2,6 +2,7 @@
 
 ghost use Rattle.std.specs.Prelude.{◌≡◌, ◌≤◌, length, IfOk, option_map};
 ghost use Rattle.std.specs.Option.{ForSome};
+ghost use Rattle.bus_frame.specs.declared.limits.TheConstants.{MOST_NAME_BYTES};
 
 use fp_base::Text;
 use std::alloc::{AllocError, Global};
@@ -10,12 +11,12 @@ use std::alloc::{AllocError, Global};
 #[derive(Drop)]
 pub struct Name {
     pub text: Text,
-    ghost short: { length text ≤ 255 },
+    ghost short: { length text ≤ MOST_NAME_BYTES },
 }
 
 /// The client's name, where it is known.
 pub fn name_of(alloc: Global, client: Option<&str>) -> Result<Option<Name>, AllocError>
-    requires { ForSome client (λ t. length t.now ≤ 255) }
+    requires { ForSome client (λ t. length t.now ≤ MOST_NAME_BYTES) }
     ensures { IfOk result
         (λ c. option_map (λ name. name.text) c ≡ option_map (λ t. t.now) client.entry) }
 {

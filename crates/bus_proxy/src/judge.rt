@@ -2,6 +2,7 @@
 
 ghost use Rattle.std.specs.Prelude.{◌≡◌, ◌≤◌, ◌∷◌, ℕ, [], List, Option, length, IfOk, OnOk, option_map};
 ghost use Rattle.std.specs.Option.{ForSome};
+ghost use Rattle.bus_frame.specs.declared.limits.TheConstants.{MOST_NAME_BYTES};
 ghost use Rattle.bus_frame.specs.Reading.{whole, frame_of};
 ghost use Rattle.bus_frame.specs.Writing.{error_bytes};
 ghost use Rattle.bus_policy.specs.Events.{Event, Judged};
@@ -74,7 +75,7 @@ impl<S: BuildHasher + Copy> Judge<S> {
         owners: &Items<(Text, Text)>,
         hash_builder: S,
     ) -> Result<Self, AllocError>
-        requires client { ForSome client (λ t. length t.now ≤ 255) }
+        requires client { ForSome client (λ t. length t.now ≤ MOST_NAME_BYTES) }
         ensures { IfOk result (λ j.
             JudgeAt j (setting policy (option_map (λ t. t.now) client.entry) owners.now) []) }
     {
@@ -87,7 +88,7 @@ impl<S: BuildHasher + Copy> Judge<S> {
 
     /// The error that answers a call.
     fn refusal(&self, name: &str, call: &Header) -> Result<Out, AllocError>
-        requires { length name.now ≤ 255 }
+        requires { length name.now ≤ MOST_NAME_BYTES }
         ensures { IfOk result (λ out. out ≡ record {
           to = Side.Client;
           bytes = error_bytes call.now.little name.now call.now.serial

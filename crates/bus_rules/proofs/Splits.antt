@@ -8,6 +8,7 @@ use Rattle.std.proofs.Math.Seq.{get_or-append_seam}
 use Rattle.std.proofs.lemmas.List.{length-append, take-append-drop, get_or-drop, length-drop}
 use Rattle.std.proofs.Math.Seq.{drop-cons}
 use Rattle.std.proofs.lemmas.List.Splits.{slice_split-cons_yes, slice_split-cons_no}
+use Rattle.bus_frame.specs.declared.limits.TheConstants.{MOST_NAME_BYTES}
 use Rattle.bus_frame.specs.declared.names.Alphabet.{Alphabet}
 use Rattle.bus_frame.specs.declared.names.Alphabet.TheVariants.{Interface, Path}
 use Rattle.bus_frame.specs.Names.{continues_element, begins_element, has_first_digit, is_digit, is_element, are_elements, is_dotted, is_interface, is_member, is_path}
@@ -103,14 +104,14 @@ elements_continue a (part ∷ parts) h =
 pub interface_misses : (c : ℕ) → joined (continues_element Interface) 46 c ≡ false → (i : List ℕ) → is_interface i ≡ true → Misses c i
 unfolding is_interface
 interface_misses c other i h =
-    let dotted = (and_parts (nat_le (length i) 255) (is_dotted Interface i) h).1 in
+    let dotted = (and_parts (nat_le (length i) MOST_NAME_BYTES) (is_dotted Interface i) h).1 in
     let elements = (and_parts (list_any (λ b. b == 46) i) (are_elements Interface 46 i) dotted).1 in
     missed (joined (continues_element Interface) 46) c other i (all_joined (continues_element Interface) 46 i (elements_continue Interface (slice_split (λ b. b == 46) i) elements))
 
 pub member_misses : (c : ℕ) → continues_element Interface c ≡ false → (m : List ℕ) → is_member m ≡ true → Misses c m
 unfolding is_member
 member_misses c other m h =
-    missed (continues_element Interface) c other m (element_continues Interface m (and_parts (nat_le (length m) 255) (is_element Interface m) h).1)
+    missed (continues_element Interface) c other m (element_continues Interface m (and_parts (nat_le (length m) MOST_NAME_BYTES) (is_element Interface m) h).1)
 
 pub path_misses : (c : ℕ) → joined (continues_element Path) 47 c ≡ false → (p : List ℕ) → is_path p ≡ true → Misses c p
 unfolding is_path

@@ -1,3 +1,5 @@
+//! Paths and names that are below others.
+
 ghost use Rattle.std.specs.Prelude.{◌≡◌};
 ghost use Rattle.bus_rules.specs.Rules.{is_within};
 

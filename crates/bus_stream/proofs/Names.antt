@@ -7,6 +7,7 @@ use Rattle.std.proofs.lemmas.Bool.{eqb-true, and_parts, and_from, cases_Bool, fa
 use Rattle.std.proofs.lemmas.List.Splits.{slice_split-cons_yes, slice_split-cons_no}
 use Rattle.std.proofs.lemmas.Str.{IsUtf8-from_ascii}
 use Rattle.std.proofs.lemmas.Str.Ascii.{IsAscii-nil, IsAscii-cons}
+use Rattle.bus_frame.specs.declared.limits.TheConstants.{MOST_NAME_BYTES}
 use Rattle.bus_frame.specs.declared.names.Alphabet.{Alphabet}
 use Rattle.bus_frame.specs.declared.names.Alphabet.TheVariants.{WellKnown, Unique}
 use Rattle.bus_frame.specs.Names.{continues_element, begins_element, has_first_digit, is_digit, is_element, are_elements, is_dotted, is_unique, is_well_known}
@@ -57,8 +58,8 @@ pub IsUtf8-from_unique : (bytes : List ℕ) → is_unique bytes ≡ true → IsU
 unfolding is_unique
 IsUtf8-from_unique [] h = absurd (false≢true h)
 IsUtf8-from_unique (c ∷ name) h =
-    let outer = and_parts (c == 58 && nat_le (length (c ∷ name)) 255) (is_dotted Unique name) h in
-    let first = eqb-true c 58 (and_parts (c == 58) (nat_le (length (c ∷ name)) 255) outer.0).0 in
+    let outer = and_parts (c == 58 && nat_le (length (c ∷ name)) MOST_NAME_BYTES) (is_dotted Unique name) h in
+    let first = eqb-true c 58 (and_parts (c == 58) (nat_le (length (c ∷ name)) MOST_NAME_BYTES) outer.0).0 in
     IsUtf8-from_ascii (c ∷ name) (IsAscii-cons c name (omega (arith, first)) (dotted_is_ascii Unique name outer.1))
 
 pub IsUtf8-from_well_known : (bytes : List ℕ) → is_well_known bytes ≡ true → IsUtf8 bytes

@@ -12,12 +12,13 @@ use Rattle.fp_name.specs.Hex.{is_byte, is_digest, digit, hex}
 use Rattle.fp_name.proofs.Bytes.{dotted_remote_name, Utf8-from_dotted}
 use Rattle.fp_name.proofs.HexTexts.{length-hex, unhex-hex}
 use Rattle.fp_small.specs.declared.state.Previous.{Previous}
+use Rattle.gv_value.specs.declared.limits.TheConstants.{MOST_BYTES}
 use Rattle.gv_value.specs.Basics.{string}
 use Rattle.gv_value.specs.Bytes.{le_bytes, zeros}
 use Rattle.gv_value.specs.Framing.{placed, width, framed}
 use Rattle.gv_value.specs.Layout.{padding}
 use Rattle.gv_value.specs.Shape.{Shape, Shapes, no_shapes, shape}
-use Rattle.gv_value.specs.Spelled.{Spelled, max_bytes}
+use Rattle.gv_value.specs.Spelled.{Spelled}
 use Rattle.gv_value.specs.Spelling.{fits_within, fits, spelling}
 use Rattle.gv_value.specs.Texts.{has_zero, is_text}
 use Rattle.gv_value.specs.Tree.{Tree, no_trees, tree}
@@ -238,8 +239,8 @@ module _ {of : Shape} {v : Tree} (d : DeployData) (shaped : of ≡ deploy_shape)
   pub written_fits : fits of v ≡ false → ⊥
   written_fits bad = cc (sym bad ∙ ap (λ t. fits t v) shaped ∙ ap (fits deploy_shape) is ∙ deploy_fits d read.origin read.commit read.previous read.time)
 
-  pub written_short : max_bytes < length (spelling v of) → ⊥
-  written_short long = absurd (omega (arith, subst (λ t. max_bytes < length (spelling v t)) shaped long, ap (λ x. length (spelling x deploy_shape)) is, deploy_length d read))
+  pub written_short : MOST_BYTES < length (spelling v of) → ⊥
+  written_short long = absurd (omega (arith, subst (λ t. MOST_BYTES < length (spelling v t)) shaped long, ap (λ x. length (spelling x deploy_shape)) is, deploy_length d read))
 
   spelled_here : (bytes : List ℕ) → Spelled of v bytes → Spelled deploy_shape (deploy_tree d) bytes
   spelled_here bytes spelled = subst (λ t. Spelled t (deploy_tree d) bytes) shaped (subst (λ x. Spelled of x bytes) is spelled)

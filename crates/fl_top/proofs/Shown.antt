@@ -5,11 +5,11 @@ use Rattle.std.specs.Option.{is_some}
 use Rattle.std.proofs.lemmas.Bool.{false≢true, leb-true, leb-false}
 use Rattle.fp_name.specs.Hex.{hex, is_digest}
 use Rattle.fp_small.specs.declared.refusal.Refusal.TheVariants.{MalformedValue}
-use Rattle.gv_value.specs.Shape.{Shape, is_type, max_depth}
+use Rattle.gv_value.specs.declared.limits.TheConstants.{MOST_BYTES, MOST_DEPTH}
+use Rattle.gv_value.specs.Shape.{Shape, is_type}
 use Rattle.gv_value.specs.Tree.{Tree}
 use Rattle.gv_value.specs.TypeText.{type_of}
 use Rattle.gv_value.specs.Reading.{value_at, value_of}
-use Rattle.gv_value.specs.Spelled.{max_bytes}
 use Rattle.gv_decode.specs.Decoded.{Passes}
 use Rattle.gv_decode.specs.declared.error.DecodeError.{DecodeError}
 use Rattle.gv_decode.specs.declared.error.DecodeError.TheVariants.{TooLong}
@@ -89,20 +89,20 @@ none_if_not true b r is = ap (λ (t : Bool). if t then r else None) is
 none_if_not false b r is = refl
 
 -- bytes that are too long are no value
-pub long_is_none : (t : Shape) (bytes : List ℕ) → max_bytes < length bytes → value_of t bytes ≡ None
-long_is_none t bytes long = none_if_not (is_type t) (leb (length bytes) max_bytes) (value_at max_depth t bytes) (go (leb (length bytes) max_bytes) refl)
+pub long_is_none : (t : Shape) (bytes : List ℕ) → MOST_BYTES < length bytes → value_of t bytes ≡ None
+long_is_none t bytes long = none_if_not (is_type t) (leb (length bytes) MOST_BYTES) (value_at MOST_DEPTH t bytes) (go (leb (length bytes) MOST_BYTES) refl)
   where
-    go : (b : Bool) → leb (length bytes) max_bytes ≡ b → leb (length bytes) max_bytes ≡ false
+    go : (b : Bool) → leb (length bytes) MOST_BYTES ≡ b → leb (length bytes) MOST_BYTES ≡ false
     go false is = is
-    go true is = absurd (omega (arith, leb-true (length bytes) max_bytes is, long))
+    go true is = absurd (omega (arith, leb-true (length bytes) MOST_BYTES is, long))
 
 -- nor are those of which it is known where they aren't
-pub short_is_none : (t : Shape) (bytes : List ℕ) → (length bytes ≤ max_bytes → value_of t bytes ≡ None) → value_of t bytes ≡ None
-short_is_none t bytes short = go (leb (length bytes) max_bytes) refl
+pub short_is_none : (t : Shape) (bytes : List ℕ) → (length bytes ≤ MOST_BYTES → value_of t bytes ≡ None) → value_of t bytes ≡ None
+short_is_none t bytes short = go (leb (length bytes) MOST_BYTES) refl
   where
-    go : (b : Bool) → leb (length bytes) max_bytes ≡ b → value_of t bytes ≡ None
-    go false is = none_if_not (is_type t) (leb (length bytes) max_bytes) (value_at max_depth t bytes) is
-    go true is = short (leb-true (length bytes) max_bytes is)
+    go : (b : Bool) → leb (length bytes) MOST_BYTES ≡ b → value_of t bytes ≡ None
+    go false is = none_if_not (is_type t) (leb (length bytes) MOST_BYTES) (value_at MOST_DEPTH t bytes) is
+    go true is = short (leb-true (length bytes) MOST_BYTES is)
 
 -- where something is read there is a value
 is_there : (o : Option Tree) → IsSome o → true ≡ is_some o
@@ -110,12 +110,12 @@ is_there None some = absurd (search rules)
 is_there (Some value) some = refl
 
 -- what was checked is a value
-pub some_checked : (of : Shape) (bytes : List ℕ) (r : Result (Unit {0}) DecodeError) → r ≡ Ok tt → (max_bytes < length bytes → r ≡ Err TooLong) → (length bytes ≤ max_bytes → Passes r (value_of of bytes)) → true ≡ is_some (value_of of bytes)
-some_checked of bytes r is long passes = go (leb (length bytes) max_bytes) refl
+pub some_checked : (of : Shape) (bytes : List ℕ) (r : Result (Unit {0}) DecodeError) → r ≡ Ok tt → (MOST_BYTES < length bytes → r ≡ Err TooLong) → (length bytes ≤ MOST_BYTES → Passes r (value_of of bytes)) → true ≡ is_some (value_of of bytes)
+some_checked of bytes r is long passes = go (leb (length bytes) MOST_BYTES) refl
   where
-    go : (b : Bool) → leb (length bytes) max_bytes ≡ b → true ≡ is_some (value_of of bytes)
-    go true few = is_there (value_of of bytes) (subst (λ (x : Result (Unit {0}) DecodeError). Passes x (value_of of bytes)) is (passes (leb-true (length bytes) max_bytes few)))
-    go false many = absurd (let both : Ok tt ≡ Err TooLong = sym is ∙ long (leb-false (length bytes) max_bytes many) in cc both)
+    go : (b : Bool) → leb (length bytes) MOST_BYTES ≡ b → true ≡ is_some (value_of of bytes)
+    go true few = is_there (value_of of bytes) (subst (λ (x : Result (Unit {0}) DecodeError). Passes x (value_of of bytes)) is (passes (leb-true (length bytes) MOST_BYTES few)))
+    go false many = absurd (let both : Ok tt ≡ Err TooLong = sym is ∙ long (leb-false (length bytes) MOST_BYTES many) in cc both)
 
 -- ---- a parent
 

@@ -1,6 +1,7 @@
 -- A value of a container, by its children.
 use Rattle.std.proofs.Common.{◌≡◌, ℕ, suc, ◌≤◌, true, Bool, ◌&&◌, leb, List, [], ◌∷◌, length, Option, Some, None, option_map, option_and_then, sym, ap, ◌∙◌, subst, arith, refl}
 use Rattle.std.proofs.lemmas.Bool.{and_parts, leb-true}
+use Rattle.gv_value.specs.declared.limits.TheConstants.{MOST_BYTES, MOST_DEPTH}
 use Rattle.gv_value.specs.Framing.{array_children, tuple_children}
 use Rattle.gv_value.specs.Layout.{align_of, size_of}
 use Rattle.gv_value.specs.Reading.{Reader, read_all, read_each, as_entry, value_at, value_of, parted}
@@ -15,18 +16,18 @@ use Rattle.gv_value.proofs.Lists.{then_some, map_some, guarded}
 use Rattle.gv_decode.specs.Decoded.{children_of}
 
 -- what is read in a container is read alone
-pub alone : (n : ℕ) (t : Shape) (bytes : List ℕ) (v : Tree) → n ≤ 64 → is_type t ≡ true → length bytes ≤ 16777216 → value_at n t bytes ≡ Some v → value_of t bytes ≡ Some v
+pub alone : (n : ℕ) (t : Shape) (bytes : List ℕ) (v : Tree) → n ≤ MOST_DEPTH → is_type t ≡ true → length bytes ≤ MOST_BYTES → value_at n t bytes ≡ Some v → value_of t bytes ≡ Some v
 alone n t bytes v few type short e =
-    let both = bounds_depth n 64 t v bytes (value_at-found n t bytes v e) in
+    let both = bounds_depth n MOST_DEPTH t v bytes (value_at-found n t bytes v e) in
     (reads_values t v bytes).1 (record { type = type; value = both.1 (omega (arith, both.0, few)); short = short })
 
 -- what is read of a type
-whole : (t : Shape) (bytes : List ℕ) (v : Tree) → value_of t bytes ≡ Some v → (length bytes ≤ 16777216) × (value_at 64 t bytes ≡ Some v)
+whole : (t : Shape) (bytes : List ℕ) (v : Tree) → value_of t bytes ≡ Some v → (length bytes ≤ MOST_BYTES) × (value_at MOST_DEPTH t bytes ≡ Some v)
 whole t bytes v e =
-    let g = guarded (is_type t && leb (length bytes) 16777216) (value_at 64 t bytes) v e in
-    (leb-true (length bytes) 16777216 (and_parts (is_type t) (leb (length bytes) 16777216) g.0).1, g.1)
+    let g = guarded (is_type t && leb (length bytes) MOST_BYTES) (value_at MOST_DEPTH t bytes) v e in
+    (leb-true (length bytes) MOST_BYTES (and_parts (is_type t) (leb (length bytes) MOST_BYTES) g.0).1, g.1)
 
-pub value-short : (t : Shape) (bytes : List ℕ) (v : Tree) → value_of t bytes ≡ Some v → length bytes ≤ 16777216
+pub value-short : (t : Shape) (bytes : List ℕ) (v : Tree) → value_of t bytes ≡ Some v → length bytes ≤ MOST_BYTES
 value-short t bytes v e = (whole t bytes v e).0
 
 pub tuple-value : (ts : Shapes) (bytes : List ℕ) (v : Tree) → value_of (Shape.tuple ts) bytes ≡ Some v →

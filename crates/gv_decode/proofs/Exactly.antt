@@ -1,6 +1,7 @@
 -- What is read is spelled so, and nothing else is.
 use Rattle.std.proofs.Common.{◌≡◌, ℕ, ◌≤◌, Bool, true, cond, leb, List, length, Option, Some, None, refl, Result, Ok, Err, IfOk, sym, ap, subst}
 use Rattle.std.proofs.lemmas.Bool.{and_from, le-leb}
+use Rattle.gv_value.specs.declared.limits.TheConstants.{MOST_BYTES, MOST_DEPTH}
 use Rattle.gv_value.specs.Reading.{value_at, value_of}
 use Rattle.gv_value.specs.Shape.{Shape, is_type}
 use Rattle.gv_value.specs.Spelled.{Spelled}
@@ -13,9 +14,9 @@ use Rattle.gv_decode.specs.declared.error.DecodeError.TheVariants as errors
 use Rattle.std.specs.Option.{IsSome}
 use Rattle.gv_decode.specs.Decoded.{Gives, Passes}
 
-pub value_of-is : (t : Shape) (bytes : List ℕ) → is_type t ≡ true → length bytes ≤ 16777216 → value_at 64 t bytes ≡ value_of t bytes
+pub value_of-is : (t : Shape) (bytes : List ℕ) → is_type t ≡ true → length bytes ≤ MOST_BYTES → value_at MOST_DEPTH t bytes ≡ value_of t bytes
 value_of-is t bytes is short =
-    sym (ap (λ (b : Bool). cond b (value_at 64 t bytes) None) (and_from (is_type t) (leb (length bytes) 16777216) is (le-leb (length bytes) 16777216 short)))
+    sym (ap (λ (b : Bool). cond b (value_at MOST_DEPTH t bytes) None) (and_from (is_type t) (leb (length bytes) MOST_BYTES) is (le-leb (length bytes) MOST_BYTES short)))
 
 pub exactly-spelled : (r : Result GvValue DecodeError) (t : Shape) (bytes : List ℕ) → Gives plain r (value_of t bytes) → IfOk r (λ v. Spelled t (plain v) bytes)
 exactly-spelled (Ok v) t bytes g = (reads_values t (plain v) bytes).0 g

@@ -2,6 +2,7 @@
 use Rattle.std.proofs.Common.{◌≡◌, ℕ, suc, ◌+◌, ◌<◌, ◌≤◌, Bool, true, false, ◌&&◌, leb, eqb, List, [], ◌∷◌, ◌++◌, length, Option, Some, None, option_map, refl, sym, ap, ap₂, ◌∙◌, subst, arith, ◌⊎◌, inl, inr, ⊎_elim}
 use Rattle.std.specs.Prelude.{slice_range}
 use Rattle.std.proofs.lemmas.Bool.{cases_lt, leb-true, eqb-true, and_parts}
+use Rattle.gv_value.specs.declared.limits.TheConstants.{MOST_BYTES, TOO_LARGE}
 use Rattle.gv_value.specs.Bytes.{all_zero}
 use Rattle.gv_value.specs.Capped.{capped, capped_size, IsExtent}
 use Rattle.gv_value.specs.Framing.{child_at, cut, is_none_left, member_end, marks}
@@ -26,7 +27,7 @@ inside body at start end child e =
 pub item-inside : (body : List ℕ) (at align end : ℕ) (child : List ℕ) → child_at body at (at + padding at align) end ≡ Some child → end ≤ length body
 item-inside body at align end child e = inside body at (at + padding at align) end child e
 
-pub item-short : (body : List ℕ) (at align end : ℕ) (child : List ℕ) → child_at body at (at + padding at align) end ≡ Some child → length body ≤ 16777216 → length child ≤ 16777216
+pub item-short : (body : List ℕ) (at align end : ℕ) (child : List ℕ) → child_at body at (at + padding at align) end ≡ Some child → length body ≤ MOST_BYTES → length child ≤ MOST_BYTES
 item-short body at align end child e short =
     let is = child_at-found body at (at + padding at align) end child (omega arith) e in
     omega (arith, is.len, is.inside)
@@ -53,19 +54,19 @@ End = ℕ × List ℕ
 record SameEnd (body : List ℕ) (at start : ℕ) (found told : End) : Type 0 where
   same : (found ≡ told) ⊎ ((child_at body at start found.0 ≡ None) × (child_at body at start told.0 ≡ None))
 
-same-end : (body : List ℕ) (at a start : ℕ) (o : Option ℕ) (last : Bool) (os : List ℕ) → length body ≤ 16777216 →
+same-end : (body : List ℕ) (at a start : ℕ) (o : Option ℕ) (last : Bool) (os : List ℕ) → length body ≤ MOST_BYTES →
     SameEnd body at start (member_end (capped_size o) last (length body) at a os) (member_end o last (length body) at a os)
 same-end body at a start None last os short = record { same = inl refl }
-same-end body at a start (Some n) last os short = ⊎_elim large small (cases_lt 16777217 n)
+same-end body at a start (Some n) last os short = ⊎_elim large small (cases_lt TOO_LARGE n)
   where
-    small : n ≤ 16777217 → SameEnd body at start (member_end (capped_size (Some n)) last (length body) at a os) (member_end (Some n) last (length body) at a os)
+    small : n ≤ TOO_LARGE → SameEnd body at start (member_end (capped_size (Some n)) last (length body) at a os) (member_end (Some n) last (length body) at a os)
     small le = let same : capped n ≡ n = omega arith in record { same = inl (ap (λ (m : ℕ). member_end (Some m) last (length body) at a os) same) }
 
-    large : 16777217 < n → SameEnd body at start (member_end (capped_size (Some n)) last (length body) at a os) (member_end (Some n) last (length body) at a os)
+    large : TOO_LARGE < n → SameEnd body at start (member_end (capped_size (Some n)) last (length body) at a os) (member_end (Some n) last (length body) at a os)
     large lt = record { same = inr (beyond body at start (at + padding at a + capped n) (omega arith), beyond body at start (at + padding at a + n) (omega arith)) }
 
 -- one member: what the code found, and what the definitions tell
-module _ (body : List ℕ) (at : ℕ) (t : Shape) (ts : Shapes) (os : List ℕ) (children : List (List ℕ)) (whole : Option (List (List ℕ))) (short : length body ≤ 16777216)
+module _ (body : List ℕ) (at : ℕ) (t : Shape) (ts : Shapes) (os : List ℕ) (children : List (List ℕ)) (whole : Option (List (List ℕ))) (short : length body ≤ MOST_BYTES)
     (e : Extent) (extent : IsExtent e t) (last : Bool) (final : last ≡ is_none_left ts) (end : ℕ) (fewer : List ℕ)
     (is : let p : End = (end, fewer) in p ≡ member_end e.size last (length body) at e.align os)
     (so : SoFar children (cut body at (marks (length body) at (shape t ts) os)) whole) where

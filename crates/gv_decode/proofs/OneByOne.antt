@@ -4,6 +4,7 @@ use Rattle.std.proofs.Common.{◌≡◌, ℕ, zero, suc, ◌+◌, ◌<◌, ◌�
 use Rattle.std.proofs.lemmas.Bool.{and_parts}
 use Rattle.std.proofs.lemmas.List.{drop_more, drop_all}
 use Rattle.std.specs.Option.{is_some, IsSome}
+use Rattle.gv_value.specs.declared.limits.TheConstants.{MOST_BYTES}
 use Rattle.gv_value.specs.Shape.{Shape, Shapes, no_shapes, shape}
 use Rattle.gv_value.specs.Tree.{Tree, Trees, no_trees, tree}
 use Rattle.gv_value.specs.Reading.{Reader, read_all, read_each}
@@ -90,7 +91,7 @@ passes-map f o h = is_some-map f o ∙ h
 
 -- ---- children by their places
 
-pub short-at : (cs : List (Bor (List ℕ))) (i : ℕ) (d : Bor (List ℕ)) → i < length cs → AreShort (slices cs) → length (get_or cs i d).now ≤ 16777216
+pub short-at : (cs : List (Bor (List ℕ))) (i : ℕ) (d : Bor (List ℕ)) → i < length cs → AreShort (slices cs) → length (get_or cs i d).now ≤ MOST_BYTES
 short-at [] i d lt h = absurd (omega (arith, lt))
 short-at (c ∷ cs) zero d lt h = h.0
 short-at (c ∷ cs) (suc i) d lt h = short-at cs i d (omega (arith, lt)) h.1

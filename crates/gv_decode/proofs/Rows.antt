@@ -3,6 +3,7 @@ use Rattle.std.proofs.Common.{◌≡◌, ℕ, suc, ◌+◌, ◌-◌, ◌/◌, �
 use Rattle.std.specs.Prelude.{slice_range}
 use Rattle.std.proofs.Math.Nat.{div-eq-sub-div, div-eq_of_lt}
 use Rattle.std.proofs.lemmas.Bool.{and_from, le-leb, cases_lt}
+use Rattle.gv_value.specs.declared.limits.TheConstants.{MOST_BYTES, TOO_LARGE}
 use Rattle.gv_value.specs.Bytes.{all_zero}
 use Rattle.gv_value.specs.Capped.{capped}
 use Rattle.gv_value.specs.Framing.{Mark, child_at, cut, steps}
@@ -54,14 +55,14 @@ module _ (bytes : List ℕ) (size left : ℕ) (children : List (List ℕ)) (whol
   row-short some = so_far-fails children _ whole row-over (cut-short bytes (length bytes - left) (λ e. some (omega (arith, e))))
 
 -- a size that stands for all larger ones cuts nothing, as they do
-pub row-capped : (bytes : List ℕ) (n : ℕ) → length bytes ≤ 16777216 →
+pub row-capped : (bytes : List ℕ) (n : ℕ) → length bytes ≤ MOST_BYTES →
     cut bytes 0 (steps (capped n) 0 (length bytes / capped n)) ≡ cut bytes 0 (steps n 0 (length bytes / n))
-row-capped bytes n short = ⊎_elim large small (cases_lt 16777217 n)
+row-capped bytes n short = ⊎_elim large small (cases_lt TOO_LARGE n)
   where
-    small : n ≤ 16777217 → cut bytes 0 (steps (capped n) 0 (length bytes / capped n)) ≡ cut bytes 0 (steps n 0 (length bytes / n))
+    small : n ≤ TOO_LARGE → cut bytes 0 (steps (capped n) 0 (length bytes / capped n)) ≡ cut bytes 0 (steps n 0 (length bytes / n))
     small le = let same : capped n ≡ n = omega arith in ap (λ (m : ℕ). cut bytes 0 (steps m 0 (length bytes / m))) same
 
-    large : 16777217 < n → cut bytes 0 (steps (capped n) 0 (length bytes / capped n)) ≡ cut bytes 0 (steps n 0 (length bytes / n))
+    large : TOO_LARGE < n → cut bytes 0 (steps (capped n) 0 (length bytes / capped n)) ≡ cut bytes 0 (steps n 0 (length bytes / n))
     large lt =
         let a : length bytes / capped n ≡ 0 = div-eq_of_lt (omega arith) in
         let b : length bytes / n ≡ 0 = div-eq_of_lt (omega arith) in

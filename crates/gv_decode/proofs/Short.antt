@@ -1,8 +1,9 @@
 -- What holds of a container's bytes, and of each part of them, holds of its children's.
 use Rattle.std.proofs.Common.{◌≡◌, ℕ, ◌+◌, ◌-◌, ◌*◌, ◌/◌, ◌<◌, ◌≤◌, ◌&&◌, eqb, leb, List, [], ◌∷◌, length, take, drop, map, reverse, Option, Some, None, option_map, subst, arith, length-take, length-drop}
 use Rattle.std.specs.Prelude.{⊤, slice_range, unwrap_or}
+use Rattle.gv_value.specs.declared.limits.TheConstants.{MOST_BYTES}
 use Rattle.gv_value.specs.Bytes.{le_value, all_zero, AllBelow}
-use Rattle.gv_value.specs.Framing.{Mark, child_at, cut, steps, marks, offset_count, offsets_remainder, width_in, array_children, tuple_children}
+use Rattle.gv_value.specs.Framing.{Mark, child_at, cut, steps, marks, offset_count, offsets_after, width_in, array_children, tuple_children}
 use Rattle.gv_value.specs.Layout.{padding, end_of, align_of, size_of}
 use Rattle.gv_value.specs.Shape.{Shape, Shapes}
 use Rattle.gv_value.specs.Spelled.{two_shapes}
@@ -45,7 +46,7 @@ module _ (P : List ℕ → Type 0) (parts : IsOfParts P) where
   array-each align None (b ∷ rest) cs h e =
       let bytes = b ∷ rest in
       let before = le_value (drop (length bytes - width_in (length bytes)) bytes) in
-      let es = then_some (λ ends. cut (take before bytes) 0 (map (λ end. (align, end)) ends)) (offsets_remainder before ((length bytes - before) / width_in (length bytes)) bytes) cs e in
+      let es = then_some (λ ends. cut (take before bytes) 0 (map (λ end. (align, end)) ends)) (offsets_after before ((length bytes - before) / width_in (length bytes)) bytes) cs e in
       cut-each (take before bytes) 0 (map (λ end. (align, end)) es.0) cs (parts.front before bytes h) es.2
 
   pub tuple-each : (size : Option ℕ) (ts : Shapes) (bytes : List ℕ) (cs : List (List ℕ)) → P bytes → tuple_children size ts bytes ≡ Some cs → Each P cs
@@ -55,7 +56,7 @@ module _ (P : List ℕ → Type 0) (parts : IsOfParts P) where
       cut-each (take whole bytes) 0 (marks whole 0 ts []) cs (parts.front whole bytes h) g.1
   tuple-each None ts bytes cs h e =
       let before = length bytes - offset_count ts * width_in (length bytes) in
-      let os = then_some (λ ends. cut (take before bytes) 0 (marks before 0 ts (reverse ends))) (offsets_remainder before (offset_count ts) bytes) cs e in
+      let os = then_some (λ ends. cut (take before bytes) 0 (marks before 0 ts (reverse ends))) (offsets_after before (offset_count ts) bytes) cs e in
       cut-each (take before bytes) 0 (marks before 0 ts (reverse os.0)) cs (parts.front before bytes h) os.2
 
   pub children-each : (t : Shape) (bytes : List ℕ) (cs : List (List ℕ)) → P bytes → children_of t bytes ≡ Some cs → Each P cs
@@ -67,7 +68,7 @@ module _ (P : List ℕ → Type 0) (parts : IsOfParts P) where
   children-each (Shape.maybe t) bytes cs h e = absurd cc
 
 abbrev pub IsShort : List ℕ → Type 0
-IsShort bytes = length bytes ≤ 16777216
+IsShort bytes = length bytes ≤ MOST_BYTES
 
 pub short-of-parts : IsOfParts IsShort
 short-of-parts = record {
@@ -85,8 +86,8 @@ as-short : (cs : List (List ℕ)) → Each IsShort cs → AreShort cs
 as-short [] h = tt
 as-short (c ∷ cs) h = (h.0, as-short cs h.1)
 
-pub array-short : (align : ℕ) (size : Option ℕ) (bytes : List ℕ) (cs : List (List ℕ)) → length bytes ≤ 16777216 → array_children align size bytes ≡ Some cs → AreShort cs
+pub array-short : (align : ℕ) (size : Option ℕ) (bytes : List ℕ) (cs : List (List ℕ)) → length bytes ≤ MOST_BYTES → array_children align size bytes ≡ Some cs → AreShort cs
 array-short align size bytes cs h e = as-short cs (array-each IsShort short-of-parts align size bytes cs h e)
 
-pub tuple-short : (size : Option ℕ) (ts : Shapes) (bytes : List ℕ) (cs : List (List ℕ)) → length bytes ≤ 16777216 → tuple_children size ts bytes ≡ Some cs → AreShort cs
+pub tuple-short : (size : Option ℕ) (ts : Shapes) (bytes : List ℕ) (cs : List (List ℕ)) → length bytes ≤ MOST_BYTES → tuple_children size ts bytes ≡ Some cs → AreShort cs
 tuple-short size ts bytes cs h e = as-short cs (tuple-each IsShort short-of-parts size ts bytes cs h e)

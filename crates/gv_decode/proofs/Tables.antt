@@ -3,7 +3,7 @@ use Rattle.std.proofs.Common.{◌≡◌, ℕ, zero, suc, ◌+◌, ◌-◌, ◌*�
 use Rattle.std.proofs.lemmas.Bool.{and_from, eq-eqb, le-leb}
 use Rattle.std.proofs.lemmas.List.{reverse-append, drop-drop}
 use Rattle.gv_value.specs.Bytes.{le_bytes, le_value, AllBelow}
-use Rattle.gv_value.specs.Framing.{width, width_in, numbers, offsets_at, offsets_remainder, is_none_left, put_offset, offset_count, member_end}
+use Rattle.gv_value.specs.Framing.{width, width_in, numbers, offsets_at, offsets_after, is_none_left, put_offset, offset_count, member_end}
 use Rattle.gv_value.specs.Capped.{capped_size, IsExtent}
 use Rattle.gv_value.specs.Layout.{size_of}
 use Rattle.gv_value.specs.Plans.{plan_shape, plan_shapes}
@@ -31,9 +31,9 @@ table-back w (suc k) table h len =
     ap (λ (xs : List ℕ). xs ++ flat_map (le_bytes w) (numbers w k (drop w table))) here
     ∙ ap (λ (xs : List ℕ). take w table ++ xs) (table-back w k (drop w table) (AllBelow-drop w table h) rest) ∙ take-append-drop w table
 
-pub offsets_remainder-is : (before count w : ℕ) (bytes table : List ℕ) → AllBelow 256 bytes → before ≤ length bytes → width before count ≡ w → width_in (length bytes) ≡ w →
-    table ≡ drop before bytes → length table ≡ count * w → offsets_remainder before count bytes ≡ Some (numbers w count table)
-offsets_remainder-is before count w bytes table h le here whole is len =
+pub offsets_after-is : (before count w : ℕ) (bytes table : List ℕ) → AllBelow 256 bytes → before ≤ length bytes → width before count ≡ w → width_in (length bytes) ≡ w →
+    table ≡ drop before bytes → length table ≡ count * w → offsets_after before count bytes ≡ Some (numbers w count table)
+offsets_after-is before count w bytes table h le here whole is len =
     let same : width before count ≡ width_in (length bytes) = here ∙ sym whole in
     let test = and_from _ _ (le-leb before (length bytes) le) (eq-eqb (width before count) (width_in (length bytes)) same) in
     let back : flat_map (le_bytes w) (numbers w count table) ≡ table = table-back w count table (subst (AllBelow 256) (sym is) (AllBelow-drop before bytes h)) len in
@@ -48,8 +48,8 @@ offsets_at-not w count table other = by (bytes_eq (flat_map (le_bytes w) (number
     by false is = refl
     by true is = absurd (other (sym (ap length (same_bytes _ table is)) ∙ length-offsets w (numbers w count table) ∙ ap (λ (x : ℕ). x * w) (length-numbers w count table)))
 
-pub offsets_remainder-not : (before count : ℕ) (bytes : List ℕ) → (length (drop before bytes) ≡ count * width before count → ⊥) → offsets_remainder before count bytes ≡ None
-offsets_remainder-not before count bytes other = by (leb before (length bytes) && eqb (width before count) (width_in (length bytes)))
+pub offsets_after-not : (before count : ℕ) (bytes : List ℕ) → (length (drop before bytes) ≡ count * width before count → ⊥) → offsets_after before count bytes ≡ None
+offsets_after-not before count bytes other = by (leb before (length bytes) && eqb (width before count) (width_in (length bytes)))
   where
     by : (b : Bool) → cond b (offsets_at (width before count) count (drop before bytes)) None ≡ None
     by false = refl
@@ -84,8 +84,8 @@ numbers-last w (suc k) table =
 pub left-last : (w k : ℕ) (table : List ℕ) → reverse (numbers w (suc k) table) ≡ le_value (take w (drop (k * w) table)) ∷ reverse (numbers w k table)
 left-last w k table = ap reverse (numbers-last w k table) ∙ reverse-append (numbers w k table) (le_value (take w (drop (k * w) table)) ∷ [])
 
-pub many-not : (before count : ℕ) (bytes : List ℕ) → length bytes < count → offsets_remainder before count bytes ≡ None
-many-not before count bytes lt = offsets_remainder-not before count bytes (λ e.
+pub many-not : (before count : ℕ) (bytes : List ℕ) → length bytes < count → offsets_after before count bytes ≡ None
+many-not before count bytes lt = offsets_after-not before count bytes (λ e.
     let least : count * 1 ≤ count * width before count = mul-le-mul_left count (width_pos before count) in
     omega (arith, e, length-drop before bytes))
 

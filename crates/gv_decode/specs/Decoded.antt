@@ -1,7 +1,8 @@
 -- What the reading of bytes answered.
-use Rattle.std.specs.Prelude.{◌≡◌, ℕ, map, ◌-◌, ◌*◌, ◌^◌, ◌<◌, ◌≤◌, ⊤, List, [], ◌∷◌, length, take, reverse, Option, Some, None, Result, Ok, Err}
+use Rattle.std.specs.Prelude.{◌≡◌, ℕ, map, ◌-◌, ◌*◌, ◌<◌, ◌≤◌, ⊤, List, [], ◌∷◌, length, take, reverse, Option, Some, None, Result, Ok, Err}
 use denote.Ref.{Bor}
 use Rattle.std.specs.Option.{IsSome}
+use Rattle.gv_value.specs.declared.limits.TheConstants.{MOST_BYTES}
 use Rattle.gv_value.specs.Framing.{numbers, array_children, tuple_children}
 use Rattle.gv_value.specs.Layout.{align_of, size_of}
 use Rattle.gv_value.specs.Reading.{before_zero}
@@ -34,7 +35,7 @@ slices children = map (λ child. child.now) children
 -- each has at most 16 MiB
 abbrev pub AreShort : List (List ℕ) → Type 0
 AreShort [] = ⊤
-AreShort (bytes ∷ others) = (length bytes ≤ 2 ^ 24) × AreShort others
+AreShort (bytes ∷ others) = (length bytes ≤ MOST_BYTES) × AreShort others
 
 -- the bytes of the elements of an array, of the members of a tuple, or of a key and a value
 abbrev pub children_of : Shape → List ℕ → Option (List (List ℕ))

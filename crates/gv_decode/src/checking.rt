@@ -1,5 +1,6 @@
 //! Whether bytes are values of types, without the values.
-ghost use Rattle.std.specs.Prelude.{◌≡◌, ◌≤◌, ◌^◌, length, IsTrue, option_map, option_and_then};
+ghost use Rattle.std.specs.Prelude.{◌≡◌, ◌≤◌, length, IsTrue, option_map, option_and_then};
+ghost use Rattle.gv_value.specs.declared.limits.TheConstants.{MOST_BYTES};
 ghost use Rattle.gv_value.specs.Capped.{IsRun};
 ghost use Rattle.gv_value.specs.Framing.{array_children, tuple_children};
 ghost use Rattle.gv_value.specs.Layout.{align_of, size_of, greatest_align, end_of};
@@ -19,7 +20,7 @@ use std::alloc::Global;
 #[cycle(check)]
 pub fn check(alloc: Global, plan: &Plan, bytes: &[u8], room: u32) -> Result<(), DecodeError>
     requires planned { IsTrue (is_plan plan.now) }
-    requires short { length bytes.now ≤ 2 ^ 24 }
+    requires short { length bytes.now ≤ MOST_BYTES }
     ensures { Passes result (value_at room (plan_shape plan.now) bytes.now) }
 {
     if let Plan::Basic(basic) = plan {
@@ -41,7 +42,7 @@ pub fn check(alloc: Global, plan: &Plan, bytes: &[u8], room: u32) -> Result<(), 
 /// Whether bytes are a variant.
 #[cycle(check)]
 fn check_variant(alloc: Global, bytes: &[u8], room: u32) -> Result<(), DecodeError>
-    requires { length bytes.now ≤ 2 ^ 24 }
+    requires { length bytes.now ≤ MOST_BYTES }
     ensures { Passes result (variant_at (value_at room) bytes.now) }
 {
     let (inside, text) = variant_parts(bytes)?;
@@ -54,7 +55,7 @@ fn check_variant(alloc: Global, bytes: &[u8], room: u32) -> Result<(), DecodeErr
 #[cycle(check)]
 fn check_maybe(alloc: Global, child: &Plan, bytes: &[u8], room: u32) -> Result<(), DecodeError>
     requires planned { IsTrue (is_plan child.now) }
-    requires short { length bytes.now ≤ 2 ^ 24 }
+    requires short { length bytes.now ≤ MOST_BYTES }
     ensures { Passes result (maybe_at (value_at room (plan_shape child.now))
         (size_of (plan_shape child.now)) bytes.now) }
 {
@@ -69,7 +70,7 @@ fn check_maybe(alloc: Global, child: &Plan, bytes: &[u8], room: u32) -> Result<(
 #[cycle(check)]
 fn check_array(alloc: Global, element: &Plan, bytes: &[u8], room: u32) -> Result<(), DecodeError>
     requires planned { IsTrue (is_plan element.now) }
-    requires short { length bytes.now ≤ 2 ^ 24 }
+    requires short { length bytes.now ≤ MOST_BYTES }
     ensures { Passes result (option_and_then (read_all (value_at room (plan_shape element.now)))
         (array_children (align_of (plan_shape element.now)) (size_of (plan_shape element.now)) bytes.now)) }
 {
@@ -111,7 +112,7 @@ fn check_members(
     requires planned { IsTrue (are_plans plans.now) }
     requires extent { IsRun run (greatest_align (plan_shapes plans.now))
         (end_of 0 (plan_shapes plans.now)) }
-    requires short { length bytes.now ≤ 2 ^ 24 }
+    requires short { length bytes.now ≤ MOST_BYTES }
     ensures { Passes result (option_and_then (read_each (value_at room) (plan_shapes plans.now))
         (tuple_children (size_of (tuple (plan_shapes plans.now))) (plan_shapes plans.now) bytes.now)) }
 {

@@ -1,5 +1,6 @@
 //! The bytes of a container's children, cut from the container's.
-ghost use Rattle.std.specs.Prelude.{◌≡◌, ◌↔◌, ◌≤◌, ◌<◌, ◌^◌, ◌/◌, length, map, IsTrue};
+ghost use Rattle.std.specs.Prelude.{◌≡◌, ◌↔◌, ◌≤◌, ◌<◌, ◌/◌, length, map, IsTrue};
+ghost use Rattle.gv_value.specs.declared.limits.TheConstants.{MOST_BYTES};
 ghost use Rattle.gv_value.specs.Capped.{IsRun};
 ghost use Rattle.gv_value.specs.Framing.{array_children, framed_children, tuple_children, cut, steps, marks};
 ghost use Rattle.gv_value.specs.Layout.{align_of, size_of, greatest_align, end_of};
@@ -23,7 +24,7 @@ pub fn elements<'a>(
     bytes: &'a [u8],
 ) -> Result<Vec<&'a [u8]>, DecodeError>
     requires planned { IsTrue (is_plan element.now) }
-    requires short { length bytes.now ≤ 2 ^ 24 }
+    requires short { length bytes.now ≤ MOST_BYTES }
     ensures { Gives (λ children. slices children.items) result
         (array_children (align_of (plan_shape element.now)) (size_of (plan_shape element.now)) bytes.now) }
 {
@@ -58,7 +59,7 @@ fn row<'a>(alloc: Global, size: usize, bytes: &'a [u8]) -> Result<Vec<&'a [u8]>,
 fn framed<'a>(alloc: Global, align: u64, bytes: &'a [u8]) -> Result<Vec<&'a [u8]>, DecodeError>
     requires pos { 0 < align }
     requires small { align ≤ 8 }
-    requires short { length bytes.now ≤ 2 ^ 24 }
+    requires short { length bytes.now ≤ MOST_BYTES }
     ensures { Gives (λ children. slices children.items) result (framed_children align bytes.now) }
 {
     if bytes.is_empty() {
@@ -104,7 +105,7 @@ pub fn members<'a>(
     requires planned { IsTrue (are_plans plans.now) }
     requires extent { IsRun run (greatest_align (plan_shapes plans.now))
         (end_of 0 (plan_shapes plans.now)) }
-    requires short { length bytes.now ≤ 2 ^ 24 }
+    requires short { length bytes.now ≤ MOST_BYTES }
     ensures { Gives (λ children. slices children.items) result
         (tuple_children (size_of (tuple (plan_shapes plans.now))) (plan_shapes plans.now) bytes.now) }
 {
@@ -128,7 +129,7 @@ fn framed_members<'a>(
 ) -> Result<Vec<&'a [u8]>, DecodeError>
     requires planned { IsTrue (are_plans plans.now) }
     requires whole { IsWhole frame }
-    requires short { length frame.body.now ≤ 2 ^ 24 }
+    requires short { length frame.body.now ≤ MOST_BYTES }
     ensures { Gives (λ children. slices children.items) result
         (cut frame.entry.body.now 0 (marks (length frame.entry.body.now) 0 (plan_shapes plans.now) (offsets_left frame.entry frame.entry.count))) }
 {

@@ -1,8 +1,9 @@
 //! Values of types, their children, and whether bytes are values.
-ghost use Rattle.std.specs.Prelude.{◌≡◌, ◌<◌, ◌≤◌, ◌↔◌, ◌^◌, IfOk, IsTrue, Err, length};
+ghost use Rattle.std.specs.Prelude.{◌≡◌, ◌<◌, ◌≤◌, ◌↔◌, IfOk, IsTrue, Err, length};
+ghost use Rattle.gv_value.specs.declared.limits.TheConstants.{MOST_BYTES};
 ghost use Rattle.gv_value.specs.Plans.{is_plan, plan_shape};
 ghost use Rattle.gv_value.specs.Reading.{value_of};
-ghost use Rattle.gv_value.specs.Spelled.{Spelled, max_bytes};
+ghost use Rattle.gv_value.specs.Spelled.{Spelled};
 ghost use Rattle.gv_value.specs.Tree.{Tree};
 ghost use Rattle.gv_value.specs.Views.{shape_of, plain};
 ghost use Rattle.gv_decode.specs.Decoded.{Gives, Passes, slices, children_of};
@@ -11,7 +12,7 @@ use crate::checking::check;
 use crate::cutting::{elements, members};
 use crate::error::DecodeError;
 use crate::reading::read;
-use gv_value::{GvType, GvValue, MAX_BYTES, MAX_DEPTH, Plan, is_type, plan_of};
+use gv_value::{GvType, GvValue, MOST_BYTES, MOST_DEPTH, Plan, is_type, plan_of};
 use std::alloc::Global;
 
 /// The value of a type that bytes are, in the normal form of the GVariant specification.
@@ -19,41 +20,41 @@ use std::alloc::Global;
 /// runs backwards or a padding byte isn't zero, reading ends. But the value of one byte can be 64 deep and take 15 KiB, so
 /// bytes from elsewhere are better checked by `check_normal`.
 pub fn decode(alloc: Global, of: &GvType, bytes: &[u8]) -> Result<GvValue, DecodeError>
-    ensures too_long { (result ≡ Err DecodeError.TooLong) ↔ (max_bytes < length bytes.now) }
+    ensures too_long { (result ≡ Err DecodeError.TooLong) ↔ (MOST_BYTES < length bytes.now) }
     ensures spelled { IfOk result (λ value. Spelled (shape_of of.now) (plain value) bytes.now) }
     ensures not_normal { result ≡ Err DecodeError.NotNormal → (v : Tree) → ¬
         (Spelled (shape_of of.now) v bytes.now) }
-    ensures read { length bytes.now ≤ max_bytes → Gives plain result
+    ensures read { length bytes.now ≤ MOST_BYTES → Gives plain result
         (value_of (shape_of of.now) bytes.now) }
 {
-    if bytes.len() > MAX_BYTES as usize {
+    if bytes.len() > MOST_BYTES as usize {
         return Err(DecodeError::TooLong);
     }
     if !is_type(of) {
         return Err(DecodeError::NotNormal);
     }
     let plan = plan_of(alloc, of)?;
-    read(alloc, &plan, bytes, MAX_DEPTH)
+    read(alloc, &plan, bytes, MOST_DEPTH)
 }
 
 /// Whether bytes are some value of a type, in the normal form of the GVariant specification: `decode` without the value.
 /// Its memory is at most 24 bytes for each byte, and what the greatest type in a variant takes.
 pub fn check_normal(alloc: Global, of: &GvType, bytes: &[u8]) -> Result<(), DecodeError>
-    ensures too_long { (result ≡ Err DecodeError.TooLong) ↔ (max_bytes < length bytes.now) }
+    ensures too_long { (result ≡ Err DecodeError.TooLong) ↔ (MOST_BYTES < length bytes.now) }
     ensures normal { IfOk result (λ _. (v : Tree) × Spelled (shape_of of.now) v bytes.now) }
     ensures not_normal { result ≡ Err DecodeError.NotNormal → (v : Tree) → ¬
         (Spelled (shape_of of.now) v bytes.now) }
-    ensures read { length bytes.now ≤ max_bytes → Passes result
+    ensures read { length bytes.now ≤ MOST_BYTES → Passes result
         (value_of (shape_of of.now) bytes.now) }
 {
-    if bytes.len() > MAX_BYTES as usize {
+    if bytes.len() > MOST_BYTES as usize {
         return Err(DecodeError::TooLong);
     }
     if !is_type(of) {
         return Err(DecodeError::NotNormal);
     }
     let plan = plan_of(alloc, of)?;
-    check(alloc, &plan, bytes, MAX_DEPTH)
+    check(alloc, &plan, bytes, MOST_DEPTH)
 }
 
 /// The bytes of the elements of an array, of the members of a tuple, or of a dictionary entry's key and value. What
@@ -63,11 +64,11 @@ pub fn children<'a>(
     of: &GvType,
     bytes: &'a [u8],
 ) -> Result<Vec<&'a [u8]>, DecodeError>
-    ensures too_long { (result ≡ Err DecodeError.TooLong) ↔ (max_bytes < length bytes.now) }
-    ensures found { length bytes.now ≤ max_bytes
+    ensures too_long { (result ≡ Err DecodeError.TooLong) ↔ (MOST_BYTES < length bytes.now) }
+    ensures found { length bytes.now ≤ MOST_BYTES
         → Gives (λ children. slices children.items) result (children_of (shape_of of.now) bytes.now) }
 {
-    if bytes.len() > MAX_BYTES as usize {
+    if bytes.len() > MOST_BYTES as usize {
         return Err(DecodeError::TooLong);
     }
     let plan = plan_of(alloc, of)?;
@@ -81,7 +82,7 @@ fn children_by<'a>(
     bytes: &'a [u8],
 ) -> Result<Vec<&'a [u8]>, DecodeError>
     requires planned { IsTrue (is_plan plan.now) }
-    requires short { length bytes.now ≤ 2 ^ 24 }
+    requires short { length bytes.now ≤ MOST_BYTES }
     ensures { Gives (λ children. slices children.items) result
         (children_of (plan_shape plan.now) bytes.now) }
 {

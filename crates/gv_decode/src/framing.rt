@@ -1,7 +1,8 @@
 //! Where the children of a container stand, and its offsets.
-ghost use Rattle.std.specs.Prelude.{◌≡◌, ◌≤◌, ◌<◌, ◌+◌, ◌-◌, ◌*◌, ◌/◌, ◌^◌, ◌==◌, ◌&&◌, if◌then◌else◌, IsTrue, length, drop, take, Some, None, IfOk};
+ghost use Rattle.std.specs.Prelude.{◌≡◌, ◌≤◌, ◌<◌, ◌+◌, ◌-◌, ◌*◌, ◌/◌, ◌==◌, ◌&&◌, if◌then◌else◌, IsTrue, length, drop, take, Some, None, IfOk};
+ghost use Rattle.gv_value.specs.declared.limits.TheConstants.{MOST_BYTES};
 ghost use Rattle.gv_value.specs.Bytes.{le_value, all_zero as all_are_zero};
-ghost use Rattle.gv_value.specs.Framing.{child_at as child_from, offsets_remainder, width_in, offset_count as offset_count_of, member_end as member_end_of};
+ghost use Rattle.gv_value.specs.Framing.{child_at as child_from, offsets_after, width_in, offset_count as offset_count_of, member_end as member_end_of};
 ghost use Rattle.gv_value.specs.Layout.{padding as padding_of};
 ghost use Rattle.gv_value.specs.Plans.{are_plans, plan_shapes};
 ghost use Rattle.gv_decode.specs.Decoded.{Gives, IsFrame, IsWhole, offsets_of, offsets_left};
@@ -42,7 +43,7 @@ pub struct Frame<'a> {
 
 /// How many bytes an offset takes in a container.
 pub fn offset_width(bytes: &[u8]) -> usize
-    requires short { length bytes.now ≤ 2 ^ 24 }
+    requires short { length bytes.now ≤ MOST_BYTES }
     ensures value { result ≡ width_in (length bytes.now) }
     ensures pos { 0 < result }
     ensures small { result ≤ 4 }
@@ -52,9 +53,9 @@ pub fn offset_width(bytes: &[u8]) -> usize
 
 /// A container's children and so many offsets, which begin after so many bytes.
 pub fn take_apart(bytes: &[u8], before: usize, count: usize) -> Result<Frame<'_>, DecodeError>
-    requires short { length bytes.now ≤ 2 ^ 24 }
+    requires short { length bytes.now ≤ MOST_BYTES }
     requires few { count ≤ length bytes.now }
-    ensures offsets { Gives offsets_of result (offsets_remainder before count bytes.now) }
+    ensures offsets { Gives offsets_of result (offsets_after before count bytes.now) }
     ensures frame { IfOk result (λ f. IsFrame f bytes.now before count) }
 {
     let width_here = offset_width(bytes);
@@ -128,9 +129,9 @@ pub fn filled_frame(whole: usize, size: usize, bytes: &[u8]) -> Result<Frame<'_>
 /// The body of a tuple of variable size, and its offsets.
 pub fn open_frame<'a>(plans: &[Plan], bytes: &'a [u8]) -> Result<Frame<'a>, DecodeError>
     requires planned { IsTrue (are_plans plans.now) }
-    requires short { length bytes.now ≤ 2 ^ 24 }
+    requires short { length bytes.now ≤ MOST_BYTES }
     ensures offsets { Gives offsets_of result
-        (offsets_remainder (length bytes.now - offset_count_of (plan_shapes plans.now) * width_in (length bytes.now)) (offset_count_of (plan_shapes plans.now)) bytes.now) }
+        (offsets_after (length bytes.now - offset_count_of (plan_shapes plans.now) * width_in (length bytes.now)) (offset_count_of (plan_shapes plans.now)) bytes.now) }
     ensures frame { IfOk result (λ f. IsFrame f bytes.now
         (length bytes.now - offset_count_of (plan_shapes plans.now) * width_in (length bytes.now)) (offset_count_of (plan_shapes plans.now))) }
 {
@@ -154,7 +155,7 @@ pub fn member_end(
     requires whole { IsWhole frame }
     requires few { left ≤ frame.count }
     requires within { at ≤ length frame.body.now }
-    requires short { length frame.body.now ≤ 2 ^ 24 }
+    requires short { length frame.body.now ≤ MOST_BYTES }
     ensures found { (result.0, offsets_left frame.entry result.1)
         ≡ member_end_of extent.size last (length frame.entry.body.now) at extent.align (offsets_left frame.entry left) }
     ensures fewer { result.1 ≤ left }

@@ -1,5 +1,6 @@
 //! Values of types, from their bytes.
-ghost use Rattle.std.specs.Prelude.{◌≡◌, ◌≤◌, ◌^◌, length, vec_len, IsTrue, option_map, option_and_then};
+ghost use Rattle.std.specs.Prelude.{◌≡◌, ◌≤◌, length, vec_len, IsTrue, option_map, option_and_then};
+ghost use Rattle.gv_value.specs.declared.limits.TheConstants.{MOST_BYTES};
 ghost use Rattle.gv_value.specs.Capped.{IsRun};
 ghost use Rattle.gv_value.specs.Framing.{array_children, tuple_children};
 ghost use Rattle.gv_value.specs.Layout.{align_of, size_of, greatest_align, end_of};
@@ -22,7 +23,7 @@ use std::alloc::Global;
 #[cycle(read)]
 pub fn read(alloc: Global, plan: &Plan, bytes: &[u8], room: u32) -> Result<GvValue, DecodeError>
     requires planned { IsTrue (is_plan plan.now) }
-    requires short { length bytes.now ≤ 2 ^ 24 }
+    requires short { length bytes.now ≤ MOST_BYTES }
     ensures { Gives plain result (value_at room (plan_shape plan.now) bytes.now) }
 {
     if let Plan::Basic(basic) = plan {
@@ -65,7 +66,7 @@ fn as_entry(alloc: Global, mut members: Vec<GvValue>) -> Result<GvValue, DecodeE
 /// The variant that bytes are.
 #[cycle(read)]
 fn read_variant(alloc: Global, bytes: &[u8], room: u32) -> Result<GvValue, DecodeError>
-    requires { length bytes.now ≤ 2 ^ 24 }
+    requires { length bytes.now ≤ MOST_BYTES }
     ensures { Gives plain result (variant_at (value_at room) bytes.now) }
 {
     let (inside, text) = variant_parts(bytes)?;
@@ -80,7 +81,7 @@ fn read_variant(alloc: Global, bytes: &[u8], room: u32) -> Result<GvValue, Decod
 #[cycle(read)]
 fn read_maybe(alloc: Global, child: &Plan, bytes: &[u8], room: u32) -> Result<GvValue, DecodeError>
     requires planned { IsTrue (is_plan child.now) }
-    requires short { length bytes.now ≤ 2 ^ 24 }
+    requires short { length bytes.now ≤ MOST_BYTES }
     ensures { Gives plain result (maybe_at (value_at room (plan_shape child.now))
         (size_of (plan_shape child.now)) bytes.now) }
 {
@@ -101,7 +102,7 @@ fn read_array(
     room: u32,
 ) -> Result<GvValue, DecodeError>
     requires planned { IsTrue (is_plan element.now) }
-    requires short { length bytes.now ≤ 2 ^ 24 }
+    requires short { length bytes.now ≤ MOST_BYTES }
     ensures { Gives plain result (option_map array_tree
         (option_and_then (read_all (value_at room (plan_shape element.now)))
         (array_children (align_of (plan_shape element.now)) (size_of (plan_shape element.now)) bytes.now))) }
@@ -147,7 +148,7 @@ fn read_members(
     requires planned { IsTrue (are_plans plans.now) }
     requires extent { IsRun run (greatest_align (plan_shapes plans.now))
         (end_of 0 (plan_shapes plans.now)) }
-    requires short { length bytes.now ≤ 2 ^ 24 }
+    requires short { length bytes.now ≤ MOST_BYTES }
     ensures { Gives (λ values. plains values.items) result
         (option_and_then (read_each (value_at room) (plan_shapes plans.now))
         (tuple_children (size_of (tuple (plan_shapes plans.now))) (plan_shapes plans.now) bytes.now)) }

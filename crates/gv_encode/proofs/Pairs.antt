@@ -1,12 +1,13 @@
 -- The ends of a tuple's members, and what stands after them.
 use Rattle.std.proofs.Common.{◌≡◌, ℕ, ◌+◌, ◌-◌, ◌≤◌, Bool, true, false, List, [], ◌∷◌, ◌++◌, length, reverse, Option, Some, None, Result, refl, sym, ap, ◌∙◌, subst, arith, append_assoc, append-nil, length-append, eqb}
 use Rattle.std.proofs.lemmas.Bool.{eq-eqb, eqb-true}
+use Rattle.gv_value.specs.declared.limits.TheConstants.{MOST_BYTES}
 use Rattle.gv_value.specs.Bytes.{zeros}
 use Rattle.gv_value.specs.Framing.{Part, ends, parts_of, is_none_left, put_offset, written, tuple_body, tuple_offsets}
 use Rattle.gv_value.specs.Layout.{align_of, size_of, padding}
 use Rattle.gv_value.specs.Plans.{plan_shapes}
 use Rattle.gv_value.specs.Shape.{Shape, Shapes, no_shapes, shape}
-use Rattle.gv_value.specs.Spelled.{max_bytes, two_shapes}
+use Rattle.gv_value.specs.Spelled.{two_shapes}
 use Rattle.gv_value.specs.Spelling.{tuple_bytes, just_bytes}
 use Rattle.gv_value.specs.declared.plan.Plan.{Plan}
 use Rattle.gv_encode.specs.declared.error.EncodeError.{EncodeError}
@@ -71,7 +72,7 @@ entry_parts k v a b = (align_of k, a) ∷ (align_of v, b) ∷ []
 abbrev pub entry_noted : Shape → Shape → List ℕ → List ℕ → List ℕ
 entry_noted k v a b = written (two_shapes k v) (ends [] (entry_parts k v a b))
 
-module _ (before : List ℕ) (k v : Shape) (a b : List ℕ) (short : length before ≤ max_bytes) (used : ℕ) (none : used ≡ length before - length before) where
+module _ (before : List ℕ) (k v : Shape) (a b : List ℕ) (short : length before ≤ MOST_BYTES) (used : ℕ) (none : used ≡ length before - length before) where
   pub key-fails : (e : EncodeError) (o : Option ℕ) → Fails e before (zeros (padding used (align_of k)) ++ a) → Fails e before (tuple_bytes o (two_shapes k v) (a ∷ b ∷ []))
   key-fails e o f =
       let parts = entry_parts k v a b in

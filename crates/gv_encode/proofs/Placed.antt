@@ -1,9 +1,9 @@
 -- Children that are placed one after the other.
 use Rattle.std.proofs.Common.{◌≡◌, ℕ, ◌-◌, ◌≤◌, Bool, true, false, List, [], ◌∷◌, ◌++◌, length, Option, Some, None, refl, sym, ap, ◌∙◌, subst, arith, append_assoc, append-nil, length-append}
+use Rattle.gv_value.specs.declared.limits.TheConstants.{MOST_BYTES}
 use Rattle.gv_value.specs.Bytes.{zeros}
 use Rattle.gv_value.specs.Framing.{Part, placed, laid, ends, put_offset}
 use Rattle.gv_value.specs.Layout.{padding}
-use Rattle.gv_value.specs.Spelled.{max_bytes}
 use Rattle.gv_value.proofs.Cutting.{length-laid}
 use Rattle.gv_encode.specs.declared.error.EncodeError.{EncodeError}
 use Rattle.gv_encode.specs.Encoded.{IsAdded, Fails}
@@ -13,11 +13,11 @@ use Rattle.gv_encode.proofs.Steps.{fails-longer}
 pub record Placing (before : List ℕ) (all : List Part) (total out : List ℕ) (rest : List Part) (kept : List ℕ → List ℕ) (noted : List ℕ) : Type 0 where
   pub body : List ℕ
   pub is : out ≡ before ++ body
-  pub short : length out ≤ max_bytes
+  pub short : length out ≤ MOST_BYTES
   pub laid_is : laid body rest ≡ laid [] all
   pub noted_is : noted ++ kept (ends body rest) ≡ total
 
-pub placing-none : (before : List ℕ) (all : List Part) (kept : List ℕ → List ℕ) → length before ≤ max_bytes → Placing before all (kept (ends [] all)) before all kept []
+pub placing-none : (before : List ℕ) (all : List Part) (kept : List ℕ → List ℕ) → length before ≤ MOST_BYTES → Placing before all (kept (ends [] all)) before all kept []
 placing-none before all kept short = record { body = []; is = sym (append-nil before); short = short; laid_is = refl; noted_is = refl }
 
 pub placing-le : (before : List ℕ) (all : List Part) (total out : List ℕ) (rest : List Part) (kept : List ℕ → List ℕ) (noted : List ℕ) → Placing before all total out rest kept noted → length before ≤ length out

@@ -1,11 +1,11 @@
 -- Bytes that are added in steps.
 use Rattle.std.proofs.Common.{◌≡◌, ℕ, ◌+◌, ◌≤◌, List, [], ◌++◌, length, Result, Ok, Err, IsErrAnd, refl, sym, ap, ◌∙◌, subst, arith, append_assoc, append-nil, length-append}
-use Rattle.gv_value.specs.Spelled.{max_bytes}
+use Rattle.gv_value.specs.declared.limits.TheConstants.{MOST_BYTES}
 use Rattle.gv_encode.specs.declared.error.EncodeError.{EncodeError}
 use Rattle.gv_encode.specs.declared.error.EncodeError.TheVariants as errors
 use Rattle.gv_encode.specs.Encoded.{IsAdded, Fails, Adds}
 
-pub added-none : (before : List ℕ) → length before ≤ max_bytes → IsAdded before before []
+pub added-none : (before : List ℕ) → length before ≤ MOST_BYTES → IsAdded before before []
 added-none before short = record { added = sym (append-nil before); short = short }
 
 pub added-then : (before mid after xs ys : List ℕ) → IsAdded before mid xs → IsAdded mid after ys → IsAdded before after (xs ++ ys)
@@ -41,9 +41,9 @@ adds-err (Err x) e before after bytes h f = subst (λ (y : EncodeError). Fails y
 
 pub record Coming (before all mid rest : List ℕ) : Type 0 where
   pub is : mid ++ rest ≡ before ++ all
-  pub short : length mid ≤ max_bytes
+  pub short : length mid ≤ MOST_BYTES
 
-pub coming-none : (before all : List ℕ) → length before ≤ max_bytes → Coming before all before all
+pub coming-none : (before all : List ℕ) → length before ≤ MOST_BYTES → Coming before all before all
 coming-none before all short = record { is = refl; short = short }
 
 pub coming-more : (before all mid after ys rest : List ℕ) → Coming before all mid (ys ++ rest) → IsAdded mid after ys → Coming before all after rest

@@ -1,21 +1,21 @@
 -- What the writing of bytes answered.
 use Rattle.std.specs.Prelude.{◌≡◌, ℕ, ◌+◌, ◌-◌, ◌<◌, ◌≤◌, ⊤, List, ◌++◌, length, Option, Some, None, Result, Ok, Err}
 use Rattle.std.specs.List.{flat_map}
+use Rattle.gv_value.specs.declared.limits.TheConstants.{MOST_BYTES}
 use Rattle.gv_value.specs.Bytes.{le_bytes, zeros}
 use Rattle.gv_value.specs.Framing.{width}
-use Rattle.gv_value.specs.Spelled.{max_bytes}
 use Rattle.gv_encode.specs.declared.error.EncodeError.{EncodeError}
 use Rattle.gv_encode.specs.declared.error.EncodeError.TheVariants as errors
 
 -- bytes were added
 pub record IsAdded (before after bytes : List ℕ) : Type 0 where
   pub added : after ≡ before ++ bytes
-  pub short : length after ≤ max_bytes
+  pub short : length after ≤ MOST_BYTES
 
 -- Why bytes are not added to others. Nothing is said of running out of memory.
 abbrev pub Fails : EncodeError → List ℕ → List ℕ → Type 0
 Fails errors.NotOfType before bytes = ⊥
-Fails errors.TooLong before bytes = max_bytes < length before + length bytes
+Fails errors.TooLong before bytes = MOST_BYTES < length before + length bytes
 Fails errors.NoMemory before bytes = ⊤
 
 -- bytes were added after those that were there, or all of them would be more than 16 MiB

@@ -1,26 +1,27 @@
 //! Bytes and numbers that are added.
-ghost use Rattle.std.specs.Prelude.{◌≡◌, ◌≤◌, ◌^◌, ◌+◌, vec_len};
+ghost use Rattle.std.specs.Prelude.{◌≡◌, ◌≤◌, ◌+◌, vec_len};
+ghost use Rattle.gv_value.specs.declared.limits.TheConstants.{MOST_BYTES};
 ghost use Rattle.gv_value.specs.Bytes.{le_bytes, zeros};
 ghost use Rattle.gv_encode.specs.Encoded.{Adds};
 
 use crate::error::EncodeError;
 use byteorder::{ByteOrder, LittleEndian};
-use gv_value::MAX_BYTES;
+use gv_value::MOST_BYTES;
 
 /// How many bytes may still be added.
-pub fn room_remainder(out: &Vec<u8>) -> usize
-    requires { vec_len out.now ≤ 2 ^ 24 }
-    ensures { result + vec_len out.now ≡ 2 ^ 24 }
+pub fn room_left(out: &Vec<u8>) -> usize
+    requires { vec_len out.now ≤ MOST_BYTES }
+    ensures { result + vec_len out.now ≡ MOST_BYTES }
 {
-    MAX_BYTES as usize - out.len()
+    MOST_BYTES as usize - out.len()
 }
 
 /// Adds bytes.
 pub fn append(out: &mut Vec<u8>, bytes: &[u8]) -> Result<(), EncodeError>
-    requires { vec_len out.old ≤ 2 ^ 24 }
+    requires { vec_len out.old ≤ MOST_BYTES }
     ensures { Adds result out.old.items out.new.items bytes.now }
 {
-    if bytes.len() > room_remainder(out) {
+    if bytes.len() > room_left(out) {
         return Err(EncodeError::TooLong);
     }
     out.extend_from_slice(bytes)?;
@@ -29,10 +30,10 @@ pub fn append(out: &mut Vec<u8>, bytes: &[u8]) -> Result<(), EncodeError>
 
 /// Adds zero bytes.
 pub fn append_zeros(out: &mut Vec<u8>, count: usize) -> Result<(), EncodeError>
-    requires { vec_len out.old ≤ 2 ^ 24 }
+    requires { vec_len out.old ≤ MOST_BYTES }
     ensures { Adds result out.old.items out.new.items (zeros count) }
 {
-    if count > room_remainder(out) {
+    if count > room_left(out) {
         return Err(EncodeError::TooLong);
     }
     let end = out.len() + count;
@@ -42,7 +43,7 @@ pub fn append_zeros(out: &mut Vec<u8>, count: usize) -> Result<(), EncodeError>
 
 /// Adds the lowest bytes of a number, the lowest first.
 pub fn append_number(out: &mut Vec<u8>, number: u64, size: usize) -> Result<(), EncodeError>
-    requires room { vec_len out.old ≤ 2 ^ 24 }
+    requires room { vec_len out.old ≤ MOST_BYTES }
     requires small { size ≤ 8 }
     ensures { Adds result out.old.items out.new.items (le_bytes size number) }
 {

@@ -1,5 +1,6 @@
 //! Bytes of basic values.
-ghost use Rattle.std.specs.Prelude.{◌≡◌, ◌≤◌, ◌^◌, ◌++◌, ◌∷◌, [], ℕ, vec_len, IsTrue};
+ghost use Rattle.std.specs.Prelude.{◌≡◌, ◌≤◌, ◌++◌, ◌∷◌, [], ℕ, vec_len, IsTrue};
+ghost use Rattle.gv_value.specs.declared.limits.TheConstants.{MOST_BYTES};
 ghost use Rattle.gv_value.specs.Basics.{form_of};
 ghost use Rattle.gv_value.specs.Parts.{content_of, part_tree, IsHeld, IsHeldContent};
 ghost use Rattle.gv_value.specs.Shape.{basic};
@@ -12,7 +13,7 @@ use gv_value::{Basic, Content, Parts};
 
 /// Adds a number without a sign.
 fn append_unsigned(out: &mut Vec<u8>, of: Basic, number: u64) -> Result<(), EncodeError>
-    requires room { vec_len out.old ≤ 2 ^ 24 }
+    requires room { vec_len out.old ≤ MOST_BYTES }
     requires held { IsHeldContent (form_of of) (Content.Number number) }
     ensures { Adds result out.old.items out.new.items (content_bytes (form_of of)
         (content_of (Content.Number number))) }
@@ -27,7 +28,7 @@ fn append_unsigned(out: &mut Vec<u8>, of: Basic, number: u64) -> Result<(), Enco
 
 /// Adds a number with a sign.
 fn append_signed(out: &mut Vec<u8>, of: Basic, number: i64) -> Result<(), EncodeError>
-    requires room { vec_len out.old ≤ 2 ^ 24 }
+    requires room { vec_len out.old ≤ MOST_BYTES }
     requires held { IsHeldContent (form_of of) (Content.Integer number) }
     ensures { Adds result out.old.items out.new.items (content_bytes (form_of of)
         (content_of (Content.Integer number))) }
@@ -41,7 +42,7 @@ fn append_signed(out: &mut Vec<u8>, of: Basic, number: i64) -> Result<(), Encode
 
 /// Adds a text and a zero byte.
 fn append_text(out: &mut Vec<u8>, text: &str) -> Result<(), EncodeError>
-    requires { vec_len out.old ≤ 2 ^ 24 }
+    requires { vec_len out.old ≤ MOST_BYTES }
     ensures { Adds result out.old.items out.new.items (text.now ++ 0 ∷ []) }
 {
     append(out, text.as_bytes())?;
@@ -50,7 +51,7 @@ fn append_text(out: &mut Vec<u8>, text: &str) -> Result<(), EncodeError>
 
 /// Adds a value of a basic type.
 pub fn write_basic(out: &mut Vec<u8>, of: Basic, parts: Parts<'_>) -> Result<(), EncodeError>
-    requires room { vec_len out.old ≤ 2 ^ 24 }
+    requires room { vec_len out.old ≤ MOST_BYTES }
     requires held { IsHeld parts }
     requires fits { (n : ℕ) × IsTrue (fits_within n (basic of) (part_tree parts)) }
     ensures { Adds result out.old.items out.new.items (spelling (part_tree parts.entry)

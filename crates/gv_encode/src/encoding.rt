@@ -1,13 +1,14 @@
 //! The bytes of a value.
 ghost use Rattle.std.specs.Prelude.{◌≡◌, ◌<◌, ◌↔◌, ◌⊎◌, IsTrue, IfOk, Err, false, length};
-ghost use Rattle.gv_value.specs.Spelled.{Spelled, max_bytes};
+ghost use Rattle.gv_value.specs.declared.limits.TheConstants.{MOST_BYTES};
+ghost use Rattle.gv_value.specs.Spelled.{Spelled};
 ghost use Rattle.gv_value.specs.Spelling.{fits as is_of_type, spelling};
 ghost use Rattle.gv_value.specs.Views.{shape_of, plain};
 
 use crate::error::EncodeError;
 use crate::writing::write;
 use fp_base::Blob;
-use gv_value::{GvType, GvValue, MAX_DEPTH, fits, plan_of};
+use gv_value::{GvType, GvValue, MOST_DEPTH, fits, plan_of};
 use std::alloc::Global;
 
 /// The bytes of a value of a type, in the normal form of the GVariant specification. A value has at most 16 MiB.
@@ -17,11 +18,11 @@ pub fn encode(alloc: Global, of: &GvType, value: &GvValue) -> Result<Blob, Encod
         ↔ (is_of_type (shape_of of.now) (plain value.now) ≡ false) }
     ensures too_long { result ≡ Err EncodeError.TooLong
         → IsTrue (is_of_type (shape_of of.now) (plain value.now))
-        × (max_bytes < length (spelling (plain value.now) (shape_of of.now))) }
+        × (MOST_BYTES < length (spelling (plain value.now) (shape_of of.now))) }
 
     // Before the bytes are seen to be too many, memory may run out.
     ensures long { IsTrue (is_of_type (shape_of of.now) (plain value.now))
-        → max_bytes < length (spelling (plain value.now) (shape_of of.now))
+        → MOST_BYTES < length (spelling (plain value.now) (shape_of of.now))
         → (result ≡ Err EncodeError.TooLong) ⊎ (result ≡ Err EncodeError.NoMemory) }
 {
     if !fits(of, value) {
@@ -29,6 +30,6 @@ pub fn encode(alloc: Global, of: &GvType, value: &GvValue) -> Result<Blob, Encod
     }
     let plan = plan_of(alloc, of)?;
     let mut out = Vec::new(alloc);
-    write(alloc, &mut out, &plan, value, MAX_DEPTH)?;
+    write(alloc, &mut out, &plan, value, MOST_DEPTH)?;
     Ok(Blob::from_vec(out))
 }

@@ -1,24 +1,25 @@
 //! Offsets and fill.
-ghost use Rattle.std.specs.Prelude.{◌≡◌, ◌≤◌, ◌<◌, ◌^◌, ◌+◌, ◌-◌, ◌++◌, [], ℕ, Option, length, vec_len, IsTrue, OnOk, reverse};
+ghost use Rattle.std.specs.Prelude.{◌≡◌, ◌≤◌, ◌<◌, ◌+◌, ◌-◌, ◌++◌, [], ℕ, Option, length, vec_len, IsTrue, OnOk, reverse};
+ghost use Rattle.gv_value.specs.declared.limits.TheConstants.{MOST_BYTES};
 ghost use Rattle.gv_value.specs.Capped.{capped_size};
 ghost use Rattle.gv_value.specs.Framing.{put_offset};
 ghost use Rattle.gv_value.specs.Layout.{size_of};
 ghost use Rattle.gv_value.specs.Plans.{is_plan, plan_shape};
 ghost use Rattle.gv_encode.specs.Encoded.{Adds, offset_bytes, closing};
 
-use crate::appending::{append_number, append_zeros, room_remainder};
+use crate::appending::{append_number, append_zeros, room_left};
 use crate::error::EncodeError;
 use gv_value::{Plan, width};
 use std::alloc::AllocError;
 
 /// Adds offsets after a body that begins at `start`, each in as many bytes as they all need.
 pub fn append_offsets(out: &mut Vec<u8>, start: usize, offsets: &[usize]) -> Result<(), EncodeError>
-    requires room { vec_len out.old ≤ 2 ^ 24 }
+    requires room { vec_len out.old ≤ MOST_BYTES }
     requires inside { start ≤ vec_len out.old }
     ensures { Adds result out.old.items out.new.items (offset_bytes (vec_len out.old - start)
         offsets.now) }
 {
-    if offsets.len() > room_remainder(out) {
+    if offsets.len() > room_left(out) {
         return Err(EncodeError::TooLong);
     }
     let size = width(out.len() - start, offsets.len());
@@ -52,7 +53,7 @@ pub fn close(
     size: Option<u64>,
     mut ends: Vec<usize>,
 ) -> Result<(), EncodeError>
-    requires room { vec_len out.old ≤ 2 ^ 24 }
+    requires room { vec_len out.old ≤ MOST_BYTES }
     requires inside { start ≤ vec_len out.old }
     ensures { (whole : Option ℕ) → size ≡ capped_size whole →
         Adds result out.old.items out.new.items (closing whole (vec_len out.old - start) (reverse ends.items)) }

@@ -1,6 +1,7 @@
 //! Bytes of values.
-ghost use Rattle.std.specs.Prelude.{◌≡◌, ◌≤◌, ◌^◌, ◌-◌, ◌++◌, [], ℕ, suc, None, vec_len, IsTrue, IfOk};
+ghost use Rattle.std.specs.Prelude.{◌≡◌, ◌≤◌, ◌-◌, ◌++◌, [], ℕ, suc, None, vec_len, IsTrue, IfOk};
 ghost use Rattle.std.specs.List.{concat};
+ghost use Rattle.gv_value.specs.declared.limits.TheConstants.{MOST_BYTES};
 ghost use Rattle.gv_value.specs.Bytes.{zeros};
 ghost use Rattle.gv_value.specs.Capped.{IsRun};
 ghost use Rattle.gv_value.specs.Framing.{tuple_body, written, ends as ends_of, parts_of};
@@ -29,7 +30,7 @@ pub fn write(
     value: &GvValue,
     room: u32,
 ) -> Result<(), EncodeError>
-    requires room_left { vec_len out.old ≤ 2 ^ 24 }
+    requires room_left { vec_len out.old ≤ MOST_BYTES }
     requires planned { IsTrue (is_plan plan.now) }
     requires fits { IsTrue (fits_within room (plan_shape plan.now) (plain value.now)) }
     ensures { Adds result out.old.items out.new.items (spelling (plain value.now)
@@ -63,7 +64,7 @@ fn write_variant(
     parts: Parts<'_>,
     room: u32,
 ) -> Result<(), EncodeError>
-    requires room_left { vec_len out.old ≤ 2 ^ 24 }
+    requires room_left { vec_len out.old ≤ MOST_BYTES }
     requires fits { IsTrue (fits_within (suc room) variant (part_tree parts)) }
     ensures { Adds result out.old.items out.new.items (spelling (part_tree parts.entry) variant) }
 {
@@ -87,7 +88,7 @@ fn write_array(
     parts: Parts<'_>,
     room: u32,
 ) -> Result<(), EncodeError>
-    requires room_left { vec_len out.old ≤ 2 ^ 24 }
+    requires room_left { vec_len out.old ≤ MOST_BYTES }
     requires planned { IsTrue (is_plan element.now) }
     requires held { IsHeld parts }
     requires fits { IsTrue (fits_within (suc room) (array (plan_shape element.now))
@@ -114,7 +115,7 @@ fn write_row(
     items: &[GvValue],
     room: u32,
 ) -> Result<(), EncodeError>
-    requires room_left { vec_len out.old ≤ 2 ^ 24 }
+    requires room_left { vec_len out.old ≤ MOST_BYTES }
     requires planned { IsTrue (is_plan element.now) }
     requires fits { IsTrue (all_fit (fits_within room (plan_shape element.now))
         (plains items.now)) }
@@ -136,7 +137,7 @@ fn write_framed(
     items: &[GvValue],
     room: u32,
 ) -> Result<(), EncodeError>
-    requires room_left { vec_len out.old ≤ 2 ^ 24 }
+    requires room_left { vec_len out.old ≤ MOST_BYTES }
     requires planned { IsTrue (is_plan element.now) }
     requires fits { IsTrue (all_fit (fits_within room (plan_shape element.now))
         (plains items.now)) }
@@ -162,7 +163,7 @@ fn write_placed(
     item: &GvValue,
     room: u32,
 ) -> Result<(), EncodeError>
-    requires room_left { vec_len out.old ≤ 2 ^ 24 }
+    requires room_left { vec_len out.old ≤ MOST_BYTES }
     requires inside { start ≤ vec_len out.old }
     requires planned { IsTrue (is_plan plan.now) }
     requires fits { IsTrue (fits_within room (plan_shape plan.now) (plain item.now)) }
@@ -183,7 +184,7 @@ fn write_maybe(
     parts: Parts<'_>,
     room: u32,
 ) -> Result<(), EncodeError>
-    requires room_left { vec_len out.old ≤ 2 ^ 24 }
+    requires room_left { vec_len out.old ≤ MOST_BYTES }
     requires planned { IsTrue (is_plan child.now) }
     requires fits { IsTrue (fits_within (suc room) (maybe (plan_shape child.now))
         (part_tree parts)) }
@@ -213,7 +214,7 @@ fn write_tuple(
     parts: Parts<'_>,
     room: u32,
 ) -> Result<(), EncodeError>
-    requires room_left { vec_len out.old ≤ 2 ^ 24 }
+    requires room_left { vec_len out.old ≤ MOST_BYTES }
     requires planned { IsTrue (are_plans plans.now) }
     requires extent { IsRun run (greatest_align (plan_shapes plans.now))
         (end_of 0 (plan_shapes plans.now)) }
@@ -239,7 +240,7 @@ fn write_members(
     items: &[GvValue],
     room: u32,
 ) -> Result<Vec<usize>, EncodeError>
-    requires room_left { vec_len out.old ≤ 2 ^ 24 }
+    requires room_left { vec_len out.old ≤ MOST_BYTES }
     requires planned { IsTrue (are_plans plans.now) }
     requires fits { IsTrue (each_fits (fits_within room) (plan_shapes plans.now)
         (plains items.now)) }
@@ -276,7 +277,7 @@ fn write_entry(
     parts: Parts<'_>,
     room: u32,
 ) -> Result<(), EncodeError>
-    requires room_left { vec_len out.old ≤ 2 ^ 24 }
+    requires room_left { vec_len out.old ≤ MOST_BYTES }
     requires key_planned { IsTrue (is_plan key_plan.now) }
     requires value_planned { IsTrue (is_plan value_plan.now) }
     requires extent { IsRun run (greatest_align (two_shapes (plan_shape key_plan.now)

@@ -7,7 +7,7 @@ use Rattle.std.proofs.lemmas.Grind.{flat_map-append}
 use Rattle.std.proofs.lemmas.List.{take_at, drop_at, length-map}
 use Rattle.gv_value.specs.Bytes.{le_bytes, le_value, AllBelow}
 use Rattle.gv_value.specs.Layout.{padding}
-use Rattle.gv_value.specs.Framing.{Part, placed, laid, ends, Mark, cut, width, width_in, framed, OffsetsFit, IsFramed, same_parts, offsets_at, offsets_remainder, elements_before, framed_children, steps, array_children}
+use Rattle.gv_value.specs.Framing.{Part, placed, laid, ends, Mark, cut, width, width_in, framed, OffsetsFit, IsFramed, same_parts, offsets_at, offsets_after, elements_before, framed_children, steps, array_children}
 use Rattle.gv_value.specs.Spelled.{ArraySpelled}
 use Rattle.gv_value.proofs.Lists.{then_some, guarded}
 use Rattle.gv_value.proofs.Numbers.{length-le_bytes, le_value-le_bytes, length-offsets, offsets_at-spelled, OffsetsAre, offsets_at-found, width_in-whole, width_pos}
@@ -43,8 +43,8 @@ below_last limit (m ∷ front) n h = below_last limit front n h.1
 -- ---- offsets after a body
 
 -- the offsets that a body has after it are read again
-pub offsets_remainder-framed : (body os bytes : List ℕ) → IsFramed body os bytes → offsets_remainder (length body) (length os) bytes ≡ Some os
-offsets_remainder-framed body os bytes h =
+pub offsets_after-framed : (body os bytes : List ℕ) → IsFramed body os bytes → offsets_after (length body) (length os) bytes ≡ Some os
+offsets_after-framed body os bytes h =
     let n = length body in
     let k = length os in
     let w = width n k in
@@ -54,19 +54,19 @@ offsets_remainder-framed body os bytes h =
     let table : drop n bytes ≡ flat_map (le_bytes w) os = ap (drop n) h.1 ∙ drop_at body (flat_map (le_bytes w) os) n refl in
     rw (inside, wide, table) (offsets_at-spelled w k os refl h.0)
 
-pub record RemainderIs (before count : ℕ) (bytes os : List ℕ) : Type 0 where
+pub record OffsetsAfter (before count : ℕ) (bytes os : List ℕ) : Type 0 where
   pub inside : before ≤ length bytes
   pub wide : width before count ≡ width_in (length bytes)
   pub offsets : OffsetsAre (width before count) count (drop before bytes) os
 
-pub offsets_remainder-found : (before count : ℕ) (bytes os : List ℕ) → offsets_remainder before count bytes ≡ Some os → RemainderIs before count bytes os
-offsets_remainder-found before count bytes os e =
+pub offsets_after-found : (before count : ℕ) (bytes os : List ℕ) → offsets_after before count bytes ≡ Some os → OffsetsAfter before count bytes os
+offsets_after-found before count bytes os e =
     let g = guarded (leb before (length bytes) && eqb (width before count) (width_in (length bytes))) (offsets_at (width before count) count (drop before bytes)) os e in
     let p = and_parts (leb before (length bytes)) (eqb (width before count) (width_in (length bytes))) g.0 in
     record { inside = leb-true _ _ p.0; wide = eqb-true _ _ p.1; offsets = offsets_at-found _ _ _ _ g.1 }
 
 -- a body and the offsets that were read after it are framed so
-pub framed-found : (body os bytes : List ℕ) → RemainderIs (length body) (length os) bytes os → body ≡ take (length body) bytes → IsFramed body os bytes
+pub framed-found : (body os bytes : List ℕ) → OffsetsAfter (length body) (length os) bytes os → body ≡ take (length body) bytes → IsFramed body os bytes
 framed-found body os bytes h is =
     (h.offsets.below, sym (take-append-drop (length body) bytes) ∙ ap (λ (xs : List ℕ). xs ++ drop (length body) bytes) (sym is) ∙ ap (λ (xs : List ℕ). body ++ xs) (sym h.offsets.spelled))
 
@@ -114,8 +114,8 @@ framed_children-spelled a (c ∷ cs) bytes h =
     ap (λ (xs : List ℕ). cut xs 0 (map (λ e. (a, e)) es)) front ∙ ap (cut body 0) (sym (marked-same a [] (c ∷ cs))) ∙ cut-laid parts
     ∙ ap (λ (xs : List (List ℕ)). Some xs) (children-same a (c ∷ cs)) in
     framed_children-at a bytes (omega arith) ∙ ap (λ (m : ℕ). elements_before a m bytes) found
-    ∙ ap (λ (m : ℕ). option_and_then (λ ns. cut (take n bytes) 0 (map (λ e. (a, e)) ns)) (offsets_remainder n m bytes)) count
-    ∙ ap (option_and_then (λ ns. cut (take n bytes) 0 (map (λ e. (a, e)) ns))) (offsets_remainder-framed body es bytes h)
+    ∙ ap (λ (m : ℕ). option_and_then (λ ns. cut (take n bytes) 0 (map (λ e. (a, e)) ns)) (offsets_after n m bytes)) count
+    ∙ ap (option_and_then (λ ns. cut (take n bytes) 0 (map (λ e. (a, e)) ns))) (offsets_after-framed body es bytes h)
     ∙ again
   where
     mul-pos' : (x y : ℕ) → 0 < x → 0 < y → 0 < x * y
@@ -141,9 +141,9 @@ framed_children-found a (b ∷ bs) children e =
     let bytes = b ∷ bs in
     let n = le_value (drop (length bytes - width_in (length bytes)) bytes) in
     let k = (length bytes - n) / width_in (length bytes) in
-    let s = then_some (λ ns. cut (take n bytes) 0 (map (λ m. (a, m)) ns)) (offsets_remainder n k bytes) children e in
+    let s = then_some (λ ns. cut (take n bytes) 0 (map (λ m. (a, m)) ns)) (offsets_after n k bytes) children e in
     let es = s.0 in
-    let remainder = offsets_remainder-found n k bytes es s.1 in
+    let remainder = offsets_after-found n k bytes es s.1 in
     let is = cut-found (take n bytes) 0 (map (λ m. (a, m)) es) children (omega arith) s.2 in
     let count : length children ≡ length es = is.count ∙ length-map es (λ m. (a, m)) in
     let parts : paired (map (λ m. (a, m)) es) children ≡ same_parts a children = paired-same a es children count in

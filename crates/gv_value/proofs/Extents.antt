@@ -3,26 +3,27 @@ use Rattle.std.proofs.Common.{◌≡◌, ℕ, zero, suc, ◌+◌, ◌<◌, ◌�
 use Rattle.std.proofs.lemmas.Bool.{cases_lt}
 use Rattle.std.proofs.lemmas.List.{drop_more, drop_all}
 use Rattle.std.proofs.Common.{⊎_elim}
+use Rattle.gv_value.specs.declared.limits.TheConstants.{TOO_LARGE}
 use Rattle.gv_value.specs.Basics.{form_of}
 use Rattle.gv_value.proofs.Laws.{form_size-pos}
 use Rattle.gv_value.specs.Spelled.{two_shapes}
 use Rattle.gv_value.specs.Shape.{Shape, Shapes, no_shapes, shape}
-use Rattle.gv_value.specs.Layout.{form_size, padding, end_remainder, filled, align_of, greatest_align, size_of, end_of}
-use Rattle.gv_value.specs.Capped.{too_large, capped, capped_size, run_end, IsExtent, IsRun}
+use Rattle.gv_value.specs.Layout.{form_size, padding, padded_end, filled, align_of, greatest_align, size_of, end_of}
+use Rattle.gv_value.specs.Capped.{capped, capped_size, run_end, IsExtent, IsRun}
 use Rattle.gv_value.specs.Views.{shape_of, shapes_of}
 use Rattle.gv_value.specs.declared.types.GvType.{GvType}
 use Rattle.gv_value.specs.declared.extent.Extent.{Extent}
 
-capped-end : (at a n : ℕ) → capped (end_remainder (capped at) a (capped n)) ≡ capped (end_remainder at a n)
-capped-end at a n = ⊎_elim (λ lt. below lt) (λ le. omega arith) (cases_lt at too_large)
+capped-end : (at a n : ℕ) → capped (padded_end (capped at) a (capped n)) ≡ capped (padded_end at a n)
+capped-end at a n = ⊎_elim (λ lt. below lt) (λ le. omega arith) (cases_lt at TOO_LARGE)
   where
-    below : at < too_large → capped (end_remainder (capped at) a (capped n)) ≡ capped (end_remainder at a n)
-    below lt = let same : capped at ≡ at = omega arith in ap (λ (x : ℕ). capped (end_remainder x a (capped n))) same ∙ omega arith
+    below : at < TOO_LARGE → capped (padded_end (capped at) a (capped n)) ≡ capped (padded_end at a n)
+    below lt = let same : capped at ≡ at = omega arith in ap (λ (x : ℕ). capped (padded_end x a (capped n))) same ∙ omega arith
 
 pub capped-filled : (a e : ℕ) → capped (filled a (capped e)) ≡ capped (filled a e)
-capped-filled a e = ⊎_elim (λ lt. below lt) (λ le. omega arith) (cases_lt e too_large)
+capped-filled a e = ⊎_elim (λ lt. below lt) (λ le. omega arith) (cases_lt e TOO_LARGE)
   where
-    below : e < too_large → capped (filled a (capped e)) ≡ capped (filled a e)
+    below : e < TOO_LARGE → capped (filled a (capped e)) ≡ capped (filled a e)
     below lt = let same : capped e ≡ e = omega arith in ap (λ (x : ℕ). capped (filled a x)) same
 
 form_align-pos : (o : Option ℕ) → ((s : ℕ) → o ≡ Some s → 0 < s) → 0 < unwrap_or o 1
@@ -43,23 +44,23 @@ mutual
   greatest_align-pos (shape t ts) = omega (arith, align-pos t)
 
 -- one more member after capped ends
-pub run_end-capped : (at : Option ℕ) (a : ℕ) (size : Option ℕ) → run_end (capped_size at) a (capped_size size) ≡ capped_size (option_and_then (λ x. option_map (λ n. end_remainder x a n) size) at)
+pub run_end-capped : (at : Option ℕ) (a : ℕ) (size : Option ℕ) → run_end (capped_size at) a (capped_size size) ≡ capped_size (option_and_then (λ x. option_map (λ n. padded_end x a n) size) at)
 run_end-capped None a size = refl
 run_end-capped (Some at) a None = refl
 run_end-capped (Some at) a (Some n) = ap (λ (x : ℕ). Some x) (capped-end at a n)
 
 -- where members end after others
-abbrev pub end_remainder_all : Option ℕ → Shapes → Option ℕ
-end_remainder_all at ts = option_and_then (λ x. end_of x ts) at
+abbrev pub end_after_all : Option ℕ → Shapes → Option ℕ
+end_after_all at ts = option_and_then (λ x. end_of x ts) at
 
-abbrev pub end_remainder_one : Option ℕ → Shape → Option ℕ
-end_remainder_one at t = option_and_then (λ x. option_map (λ n. end_remainder x (align_of t) n) (size_of t)) at
+abbrev pub end_after_one : Option ℕ → Shape → Option ℕ
+end_after_one at t = option_and_then (λ x. option_map (λ n. padded_end x (align_of t) n) (size_of t)) at
 
-end_remainder-more : (at : Option ℕ) (t : Shape) (ts : Shapes) → end_remainder_all at (shape t ts) ≡ end_remainder_all (end_remainder_one at t) ts
-end_remainder-more None t ts = refl
-end_remainder-more (Some x) t ts = by (size_of t)
+end_after-more : (at : Option ℕ) (t : Shape) (ts : Shapes) → end_after_all at (shape t ts) ≡ end_after_all (end_after_one at t) ts
+end_after-more None t ts = refl
+end_after-more (Some x) t ts = by (size_of t)
   where
-    by : (o : Option ℕ) → option_and_then (λ n. end_of (end_remainder x (align_of t) n) ts) o ≡ option_and_then (λ y. end_of y ts) (option_map (λ n. end_remainder x (align_of t) n) o)
+    by : (o : Option ℕ) → option_and_then (λ n. end_of (padded_end x (align_of t) n) ts) o ≡ option_and_then (λ y. end_of y ts) (option_map (λ n. padded_end x (align_of t) n) o)
     by None = refl
     by (Some n) = refl
 
@@ -68,7 +69,7 @@ pub record SoFar (e : Extent) (rest all : Shapes) : Type 0 where
   pub at : Option ℕ
   pub align_is : max e.align (greatest_align rest) ≡ greatest_align all
   pub end_is : e.size ≡ capped_size at
-  pub whole : end_remainder_all at rest ≡ end_of 0 all
+  pub whole : end_after_all at rest ≡ end_of 0 all
 
 pub so_far-none : (e : Extent) (ts : Shapes) → e.align ≡ 1 → e.size ≡ Some 0 → SoFar e ts ts
 so_far-none e ts align size = record {
@@ -80,16 +81,16 @@ so_far-none e ts align size = record {
 
 pub so_far-more : (e m f : Extent) (t : Shape) (rest all : Shapes) → SoFar e (shape t rest) all → IsExtent m t → f.align ≡ max e.align m.align → f.size ≡ run_end e.size m.align m.size → SoFar f rest all
 so_far-more e m f t rest all so is align size = record {
-  at = end_remainder_one so.at t;
+  at = end_after_one so.at t;
   align_is = omega (arith, so.align_is, is.align, align);
   end_is = size ∙ ap (λ (o : Option ℕ). run_end o m.align m.size) so.end_is ∙ ap₂ (run_end (capped_size so.at)) is.align is.size ∙ run_end-capped so.at (align_of t) (size_of t);
-  whole = sym (end_remainder-more so.at t rest) ∙ so.whole;
+  whole = sym (end_after-more so.at t rest) ∙ so.whole;
 }
 
 pub run-from : (e : Extent) (all : Shapes) → SoFar e no_shapes all → 0 < e.align → IsRun e (greatest_align all) (end_of 0 all)
 run-from e all so pos = record { align_is = omega (arith, so.align_is); end_is = so.end_is ∙ ap capped_size (by so.at ∙ so.whole) }
   where
-    by : (o : Option ℕ) → o ≡ end_remainder_all o no_shapes
+    by : (o : Option ℕ) → o ≡ end_after_all o no_shapes
     by None = refl
     by (Some x) = refl
 

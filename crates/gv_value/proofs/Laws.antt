@@ -10,12 +10,12 @@ use Rattle.gv_value.specs.declared.basic.Basic.TheVariants as basics
 use Rattle.gv_value.specs.Basics.{Form, form_of}
 use Rattle.gv_value.specs.Signs.{basic_letter}
 use Rattle.gv_value.specs.Bytes.{le_bytes, zeros, AllBelow}
-use Rattle.gv_value.specs.Shape.{Shape, Shapes, no_shapes, shape, is_type, max_depth}
+use Rattle.gv_value.specs.Shape.{Shape, Shapes, no_shapes, shape, is_type}
 use Rattle.gv_value.specs.Tree.{Content, Tree, Trees, no_trees, tree}
 use Rattle.gv_value.specs.Layout.{align_of, size_of, form_size, filled, end_of}
 use Rattle.gv_value.specs.Framing.{Part, placed, laid, ends, width, framed, OffsetsFit, IsFramed, same_parts, put_offset, is_none_left, written, tuple_body, tuple_offsets, array_children, tuple_children}
 use Rattle.gv_value.specs.TypeText.{type_text, type_of}
-use Rattle.gv_value.specs.Spelled.{ContentSpelled, ArraySpelled, JustSpelled, TupleSpelled, VariantSpelled, AllSpelled, EachSpelled, two_shapes, two_trees, SpelledWithin, max_bytes, Spelled}
+use Rattle.gv_value.specs.Spelled.{ContentSpelled, ArraySpelled, JustSpelled, TupleSpelled, VariantSpelled, AllSpelled, EachSpelled, two_shapes, two_trees, SpelledWithin, Spelled}
 use Rattle.gv_value.specs.Spelling.{all_fit, each_fits, fits_within, fits, array_bytes, just_bytes, tuple_bytes, spelling, spelling_of_all, spelling_of_each}
 use Rattle.gv_value.specs.Reading.{content_at, before_zero, read_all, read_each, just_at, maybe_at, parted, variant_at, as_entry, value_at, value_of}
 use Rattle.gv_value.proofs.Lists.{then_some, map_some, guarded, length-zeros}

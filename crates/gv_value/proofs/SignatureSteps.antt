@@ -1,6 +1,7 @@
 -- Signatures, step by step.
 use Rattle.std.proofs.Common.{◌≡◌, ℕ, zero, suc, pred, ◌+◌, ◌-◌, ◌<◌, ◌≤◌, Bool, true, false, List, [], ◌∷◌, length, Option, Some, None, option_map, option_and_then, unwrap_or, refl, sym, ap, ap₂, ◌∙◌, subst, arith}
 use Rattle.std.proofs.lemmas.Option.{same_Some}
+use Rattle.gv_value.specs.declared.limits.TheConstants.{MOST_OPEN}
 use Rattle.gv_value.specs.declared.sign.Sign.{Sign}
 use Rattle.gv_value.specs.declared.sign.Sign.TheVariants as signs
 use Rattle.std.proofs.lemmas.Bool.{and_parts}
@@ -168,7 +169,7 @@ types-ascii one leads (suc n) (c ∷ cs) e = by (λ rest. types-ascii one leads 
     by more (Some rest) is h = leads (c ∷ cs) rest is (more rest h)
 
 pub signature-ascii : (text : List ℕ) → is_signature text ≡ true → AllBelow 128 text
-signature-ascii text e = types-ascii (after_type 64 32 32) (type-ascii 64 32 32) (length text) text (and_parts _ _ e).1
+signature-ascii text e = types-ascii (after_type (MOST_OPEN + MOST_OPEN) MOST_OPEN MOST_OPEN) (type-ascii (MOST_OPEN + MOST_OPEN) MOST_OPEN MOST_OPEN) (length text) text (and_parts _ _ e).1
 
 -- ---- one type
 

@@ -5,13 +5,13 @@ use Rattle.std.proofs.lemmas.Bool.{leb-true, le-leb, eqb-true, eq-eqb, and_parts
 use Rattle.std.proofs.lemmas.List.{take_at, drop_at, length-reverse, reverse-reverse}
 use Rattle.gv_value.specs.Bytes.{le_bytes, zeros, all_zero}
 use Rattle.gv_value.specs.Shape.{Shape, tuple, Shapes, no_shapes, shape}
-use Rattle.gv_value.specs.Layout.{padding, align_of, greatest_align, end_remainder, filled, size_of, end_of}
-use Rattle.gv_value.specs.Framing.{Part, placed, laid, ends, Mark, cut, width, width_in, framed, IsFramed, parts_of, is_none_left, put_offset, written, tuple_body, tuple_offsets, offsets_remainder, member_end, marks, offset_count, open_children, filled_children, tuple_children}
+use Rattle.gv_value.specs.Layout.{padding, align_of, greatest_align, padded_end, filled, size_of, end_of}
+use Rattle.gv_value.specs.Framing.{Part, placed, laid, ends, Mark, cut, width, width_in, framed, IsFramed, parts_of, is_none_left, put_offset, written, tuple_body, tuple_offsets, offsets_after, member_end, marks, offset_count, open_children, filled_children, tuple_children}
 use Rattle.gv_value.specs.Spelled.{TupleSpelled}
 use Rattle.gv_value.proofs.Lists.{then_some, map_some, guarded, all_zero-zeros, zeros-from, length-zeros}
 use Rattle.gv_value.proofs.Numbers.{length-offsets, width_in-whole}
 use Rattle.gv_value.proofs.Cutting.{marked, children_of, length-laid, cut-laid, paired, mark_ends, CutIs, cut-found}
-use Rattle.gv_value.proofs.Arrays.{offsets_remainder-framed, RemainderIs, offsets_remainder-found, framed-found}
+use Rattle.gv_value.proofs.Arrays.{offsets_after-framed, OffsetsAfter, offsets_after-found, framed-found}
 
 -- there is a child for each member, and one of fixed size has that length
 abbrev pub EachSized : Shapes → List (List ℕ) → Type 0
@@ -52,19 +52,19 @@ length-written body (shape t ts) (c ∷ cs) h =
 length-written body no_shapes (c ∷ cs) h = absurd h
 length-written body (shape t ts) [] h = absurd h
 
-end-put : (o : Option ℕ) (last : Bool) (whole at align e : ℕ) (os : List ℕ) → IfSome o (λ s. end_remainder at align s ≡ e) → (last ≡ true → whole ≡ e) →
+end-put : (o : Option ℕ) (last : Bool) (whole at align e : ℕ) (os : List ℕ) → IfSome o (λ s. padded_end at align s ≡ e) → (last ≡ true → whole ≡ e) →
     member_end o last whole at align (put_offset o last e os) ≡ (e, os)
 end-put (Some s) last whole at align e os fixed ends_all = ap (λ (n : ℕ). (n, os)) fixed
 end-put None true whole at align e os fixed ends_all = ap (λ (n : ℕ). (n, os)) (ends_all refl)
 end-put None false whole at align e os fixed ends_all = refl
 
-none_remainder : (body : List ℕ) (ts : Shapes) (cs : List (List ℕ)) → EachSized ts cs → is_none_left ts ≡ true → laid body (parts_of ts cs) ≡ body
-none_remainder body no_shapes [] h e = refl
-none_remainder body (shape t ts) (c ∷ cs) h e = absurd cc
-none_remainder body no_shapes (c ∷ cs) h e = absurd h
-none_remainder body (shape t ts) [] h e = absurd h
+none_after : (body : List ℕ) (ts : Shapes) (cs : List (List ℕ)) → EachSized ts cs → is_none_left ts ≡ true → laid body (parts_of ts cs) ≡ body
+none_after body no_shapes [] h e = refl
+none_after body (shape t ts) (c ∷ cs) h e = absurd cc
+none_after body no_shapes (c ∷ cs) h e = absurd h
+none_after body (shape t ts) [] h e = absurd h
 
-end-placed : (body : List ℕ) (align : ℕ) (o : Option ℕ) (c : List ℕ) → IfSome o (λ s. length c ≡ s) → IfSome o (λ s. end_remainder (length body) align s ≡ length (placed body (align, c)))
+end-placed : (body : List ℕ) (align : ℕ) (o : Option ℕ) (c : List ℕ) → IfSome o (λ s. length c ≡ s) → IfSome o (λ s. padded_end (length body) align s ≡ length (placed body (align, c)))
 end-placed body align None c h = tt
 end-placed body align (Some s) c h =
     omega (arith, h, length-append body (zeros (padding (length body) align) ++ c), length-append (zeros (padding (length body) align)) c, length-zeros (padding (length body) align))
@@ -77,7 +77,7 @@ marks-written whole body (shape t ts) (c ∷ cs) h e =
     let next = placed body (align_of t, c) in
     let rest = written ts (ends next (parts_of ts cs)) in
     let found = end-put (size_of t) (is_none_left ts) whole (length body) (align_of t) (length next) rest (end-placed body (align_of t) (size_of t) c h.0)
-    (λ last. e ∙ ap length (none_remainder next ts cs h.1 last)) in
+    (λ last. e ∙ ap length (none_after next ts cs h.1 last)) in
     ap (λ (p : ℕ × List ℕ). (align_of t, p.0) ∷ marks whole p.0 ts p.1) found
     ∙ ap (λ (ms : List Mark). (align_of t, length next) ∷ ms) (marks-written whole next ts cs h.1 e)
 marks-written whole body no_shapes (c ∷ cs) h e = absurd h
@@ -120,8 +120,8 @@ paired-marks whole at (shape t ts) os (c ∷ cs) h =
 -- ---- members that all have a fixed size
 
 end_of-member : (at : ℕ) (t : Shape) (ts : Shapes) (e : ℕ) → end_of at (shape t ts) ≡ Some e →
-    (s : ℕ) × (size_of t ≡ Some s) × (end_of (end_remainder at (align_of t) s) ts ≡ Some e)
-end_of-member at t ts e h = then_some (λ n. end_of (end_remainder at (align_of t) n) ts) (size_of t) e h
+    (s : ℕ) × (size_of t ≡ Some s) × (end_of (padded_end at (align_of t) s) ts ≡ Some e)
+end_of-member at t ts e h = then_some (λ n. end_of (padded_end at (align_of t) n) ts) (size_of t) e h
 
 at_some : (P : ℕ → Type 0) (o : Option ℕ) (s : ℕ) → o ≡ Some s → IfSome o P → P s
 at_some P o s e h = subst (λ x. IfSome x P) e h
@@ -131,7 +131,7 @@ length-fixed body no_shapes [] e h fixed = cc
 length-fixed body (shape t ts) (c ∷ cs) e h fixed =
     let next = placed body (align_of t, c) in
     let m = end_of-member (length body) t ts e fixed in
-    let end : end_remainder (length body) (align_of t) m.0 ≡ length next = at_some (λ s. end_remainder (length body) (align_of t) s ≡ length next) (size_of t) m.0 m.1 (end-placed body (align_of t) (size_of t) c h.0) in
+    let end : padded_end (length body) (align_of t) m.0 ≡ length next = at_some (λ s. padded_end (length body) (align_of t) s ≡ length next) (size_of t) m.0 m.1 (end-placed body (align_of t) (size_of t) c h.0) in
     length-fixed next ts cs e h.1 (ap (λ (n : ℕ). end_of n ts) (sym end) ∙ m.2)
 length-fixed body no_shapes (c ∷ cs) e h fixed = absurd h
 length-fixed body (shape t ts) [] e h fixed = absurd h
@@ -141,14 +141,14 @@ written-fixed at no_shapes e es h = refl
 written-fixed at (shape t ts) e [] h = refl
 written-fixed at (shape t ts) e (n ∷ es) h =
     let m = end_of-member at t ts e h in
-    ap (λ (o : Option ℕ). put_offset o (is_none_left ts) n (written ts es)) m.1 ∙ written-fixed (end_remainder at (align_of t) m.0) ts e es m.2
+    ap (λ (o : Option ℕ). put_offset o (is_none_left ts) n (written ts es)) m.1 ∙ written-fixed (padded_end at (align_of t) m.0) ts e es m.2
 
 offset_count-fixed : (at : ℕ) (ts : Shapes) (e : ℕ) → end_of at ts ≡ Some e → offset_count ts ≡ 0
 offset_count-fixed at no_shapes e h = refl
 offset_count-fixed at (shape t ts) e h =
     let m = end_of-member at t ts e h in
     let none = ap (λ (o : Option ℕ). length (put_offset o (is_none_left ts) 0 [])) m.1 in
-    omega (arith, none, offset_count-fixed (end_remainder at (align_of t) m.0) ts e m.2)
+    omega (arith, none, offset_count-fixed (padded_end at (align_of t) m.0) ts e m.2)
 
 -- ---- both
 
@@ -175,7 +175,7 @@ open-spelled ts cs bytes sized h =
     let wide : width_in (length bytes) ≡ w = ap width_in len ∙ width_in-whole n (length os) in
     let before : length bytes - k * width_in (length bytes) ≡ n =
     ap (λ (m : ℕ). length bytes - k * m) wide ∙ ap (λ (m : ℕ). length bytes - m * w) (sym count) ∙ omega arith in
-    let read : offsets_remainder n k bytes ≡ Some os = ap (λ (m : ℕ). offsets_remainder n m bytes) (sym count) ∙ offsets_remainder-framed body os bytes h in
+    let read : offsets_after n k bytes ≡ Some os = ap (λ (m : ℕ). offsets_after n m bytes) (sym count) ∙ offsets_after-framed body os bytes h in
     let front : take n bytes ≡ body = ap (take n) h.1 ∙ take_at body (flat_map (le_bytes w) os) n refl in
     let again : cut (take n bytes) 0 (marks n 0 ts (reverse os)) ≡ Some cs =
     ap (λ (xs : List ℕ). cut xs 0 (marks n 0 ts (reverse os))) front
@@ -215,9 +215,9 @@ tuple_children-spelled ts (Some s) cs bytes fixed sized h = filled-spelled ts s 
 open-found : (ts : Shapes) (before : ℕ) (bytes : List ℕ) (cs : List (List ℕ)) → open_children ts before bytes ≡ Some cs →
     SameCount ts cs × IsFramed (tuple_body ts cs) (tuple_offsets ts cs) bytes
 open-found ts before bytes cs e =
-    let s = then_some (λ xs. cut (take before bytes) 0 (marks before 0 ts (reverse xs))) (offsets_remainder before (offset_count ts) bytes) cs e in
+    let s = then_some (λ xs. cut (take before bytes) 0 (marks before 0 ts (reverse xs))) (offsets_after before (offset_count ts) bytes) cs e in
     let os = s.0 in
-    let remainder = offsets_remainder-found before (offset_count ts) bytes os s.1 in
+    let remainder = offsets_after-found before (offset_count ts) bytes os s.1 in
     let ms = marks before 0 ts (reverse os) in
     let is = cut-found (take before bytes) 0 ms cs (omega arith) s.2 in
     let parts = paired-marks before 0 ts (reverse os) cs is.count in

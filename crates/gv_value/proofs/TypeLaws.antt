@@ -1,15 +1,16 @@
 -- A type string and its type: what is read is spelled so, and what is spelled so is read.
 use Rattle.std.proofs.Common.{◌≡◌, ℕ, zero, suc, ◌+◌, ◌<◌, ◌≤◌, Bool, true, false, cond, ◌&&◌, ◌||◌, eqb, List, [], ◌∷◌, ◌++◌, length, Option, Some, None, option_map, option_and_then, refl, sym, ap, ◌∙◌, subst, arith, append_assoc, append-nil, length-append}
 use Rattle.std.proofs.lemmas.Bool.{eqb-true, and_parts, and_from, or_parts, or_from}
+use Rattle.gv_value.specs.declared.limits.TheConstants.{MOST_DEPTH}
 use Rattle.gv_value.specs.declared.basic.Basic.{Basic}
 use Rattle.gv_value.specs.declared.basic.Basic.TheVariants as basics
 use Rattle.gv_value.specs.declared.sign.Sign.{Sign}
 use Rattle.gv_value.specs.declared.sign.Sign.TheVariants as signs
-use Rattle.gv_value.specs.Shape.{Shape, basic, variant, array, maybe, tuple, entry, Shapes, no_shapes, shape, is_basic, all_shapes, nests_within, max_depth, is_type}
+use Rattle.gv_value.specs.Shape.{Shape, basic, variant, array, maybe, tuple, entry, Shapes, no_shapes, shape, is_basic, all_shapes, nests_within, is_type}
 use Rattle.gv_value.specs.Signs.{letter_of, sign_among, all_signs, sign_of, sign_at}
 use Rattle.gv_value.specs.Texts.{has_zero}
 use Rattle.gv_value.specs.TypeText.{type_text, type_texts, TypeReader, type_map, members_from, members_at, entry_closed, entry_from, type_from, flat_type, type_at, if_whole, type_of}
-use Rattle.gv_value.specs.Reading.{parted_remainder, parted}
+use Rattle.gv_value.specs.Reading.{parted_with, parted}
 use Rattle.gv_value.proofs.Lists.{then_some, map_some}
 
 -- ---- letters
@@ -301,7 +302,7 @@ type_takes (suc n) text t rest e =
 
 pub type_of-text : (t : Shape) → is_type t ≡ true → type_of (type_text t) ≡ Some t
 type_of-text t h =
-    let again : type_at max_depth (type_text t) ≡ Some (t, []) = ap (type_at max_depth) (sym (append-nil (type_text t))) ∙ type_again max_depth t [] h in
+    let again : type_at MOST_DEPTH (type_text t) ≡ Some (t, []) = ap (type_at MOST_DEPTH) (sym (append-nil (type_text t))) ∙ type_again MOST_DEPTH t [] h in
     ap (option_and_then (λ p. if_whole p.0 p.1)) again
 
 whole_is : (t u : Shape) (rest : List ℕ) → if_whole t rest ≡ Some u → (t ≡ u) × (rest ≡ [])
@@ -314,9 +315,9 @@ pub record IsTextOf (text : List ℕ) (t : Shape) : Type 0 where
 
 pub type_of-found : (text : List ℕ) (t : Shape) → type_of text ≡ Some t → IsTextOf text t
 type_of-found text t e =
-    let a = then_some (λ p. if_whole p.0 p.1) (type_at max_depth text) t e in
+    let a = then_some (λ p. if_whole p.0 p.1) (type_at MOST_DEPTH text) t e in
     let whole = whole_is a.0.0 t a.0.1 a.2 in
-    let taken = type_takes max_depth text a.0.0 a.0.1 a.1 in
+    let taken = type_takes MOST_DEPTH text a.0.0 a.0.1 a.1 in
     subst (IsTextOf text) whole.0 (record { is = taken.is ∙ ap (λ (xs : List ℕ). type_text a.0.0 ++ xs) whole.1 ∙ append-nil (type_text a.0.0); type = taken.nests })
 
 -- ---- a type string after a zero byte
@@ -360,15 +361,15 @@ parted-nonzero : (bytes : List ℕ) → has_zero bytes ≡ false → parted byte
 parted-nonzero [] h = refl
 parted-nonzero (b ∷ bytes) h =
     let p = or_parts (eqb b 0) (has_zero bytes) h in
-    ap (parted_remainder b bytes) (parted-nonzero bytes p.1) ∙ ap (λ (x : Bool). cond x (Some ([], bytes)) None) p.0
+    ap (parted_with b bytes) (parted-nonzero bytes p.1) ∙ ap (λ (x : Bool). cond x (Some ([], bytes)) None) p.0
 
 -- bytes part before the zero byte after which none stands
 pub parted-spelled : (front remainder : List ℕ) → has_zero remainder ≡ false → parted (front ++ 0 ∷ remainder) ≡ Some (front, remainder)
-parted-spelled [] remainder h = ap (parted_remainder 0 remainder) (parted-nonzero remainder h)
-parted-spelled (b ∷ front) remainder h = ap (parted_remainder b (front ++ 0 ∷ remainder)) (parted-spelled front remainder h)
+parted-spelled [] remainder h = ap (parted_with 0 remainder) (parted-nonzero remainder h)
+parted-spelled (b ∷ front) remainder h = ap (parted_with b (front ++ 0 ∷ remainder)) (parted-spelled front remainder h)
 
 parted_is : (b : ℕ) (bytes : List ℕ) (o : Option (List ℕ × List ℕ)) (p : List ℕ × List ℕ) →
-    ((q : List ℕ × List ℕ) → o ≡ Some q → bytes ≡ q.0 ++ 0 ∷ q.1) → parted_remainder b bytes o ≡ Some p → b ∷ bytes ≡ p.0 ++ 0 ∷ p.1
+    ((q : List ℕ × List ℕ) → o ≡ Some q → bytes ≡ q.0 ++ 0 ∷ q.1) → parted_with b bytes o ≡ Some p → b ∷ bytes ≡ p.0 ++ 0 ∷ p.1
 parted_is b bytes (Some q) p is e =
     subst (λ (r : List ℕ × List ℕ). b ∷ bytes ≡ r.0 ++ 0 ∷ r.1) (same e) (ap (λ (xs : List ℕ). b ∷ xs) (is q refl))
   where

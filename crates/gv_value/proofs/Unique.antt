@@ -8,12 +8,12 @@ use Rattle.gv_value.specs.declared.basic.Basic.{Basic}
 use Rattle.gv_value.specs.Basics.{Form, form_of}
 use Rattle.gv_value.specs.Signs.{basic_letter}
 use Rattle.gv_value.specs.Bytes.{le_bytes, zeros, AllBelow}
-use Rattle.gv_value.specs.Shape.{Shape, Shapes, no_shapes, shape, is_type, max_depth}
+use Rattle.gv_value.specs.Shape.{Shape, Shapes, no_shapes, shape, is_type}
 use Rattle.gv_value.specs.Tree.{Content, Tree, Trees, no_trees, tree}
 use Rattle.gv_value.specs.Layout.{padding, align_of, size_of}
 use Rattle.gv_value.specs.Framing.{Part, placed, laid, ends, width, framed, OffsetsFit, IsFramed, same_parts, parts_of, put_offset, is_none_left, written, tuple_body, tuple_offsets}
 use Rattle.gv_value.specs.TypeText.{type_text}
-use Rattle.gv_value.specs.Spelled.{ContentSpelled, ArraySpelled, JustSpelled, TupleSpelled, AllSpelled, EachSpelled, two_shapes, two_trees, SpelledWithin, max_bytes, Spelled}
+use Rattle.gv_value.specs.Spelled.{ContentSpelled, ArraySpelled, JustSpelled, TupleSpelled, AllSpelled, EachSpelled, two_shapes, two_trees, SpelledWithin, Spelled}
 use Rattle.gv_value.specs.Spelling.{content_fits, content_bytes, all_fit, each_fits, fits_within, fits, array_bytes, just_bytes, tuple_bytes, spelling, spelling_of_all, spelling_of_each}
 use Rattle.gv_value.proofs.Cutting.{length-laid}
 use Rattle.gv_value.proofs.Contents.{content_is, content_spelled, same_basic}

@@ -1,15 +1,12 @@
 -- Sizes that count as one from 16 MiB on, so that they fit in a number of the code.
 use Rattle.std.specs.Prelude.{◌≡◌, ℕ, ◌+◌, ◌≤◌, min, max, nat_le, if◌then◌else◌, Option, Some, None, option_map, option_and_then}
+use Rattle.gv_value.specs.declared.limits.TheConstants.{MOST_BYTES, TOO_LARGE}
 use Rattle.gv_value.specs.Shape.{Shape, basic, variant, array, maybe, tuple, entry, Shapes, no_shapes, shape}
-use Rattle.gv_value.specs.Layout.{end_remainder, filled, align_of, greatest_align, size_of, end_of}
-use Rattle.gv_value.specs.Spelled.{max_bytes}
+use Rattle.gv_value.specs.Layout.{padded_end, filled, align_of, greatest_align, size_of, end_of}
 use Rattle.gv_value.specs.declared.extent.Extent.{Extent}
 
-abbrev pub too_large : ℕ
-too_large = 16777217
-
 abbrev pub capped : ℕ → ℕ
-capped n = min n too_large
+capped n = min n TOO_LARGE
 
 abbrev pub capped_size : Option ℕ → Option ℕ
 capped_size size = option_map capped size
@@ -21,7 +18,7 @@ pub record IsExtent (e : Extent) (t : Shape) : Type 0 where
 
 -- where one more member ends, after members that end at a place
 abbrev pub run_end : Option ℕ → ℕ → Option ℕ → Option ℕ
-run_end at align size = option_and_then (λ a. option_map (λ n. capped (end_remainder a align n)) size) at
+run_end at align size = option_and_then (λ a. option_map (λ n. capped (padded_end a align n)) size) at
 
 -- members so far: their greatest alignment, and where they end
 pub record IsRun (e : Extent) (align : ℕ) (end : Option ℕ) : Type 0 where
@@ -30,7 +27,7 @@ pub record IsRun (e : Extent) (align : ℕ) (end : Option ℕ) : Type 0 where
 
 -- the size of a type, where it is fixed and at most 16 MiB
 abbrev pub if_small : ℕ → Option ℕ
-if_small n = if nat_le n max_bytes then Some n else None
+if_small n = if nat_le n MOST_BYTES then Some n else None
 
 abbrev pub small_size : Shape → Option ℕ
 small_size t = option_and_then if_small (size_of t)

@@ -1,9 +1,10 @@
 -- What holds of all types, values and bytes.
 use Rattle.std.specs.Prelude.{◌≡◌, ℕ, ◌+◌, ◌≤◌, max, ◌↔◌, IsTrue, List, length, Some}
+use Rattle.gv_value.specs.declared.limits.TheConstants.{MOST_BYTES}
 use Rattle.gv_value.specs.Shape.{Shape, is_type}
 use Rattle.gv_value.specs.Tree.{Tree, Trees, no_trees, tree}
 use Rattle.gv_value.specs.TypeText.{type_text, type_of}
-use Rattle.gv_value.specs.Spelled.{SpelledWithin, max_bytes, Spelled}
+use Rattle.gv_value.specs.Spelled.{SpelledWithin, Spelled}
 use Rattle.gv_value.specs.Spelling.{fits, spelling}
 use Rattle.gv_value.specs.Reading.{value_of}
 
@@ -17,7 +18,7 @@ ReadsValues = (t : Shape) (v : Tree) (bytes : List ℕ) → (value_of t bytes �
 
 -- bytes are a value of a type exactly where the value is of the type and they are its spelling, of at most 16 MiB
 abbrev pub SpellsValues : Type 0
-SpellsValues = (t : Shape) (v : Tree) (bytes : List ℕ) → Spelled t v bytes ↔ (IsTrue (fits t v) × (bytes ≡ spelling v t) × (length bytes ≤ max_bytes))
+SpellsValues = (t : Shape) (v : Tree) (bytes : List ℕ) → Spelled t v bytes ↔ (IsTrue (fits t v) × (bytes ≡ spelling v t) × (length bytes ≤ MOST_BYTES))
 
 -- a value of a type has one spelling
 abbrev pub HasOneSpelling : Type 0

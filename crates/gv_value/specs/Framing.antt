@@ -4,7 +4,7 @@ use Rattle.std.specs.List.{flat_map, concat}
 use Rattle.std.specs.Str.{bytes_eq}
 use Rattle.gv_value.specs.Bytes.{le_bytes, le_value, zeros, all_zero, AllBelow}
 use Rattle.gv_value.specs.Shape.{Shape, tuple, Shapes, no_shapes, shape}
-use Rattle.gv_value.specs.Layout.{padding, align_of, end_remainder, size_of, end_of}
+use Rattle.gv_value.specs.Layout.{padding, align_of, padded_end, size_of, end_of}
 
 -- ---- what is written
 
@@ -102,8 +102,8 @@ abbrev pub offsets_at : ℕ → ℕ → List ℕ → Option (List ℕ)
 offsets_at w count table = let found = numbers w count table in if bytes_eq (flat_map (le_bytes w) found) table then Some found else None
 
 -- the offsets after the first bytes of a container, where their width is the least that fits
-abbrev pub offsets_remainder : ℕ → ℕ → List ℕ → Option (List ℕ)
-offsets_remainder before count bytes =
+abbrev pub offsets_after : ℕ → ℕ → List ℕ → Option (List ℕ)
+offsets_after before count bytes =
     if nat_le before (length bytes) && width before count == width_in (length bytes) then offsets_at (width before count) count (drop before bytes) else None
 
 -- so many children of one size
@@ -114,7 +114,7 @@ steps size at (suc count) = (1, at + size) ∷ steps size (at + size) count
 -- the elements before the offsets, which begin after so many bytes
 abbrev pub elements_before : ℕ → ℕ → List ℕ → Option (List (List ℕ))
 elements_before align before bytes = option_and_then (λ es. cut (take before bytes) 0 (map (λ e. (align, e)) es))
-    (offsets_remainder before ((length bytes - before) / width_in (length bytes)) bytes)
+    (offsets_after before ((length bytes - before) / width_in (length bytes)) bytes)
 
 -- the elements of an array that have no fixed size: the last offset, where the last element ends, says where the offsets begin
 abbrev pub framed_children : ℕ → List ℕ → Option (List (List ℕ))
@@ -128,7 +128,7 @@ array_children align None bytes = framed_children align bytes
 
 -- the end of a member by its size, and the offsets that are left: the last one of variable size ends where the offsets begin
 abbrev pub member_end : Option ℕ → Bool → ℕ → ℕ → ℕ → List ℕ → ℕ × List ℕ
-member_end (Some size) last whole at align offsets = (end_remainder at align size, offsets)
+member_end (Some size) last whole at align offsets = (padded_end at align size, offsets)
 member_end None true whole at align offsets = (whole, offsets)
 member_end None false whole at align [] = (whole, [])
 member_end None false whole at align (end ∷ offsets) = (end, offsets)
@@ -147,7 +147,7 @@ offset_count (shape t ts) = length (put_offset (size_of t) (is_none_left ts) 0 [
 -- the members of a tuple of variable size, whose offsets begin after so many bytes
 abbrev pub open_children : Shapes → ℕ → List ℕ → Option (List (List ℕ))
 open_children ts before bytes =
-    option_and_then (λ os. cut (take before bytes) 0 (marks before 0 ts (reverse os))) (offsets_remainder before (offset_count ts) bytes)
+    option_and_then (λ os. cut (take before bytes) 0 (marks before 0 ts (reverse os))) (offsets_after before (offset_count ts) bytes)
 
 -- the members of a tuple of this size, filled with zero bytes after the last one
 abbrev pub filled_children : Shapes → ℕ → ℕ → List ℕ → Option (List (List ℕ))

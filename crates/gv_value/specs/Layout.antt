@@ -29,8 +29,8 @@ abbrev mutual
   greatest_align (shape t ts) = max (align_of t) (greatest_align ts)
 
 -- where a child ends whose padding begins at a position
-abbrev pub end_remainder : ℕ → ℕ → ℕ → ℕ
-end_remainder at align size = at + padding at align + size
+abbrev pub padded_end : ℕ → ℕ → ℕ → ℕ
+padded_end at align size = at + padding at align + size
 
 -- the size of a tuple, by its alignment and by where its last member ends: a multiple of the alignment, and not 0
 abbrev pub filled : ℕ → ℕ → ℕ
@@ -45,9 +45,9 @@ abbrev mutual
   size_of (tuple ts) = option_map (filled (greatest_align ts)) (end_of 0 ts)
   -- as a tuple of two
   size_of (entry k v) = option_map (filled (max (align_of k) (max (align_of v) 1)))
-      (option_and_then (λ m. option_and_then (λ n. Some (end_remainder (end_remainder 0 (align_of k) m) (align_of v) n)) (size_of v)) (size_of k))
+      (option_and_then (λ m. option_and_then (λ n. Some (padded_end (padded_end 0 (align_of k) m) (align_of v) n)) (size_of v)) (size_of k))
 
   -- where the last of members of fixed size ends, which begin after a position
   pub end_of : ℕ → Shapes → Option ℕ
   end_of at no_shapes = Some at
-  end_of at (shape t ts) = option_and_then (λ n. end_of (end_remainder at (align_of t) n) ts) (size_of t)
+  end_of at (shape t ts) = option_and_then (λ n. end_of (padded_end at (align_of t) n) ts) (size_of t)

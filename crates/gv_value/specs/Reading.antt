@@ -3,15 +3,16 @@ use Rattle.std.specs.Prelude.{ℕ, zero, suc, ◌+◌, ◌-◌, ◌^◌, Bool, t
 use Rattle.std.specs.Int.{Width, byte_len, cast_signed}
 use Rattle.std.specs.List.{before_last, after_last}
 use Rattle.std.specs.Str.{bytes_eq}
+use Rattle.gv_value.specs.declared.limits.TheConstants.{MOST_BYTES, MOST_DEPTH}
 use Rattle.gv_value.specs.Basics.{Form, form_of, TextKind}
 use Rattle.gv_value.specs.Bytes.{le_bytes, le_value}
-use Rattle.gv_value.specs.Shape.{Shape, Shapes, no_shapes, shape, is_type, max_depth}
+use Rattle.gv_value.specs.Shape.{Shape, Shapes, no_shapes, shape, is_type}
 use Rattle.gv_value.specs.Tree.{Content, Tree, Trees, no_trees, tree}
 use Rattle.gv_value.specs.Layout.{align_of, size_of}
 use Rattle.gv_value.specs.Framing.{array_children, tuple_children}
 use Rattle.gv_value.specs.Texts.{is_text}
 use Rattle.gv_value.specs.TypeText.{type_of}
-use Rattle.gv_value.specs.Spelled.{two_shapes, max_bytes}
+use Rattle.gv_value.specs.Spelled.{two_shapes}
 use Rattle.gv_value.specs.Spelling.{are_bytes}
 
 -- ---- values of basic types
@@ -69,14 +70,14 @@ maybe_at one size [] = Some Tree.nothing
 maybe_at one size (b ∷ bytes) = option_map Tree.just (just_at one size (b ∷ bytes))
 
 -- where a byte stands before bytes that part, or before others
-abbrev pub parted_remainder : ℕ → List ℕ → Option (List ℕ × List ℕ) → Option (List ℕ × List ℕ)
-parted_remainder b bytes (Some p) = Some (b ∷ p.0, p.1)
-parted_remainder b bytes None = if b == 0 then Some ([], bytes) else None
+abbrev pub parted_with : ℕ → List ℕ → Option (List ℕ × List ℕ) → Option (List ℕ × List ℕ)
+parted_with b bytes (Some p) = Some (b ∷ p.0, p.1)
+parted_with b bytes None = if b == 0 then Some ([], bytes) else None
 
 -- the bytes before the last zero byte, and those after it
 abbrev pub parted : List ℕ → Option (List ℕ × List ℕ)
 parted [] = None
-parted (b ∷ bytes) = parted_remainder b bytes (parted bytes)
+parted (b ∷ bytes) = parted_with b bytes (parted bytes)
 
 abbrev pub variant_at : (Shape → Reader) → Reader
 variant_at one bytes =
@@ -101,4 +102,4 @@ value_at _ _ bytes = None
 
 -- the value of a type that bytes are, if they are one
 abbrev pub value_of : Shape → Reader
-value_of t bytes = if is_type t && nat_le (length bytes) max_bytes then value_at max_depth t bytes else None
+value_of t bytes = if is_type t && nat_le (length bytes) MOST_BYTES then value_at MOST_DEPTH t bytes else None

@@ -1,5 +1,6 @@
 -- The types of GVariant, without where they lie in memory.
 use Rattle.std.specs.Prelude.{ℕ, zero, suc, Bool, true, false, ◌&&◌}
+use Rattle.gv_value.specs.declared.limits.TheConstants.{MOST_DEPTH}
 use Rattle.gv_value.specs.declared.basic.Basic.{Basic}
 
 mutual
@@ -44,9 +45,6 @@ nests_within (suc n) (maybe t) = nests_within n t
 nests_within (suc n) (tuple ts) = all_shapes (nests_within n) ts
 nests_within (suc n) (entry k v) = is_basic k && nests_within n v
 
--- how deep types nest, and values
-abbrev pub max_depth : ℕ
-max_depth = 64
-
+-- it is a type: it nests at most as deep as types do
 abbrev pub is_type : Shape → Bool
-is_type = nests_within max_depth
+is_type = nests_within MOST_DEPTH

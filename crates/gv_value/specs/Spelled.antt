@@ -2,9 +2,10 @@
 use Rattle.std.specs.Prelude.{◌≡◌, ℕ, zero, suc, ◌-◌, ◌*◌, ◌^◌, ◌<◌, ◌≤◌, if◌then◌else◌, IsTrue, ⊤, FitsSigned, List, [], ◌∷◌, ◌++◌, length, Option, Some, None}
 use Rattle.std.specs.Int.{byte_len, cast_unsigned}
 use Rattle.std.specs.List.{concat}
+use Rattle.gv_value.specs.declared.limits.TheConstants.{MOST_BYTES, MOST_DEPTH}
 use Rattle.gv_value.specs.Basics.{Form, form_of}
 use Rattle.gv_value.specs.Bytes.{le_bytes, zeros, AllBelow}
-use Rattle.gv_value.specs.Shape.{Shape, Shapes, no_shapes, shape, is_type, max_depth}
+use Rattle.gv_value.specs.Shape.{Shape, Shapes, no_shapes, shape, is_type}
 use Rattle.gv_value.specs.Tree.{Content, Tree, Trees, no_trees, tree}
 use Rattle.gv_value.specs.Layout.{align_of, size_of}
 use Rattle.gv_value.specs.Framing.{laid, ends, IsFramed, same_parts, tuple_body, tuple_offsets}
@@ -78,12 +79,8 @@ SpelledWithin (suc n) (Shape.entry k v) (Tree.entry a b) bytes =
     × TupleSpelled (size_of (Shape.entry k v)) (two_shapes k v) children bytes
 SpelledWithin _ _ _ bytes = ⊥
 
--- at most 16 MiB
-abbrev pub max_bytes : ℕ
-max_bytes = 2 ^ 24
-
--- the bytes are this value of this type
+-- the bytes are this value of this type, and at most 16 MiB
 pub record Spelled (t : Shape) (v : Tree) (bytes : List ℕ) : Type 0 where
   pub type : IsTrue (is_type t)
-  pub value : SpelledWithin max_depth t v bytes
-  pub short : length bytes ≤ max_bytes
+  pub value : SpelledWithin MOST_DEPTH t v bytes
+  pub short : length bytes ≤ MOST_BYTES

@@ -2,10 +2,11 @@
 use Rattle.std.specs.Prelude.{ℕ, zero, suc, ◌-◌, ◌+◌, ◌^◌, Bool, true, false, ◌&&◌, ◌==◌, nat_lt, if◌then◌else◌, ℤ, pos, negsuc, List, [], ◌∷◌, ◌++◌, length, Option, Some, None}
 use Rattle.std.specs.Int.{Width, byte_len, cast_unsigned}
 use Rattle.std.specs.List.{concat}
+use Rattle.gv_value.specs.declared.limits.TheConstants.{MOST_DEPTH}
 use Rattle.gv_value.specs.Basics.{Form, form_of}
 use Rattle.gv_value.specs.Bytes.{le_bytes, zeros}
 use Rattle.gv_value.specs.Signs.{basic_letter}
-use Rattle.gv_value.specs.Shape.{Shape, Shapes, no_shapes, shape, is_basic, is_type, max_depth}
+use Rattle.gv_value.specs.Shape.{Shape, Shapes, no_shapes, shape, is_basic, is_type}
 use Rattle.gv_value.specs.Tree.{Content, Tree, Trees, no_trees, tree}
 use Rattle.gv_value.specs.Layout.{align_of, size_of}
 use Rattle.gv_value.specs.Framing.{laid, ends, framed, same_parts, tuple_body, tuple_offsets}
@@ -52,7 +53,7 @@ fits_within (suc n) (Shape.entry k v) (Tree.entry a b) = each_fits (fits_within 
 fits_within _ _ _ = false
 
 abbrev pub fits : Shape → Tree → Bool
-fits t v = is_type t && fits_within max_depth t v
+fits t v = is_type t && fits_within MOST_DEPTH t v
 
 -- ---- the spelling
 

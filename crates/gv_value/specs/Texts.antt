@@ -1,7 +1,8 @@
 -- Which texts the three kinds of text are (D-Bus specification, "Valid Object Paths" and "Valid Signatures").
-use Rattle.std.specs.Prelude.{ℕ, zero, suc, pred, Bool, true, false, not, ◌&&◌, ◌||◌, ◌==◌, nat_le, if◌then◌else◌, List, [], ◌∷◌, length, Option, Some, None, option_map, option_and_then, unwrap_or}
+use Rattle.std.specs.Prelude.{ℕ, zero, suc, pred, ◌+◌, Bool, true, false, not, ◌&&◌, ◌||◌, ◌==◌, nat_le, if◌then◌else◌, List, [], ◌∷◌, length, Option, Some, None, option_map, option_and_then, unwrap_or}
 use Rattle.std.specs.Int.{is_in_range}
 use Rattle.std.specs.Str.{is_utf8}
+use Rattle.gv_value.specs.declared.limits.TheConstants.{MOST_OPEN, MOST_SIGNATURE_BYTES}
 use Rattle.gv_value.specs.declared.sign.Sign.{Sign}
 use Rattle.gv_value.specs.declared.sign.Sign.TheVariants as signs
 use Rattle.gv_value.specs.Basics.{TextKind, string, object_path, signature}
@@ -92,7 +93,7 @@ are_types one (suc n) (c ∷ cs) = unwrap_or (option_map (are_types one n) (one 
 
 -- at most 255 bytes, at most 32 arrays and 32 structs open at a place
 abbrev pub is_signature : List ℕ → Bool
-is_signature text = nat_le (length text) 255 && are_types (after_type 64 32 32) (length text) text
+is_signature text = nat_le (length text) MOST_SIGNATURE_BYTES && are_types (after_type (MOST_OPEN + MOST_OPEN) MOST_OPEN MOST_OPEN) (length text) text
 
 -- ---- the three kinds
 

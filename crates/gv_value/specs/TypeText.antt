@@ -1,9 +1,10 @@
 -- The type string of a type, and the type that a type string is (GVariant specification, "Type strings").
 use Rattle.std.specs.Prelude.{ℕ, zero, suc, List, [], ◌∷◌, ◌++◌, length, Option, Some, None, option_map, option_and_then}
+use Rattle.gv_value.specs.declared.limits.TheConstants.{MOST_DEPTH}
 use Rattle.gv_value.specs.declared.sign.Sign.{Sign}
 use Rattle.gv_value.specs.declared.sign.Sign.TheVariants as signs
 use Rattle.gv_value.specs.Signs.{letter_of, sign_at}
-use Rattle.gv_value.specs.Shape.{Shape, basic, variant, array, maybe, tuple, entry, Shapes, no_shapes, shape, max_depth}
+use Rattle.gv_value.specs.Shape.{Shape, basic, variant, array, maybe, tuple, entry, Shapes, no_shapes, shape}
 
 abbrev mutual
   pub type_text : Shape → List ℕ
@@ -77,4 +78,4 @@ if_whole t (letter ∷ rest) = None
 
 -- the type that a whole type string is
 abbrev pub type_of : List ℕ → Option Shape
-type_of text = option_and_then (λ p. if_whole p.0 p.1) (type_at max_depth text)
+type_of text = option_and_then (λ p. if_whole p.0 p.1) (type_at MOST_DEPTH text)

@@ -1,15 +1,11 @@
 //! Alignments and sizes of types.
 ghost use Rattle.std.specs.Prelude.{◌≡◌, ◌+◌, ◌<◌, ◌≤◌, max};
 ghost use Rattle.std.specs.Option.{ForSome};
+ghost use Rattle.gv_value.specs.declared.limits.TheConstants.{TOO_LARGE};
 
 use crate::basic::Basic;
+use crate::limits::TOO_LARGE;
 use crate::paddings::padding;
-
-/// The most bytes that a value may have, 16 MiB.
-pub const MAX_BYTES: u64 = 0x100_0000;
-
-/// The size that stands for every size above `MAX_BYTES`.
-pub const TOO_LARGE: u64 = 0x100_0001;
 
 /// The alignment of a type, and its size where that is fixed.
 #[derive(Clone, Copy)]
@@ -19,7 +15,7 @@ pub struct Extent {
     /// The size in bytes, at most `TOO_LARGE`, where all values of the type have one size.
     pub size: Option<u64>,
     ghost aligned: { (0 < align) × (align ≤ 8) },
-    ghost bounded: { ForSome size (λ n. n ≤ 16777217) },
+    ghost bounded: { ForSome size (λ n. n ≤ TOO_LARGE) },
 }
 
 impl Extent {

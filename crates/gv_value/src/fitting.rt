@@ -8,11 +8,12 @@ ghost use Rattle.gv_value.specs.Views.{shape_of, shapes_of, plain, plains};
 
 use crate::basic::Basic;
 use crate::kind::Kind;
+use crate::limits::MOST_DEPTH;
 use crate::nesting::is_type;
 use crate::parts::{Content, Parts};
 use crate::signatures::is_signature;
 use crate::texts::{has_zero, is_object_path};
-use crate::types::{GvType, MAX_DEPTH};
+use crate::types::GvType;
 use crate::value::GvValue;
 
 /// Whether a value is of a type: it has the type's form, its texts are of their kinds, and it is at most 64 deep.
@@ -20,7 +21,7 @@ use crate::value::GvValue;
 pub fn fits(of: &GvType, value: &GvValue) -> bool
     ensures { result ≡ tree_fits (shape_of of.now) (plain value.now) }
 {
-    is_type(of) && fits_within(of, value, MAX_DEPTH)
+    is_type(of) && fits_within(of, value, MOST_DEPTH)
 }
 
 /// Whether a value is of a type, at most `room` deep.

@@ -4,8 +4,9 @@ ghost use Rattle.gv_value.specs.Capped.{IsExtent, IsRun, small_size};
 ghost use Rattle.gv_value.specs.Layout.{align_of as align_of_shape, greatest_align, end_of};
 ghost use Rattle.gv_value.specs.Views.{shape_of, shapes_of};
 
-use crate::extent::{Extent, MAX_BYTES};
+use crate::extent::Extent;
 use crate::kind::Kind;
+use crate::limits::MOST_BYTES;
 use crate::types::GvType;
 
 /// The size in bytes of each value of a type, where it is fixed and at most 16 MiB.
@@ -13,7 +14,7 @@ pub fn size_of(of: &GvType) -> Option<u64>
     ensures { result ≡ small_size (shape_of of.now) }
 {
     match extent_of(of).size {
-        Some(size) if size <= MAX_BYTES => Some(size),
+        Some(size) if size <= MOST_BYTES => Some(size),
         _ => None,
     }
 }

@@ -4,13 +4,14 @@ ghost use Rattle.gv_value.specs.Shape.{is_type as is_type_shape, nests_within as
 ghost use Rattle.gv_value.specs.Views.{shape_of, shapes_of};
 
 use crate::kind::Kind;
-use crate::types::{GvType, MAX_DEPTH};
+use crate::limits::MOST_DEPTH;
+use crate::types::GvType;
 
 /// Whether a `GvType` is a type: nested at most 64 deep, with a basic key in each dictionary entry.
 pub fn is_type(of: &GvType) -> bool
     ensures { result ≡ is_type_shape (shape_of of.now) }
 {
-    nests_within(of, MAX_DEPTH)
+    nests_within(of, MOST_DEPTH)
 }
 
 /// Whether it is a type nested at most `room` deep.

@@ -6,8 +6,9 @@ ghost use Rattle.gv_value.specs.Reads.{Reads};
 ghost use Rattle.gv_value.specs.Views.{shape_of, shapes_of};
 
 use crate::error::TypeError;
+use crate::limits::MOST_DEPTH;
 use crate::sign::Sign;
-use crate::types::{GvType, MAX_DEPTH};
+use crate::types::GvType;
 use std::alloc::Global;
 
 impl GvType {
@@ -15,7 +16,7 @@ impl GvType {
     pub fn parse(alloc: Global, text: &[u8]) -> Result<GvType, TypeError>
         ensures { Reads shape_of result (type_of text.now) }
     {
-        let (found, rest) = read_type(alloc, text, MAX_DEPTH)?;
+        let (found, rest) = read_type(alloc, text, MOST_DEPTH)?;
         if rest.is_empty() {
             Ok(found)
         } else {

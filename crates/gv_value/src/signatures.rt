@@ -2,26 +2,21 @@
 ghost use Rattle.std.specs.Prelude.{◌≡◌, ◌+◌, length, option_and_then};
 ghost use Rattle.std.specs.Option.{option_copied};
 ghost use Rattle.gv_value.specs.Signs.{sign_at};
-ghost use Rattle.gv_value.specs.Texts.{is_signature as is_signature_text, after_type as remainder_type, after_members as remainder_members, after_element as remainder_element, after_key};
+ghost use Rattle.gv_value.specs.Texts.{is_signature as is_signature_text, after_type as rest_after_type, after_members as rest_after_members, after_element as rest_after_element, after_key};
 
+use crate::limits::{MOST_OPEN, MOST_SIGNATURE_BYTES};
 use crate::sign::Sign;
-
-/// How many bytes a signature has at most.
-const MAX_SIGNATURE: usize = 255;
-
-/// How many arrays, and how many structs, are open at a place of a signature at most.
-const MAX_OPEN: u32 = 32;
 
 /// Whether a text is a D-Bus signature: at most 255 bytes, which are complete types, one after the other.
 pub fn is_signature(text: &[u8]) -> bool
     ensures { result ≡ is_signature_text text.now }
 {
-    if text.len() > MAX_SIGNATURE {
+    if text.len() > MOST_SIGNATURE_BYTES {
         return false;
     }
     let mut left = text;
     'types: while !left.is_empty() {
-        match after_type(left, MAX_OPEN, MAX_OPEN) {
+        match after_type(left, MOST_OPEN, MOST_OPEN) {
             Some(rest) => left = rest,
             None => return false,
         }
@@ -32,7 +27,7 @@ pub fn is_signature(text: &[u8]) -> bool
 /// What follows the type at the front, where so many arrays and structs may still open.
 #[cycle(signature)]
 fn after_type(text: &[u8], arrays: u32, structs: u32) -> Option<&[u8]>
-    ensures { option_copied result ≡ remainder_type (arrays + structs) arrays structs text.now }
+    ensures { option_copied result ≡ rest_after_type (arrays + structs) arrays structs text.now }
 {
     let (sign, rest) = Sign::at_front(text)?;
     match sign {
@@ -58,7 +53,7 @@ fn after_type(text: &[u8], arrays: u32, structs: u32) -> Option<&[u8]>
 #[cycle(signature)]
 fn after_element(text: &[u8], arrays: u32, structs: u32) -> Option<&[u8]>
     ensures { option_copied result
-        ≡ option_and_then (λ p. remainder_element (remainder_type (arrays + structs) arrays structs) text.now p.0 p.1) (sign_at text.now) }
+        ≡ option_and_then (λ p. rest_after_element (rest_after_type (arrays + structs) arrays structs) text.now p.0 p.1) (sign_at text.now) }
 {
     let (sign, rest) = Sign::at_front(text)?;
     match sign {
@@ -71,7 +66,7 @@ fn after_element(text: &[u8], arrays: u32, structs: u32) -> Option<&[u8]>
 #[cycle(signature)]
 fn after_entry(text: &[u8], arrays: u32, structs: u32) -> Option<&[u8]>
     ensures { option_copied result
-        ≡ option_and_then (λ p. after_key (remainder_type (arrays + structs) arrays structs) p.0 p.1) (sign_at text.now) }
+        ≡ option_and_then (λ p. after_key (rest_after_type (arrays + structs) arrays structs) p.0 p.1) (sign_at text.now) }
 {
     let (key, rest) = Sign::at_front(text)?;
     match key {
@@ -90,7 +85,7 @@ fn after_entry(text: &[u8], arrays: u32, structs: u32) -> Option<&[u8]>
 #[cycle(signature)]
 fn after_members(text: &[u8], arrays: u32, structs: u32) -> Option<&[u8]>
     ensures { option_copied result
-        ≡ remainder_members (remainder_type (arrays + structs) arrays structs) (length text.now) text.now }
+        ≡ rest_after_members (rest_after_type (arrays + structs) arrays structs) (length text.now) text.now }
 {
     let mut left = text;
     'members: loop {

@@ -5,9 +5,6 @@ ghost use Rattle.gv_value.specs.Views.{shape_of};
 
 use crate::basic::Basic;
 
-/// How deep types nest, and values.
-pub const MAX_DEPTH: u32 = 64;
-
 /// A type, as the GVariant specification has them.
 #[derive(Debug, Drop)]
 pub enum GvType {

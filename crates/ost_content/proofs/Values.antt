@@ -9,10 +9,11 @@ use Rattle.std.proofs.lemmas.Bool.{and_parts, and_from, leb-true}
 use Rattle.std.proofs.lemmas.Bool.Decides.{nat_tests}
 use Rattle.std.proofs.lemmas.Nat.{and_le_r}
 use Rattle.fp_host.specs.Paths.{is_link_text}
+use Rattle.gv_value.specs.declared.limits.TheConstants.{MOST_BYTES}
 use Rattle.gv_value.specs.Basics.{string}
 use Rattle.gv_value.specs.Bytes.{le_value}
 use Rattle.gv_value.specs.Framing.{width}
-use Rattle.gv_value.specs.Spelled.{Spelled, max_bytes}
+use Rattle.gv_value.specs.Spelled.{Spelled}
 use Rattle.gv_value.specs.Spelling.{fits, spelling}
 use Rattle.gv_value.specs.Texts.{is_text, has_zero}
 use Rattle.gv_value.proofs.Exact.{spells_values}
@@ -27,7 +28,7 @@ turned_fits n = grind (arith, nat_tests)
 header_fits : (mode : ℕ) (text : List ℕ) → is_text string text ≡ true → fits header_shape (header_value mode text) ≡ true
 header_fits mode text good = rw (turned_fits mode, good) refl
 
-length-spelling : (mode : ℕ) (text : List ℕ) → length text ≤ 4095 → length (spelling (header_value mode text) header_shape) ≤ max_bytes
+length-spelling : (mode : ℕ) (text : List ℕ) → length text ≤ 4095 → length (spelling (header_value mode text) header_shape) ≤ MOST_BYTES
 length-spelling mode text short =
     let e = ap length (tuple_of mode text) in
     let n = length-tuple (to_be_bytes w32 mode) text (width (17 + length text) 1) (17 + length text) refl in

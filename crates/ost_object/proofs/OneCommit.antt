@@ -1,12 +1,13 @@
 -- The value that says a commit is the only one that says it.
 use Rattle.std.proofs.Common.{◌≡◌, ℕ, ◌^◌, ◌<◌, ◌≤◌, Bool, true, false, ◌&&◌, List, [], ◌∷◌, ◌++◌, length, Option, Some, None, refl, sym, ap, ◌∙◌, subst, arith, length-append, flat_map}
 use Rattle.std.specs.Prelude.{option_map, option_and_then, unwrap_or, Ok}
+use Rattle.gv_value.specs.declared.limits.TheConstants.{MOST_BYTES}
 use Rattle.gv_value.specs.declared.basic.Basic.TheVariants as basics
 use Rattle.gv_value.specs.Bytes.{zeros, le_bytes}
 use Rattle.gv_value.specs.Framing.{Part, placed, laid, width, framed, parts_of, tuple_body, tuple_offsets}
 use Rattle.gv_value.specs.Layout.{padding, align_of}
 use Rattle.gv_value.specs.Shape.{Shape, Shapes, no_shapes, shape}
-use Rattle.gv_value.specs.Spelled.{SpelledWithin, EachSpelled, TupleSpelled, max_bytes, Spelled}
+use Rattle.gv_value.specs.Spelled.{SpelledWithin, EachSpelled, TupleSpelled, Spelled}
 use Rattle.gv_value.specs.Spelling.{fits_within, fits}
 use Rattle.gv_value.specs.Tree.{Tree, Trees, no_trees, tree}
 use Rattle.gv_value.proofs.Cutting.{length-laid}
@@ -131,7 +132,7 @@ seven_shapes = shape bytes_shape (shape related_shape (shape text_shape (shape t
 abbrev five_shapes : Shapes
 five_shapes = shape text_shape (shape text_shape (shape (Shape.basic basics.Uint64) (shape bytes_shape (shape bytes_shape no_shapes))))
 
-members_of : (a p r s b t d m : Tree) (bytes : List ℕ) (children : List (List ℕ)) → length bytes ≤ max_bytes
+members_of : (a p r s b t d m : Tree) (bytes : List ℕ) (children : List (List ℕ)) → length bytes ≤ MOST_BYTES
     → EachSpelled (SpelledWithin 63) (shape dictionary_shape seven_shapes) (tree a (tree p (tree r (tree s (tree b (tree t (tree d (tree m no_trees)))))))) children
     → bytes ≡ framed (tuple_body (shape dictionary_shape seven_shapes) children) (tuple_offsets (shape dictionary_shape seven_shapes) children) → MembersSpelled a r
 members_of a p r s b t d m bytes [] short each is = absurd each

@@ -3,10 +3,11 @@ use Rattle.std.proofs.Common.{◌≡◌, ℕ, zero, suc, ◌^◌, ◌<◌, ◌�
 use Rattle.std.specs.Prelude.{option_and_then, unwrap_or, Result, Ok, Err}
 use Rattle.std.specs.Int.{w32, w64, to_be_bytes, from_be_bytes, swap_bytes}
 use Rattle.std.proofs.lemmas.Nat.{le_bytes_4, le_bytes_8, from_be_bytes-to_be_bytes_4, from_be_bytes-to_be_bytes_8}
+use Rattle.gv_value.specs.declared.limits.TheConstants.{MOST_BYTES}
 use Rattle.gv_value.specs.Shape.{Shape}
 use Rattle.gv_value.specs.Tree.{Tree}
 use Rattle.gv_value.specs.Reading.{value_of}
-use Rattle.gv_value.specs.Spelled.{Spelled, max_bytes}
+use Rattle.gv_value.specs.Spelled.{Spelled}
 use Rattle.gv_value.specs.Spelling.{fits, spelling}
 use Rattle.gv_value.proofs.Exact.{reads_values, spells_values}
 use Rattle.gv_value.proofs.Lists.{then_some}
@@ -49,11 +50,11 @@ twice_8 n h = ap (from_be_bytes w64) (le_bytes_8 (to_be_bytes w64 n) (swap_bytes
 pub unfit : (t : Shape) (v : Tree) → fits t v ≡ false → (bytes : List ℕ) → Spelled t v bytes → ⊥
 unfit t v is bytes h = let fit : fits t v ≡ true = ((spells_values t v bytes).0 h).0 in absurd (cc (is, fit))
 
-pub too_long : (t : Shape) (v : Tree) → max_bytes < length (spelling v t) → (bytes : List ℕ) → Spelled t v bytes → ⊥
+pub too_long : (t : Shape) (v : Tree) → MOST_BYTES < length (spelling v t) → (bytes : List ℕ) → Spelled t v bytes → ⊥
 too_long t v long bytes h =
     let parts = (spells_values t v bytes).0 h in
     let same : length bytes ≡ length (spelling v t) = ap length parts.1 in
-    let short : length bytes ≤ max_bytes = parts.2 in
+    let short : length bytes ≤ MOST_BYTES = parts.2 in
     absurd (omega (arith, same, short, long))
 
 -- by equations of the type and the value

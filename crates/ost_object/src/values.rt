@@ -1,7 +1,7 @@
 //! The values that fields are.
 ghost use Rattle.std.specs.Prelude.{◌≡◌, ◌≤◌, length, IfOk, option_and_then};
+ghost use Rattle.gv_value.specs.declared.limits.TheConstants.{MOST_BYTES};
 ghost use Rattle.gv_value.specs.Reading.{value_of};
-ghost use Rattle.gv_value.specs.Spelled.{max_bytes};
 ghost use Rattle.gv_value.specs.Tree.{byte_trees};
 ghost use Rattle.gv_value.specs.Views.{shape_of, plain, plains};
 ghost use Rattle.ost_model.specs.Fields.{byte_in, text_in, bytes_in, number_in, time_in, each_of};
@@ -46,7 +46,7 @@ pub fn children_of<'a>(
     of: &GvType,
     bytes: &'a [u8],
 ) -> Result<Vec<&'a [u8]>, ObjectError>
-    requires { length bytes.now ≤ max_bytes }
+    requires { length bytes.now ≤ MOST_BYTES }
     ensures { Finds (λ found. slices found.items) result (children_in (shape_of of.now) bytes.now) }
 {
     match children(alloc, of, bytes) {

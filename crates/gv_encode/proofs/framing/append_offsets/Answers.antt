@@ -7,8 +7,8 @@ use Rattle.gv_encode.proofs.Steps.{adds-err, coming-fails}
 use Rattle.gv_encode.proofs.Closings.{offsets-many}
 use Rattle.gv_encode.proofs.framing.append_offsets.Goals as goal
 
-pub returns-then-offsets-room_remainder : goal.returns-then-offsets-room_remainder
-returns-then-offsets-room_remainder c = omega (arith, offsets-many (vec_len c.args.out.now - c.args.start) c.args.offsets.now)
+pub returns-then-offsets-room_left : goal.returns-then-offsets-room_left
+returns-then-offsets-room_left c = omega (arith, offsets-many (vec_len c.args.out.now - c.args.start) c.args.offsets.now)
 
 pub returns-in_err-append_number : goal.returns-in_err-append_number
 returns-in_err-append_number c =
