@@ -3,7 +3,7 @@ use Rattle.std.specs.Prelude.{ℕ, List, [], length, leb, Option, Some, None, un
 use Rattle.fp_base.specs.declared.object.ObjKind.TheVariants as kinds
 use Rattle.fp_host.specs.declared.host.HostEnd.{HostEnd}
 use Rattle.fp_host.specs.declared.host.HostEnd.TheVariants as host_ends
-use Rattle.ost_model.specs.declared.limits.TheConstants.{MOST_METADATA_BYTES}
+use Rattle.ost_model.specs.declared.limits.TheConstants.{MOST_METADATA_FILE_BYTES}
 use Rattle.ost_model.specs.declared.object.Object.{Object}
 use Rattle.ost_model.specs.declared.object.Object.TheVariants as objects
 use Rattle.ost_model.specs.Objects.{Have, Fault}
@@ -40,7 +40,7 @@ metadata_digest have commit = unless_faulty (look_fault have commit metadata_nam
 
 -- at most 1 MiB
 abbrev pub if_short : List ℕ → Option (List ℕ)
-if_short bytes = if leb (length bytes) MOST_METADATA_BYTES then Some bytes else None
+if_short bytes = if leb (length bytes) MOST_METADATA_FILE_BYTES then Some bytes else None
 
 -- the content of a file of at most 1 MiB
 abbrev pub short_content : Option Object → Option (List ℕ)

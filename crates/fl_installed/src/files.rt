@@ -19,7 +19,7 @@ use crate::places::{metadata_path, repo, store_alone};
 use fp_base::{Blob, ObjKind};
 use fp_host::{Host, HostEnd, NoRemotes, Path};
 use fp_name::Digest;
-use ost_model::MOST_METADATA_BYTES;
+use ost_model::MOST_METADATA_FILE_BYTES;
 use ost_store::{Got, get, read_piece};
 use ost_walk::{Found, Places, WalkEnd, look};
 use std::alloc::Global;
@@ -125,7 +125,7 @@ fn read_short<H: Host>(
         &root,
         digest,
         ObjKind::File,
-        MOST_METADATA_BYTES,
+        MOST_METADATA_FILE_BYTES,
     )? {
         Got::File { size, .. } => read_bytes(alloc, host, &root, digest, size),
         _ => Ok(None),

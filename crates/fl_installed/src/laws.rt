@@ -1,7 +1,7 @@
 //! Laws of the words that the contracts use, for crates that build on them. Each is the contract of a function that does nothing.
 ghost use Rattle.std.specs.Prelude.{◌≡◌, ◌+◌, [], ℕ, List, length, map, Some, None, Ok, Err};
 ghost use Rattle.fp_base.specs.declared.meta_rule.MetaRule.TheVariants as rules;
-ghost use Rattle.ost_model.specs.declared.limits.TheConstants.{MOST_METADATA_BYTES};
+ghost use Rattle.ost_model.specs.declared.limits.TheConstants.{MOST_METADATA_FILE_BYTES};
 ghost use Rattle.ost_model.specs.declared.object.Object.TheVariants as objects;
 ghost use Rattle.fl_installed.specs.Described.{broken, info_in};
 ghost use Rattle.fl_installed.specs.Files.{metadata_file, short_content};
@@ -58,8 +58,8 @@ pub fn small_installation_is_described()
 
 /// A file `metadata` has at most 1 MiB.
 pub fn files_are_short()
-    ensures most { (mode : ℕ) (bytes : List ℕ) → length bytes ≡ MOST_METADATA_BYTES
+    ensures most { (mode : ℕ) (bytes : List ℕ) → length bytes ≡ MOST_METADATA_FILE_BYTES
         → short_content (Some (objects.File mode bytes)) ≡ Some bytes }
-    ensures more { (mode : ℕ) (bytes : List ℕ) → length bytes ≡ MOST_METADATA_BYTES + 1
+    ensures more { (mode : ℕ) (bytes : List ℕ) → length bytes ≡ MOST_METADATA_FILE_BYTES + 1
         → short_content (Some (objects.File mode bytes)) ≡ None }
 {}

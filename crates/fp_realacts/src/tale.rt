@@ -1,5 +1,6 @@
 //! A test as data: what is done one after another in a folder, and what is to come of it.
 use crate::remote::{Remote, ask_remote};
+use fp_host::PERMISSION_BITS;
 use fp_realhost::HostDir;
 use fp_reallog::{Kind, Log, Logged};
 use fp_realplay::{Made, Part, clear, is_free, make_all, play_all, tells};
@@ -108,7 +109,7 @@ fn run_logged<T: Threads + Sync>(
 
 fn has_bits(rt: &HostRuntime, at: &str, want: u32) -> bool {
     match fs::metadata(rt, at) {
-        Ok(found) => found.mode() & 0o7777 == want,
+        Ok(found) => found.mode() & PERMISSION_BITS == want,
         Err(_) => false,
     }
 }

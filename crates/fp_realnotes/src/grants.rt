@@ -1,18 +1,15 @@
-//! Permission bits that new files and folders get as they are asked for.
-use fp_system::{folder_of, note};
+// Permission bits that new files and folders get as they are asked for.
+use fp_system::{FOLDER_BITS, folder_of, note};
 use std::alloc::Global;
 use std::collections::BTreeSet;
 
-/// The folders in which the umask, or what the folder says in its place, takes no bit of 0755. Where a folder is one, so is each that is
-/// made in it.
+/// The folders in which the umask, or what the folder says in its place, takes none of a folder's bits. Where a folder is one, so
+/// is each that is made in it.
 #[derive(Drop)]
 pub struct Grants {
     alloc: Global,
     folders: BTreeSet<String>,
 }
-
-/// The bits that are known to be granted.
-const GRANTED: u32 = 0o755;
 
 impl Grants {
     /// None is known.
@@ -25,7 +22,7 @@ impl Grants {
 
     /// Whether what is made at the path is known to get all of these bits.
     pub fn has(&self, at: &str, bits: u32) -> bool {
-        bits & !GRANTED == 0 && self.folders.contains(folder_of(at))
+        bits & !FOLDER_BITS == 0 && self.folders.contains(folder_of(at))
     }
 
     /// The folder that was made at the path got its bits as they were asked for.

@@ -1,17 +1,15 @@
-//! What this host made, which needn't be looked at.
+// What this host made, which needn't be looked at.
 ghost use Rattle.std.specs.Prelude.{IfSome};
 ghost use Rattle.fp_host.specs.Reads.{HasBits};
 
 use crate::listed::names_in;
 use fp_base::Text;
-use fp_host::Stat;
+use fp_host::{PERMISSION_BITS, Stat};
 use fp_system::{folder_of, note};
 use std::alloc::{AllocError, Global};
 use std::collections::{BTreeMap, BTreeSet};
 
-const PERMISSION_BITS: u32 = 0o7777;
-
-/// A file that was made. Its size is known as long as each write of it succeeded.
+// A file that was made. Its size is known as long as each write of it succeeded.
 #[derive(Clone, Copy)]
 pub struct MadeFile {
     id: u64,

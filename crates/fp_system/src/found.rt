@@ -3,14 +3,12 @@ ghost use Rattle.std.specs.Prelude.{◌≤◌, IfOk};
 ghost use Rattle.fp_host.specs.Reads.{HasBits};
 
 use crate::cause::{Cause, known};
-use fp_host::Stat;
+use fp_host::{PERMISSION_BITS, Stat};
 use std::fs;
 use std::fs::Metadata;
 use std::io::ErrorKind;
 use std::os::unix::fs::MetadataExt;
 use std::rt::Files;
-
-const PERMISSION_BITS: u32 = 0o7777;
 
 /// What kind of thing stands at a path.
 #[derive(Clone, Copy, PartialEq, Eq)]
@@ -67,7 +65,7 @@ impl Found {
     }
 
     pub fn permission_bits(&self) -> u32
-        ensures { result ≤ 4095 }
+        ensures { result ≤ PERMISSION_BITS }
     {
         self.mode & PERMISSION_BITS
     }

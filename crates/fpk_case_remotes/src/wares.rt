@@ -9,7 +9,7 @@ use fpk_case_text::{
 };
 use ost_commit::{BuildError, Built, BuiltObject, TreeRow, commit_tree};
 use ost_content::{file_digest, is_permission, link_digest};
-use ost_model::Object;
+use ost_model::{Object, STORE_CONFIG};
 use ost_object::commit_root;
 use ost_store::path_of;
 use std::alloc::{AllocError, Global};
@@ -59,9 +59,6 @@ pub struct Wares {
     paths: Vec<RemotePath>,
     commits: Vec<MadeCommit>,
 }
-
-/// The `config` of a remote that says nothing else.
-const CONFIG: &str = "[core]\nrepo_version=1\nmode=bare-user-only\n";
 
 impl Wares {
     /// No remotes.
@@ -122,7 +119,7 @@ impl Wares {
     fn begin(&mut self, url: &str) -> Result<Option<String>, AllocError> {
         self.url = String::from_str(self.alloc, url)?;
         if self.find("config").is_none() {
-            let bytes = Vec::from_slice(self.alloc, CONFIG.as_bytes())?;
+            let bytes = Vec::from_slice(self.alloc, STORE_CONFIG.as_bytes())?;
             self.put("config", Ware::File { mode: 0o644, bytes })?;
         }
         Ok(None)

@@ -2,7 +2,7 @@
 use Rattle.std.specs.Prelude.{◌≡◌, ℕ, List, true, length, leb, Some}
 use Rattle.fp_base.specs.declared.object.ObjKind.TheVariants as kinds
 use Rattle.fp_name.specs.Refs.{Ref}
-use Rattle.ost_model.specs.declared.limits.TheConstants.{MOST_METADATA_BYTES}
+use Rattle.ost_model.specs.declared.limits.TheConstants.{MOST_METADATA_FILE_BYTES}
 use Rattle.ost_model.specs.declared.object.Object.TheVariants as objects
 use Rattle.ost_model.specs.Fields.{CommitView}
 use Rattle.ost_model.specs.Look.{nothing, file_at, look}
@@ -22,5 +22,5 @@ pub record IsHeaded (have : Have) (name : Ref) (commit : List ℕ) (time : ℕ) 
   pub mode : ℕ
   pub bytes : List ℕ
   pub there : have digest kinds.File ≡ Some (objects.File mode bytes)
-  pub short : leb (length bytes) MOST_METADATA_BYTES ≡ true
+  pub short : leb (length bytes) MOST_METADATA_FILE_BYTES ≡ true
   pub reads : reads_as name.kind bytes ≡ true

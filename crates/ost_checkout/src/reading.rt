@@ -10,7 +10,7 @@ ghost use Rattle.ost_checkout.specs.Reading.{IsTree, IsRoot, HasGoodNames, HasTr
 use fp_base::{Blob, ObjKind};
 use fp_host::{Host, HostEnd, Path};
 use fp_name::Digest;
-use ost_model::MOST_META_BYTES;
+use ost_model::MOST_METADATA_OBJECT_BYTES;
 use ost_object::{CommitRoot, DirTree, ObjectError, commit_root, read_dirtree};
 use ost_store::{Got, get};
 use std::alloc::Global;
@@ -53,7 +53,14 @@ pub(crate) fn read_tree<H: Host>(
     ensures fault_has_cause { IsCaused (IsErrOf result HostEnd.Fault) (H.moments host.old)
         (HasTree root.now digest.now) (H.faults host.old) (H.faults host.new) }
 {
-    match get(alloc, host, root, digest, ObjKind::DirTree, MOST_META_BYTES)? {
+    match get(
+        alloc,
+        host,
+        root,
+        digest,
+        ObjKind::DirTree,
+        MOST_METADATA_OBJECT_BYTES,
+    )? {
         Got::Meta(bytes) => tree_in(alloc, &bytes),
         _ => Err(HostEnd::Fault),
     }
@@ -86,7 +93,14 @@ pub(crate) fn read_root<H: Host>(
     ensures fault_has_cause { IsCaused (IsErrOf result HostEnd.Fault) (H.moments host.old)
         (HasCommit root.now commit.now) (H.faults host.old) (H.faults host.new) }
 {
-    match get(alloc, host, root, commit, ObjKind::Commit, MOST_META_BYTES)? {
+    match get(
+        alloc,
+        host,
+        root,
+        commit,
+        ObjKind::Commit,
+        MOST_METADATA_OBJECT_BYTES,
+    )? {
         Got::Meta(bytes) => root_in(alloc, &bytes),
         _ => Err(HostEnd::Fault),
     }

@@ -1,3 +1,4 @@
+//! The digests of objects.
 ghost use Rattle.std.specs.Prelude.{◌≡◌, true, IfOk};
 ghost use Rattle.sha2.specs.Sha256.{sha256 as sha256_of};
 ghost use Rattle.fp_host.specs.Paths.{is_link_text};

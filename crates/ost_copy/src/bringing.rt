@@ -15,7 +15,7 @@ ghost use Rattle.ost_copy.specs.Copies.{IsCopiedAnew};
 
 use crate::content::{Content, remote_content};
 use crate::copying::copy_file;
-use crate::limits::refused;
+use crate::limits::{PIECE, refused};
 use fp_base::{ObjKind, Text};
 use fp_host::{Host, Path, Remotes};
 use fp_name::Digest;
@@ -23,9 +23,6 @@ use ost_model::Object;
 use ost_store::{path_of, stage, stage_file};
 use ost_walk::{ObjectFault, WalkEnd};
 use std::alloc::Global;
-
-/// How many bytes of a file are copied at once.
-const PIECE: usize = 64 * 1024;
 
 /// Makes the absent path a file with these permission bits, to which the remote's file of this size is copied, and gives the
 /// digest of what it then is.

@@ -17,7 +17,7 @@ ghost use Rattle.ost_copy.specs.Contents.{ChecksIfThere};
 ghost use Rattle.ost_copy.specs.Pieces.{TakesIn};
 ghost use Rattle.ost_head.specs.Stored.{IsFileOf};
 
-use crate::limits::{check_limits, check_link, refused};
+use crate::limits::{PIECE, check_limits, check_link, refused};
 use fp_base::{ObjKind, Text};
 use fp_host::{Host, HostEnd, Path};
 use fp_name::Digest;
@@ -26,9 +26,6 @@ use ost_model::MOST_FILE_BYTES;
 use ost_store::{Got, get, read_piece};
 use ost_walk::{ObjectFault, WalkEnd};
 use std::alloc::Global;
-
-/// How many bytes of a file are read at once.
-const PIECE: usize = 64 * 1024;
 
 /// Takes in the bytes of the file from this place on, as many as there is room for or are left, and says how many.
 fn hash_piece<H: Host>(

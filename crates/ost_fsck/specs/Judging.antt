@@ -7,7 +7,7 @@ use Rattle.fp_host.specs.declared.host.Stat.{Stat}
 use Rattle.fp_host.specs.declared.host.Stat.TheVariants.{Absent, Dir, File as StatFile, Link}
 use Rattle.fp_name.specs.Hex.{is_digest}
 use Rattle.fp_base.specs.declared.object.ObjKind.{ObjKind}
-use Rattle.ost_model.specs.declared.limits.TheConstants.{MOST_META_BYTES}
+use Rattle.ost_model.specs.declared.limits.TheConstants.{MOST_METADATA_OBJECT_BYTES}
 use Rattle.ost_model.specs.declared.object.Object.{Object}
 use Rattle.ost_model.specs.Contents.{is_permission}
 use Rattle.ost_model.specs.Objects.{object_path, object_at, store, name_fault, has_good_bits}
@@ -18,7 +18,7 @@ use Rattle.ost_fsck.specs.Report.{name_in, IsNameless}
 
 -- the most bytes of a metadata object
 abbrev pub meta_most : ℕ
-meta_most = MOST_META_BYTES
+meta_most = MOST_METADATA_OBJECT_BYTES
 
 -- no rule is broken
 abbrev pub keeps_rules : ObjKind → List ℕ → Bool

@@ -13,7 +13,7 @@ use fp_base::{Blob, ObjKind};
 use fp_host::{Host, HostEnd, Path};
 use fp_name::Digest;
 use ost_content::meta_digest;
-use ost_model::MOST_META_BYTES;
+use ost_model::MOST_METADATA_OBJECT_BYTES;
 use ost_object::{ObjectError, commit_root, read_dirmeta, read_dirtree};
 use ost_store::{Got, get};
 use std::alloc::Global;
@@ -108,6 +108,6 @@ pub(crate) fn has_metadata<H: Host>(
     ensures fault_has_cause { IsCounted (IsErrOf result HostEnd.Fault)
         (H.moments host.old) (H.faults host.old) (H.faults host.new) }
 {
-    let got = get(alloc, host, root, digest, kind, MOST_META_BYTES)?;
+    let got = get(alloc, host, root, digest, kind, MOST_METADATA_OBJECT_BYTES)?;
     is_true(alloc, digest, kind, &got)
 }

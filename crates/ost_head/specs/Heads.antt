@@ -19,7 +19,7 @@ use Rattle.fl_meta.specs.declared.meta.MetaKind.TheVariants as meta_kinds
 use Rattle.fl_meta.specs.Metadata.{meta_of}
 use Rattle.fp_small.specs.declared.refusal.Refusal.{Refusal}
 use Rattle.fp_small.specs.declared.refusal.Refusal.TheVariants as refusals
-use Rattle.ost_model.specs.declared.limits.TheConstants.{MOST_METADATA_BYTES}
+use Rattle.ost_model.specs.declared.limits.TheConstants.{MOST_METADATA_FILE_BYTES}
 use Rattle.ost_model.specs.declared.object.Object.{Object}
 use Rattle.ost_model.specs.declared.object.Object.TheVariants as objects
 use Rattle.ost_model.specs.Fields.{CommitView, FileRow, TreeView}
@@ -87,7 +87,7 @@ lines_refused name (Err fault) = Some (refusals.BadMetadata name fault.line (met
 
 -- at most 1 MiB, lines of a key file, and what the metadata of an application or a runtime has to say
 abbrev pub metadata_refused : Ref → List ℕ → Option Refusal
-metadata_refused name bytes = if leb (length bytes) MOST_METADATA_BYTES then lines_refused name (file_of bytes) else Some (refusals.Limit whats.MetadataFile (length bytes))
+metadata_refused name bytes = if leb (length bytes) MOST_METADATA_FILE_BYTES then lines_refused name (file_of bytes) else Some (refusals.Limit whats.MetadataFile (length bytes))
 
 -- ---- the head
 

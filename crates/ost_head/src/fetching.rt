@@ -16,7 +16,7 @@ use fp_base::{Blob, ObjKind, Text};
 use fp_host::{Node, Path, Remotes, is_link_text};
 use fp_name::Digest;
 use ost_content::is_permission;
-use ost_model::{MOST_FILE_BYTES, MOST_META_BYTES, Object};
+use ost_model::{MOST_FILE_BYTES, MOST_METADATA_OBJECT_BYTES, Object};
 use ost_store::path_of;
 use ost_walk::{ObjectFault, WalkEnd};
 use std::alloc::Global;
@@ -131,7 +131,7 @@ fn read_sized<R: Remotes>(
     ensures fault_has_cause { IsRemotes (IsErrOf result WalkEnd.RemoteFault)
         (R.faults remotes.old) (R.faults remotes.new) }
 {
-    if size > MOST_META_BYTES {
+    if size > MOST_METADATA_OBJECT_BYTES {
         return Err(refused(digest, kind, ObjectFault::TooLong(size)));
     }
     Ok(Object::Meta(read_bytes(alloc, remotes, url, path, size)?))

@@ -14,7 +14,7 @@ use fp_base::{Blob, Items, MetaRule, MetadataRule, ObjKind, Text, What};
 use fp_keyfile::{KeyError, KeyFile};
 use fp_name::{Digest, RefKind, RefName};
 use fp_small::Refusal;
-use ost_model::{MOST_LEVELS, MOST_METADATA_BYTES, MOST_OBJECTS};
+use ost_model::{MOST_LEVELS, MOST_METADATA_FILE_BYTES, MOST_OBJECTS};
 use ost_object::{Commit, DirTree, binding};
 use ost_walk::{ObjectFault, WalkFault};
 use std::alloc::{AllocError, Global};
@@ -26,7 +26,7 @@ const TOO_MANY: u64 = MOST_OBJECTS as u64 + 1;
 const TOO_DEEP: u64 = MOST_LEVELS as u64 + 1;
 
 /// The most bytes of the file `metadata`.
-const MOST_METADATA: usize = MOST_METADATA_BYTES as usize;
+const MOST_METADATA: usize = MOST_METADATA_FILE_BYTES as usize;
 
 /// What is too long where an object of the kind is.
 fn long_what(kind: ObjKind) -> What

@@ -19,7 +19,7 @@ use fp_base::{Blob, ObjKind, Text};
 use fp_host::{Host, Path, is_link_text};
 use fp_name::Digest;
 use ost_content::is_permission;
-use ost_model::{MOST_FILE_BYTES, MOST_META_BYTES, Object};
+use ost_model::{MOST_FILE_BYTES, MOST_METADATA_OBJECT_BYTES, Object};
 use ost_store::{Got, get, read_piece};
 use ost_walk::{ObjectFault, WalkEnd};
 use std::alloc::Global;
@@ -104,7 +104,7 @@ fn read_whole(digest: &Digest, kind: ObjKind, bytes: Blob) -> Result<Option<Obje
     ensures faults { NoFault result }
 {
     let size = bytes.len() as u64;
-    if size > MOST_META_BYTES {
+    if size > MOST_METADATA_OBJECT_BYTES {
         return Err(refused(digest, kind, ObjectFault::TooLong(size)));
     }
     Ok(Some(Object::Meta(bytes)))
@@ -150,7 +150,7 @@ fn read_meta<H: Host>(
         (H.faults host.old) (H.faults host.new) }
     ensures remote { IsErrOf result WalkEnd.RemoteFault → ⊥ }
 {
-    match get(alloc, host, root, digest, kind, MOST_META_BYTES)? {
+    match get(alloc, host, root, digest, kind, MOST_METADATA_OBJECT_BYTES)? {
         Got::Meta(bytes) => read_whole(digest, kind, bytes),
         Got::TooLong(size) => Err(refused(digest, kind, ObjectFault::TooLong(size))),
         _ => Ok(None),

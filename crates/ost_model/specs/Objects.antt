@@ -6,7 +6,7 @@ use Rattle.fp_host.specs.Paths.{Elements, is_link_text}
 use Rattle.fp_host.specs.Outcome.{Spot, gone, folder, holds, points, Disk}
 use Rattle.fp_base.specs.declared.object.ObjKind.{ObjKind}
 use Rattle.fp_base.specs.declared.object.ObjKind.TheVariants as kinds
-use Rattle.ost_model.specs.declared.limits.TheConstants.{MOST_META_BYTES, MOST_FILE_BYTES}
+use Rattle.ost_model.specs.declared.limits.TheConstants.{MOST_METADATA_OBJECT_BYTES, MOST_FILE_BYTES}
 use Rattle.ost_model.specs.declared.object.Object.{Object}
 use Rattle.ost_model.specs.declared.object.Object.TheVariants as objects
 use Rattle.fp_base.specs.declared.rule.Rule.{Rule}
@@ -82,7 +82,7 @@ unless false f = Some f
 
 -- a metadata object has at most 16 MiB, a file at most 1 GiB
 abbrev pub length_fault : Object → Option Fault
-length_fault (objects.Meta bytes) = unless (leb (length bytes) MOST_META_BYTES) (too_long (length bytes))
+length_fault (objects.Meta bytes) = unless (leb (length bytes) MOST_METADATA_OBJECT_BYTES) (too_long (length bytes))
 length_fault (objects.File mode bytes) = unless (leb (length bytes) MOST_FILE_BYTES) (too_long (length bytes))
 length_fault (objects.Link text) = None
 

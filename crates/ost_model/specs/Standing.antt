@@ -3,7 +3,7 @@ use Rattle.std.specs.Prelude.{◌≡◌, ◌≢◌, ℕ, List, [], ◌∷◌, �
 use Rattle.fp_host.specs.Paths.{Elements}
 use Rattle.fp_host.specs.Outcome.{Spot, gone, folder, holds, points, Disk}
 use Rattle.fp_base.specs.declared.object.ObjKind.TheVariants as kinds
-use Rattle.ost_model.specs.declared.limits.TheConstants.{MOST_METADATA_BYTES}
+use Rattle.ost_model.specs.declared.limits.TheConstants.{MOST_METADATA_FILE_BYTES}
 use Rattle.ost_model.specs.Objects.{object_path, store}
 use Rattle.ost_model.specs.Order.{Place, In, order, first_fault}
 use Rattle.ost_model.specs.Look.{Found, nothing, directory, file_at, look}
@@ -16,7 +16,7 @@ expected root disk (file_at d) = disk (object_path root d kinds.File)
 
 -- the file `metadata`: at most 1 MiB that reads
 abbrev pub is_metadata : (List ℕ → Bool) → Spot → Bool
-is_metadata reads (holds id mode bytes) = leb (length bytes) MOST_METADATA_BYTES && reads bytes
+is_metadata reads (holds id mode bytes) = leb (length bytes) MOST_METADATA_FILE_BYTES && reads bytes
 is_metadata reads gone = false
 is_metadata reads folder = false
 is_metadata reads (points text) = false

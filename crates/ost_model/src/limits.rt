@@ -7,13 +7,13 @@ pub const MOST_OBJECTS: usize = 200_000;
 pub const MOST_LEVELS: u32 = 64;
 
 /// The most bytes that a metadata object has: 16 MiB.
-pub const MOST_META_BYTES: u64 = 16 * 1024 * 1024;
+pub const MOST_METADATA_OBJECT_BYTES: u64 = 16 * 1024 * 1024;
 
 /// The most bytes that a file has: 1 GiB.
 pub const MOST_FILE_BYTES: u64 = 1024 * 1024 * 1024;
 
 /// The most bytes that the file `metadata` of a commit has: 1 MiB.
-pub const MOST_METADATA_BYTES: u64 = 1024 * 1024;
+pub const MOST_METADATA_FILE_BYTES: u64 = 1024 * 1024;
 
 /// The permission bits that a file may have.
 pub const STORED_BITS: u32 = 0o775;

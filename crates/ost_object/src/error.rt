@@ -1,3 +1,4 @@
+//! What keeps an object from being read or written.
 ghost use Rattle.std.specs.Prelude.{◌≡◌};
 ghost use Rattle.ost_object.specs.declared.error.ObjectError.TheVariants.{NoMemory};
 

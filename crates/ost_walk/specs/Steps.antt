@@ -5,7 +5,7 @@ use Rattle.fp_base.specs.declared.object.ObjKind.{ObjKind}
 use Rattle.fp_base.specs.declared.object.ObjKind.TheVariants as kinds
 use Rattle.ost_model.specs.declared.object.Object.{Object}
 use Rattle.ost_model.specs.declared.object.Object.TheVariants as objects
-use Rattle.ost_model.specs.declared.limits.TheConstants.{MOST_META_BYTES, MOST_OBJECTS, MOST_LEVELS}
+use Rattle.ost_model.specs.declared.limits.TheConstants.{MOST_METADATA_OBJECT_BYTES, MOST_OBJECTS, MOST_LEVELS}
 use Rattle.ost_model.specs.Contents.{meta_digest}
 use Rattle.ost_model.specs.Fields.{FileRow, CommitView, TreeView}
 use Rattle.ost_model.specs.Objects.{Have, Fault, object_fault}
@@ -20,7 +20,7 @@ use Rattle.ost_walk.specs.Ends.{EndsBy, IsFaultOf}
 -- these are the bytes of the object, which is not too long and is the one that its digest names
 pub record IsNamed (d : List ℕ) (object : Option Object) (bytes : List ℕ) : Type 0 where
   pub there : object ≡ Some (objects.Meta bytes)
-  pub short : leb (length bytes) MOST_META_BYTES ≡ true
+  pub short : leb (length bytes) MOST_METADATA_OBJECT_BYTES ≡ true
   pub named : bytes_eq (meta_digest bytes) d ≡ true
 
 -- the bytes of a metadata object, or the fault that it has

@@ -13,7 +13,7 @@ use crate::remote::{fetch_remote, named};
 use fp_base::{Blob, ObjKind};
 use fp_host::{Host, Remotes};
 use fp_name::Digest;
-use ost_model::MOST_META_BYTES;
+use ost_model::MOST_METADATA_OBJECT_BYTES;
 use ost_store::{Got, get};
 use std::alloc::Global;
 
@@ -35,7 +35,14 @@ pub fn fetch<H: Host, R: Remotes>(
         (R.holds remotes.old) have
         → Fetches digest.now kind (have digest.now kind) result }
 {
-    match get(alloc, host, &places.root, digest, kind, MOST_META_BYTES)? {
+    match get(
+        alloc,
+        host,
+        &places.root,
+        digest,
+        kind,
+        MOST_METADATA_OBJECT_BYTES,
+    )? {
         Got::Meta(bytes) => named(bytes, digest, kind),
         Got::TooLong(size) => Err(refused(digest, kind, ObjectFault::TooLong(size))),
         _ => fetch_from(alloc, remotes, places, digest, kind),

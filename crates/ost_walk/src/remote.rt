@@ -13,14 +13,14 @@ use fp_base::{Blob, ObjKind};
 use fp_host::{Node, Path, Remotes};
 use fp_name::Digest;
 use ost_content::meta_digest;
-use ost_model::MOST_META_BYTES;
+use ost_model::MOST_METADATA_OBJECT_BYTES;
 use ost_store::path_of;
 use std::alloc::Global;
 
 /// The bytes, where the digest names them. It is for at most 16 MiB.
 pub(crate) fn named(bytes: Blob, digest: &Digest, kind: ObjKind) -> Result<Blob, WalkEnd>
     requires { may_be_link kind ≡ false }
-    ensures tells { leb (length bytes) MOST_META_BYTES ≡ true → Fetches digest.now kind
+    ensures tells { leb (length bytes) MOST_METADATA_OBJECT_BYTES ≡ true → Fetches digest.now kind
         (Some (objects.Meta bytes)) result }
     ensures host { IsErrOf result WalkEnd.HostFault → ⊥ }
     ensures remote { IsErrOf result WalkEnd.RemoteFault → ⊥ }
@@ -74,7 +74,7 @@ pub(crate) fn fetch_remote<R: Remotes>(
 {
     let path = path_of(alloc, &Path::root(alloc), digest, kind)?;
     match remotes.node(alloc, url, &path)? {
-        Node::File { size, .. } if size > MOST_META_BYTES => {
+        Node::File { size, .. } if size > MOST_METADATA_OBJECT_BYTES => {
             Err(refused(digest, kind, ObjectFault::TooLong(size)))
         }
         Node::File { size, .. } => {
