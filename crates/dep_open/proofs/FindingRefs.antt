@@ -8,46 +8,32 @@ use Rattle.std.specs.BTreeMap.{insert_entry}
 use Rattle.std.specs.Map.{keys_of, values_of}
 use Rattle.std.proofs.lemmas.Bool.{cases_Bool}
 use Rattle.std.proofs.lemmas.List.{take_more, take_all}
-use Rattle.std.proofs.lemmas.List.Elements.{Contains-append_left, Contains-append_right, Contains-append_cases, Contains-push, Contains-push_cases}
+use Rattle.std.proofs.lemmas.List.Elements.{Contains-append_left, Contains-push, Contains-push_cases}
 use Rattle.fp_host.specs.Paths.{Elements, absent, path_text, elements_of}
 use Rattle.fp_host.specs.View.{View, IsTree}
 use Rattle.fp_host.specs.Outcome.{Disk, gone, shows, spot_of}
 use Rattle.fp_host.proofs.Separate.{absent_cases}
 use Rattle.fp_host.proofs.Settled.{at_tree}
-use Rattle.fp_name.specs.declared.kind.RefKind.{RefKind}
-use Rattle.fp_name.specs.declared.kind.RefKind.TheVariants.{App, Runtime}
-use Rattle.fp_name.specs.Kinds.{kind_word}
 use Rattle.fp_name.specs.Refs.{Ref, is_ref, ref_of, ref_text}
 use Rattle.fp_name.proofs.Refs.{ref_of-ref_text, ref_of-some}
 use Rattle.fp_small.proofs.Ordered.{bytes_eq-itself, bytes_eq-is}
-use Rattle.fp_small.specs.Walks.{IsLevel}
 use Rattle.fp_small.specs.declared.state.RefRow.{RefRow}
-use Rattle.ost_refs.specs.Walks.{AreLevel}
 use Rattle.dep_open.proofs.Gathering.{in_none}
+use Rattle.dep_states.specs.Branches.{AreBranches}
 use Rattle.dep_states.specs.Names.{active, branch_dir}
 use Rattle.dep_states.specs.Shown.{Seen, away, bad, there, seen_of, by_active, ref_seen, row_seen, at_name, ref_key}
 use Rattle.dep_states.specs.After.{IsGoodRow}
 use Rattle.dep_states.proofs.Single.{some_is, some_none, none_some, ref_if_bad}
 use Rattle.dep_states.proofs.Total.{ref_is}
-use Rattle.dep_states.proofs.Worked.{active_same}
+use Rattle.dep_states.proofs.BranchPaths.{branch_same, branch_level}
 use Rattle.dep_open.specs.declared.part.Part.{Part}
-use Rattle.dep_open.specs.Parts.{lesser, IsLeast, BadRef, Puts, Adds, IsRowOf, HoldsGoodRows, AreRefs, AreGoodRows, AreBranches, AddsRef, BadRefAt, FindsRefs}
-use Rattle.dep_open.proofs.Least.{least_both, least_to, active_back, branch_back}
+use Rattle.dep_open.specs.Parts.{lesser, IsLeast, BadRef, Puts, Adds, IsRowOf, HoldsGoodRows, AreRefs, AreGoodRows, AddsRef, BadRefAt, FindsRefs}
+use Rattle.dep_open.proofs.Least.{least_both, least_to, active_back}
 use Rattle.dep_open.proofs.Gathering.{found_put, keyed_put, each_put, ascending}
-
--- ---- the ref at a path
-
-pub ref_there : (p : Elements) (name : Ref) → elements_of (path_text p) ≡ p → ref_of (path_text p) ≡ Some name → (p ≡ branch_dir name) × (is_ref name ≡ true)
-ref_there p name back is =
-    let text = ref_of-some (path_text p) name is in
-    (sym back ∙ ap elements_of text.0 ∙ branch_back name text.1, text.1)
 
 -- no ref has a path that is none's
 none_here : (p : Elements) (name : Ref) → ref_of (path_text p) ≡ None → is_ref name ≡ true → p ≡ branch_dir name → ⊥
 none_here p name none good at = some_none (sym (ref_of-ref_text name good) ∙ sym (ap (λ q. ref_of (path_text q)) at) ∙ none)
-
-branch_same : (a b : Ref) → branch_dir a ≡ branch_dir b → a ≡ b
-branch_same a b e = active_same a b (ap (λ p. codes "active" ∷ p) e)
 
 -- ---- one place more
 
@@ -211,26 +197,6 @@ good_rows es rows holds_ same sorted = subst AreGoodRows (sym same) (record { ea
 
 -- ---- all of them
 
-some_above : {v : View} → IsTree v → (x : List ℕ) (up : Elements) → v.names (x ∷ up) ≢ absent → v.names up ≢ absent
-some_above tree x up some none = elim (tree.above x up) [ inl gone_ ↦ some gone_ | inr there_ ↦ absurd (cc (none, there_)) ]
-
--- where something stands at `active`, the branch directory is among those that are looked at
-branch_level : {v : View} → IsTree v → (name : Ref) → v.names (active name) ≢ absent → IsLevel 3 (codes "app" ∷ []) v (branch_dir name) ⊎ IsLevel 3 (codes "runtime" ∷ []) v (branch_dir name)
-branch_level {v = v} tree name some = go name.kind refl
-  where
-    branch : v.names (branch_dir name) ≢ absent
-    branch = some_above tree (codes "active") (branch_dir name) some
-
-    arch : v.names (name.arch ∷ (name.id ∷ (kind_word name.kind ∷ []))) ≢ absent
-    arch = some_above tree name.branch (name.arch ∷ (name.id ∷ (kind_word name.kind ∷ []))) branch
-
-    id : v.names (name.id ∷ (kind_word name.kind ∷ [])) ≢ absent
-    id = some_above tree name.arch (name.id ∷ (kind_word name.kind ∷ [])) arch
-
-    go : (k : RefKind) → name.kind ≡ k → IsLevel 3 (codes "app" ∷ []) v (branch_dir name) ⊎ IsLevel 3 (codes "runtime" ∷ []) v (branch_dir name)
-    go App is = inl (((ap (λ k. kind_word k ∷ []) is, id), arch), branch)
-    go Runtime is = inr (((ap (λ k. kind_word k ∷ []) is, id), arch), branch)
-
 gone_if : {v : View} → IsTree v → (q : Elements) → v.names q ≡ absent → shows v q ≡ gone
 gone_if {v = v} tree q none = ap (spot_of v.files) (at_tree v tree q ∙ none)
 
@@ -256,7 +222,7 @@ are_refs {v = v} paths es part tree finds same are = record {
     seen_branch : (name : Ref) → ref_seen (shows v) name ≢ away → Contains paths (branch_dir name)
     seen_branch name some = (are.each (branch_dir name)).1 (elim (absent_cases (v.names (active name))) [
       | inl none ↦ absurd (some (away_if (shows v) name (gone_if tree (active name) none)))
-      | inr here ↦ branch_level tree name here
+      | inr here ↦ branch_level tree (codes "active") name here
     ])
 
     by_seen : (name : Ref) → is_ref name ≡ true → part.damaged ≡ None → at_name ref_key (values_of es) (ref_text name) ≡ None → (s : Seen RefRow) → ref_seen (shows v) name ≡ s → s ≡ away
@@ -273,18 +239,3 @@ are_refs {v = v} paths es part tree finds same are = record {
     by_row : (text : List ℕ) → part.damaged ≡ None → (o : Option RefRow) → at_name ref_key (values_of es) text ≡ o → row_seen (shows v) (ref_of text) ≡ seen_of (at_name ref_key (values_of es) text)
     by_row text whole None e = by_ref text whole e (ref_of text) refl ∙ ap seen_of (sym e)
     by_row text whole (Some row) e = finds.only text row e ∙ ap seen_of (sym e)
-
--- the paths below both folders
-pub both_branches : {v : View} (apps runtimes : Elements) (ps qs all : List Elements) → apps ≡ codes "app" ∷ [] → runtimes ≡ codes "runtime" ∷ [] → all ≡ ps ++ qs → AreLevel 3 apps v ps → AreLevel 3 runtimes v qs → AreBranches v all
-both_branches {v = v} apps runtimes ps qs all a r whole first second = subst (AreBranches v) (sym whole) (record {
-  each = λ q. (
-    λ has. elim (Contains-append_cases ps qs q has) [
-      | inl one ↦ inl (subst (λ (l : Elements). IsLevel 3 l v q) a ((first.each q).0 one))
-      | inr two ↦ inr (subst (λ (l : Elements). IsLevel 3 l v q) r ((second.each q).0 two))
-    ],
-    λ either. elim either [
-      | inl level ↦ Contains-append_left ps qs q ((first.each q).1 (subst (λ (l : Elements). IsLevel 3 l v q) (sym a) level))
-      | inr level ↦ Contains-append_right ps qs q ((second.each q).1 (subst (λ (l : Elements). IsLevel 3 l v q) (sym r) level))
-    ],
-  );
-})

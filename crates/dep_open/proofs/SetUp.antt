@@ -24,7 +24,7 @@ use Rattle.dep_states.specs.Sound.{is_remotes, is_pins}
 use Rattle.dep_states.proofs.Good.{read_there, one_good, two_good, no_settings}
 use Rattle.dep_states.proofs.Single.{layout_bad_first, layout_bad_second, in_layout_one}
 use Rattle.dep_open.specs.declared.part.Part.{Part}
-use Rattle.dep_open.proofs.Least.{text_back}
+use Rattle.dep_states.proofs.Texts.{text_back}
 use Rattle.dep_open.specs.Parts.{is_away, seen_as, IsLeast, BadSetting, IsSetUp, old_path, IsSetUpOld, IsGoodSetup, SetsUp, SetsUpOld}
 
 -- ---- files

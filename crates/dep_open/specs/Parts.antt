@@ -1,11 +1,10 @@
 -- What is found of the parts of the state.
-use Rattle.std.specs.Prelude.{◌≡◌, ◌⊎◌, ◌↔◌, ◌∷◌, ℕ, List, [], map, Bool, true, false, Option, Some, None, String, string_bytes, Contains, if◌then◌else◌, codes}
+use Rattle.std.specs.Prelude.{◌≡◌, ◌⊎◌, ℕ, List, [], map, Bool, true, false, Option, Some, None, String, string_bytes, Contains, if◌then◌else◌}
 use Rattle.std.specs.List.{AllByRecursion}
 use Rattle.std.specs.Map.{values_of}
 use Rattle.std.specs.String.{string_cmp}
 use Rattle.std.specs.BTreeMap.{insert_entry}
 use Rattle.fp_host.specs.Paths.{Elements, path_text}
-use Rattle.fp_host.specs.View.{View}
 use Rattle.fp_host.specs.Outcome.{Spot, Disk, gone, folder, holds, points}
 use Rattle.fp_host.specs.Reads.{is_ascending}
 use Rattle.fp_keyfile.specs.KeyFile.{file_of}
@@ -13,7 +12,6 @@ use Rattle.fp_name.specs.Refs.{Ref, is_ref, ref_of, ref_text}
 use Rattle.fp_small.specs.Config.{IsSettings}
 use Rattle.fp_small.specs.Old.{remotes_of, pins_of}
 use Rattle.fp_small.specs.Order.{comes_before}
-use Rattle.fp_small.specs.Walks.{IsLevel}
 use Rattle.fp_small.specs.declared.loading.Loaded.{Loaded}
 use Rattle.fp_small.specs.declared.loading.Loaded.TheVariants.{Bytes, Absent, TooLong, NotFile}
 use Rattle.fp_small.specs.declared.state.Layout.TheVariants.{Two}
@@ -177,16 +175,7 @@ pub record AreGoodLayers (rows : List OverrideRow) : Type 0 where
   pub each : AllByRecursion IsGoodLayer rows
   pub ascend : is_ascending (map override_key rows) ≡ true
 
--- ---- where refs may stand
-
--- three names below `app` or `runtime`
-pub record AreBranches (v : View) (paths : List Elements) : Type 0 where
-  pub each : (q : Elements) → Contains paths q ↔ (IsLevel 3 (codes "app" ∷ []) v q ⊎ IsLevel 3 (codes "runtime" ∷ []) v q)
-
--- the ref whose branch directory this is
-abbrev pub IsRefAt : Elements → Option Ref → Type 0
-IsRefAt p None = ref_of (path_text p) ≡ None
-IsRefAt p (Some name) = (p ≡ branch_dir name) × (is_ref name ≡ true)
+-- ---- where refs and overrides may stand
 
 -- where the path is a branch directory, what stands at its ref comes to the others
 abbrev pub AddsRef : {Z : Type 0} → Disk → Elements → List (String Z × RefRow) → Option Elements → List (String Z × RefRow) → Option Elements → Type 0

@@ -5,7 +5,6 @@ mod open_end;
 mod opening;
 mod overrides;
 mod part;
-mod paths;
 mod reading;
 mod refs;
 mod settings;

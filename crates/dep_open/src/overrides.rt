@@ -10,7 +10,7 @@ ghost use Rattle.fp_small.specs.Naming.{ListsIn};
 ghost use Rattle.dep_open.specs.Parts.{seen_in, override_loaded, AreOverrides, AreGoodLayers, AddsOverride, KeepsGoodLayers};
 
 use crate::part::{Part, Seen, add};
-use crate::paths::overrides_path;
+use dep_states::overrides_path;
 use fp_base::{Items, Text};
 use fp_host::{Host, HostEnd, Path};
 use fp_keyfile::{KeyError, KeyFile};

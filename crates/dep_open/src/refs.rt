@@ -5,24 +5,20 @@ ghost use Rattle.fp_host.specs.Frame.{AtEnd, Unchanged};
 ghost use Rattle.fp_host.specs.Outcome.{shows};
 ghost use Rattle.fp_name.specs.Hex.{hex};
 ghost use Rattle.fp_name.specs.Refs.{is_ref};
+ghost use Rattle.dep_states.specs.Branches.{AreBranches};
 ghost use Rattle.dep_states.specs.Deploy.{deploy_of};
 ghost use Rattle.dep_states.specs.Names.{active, branch_dir, text_dir, deploy};
 ghost use Rattle.dep_states.specs.Shown.{there, by_active, deploy_at, row_in};
-ghost use Rattle.dep_open.specs.Parts.{seen_in, seen_as, text_seen, IsRowOf, AreRefs, AreGoodRows, AreBranches, IsRefAt, AddsRef, KeepsGoodRows};
+ghost use Rattle.dep_open.specs.Parts.{seen_in, seen_as, text_seen, IsRowOf, AreRefs, AreGoodRows, AddsRef, KeepsGoodRows};
 
 use crate::part::{Part, Seen, add};
-use crate::paths::{apps_path, runtimes_path};
-use dep_states::{DeployData, DeployError};
+use dep_states::{DeployData, DeployError, branch_paths, ref_at};
 use fp_base::{Items, Text};
 use fp_host::{Host, HostEnd, Path, Stat};
-use fp_name::{Digest, NameError, RefName};
+use fp_name::{Digest, RefName};
 use fp_small::{Loaded, MOST_TEXT_BYTES, RefRow, load, values_in_order};
-use ost_refs::paths_below;
 use std::alloc::{AllocError, Global};
 use std::collections::BTreeMap;
-
-/// How many elements a branch directory's path has below `app` and `runtime`.
-const BRANCH_DEPTH: usize = 3;
 
 /// Reads the refs that the present view shows, and changes nothing.
 pub(crate) fn read_refs<H: Host>(
@@ -38,22 +34,6 @@ pub(crate) fn read_refs<H: Host>(
 {
     let paths = branch_paths(alloc, host)?;
     refs_among(alloc, host, &paths)
-}
-
-/// The paths at which branch directories may stand.
-fn branch_paths<H: Host>(alloc: Global, host: &mut H) -> Result<Vec<Path>, HostEnd>
-    ensures unchanged { Unchanged (H.moments host.old) (H.moments host.new) }
-    ensures tells { IfOk result (λ paths. AtEnd (λ u w. AreBranches u paths.items)
-        (H.moments host.old) (H.moments host.new)) }
-    ensures fault_has_cause { IsCounted (IsErrOf result HostEnd.Fault)
-        (H.moments host.old) (H.faults host.old) (H.faults host.new) }
-{
-    let apps = apps_path(alloc)?;
-    let runtimes = runtimes_path(alloc)?;
-    let mut paths = paths_below(alloc, host, apps, BRANCH_DEPTH)?;
-    let mut more = paths_below(alloc, host, runtimes, BRANCH_DEPTH)?;
-    paths.append(&mut more)?;
-    Ok(paths)
 }
 
 /// The refs whose branch directories are among these paths.
@@ -102,17 +82,6 @@ fn add_ref<H: Host>(
     let key = name.write()?;
     let seen = read_active(alloc, host, path, &active, name)?;
     Ok(add(alloc, key.as_str(), active, seen, rows, damaged)?)
-}
-
-/// The ref whose branch directory this is.
-fn ref_at(alloc: Global, path: &Path) -> Result<Option<RefName>, AllocError>
-    ensures { IfOk result (IsRefAt path.now) }
-{
-    match RefName::parse(alloc, path.text().as_bytes()) {
-        Ok(name) => Ok(Some(name)),
-        Err(NameError::Bad) => Ok(None),
-        Err(NameError::NoMemory) => Err(AllocError),
-    }
 }
 
 /// What stands at the ref with this branch directory and this path of its `active`.

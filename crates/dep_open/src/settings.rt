@@ -11,8 +11,7 @@ ghost use Rattle.fp_small.specs.declared.state.Layout.TheVariants.{Two};
 ghost use Rattle.dep_open.specs.Parts.{seen_in, is_away, seen_as, IsSetUp, IsSetUpOld, SetsUp, SetsUpOld, IsGoodSetup, found_or};
 
 use crate::part::{Part, Seen};
-use crate::paths::{config_path, pins_path, remotes_path};
-use dep_states::Setup;
+use dep_states::{Setup, config_path, pins_path, remotes_path};
 use fp_base::Items;
 use fp_host::{Host, HostEnd, Path};
 use fp_name::PinPattern;

@@ -25,3 +25,5 @@ pub mod Small
 pub mod Lasting
 pub mod Linked
 pub mod Elsewhere
+pub mod Texts
+pub mod BranchPaths

@@ -1,13 +1,17 @@
 //! What an installation shows, and when it is sound.
 #![tactic(auto)]
 
+mod branches;
 mod deploy;
 mod deploy_reading;
 mod deploy_writing;
 pub mod laws;
 mod opened;
+mod paths;
 mod setup;
 
+pub use branches::{branch_paths, ref_at};
 pub use deploy::{DeployData, DeployError};
 pub use opened::Opened;
+pub use paths::{config_path, overrides_path, pins_path, remotes_path};
 pub use setup::Setup;

@@ -2,7 +2,6 @@ pub mod Views
 mod Alter
 mod Apart
 mod Clearing
-mod Texts
 mod UnkeptFolders
 pub mod RowsKept
 mod OldFiles

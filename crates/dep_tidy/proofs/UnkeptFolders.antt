@@ -1,35 +1,30 @@
 -- Folders of commits that go.
-use Rattle.std.proofs.Common.{◌≡◌, ◌≢◌, ◌⊎◌, inl, inr, ℕ, ◌+◌, ◌<◌, ◌≤◌, List, [], ◌∷◌, ◌++◌, length, take, get_or, true, Option, Some, None, Result, Ok, refl, sym, ◌∙◌, ap, subst, Contains, codes}
+use Rattle.std.proofs.Common.{◌≡◌, ◌≢◌, ◌⊎◌, inl, inr, ℕ, ◌+◌, ◌<◌, ◌≤◌, List, [], ◌∷◌, length, take, get_or, true, Option, Some, None, Result, Ok, refl, sym, ◌∙◌, ap, subst, Contains}
 use Rattle.std.specs.Prelude.{ok_or}
 use Rattle.std.proofs.lemmas.List.{take_more, take_all}
-use Rattle.std.proofs.lemmas.List.Elements.{Contains-append_left, Contains-append_right, Contains-append_cases, Contains-push_cases}
-use Rattle.fp_host.specs.Paths.{Elements, Slot, absent, is_element, path_text, elements_of}
+use Rattle.std.proofs.lemmas.List.Elements.{Contains-push_cases}
+use Rattle.fp_host.specs.Paths.{Elements, Slot, absent, is_element, path_text}
 use Rattle.fp_host.specs.View.{View, IsTree}
 use Rattle.fp_host.specs.Outcome.{Spot}
 use Rattle.fp_host.proofs.Separate.{absent_cases}
 use Rattle.fp_name.specs.declared.fault.NameError.{NameError}
 use Rattle.fp_name.specs.declared.fault.NameError.TheVariants.{Bad}
-use Rattle.fp_name.specs.declared.kind.RefKind.{RefKind}
-use Rattle.fp_name.specs.declared.kind.RefKind.TheVariants.{App, Runtime}
 use Rattle.fp_name.specs.Hex.{hex, unhex}
-use Rattle.fp_name.specs.Kinds.{kind_word}
 use Rattle.fp_name.specs.Refs.{Ref, is_ref, ref_of}
 use Rattle.fp_name.proofs.Files.{file_digest}
 use Rattle.fp_name.proofs.HexTexts.{unhex-hex, unhex-some}
-use Rattle.fp_name.proofs.Refs.{ref_of-ref_text, ref_of-some}
+use Rattle.fp_name.proofs.Refs.{ref_of-ref_text}
 use Rattle.fp_small.specs.Clear.{IsWithin, GoneWithin, AbsentWithin, IsCleared}
 use Rattle.fp_small.specs.Naming.{ListsIn}
-use Rattle.fp_small.specs.Walks.{IsLevel}
 use Rattle.fp_small.specs.declared.state.State.{State}
-use Rattle.ost_refs.specs.Walks.{AreLevel}
 use Rattle.ost_store.proofs.Lists.{in_none, in_one, in_first}
+use Rattle.dep_states.specs.Branches.{AreBranches}
 use Rattle.dep_states.specs.Names.{branch_dir, commit_dir}
 use Rattle.dep_states.specs.Frames.{KeptIn}
 use Rattle.dep_states.proofs.Single.{some_none}
 use Rattle.dep_states.proofs.Sparing.{hex_exact}
-use Rattle.dep_states.proofs.Worked.{active_same}
-use Rattle.dep_tidy.proofs.Texts.{branch_back}
-use Rattle.dep_tidy.specs.Steps.{AreBranches, IsUnkept, InUnkept, UnkeptGone, UnkeptAbsent, HasNoUnkept, HasNoneIn, HasNoneOf}
+use Rattle.dep_states.proofs.BranchPaths.{branch_same, branch_level}
+use Rattle.dep_tidy.specs.Steps.{IsUnkept, InUnkept, UnkeptGone, UnkeptAbsent, HasNoUnkept, HasNoneIn, HasNoneOf}
 
 -- ---- lists that are gone through
 
@@ -113,9 +108,6 @@ none_of_next {name = name} names i text low is {v = v} {w = w} changes before he
   ];
 }
 
-branch_same : (a b : Ref) → branch_dir a ≡ branch_dir b → a ≡ b
-branch_same a b e = active_same a b (ap (λ p. codes "active" ∷ p) e)
-
 pub none_of_all : {s : State} {name : Ref} {folder : Elements} (names : List (List ℕ)) (i : ℕ) → length names ≤ i → folder ≡ branch_dir name → {u w : View}
     → ListsIn folder u names → ((q : Elements) → (w.names q ≡ u.names q) ⊎ UnkeptAbsent s q (w.names q)) → HasNoneOf s name (take i names) w → HasNoneIn s (folder ∷ []) w
 none_of_all {s = s} {name = name} {folder = folder} names i high at {u = u} {w = w} lists changes none = record {
@@ -146,26 +138,6 @@ none_in_next paths i p low is {v = v} {w = w} changes before here = record {
   ];
 }
 
-some_above : {v : View} → IsTree v → (x : List ℕ) (up : Elements) → v.names (x ∷ up) ≢ absent → v.names up ≢ absent
-some_above tree x up some none = elim (tree.above x up) [ inl gone_ ↦ some gone_ | inr there_ ↦ absurd (cc (none, there_)) ]
-
--- where something stands in a branch directory, it is among those that are looked at
-branch_level : {v : View} → IsTree v → (x : List ℕ) (name : Ref) → v.names (x ∷ branch_dir name) ≢ absent → IsLevel 3 (codes "app" ∷ []) v (branch_dir name) ⊎ IsLevel 3 (codes "runtime" ∷ []) v (branch_dir name)
-branch_level {v = v} tree x name some = go name.kind refl
-  where
-    branch : v.names (branch_dir name) ≢ absent
-    branch = some_above tree x (branch_dir name) some
-
-    arch : v.names (name.arch ∷ (name.id ∷ (kind_word name.kind ∷ []))) ≢ absent
-    arch = some_above tree name.branch (name.arch ∷ (name.id ∷ (kind_word name.kind ∷ []))) branch
-
-    id : v.names (name.id ∷ (kind_word name.kind ∷ [])) ≢ absent
-    id = some_above tree name.arch (name.id ∷ (kind_word name.kind ∷ [])) arch
-
-    go : (k : RefKind) → name.kind ≡ k → IsLevel 3 (codes "app" ∷ []) v (branch_dir name) ⊎ IsLevel 3 (codes "runtime" ∷ []) v (branch_dir name)
-    go App is = inl (((ap (λ k. kind_word k ∷ []) is, id), arch), branch)
-    go Runtime is = inr (((ap (λ k. kind_word k ∷ []) is, id), arch), branch)
-
 pub none_in_all : {s : State} (paths : List Elements) (i : ℕ) → length paths ≤ i → {u w : View} → IsTree u → AreBranches u paths
     → ((q : Elements) → (w.names q ≡ u.names q) ⊎ UnkeptAbsent s q (w.names q)) → HasNoneIn s (take i paths) w → HasNoUnkept s w
 none_in_all paths i high {u = u} {w = w} tree are changes none = record {
@@ -174,25 +146,3 @@ none_in_all paths i high {u = u} {w = w} tree are changes none = record {
     | inr some ↦ none.none n commit unkept (all_taken paths i (branch_dir n) high ((are.each (branch_dir n)).1 (branch_level tree (hex commit) n (still_some u w changes (commit_dir n commit) some))))
   ];
 }
-
--- ---- as for the paths of refs
-
-pub ref_there : (p : Elements) (name : Ref) → elements_of (path_text p) ≡ p → ref_of (path_text p) ≡ Some name → (p ≡ branch_dir name) × (is_ref name ≡ true)
-ref_there p name back is =
-    let text = ref_of-some (path_text p) name is in
-    (sym back ∙ ap elements_of text.0 ∙ branch_back name text.1, text.1)
-
--- the paths below both folders
-pub both_branches : {v : View} (apps runtimes : Elements) (ps qs all : List Elements) → apps ≡ codes "app" ∷ [] → runtimes ≡ codes "runtime" ∷ [] → all ≡ ps ++ qs → AreLevel 3 apps v ps → AreLevel 3 runtimes v qs → AreBranches v all
-both_branches {v = v} apps runtimes ps qs all a r whole first second = subst (AreBranches v) (sym whole) (record {
-  each = λ q. (
-    λ has. elim (Contains-append_cases ps qs q has) [
-      | inl one ↦ inl (subst (λ (l : Elements). IsLevel 3 l v q) a ((first.each q).0 one))
-      | inr two ↦ inr (subst (λ (l : Elements). IsLevel 3 l v q) r ((second.each q).0 two))
-    ],
-    λ either. elim either [
-      | inl level ↦ Contains-append_left ps qs q ((first.each q).1 (subst (λ (l : Elements). IsLevel 3 l v q) (sym a) level))
-      | inr level ↦ Contains-append_right ps qs q ((second.each q).1 (subst (λ (l : Elements). IsLevel 3 l v q) (sym r) level))
-    ],
-  );
-})

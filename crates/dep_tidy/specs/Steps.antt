@@ -1,6 +1,6 @@
 -- The steps of tidying.
-use Rattle.std.specs.Prelude.{◌≡◌, ◌≢◌, ◌⊎◌, ◌↔◌, ◌∷◌, ℕ, List, [], codes, true, Option, Some, None, Contains}
-use Rattle.fp_host.specs.Paths.{Elements, Slot, absent, dir, path_text, IsAbove}
+use Rattle.std.specs.Prelude.{◌≡◌, ◌≢◌, ◌⊎◌, ◌∷◌, ℕ, List, [], true, Contains}
+use Rattle.fp_host.specs.Paths.{Elements, Slot, absent, dir, IsAbove}
 use Rattle.fp_host.specs.View.{View}
 use Rattle.fp_host.specs.Calls.{IsFile, IsNoDir}
 use Rattle.fp_host.specs.Outcome.{Spot, gone, folder, Disk, Leaves, Follows, shows}
@@ -8,13 +8,12 @@ use Rattle.fp_host.specs.Frame.{Keeps, NoPath}
 use Rattle.fp_base.specs.declared.object.ObjKind.{ObjKind}
 use Rattle.fp_name.specs.Grammar.{is_remote_name}
 use Rattle.fp_name.specs.Hex.{hex, is_digest}
-use Rattle.fp_name.specs.Refs.{Ref, is_ref, ref_of}
+use Rattle.fp_name.specs.Refs.{Ref, is_ref}
 use Rattle.fp_small.specs.Places.{repo, tmp, new_name}
 use Rattle.fp_small.specs.Clear.{IsWithin, IsEmptied}
 use Rattle.fp_small.specs.Files.{KeepsFiles}
 use Rattle.fp_small.specs.Move.{IsNew}
 use Rattle.fp_small.specs.Replace.{folders_of}
-use Rattle.fp_small.specs.Walks.{IsLevel}
 use Rattle.fp_small.specs.declared.state.State.{State}
 use Rattle.fp_small.specs.declared.state.RefRow.{RefRow}
 use Rattle.ost_model.specs.Objects.{object_path}
@@ -36,15 +35,6 @@ pub record Alters (G : Elements → Spot → Type 0) (W : Elements → Slot → 
   pub printed : w.printed ≡ u.printed
 
 -- ---- folders of commits
-
--- three names below `app` or `runtime`
-pub record AreBranches (v : View) (paths : List Elements) : Type 0 where
-  pub each : (q : Elements) → Contains paths q ↔ (IsLevel 3 (codes "app" ∷ []) v q ⊎ IsLevel 3 (codes "runtime" ∷ []) v q)
-
--- the ref whose branch directory this is
-abbrev pub IsRefAt : Elements → Option Ref → Type 0
-IsRefAt p None = ref_of (path_text p) ≡ None
-IsRefAt p (Some name) = (p ≡ branch_dir name) × (is_ref name ≡ true)
 
 -- a commit that the state doesn't keep
 pub record IsUnkept (s : State) (name : Ref) (commit : List ℕ) : Type 0 where

@@ -1,50 +1,19 @@
-//! The folders of commits.
-ghost use Rattle.std.specs.Prelude.{◌≡◌, ◌∷◌, [], true, OnOk, IfOk, IsErrOf};
-ghost use Rattle.fp_host.specs.Causes.{IsCaused, IsCounted};
-ghost use Rattle.fp_host.specs.Frame.{Frame, AtEnd, Unchanged, NoPath};
+// The folders of commits.
+ghost use Rattle.std.specs.Prelude.{◌≡◌, ◌∷◌, [], true, OnOk, IsErrOf};
+ghost use Rattle.fp_host.specs.Causes.{IsCaused};
+ghost use Rattle.fp_host.specs.Frame.{Frame, AtEnd, NoPath};
 ghost use Rattle.fp_name.specs.Refs.{is_ref};
 ghost use Rattle.dep_states.specs.Names.{branch_dir};
 ghost use Rattle.dep_states.specs.Sound.{Opens};
-ghost use Rattle.dep_tidy.specs.Steps.{AreBranches, IsRefAt, UnkeptGone, UnkeptAbsent, HasNoUnkept, HasNoneIn, HasNoneOf};
+ghost use Rattle.dep_tidy.specs.Steps.{UnkeptGone, UnkeptAbsent, HasNoUnkept, HasNoneIn, HasNoneOf};
 
-use crate::paths::{apps_path, runtimes_path};
 use crate::rows::is_kept;
+use dep_states::{branch_paths, ref_at};
 use fp_base::Text;
 use fp_host::{Host, HostEnd, Path};
-use fp_name::{Digest, NameError, RefName};
+use fp_name::{Digest, RefName};
 use fp_small::{State, clear, names_in};
-use ost_refs::paths_below;
-use std::alloc::{AllocError, Global};
-
-/// How many elements a branch directory's path has below `app` and `runtime`.
-const BRANCH_DEPTH: usize = 3;
-
-/// The paths at which branch directories may stand.
-fn branch_paths<H: Host>(alloc: Global, host: &mut H) -> Result<Vec<Path>, HostEnd>
-    ensures unchanged { Unchanged (H.moments host.old) (H.moments host.new) }
-    ensures tells { IfOk result (λ paths. AtEnd (λ u w. AreBranches u paths.items)
-        (H.moments host.old) (H.moments host.new)) }
-    ensures fault_has_cause { IsCounted (IsErrOf result HostEnd.Fault)
-        (H.moments host.old) (H.faults host.old) (H.faults host.new) }
-{
-    let apps = apps_path(alloc)?;
-    let runtimes = runtimes_path(alloc)?;
-    let mut paths = paths_below(alloc, host, apps, BRANCH_DEPTH)?;
-    let mut more = paths_below(alloc, host, runtimes, BRANCH_DEPTH)?;
-    paths.append(&mut more)?;
-    Ok(paths)
-}
-
-/// The ref whose branch directory this is.
-fn ref_at(alloc: Global, path: &Path) -> Result<Option<RefName>, AllocError>
-    ensures { IfOk result (IsRefAt path.now) }
-{
-    match RefName::parse(alloc, path.text().as_bytes()) {
-        Ok(name) => Ok(Some(name)),
-        Err(NameError::Bad) => Ok(None),
-        Err(NameError::NoMemory) => Err(AllocError),
-    }
-}
+use std::alloc::Global;
 
 /// Takes away what has this name in the ref's branch directory, where it is the folder of a commit that the state doesn't
 /// keep.

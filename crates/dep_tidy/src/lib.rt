@@ -4,7 +4,6 @@
 mod folders;
 pub mod laws;
 mod old_files;
-mod paths;
 mod pruning;
 mod refs;
 mod rows;

@@ -5,7 +5,7 @@ ghost use Rattle.fp_host.specs.Frame.{AtEnd};
 ghost use Rattle.fp_host.specs.Moments.{Always};
 ghost use Rattle.dep_tidy.specs.Steps.{TakesOld, HasNoOld, CanTakeOld};
 
-use crate::paths::{config_path, pins_path, remotes_path};
+use dep_states::{config_path, pins_path, remotes_path};
 use fp_host::{Host, HostEnd, Stat};
 use fp_small::take_away;
 use std::alloc::Global;

@@ -14,13 +14,12 @@ ghost use Rattle.dep_tidy.specs.Steps.{IsSteady, Steadily, IsReady, IsCleared, H
 
 use crate::folders::clear_folders;
 use crate::old_files::take_old_files;
-use crate::paths::repo_path;
 use crate::pruning::prune_unused;
 use crate::refs::{drop_others, write_files};
 use crate::work::empty_work;
 use dep_states::Opened;
 use fp_host::{Host, HostEnd, Path};
-use fp_small::State;
+use fp_small::{State, repo_path};
 use std::alloc::Global;
 
 /// Settles the installation, which keeps the state that was opened: syncs, takes away the work that was left in `repo/tmp`, the

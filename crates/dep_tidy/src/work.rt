@@ -5,9 +5,8 @@ ghost use Rattle.fp_host.specs.Frame.{Frame, AtEnd, NoPath};
 ghost use Rattle.fp_small.specs.Places.{tmp};
 ghost use Rattle.fp_small.specs.Clear.{GoneBelow, AbsentBelow, IsEmptied, CanEmpty};
 
-use crate::paths::tmp_path;
 use fp_host::{Host, HostEnd};
-use fp_small::clear_below;
+use fp_small::{clear_below, tmp_path};
 use std::alloc::Global;
 
 /// Takes away what is in `repo/tmp`.

@@ -12,10 +12,10 @@ ghost use Rattle.ost_model.specs.Remotes.{Stores};
 ghost use Rattle.ost_store.specs.Reads.{HasFile};
 ghost use Rattle.fl_export.specs.Trees as spec;
 
-use crate::trees::repo;
 use fp_base::{Blob, ObjKind};
 use fp_host::{Host, HostEnd, Path};
 use fp_name::Digest;
+use fp_small::repo_path;
 use ost_store::{Got, get, read_piece};
 use std::alloc::Global;
 
@@ -56,7 +56,7 @@ pub(crate) fn read_short<H: Host>(
     ensures fault_has_cause { IsCounted (IsErrOf result HostEnd.Fault)
         (H.moments host.old) (H.faults host.old) (H.faults host.new) }
 {
-    let root = repo(alloc)?;
+    let root = repo_path(alloc)?;
     match get(alloc, host, &root, digest, ObjKind::File, MOST_BYTES)? {
         Got::File { size, .. } => read_bytes(alloc, host, &root, digest, size),
         _ => Ok(None),
@@ -75,7 +75,7 @@ pub(crate) fn is_file<H: Host>(
     ensures fault_has_cause { IsCounted (IsErrOf result HostEnd.Fault)
         (H.moments host.old) (H.faults host.old) (H.faults host.new) }
 {
-    let root = repo(alloc)?;
+    let root = repo_path(alloc)?;
     match get(alloc, host, &root, digest, ObjKind::File, MOST_BYTES)? {
         Got::File { .. } | Got::TooLong(_) => Ok(true),
         _ => Ok(false),

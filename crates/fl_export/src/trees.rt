@@ -15,18 +15,12 @@ ghost use Rattle.fl_export.specs.Texts.{share, applications, hicolor};
 ghost use Rattle.fl_export.specs.Exported.{in_export};
 
 use fp_base::{Blob, ObjKind};
-use fp_host::{Host, HostEnd, Path};
+use fp_host::{Host, HostEnd};
 use fp_name::Digest;
+use fp_small::repo_path;
 use ost_object::{DirEntry, DirTree, ObjectError, commit_root, read_dirtree};
 use ost_store::{Got, get};
 use std::alloc::{AllocError, Global};
-
-/// The folder of the installation's store.
-pub(crate) fn repo(alloc: Global) -> Result<Path, AllocError>
-    ensures { IfOk result (λ path. path ≡ repo) }
-{
-    Path::root(alloc).child("repo")
-}
 
 /// The dirtree of these bytes, where they are one.
 fn tree_in(alloc: Global, bytes: &Blob) -> Result<Option<DirTree>, AllocError>
@@ -62,7 +56,7 @@ fn read_tree<H: Host>(
     ensures fault_has_cause { IsCounted (IsErrOf result HostEnd.Fault)
         (H.moments host.old) (H.faults host.old) (H.faults host.new) }
 {
-    let root = repo(alloc)?;
+    let root = repo_path(alloc)?;
     match get(alloc, host, &root, digest, ObjKind::DirTree, u64::MAX)? {
         Got::Meta(bytes) => Ok(tree_in(alloc, &bytes)?),
         _ => Ok(None),
@@ -81,7 +75,7 @@ fn read_root<H: Host>(
     ensures fault_has_cause { IsCounted (IsErrOf result HostEnd.Fault)
         (H.moments host.old) (H.faults host.old) (H.faults host.new) }
 {
-    let root = repo(alloc)?;
+    let root = repo_path(alloc)?;
     match get(alloc, host, &root, commit, ObjKind::Commit, u64::MAX)? {
         Got::Meta(bytes) => Ok(root_in(alloc, &bytes)?),
         _ => Ok(None),

@@ -18,7 +18,7 @@ use Rattle.fp_small.specs.Folders.{IsFree}
 use Rattle.fp_small.specs.Replace.{IsFreeFile}
 use Rattle.ost_model.specs.Objects.{object_path}
 use Rattle.ost_store.proofs.Elements.{prefix_is_one}
-use Rattle.ost_export.specs.Staging.{IsAboveObject}
+use Rattle.ost_store.specs.ObjectNames.{IsAboveObject}
 use Rattle.ost_export.specs.Exports.{config_path, ref_path, IsFolderAbove}
 use Rattle.dep_states.specs.Sound.{IsSound}
 use Rattle.dep_states.specs.Zones.{Zone, anything, a_folder, a_file, Fits, Allowed, IsFileOrGone, IsFolderOrGone}

@@ -13,7 +13,8 @@ use dep_open::read_state;
 use fl_change::RunEnd;
 use fl_lines::{bad_line, fsck_line, stray_line};
 use fp_base::Text;
-use fp_host::{Host, HostEnd, Path};
+use fp_host::{Host, HostEnd};
+use fp_small::repo_path;
 use ost_fsck::{Finding, Report, check_store};
 use par_digest::Gate;
 use std::alloc::{AllocError, Global};
@@ -51,17 +52,10 @@ fn checked_text<T: Threads + Sync, H: Host, G: Gate + Sync>(
     ensures fault_has_cause { IsCaused (IsErrOf result HostEnd.Fault) (H.moments host.old)
         (CanList repo) (H.faults host.old) (H.faults host.new) }
 {
-    let root = repo(alloc)?;
+    let root = repo_path(alloc)?;
     let report = check_store(rt, alloc, host, &root, gate)?;
     let text = report_text(alloc, &report)?;
     Ok(text)
-}
-
-/// The folder of the installation's store.
-fn repo(alloc: Global) -> Result<Path, AllocError>
-    ensures { IfOk result (λ path. path ≡ repo) }
-{
-    Path::root(alloc).child("repo")
 }
 
 /// The lines of a report.

@@ -1,4 +1,4 @@
-// Permission bits that new files and folders get as they are asked for.
+//! Permission bits that new files and folders get as they are asked for.
 use fp_system::{FOLDER_BITS, folder_of, note};
 use std::alloc::Global;
 use std::collections::BTreeSet;

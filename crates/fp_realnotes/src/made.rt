@@ -1,4 +1,4 @@
-// What this host made, which needn't be looked at.
+//! What this host made, which needn't be looked at.
 ghost use Rattle.std.specs.Prelude.{IfSome};
 ghost use Rattle.fp_host.specs.Reads.{HasBits};
 
@@ -9,7 +9,7 @@ use fp_system::{folder_of, note};
 use std::alloc::{AllocError, Global};
 use std::collections::{BTreeMap, BTreeSet};
 
-// A file that was made. Its size is known as long as each write of it succeeded.
+/// A file that was made. Its size is known as long as each write of it succeeded.
 #[derive(Clone, Copy)]
 pub struct MadeFile {
     id: u64,

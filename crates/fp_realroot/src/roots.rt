@@ -1,4 +1,4 @@
-// The root folder of a host and those above it.
+//! The root folder of a host and those above it.
 use fp_realfiles::set_bits;
 use fp_realsync::Touched;
 use fp_system::{Cause, FOLDER_BITS, has_folder, known};
@@ -14,7 +14,7 @@ pub fn make_folder<R: Files>(rt: &R, at: &str) -> Result<(), Cause> {
     }
 }
 
-// Makes the folder and those above it where they are absent.
+/// Makes the folder and those above it where they are absent.
 pub fn make_root<R: Files>(rt: &R, touched: &mut Touched, root: &str) -> Result<(), Cause> {
     for end in 1..root.len() {
         if let Some(above) = folder_at(root, end) {
@@ -24,7 +24,7 @@ pub fn make_root<R: Files>(rt: &R, touched: &mut Touched, root: &str) -> Result<
     make_missing(rt, touched, root)
 }
 
-// The folder above the root whose path ends at this place of its text.
+/// The folder above the root whose path ends at this place of its text.
 pub fn folder_at(root: &str, end: usize) -> Option<&str> {
     match root.split_at_checked(end) {
         Some((above, rest)) if rest.starts_with('/') => Some(above),
@@ -32,7 +32,7 @@ pub fn folder_at(root: &str, end: usize) -> Option<&str> {
     }
 }
 
-// Makes a folder that is absent. Another process may come before.
+/// Makes a folder that is absent. Another process may come before.
 fn make_missing<R: Files>(rt: &R, touched: &mut Touched, at: &str) -> Result<(), Cause> {
     match make_folder(rt, at) {
         Ok(()) => {
@@ -51,7 +51,7 @@ fn must_be_there<R: Files>(rt: &R, at: &str, refused: Cause) -> Result<(), Cause
     }
 }
 
-// The folder that the first one of the root's path stands in.
+/// The folder that the first one of the root's path stands in.
 pub fn above_root(root: &str) -> &str {
     if root.starts_with('/') { "/" } else { "." }
 }

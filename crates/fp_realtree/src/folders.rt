@@ -1,4 +1,4 @@
-// Folders that are made.
+//! Folders that are made.
 use fp_realnotes::{Grants, Notes};
 use fp_system::{Cause, FOLDER_BITS, known, look};
 use std::fs;
@@ -6,7 +6,7 @@ use std::fs::{DirBuilder, Permissions};
 use std::os::unix::fs::{DirBuilderExt, PermissionsExt};
 use std::rt::Files;
 
-// Makes a folder that all may read and its owner may change, whatever the umask.
+/// Makes a folder that all may read and its owner may change, whatever the umask.
 pub fn make_dir<R: Files>(rt: &R, at: &str, notes: &mut Notes) -> Result<(), Cause> {
     let done = make(rt, at, &mut notes.grants);
     match done {
@@ -24,7 +24,7 @@ fn make<R: Files>(rt: &R, at: &str, grants: &mut Grants) -> Result<(), Cause> {
     }
 }
 
-// The umask may have taken some bits.
+/// The umask may have taken some bits.
 fn give_bits<R: Files>(rt: &R, at: &str, grants: &mut Grants) -> Result<(), Cause> {
     if grants.has(at, FOLDER_BITS) {
         return Ok(());

@@ -15,6 +15,11 @@ tmp = codes "tmp" ∷ repo
 abbrev pub new_name : ℕ → List ℕ
 new_name k = codes "new" ++ decimal k
 
+-- one of the names new0, new1 and so on in repo/tmp
+pub record IsWorkName (t : Elements) : Type 0 where
+  pub number : ℕ
+  pub is : t ≡ new_name number ∷ tmp
+
 -- nothing stands but the root
 pub record IsBare (v : View) : Type 0 where
   pub root : v.names [] ≡ dir

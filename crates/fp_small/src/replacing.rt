@@ -6,7 +6,7 @@ ghost use Rattle.fp_host.specs.Calls.{HasFolder};
 ghost use Rattle.fp_host.specs.Moments.{Always};
 ghost use Rattle.fp_host.specs.Causes.{IsCaused, IsCounted};
 ghost use Rattle.fp_host.specs.Frame.{Frame, AtEnd, Unchanged, AnyAt, AnyHeld, Only, NoPath};
-ghost use Rattle.fp_small.specs.Places.{tmp, new_name};
+ghost use Rattle.fp_small.specs.Places.{tmp, new_name, IsWorkName};
 ghost use Rattle.fp_small.specs.Files.{SameFiles, MakesOneAtMost, MakesFile};
 ghost use Rattle.fp_small.specs.Unsynced.{MakesNoFile};
 ghost use Rattle.fp_small.specs.Folders.{ancestors, FolderAt, DirAt, FoldersAt, DirsAt, IsFree, AreFree, AreDirs, IsLadder};
@@ -16,6 +16,7 @@ ghost use Rattle.fp_small.specs.Naming.{IsFirstFree};
 ghost use Rattle.fp_small.specs.Replace.{folders_of, IsStaging, Replaces, WasReplaced, CanReplace};
 
 use crate::limits::FILE_MODE;
+use crate::places::tmp_path;
 use crate::walking::names_in;
 use fp_base::Text;
 use fp_host::{Host, HostEnd, Path, Stat};
@@ -122,11 +123,12 @@ fn free_name(alloc: Global, names: &[Text]) -> Result<String, AllocError>
     }
 }
 
-/// Where the new file is staged.
-fn staging_place<H: Host>(alloc: Global, host: &mut H) -> Result<Path, HostEnd>
+/// Where new work is staged: the first of the names `repo/tmp/new0`, `repo/tmp/new1` and so on at which nothing stands.
+pub fn staging_place<H: Host>(alloc: Global, host: &mut H) -> Result<Path, HostEnd>
     ensures unchanged { Unchanged (H.moments host.old) (H.moments host.new) }
     ensures tells { IfOk result (λ place. AtEnd (λ u w. IsStaging u place)
         (H.moments host.old) (H.moments host.new)) }
+    ensures name { IfOk result IsWorkName }
     ensures fault_has_cause { IsCounted (IsErrOf result HostEnd.Fault)
         (H.moments host.old) (H.faults host.old) (H.faults host.new) }
 {
@@ -134,13 +136,6 @@ fn staging_place<H: Host>(alloc: Global, host: &mut H) -> Result<Path, HostEnd>
     let names = names_in(alloc, host, &folder)?;
     let name = free_name(alloc, names.as_slice())?;
     Ok(folder.child(&name)?)
-}
-
-/// The folder of staged files.
-fn tmp_path(alloc: Global) -> Result<Path, AllocError>
-    ensures { IfOk result (λ path. path ≡ tmp) }
-{
-    Path::root(alloc).child("repo")?.child("tmp")
 }
 
 /// The folders above a path, the outermost first, without the root.

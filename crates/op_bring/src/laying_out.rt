@@ -1,5 +1,5 @@
-//! A commit that is laid out in its folder.
-ghost use Rattle.std.specs.Prelude.{◌≡◌, IfOk, OnOk, IsErrOf};
+// A commit that is laid out in its folder.
+ghost use Rattle.std.specs.Prelude.{OnOk, IsErrOf};
 ghost use Rattle.fp_host.specs.Causes.{IsCaused};
 ghost use Rattle.fp_host.specs.Frame.{AtEnd};
 ghost use Rattle.fp_host.specs.Moments.{Always};
@@ -10,16 +10,9 @@ ghost use Rattle.op_bring.specs.LayingOut.{LaysOut, WasLaidOut, CanLayOut};
 
 use fp_host::{Host, Path};
 use fp_name::Digest;
-use fp_small::make_above;
+use fp_small::{make_above, repo_path};
 use ost_checkout::{CheckoutEnd, checkout};
-use std::alloc::{AllocError, Global};
-
-/// The folder of the installation's store.
-fn store_path(alloc: Global) -> Result<Path, AllocError>
-    ensures { IfOk result (λ p. p ≡ repo) }
-{
-    Path::root(alloc).child("repo")
-}
+use std::alloc::Global;
 
 /// Lays the commit of the installation's store out in the folder, which is absent. The folders above it are made. Nothing is synced.
 pub(crate) fn lay_out<H: Host>(
@@ -36,7 +29,7 @@ pub(crate) fn lay_out<H: Host>(
     ensures fault_has_cause { IsCaused (IsErrOf result ends.Fault) (H.moments host.old)
         (CanLayOut commit.now to.now) (H.faults host.old) (H.faults host.new) }
 {
-    let root = store_path(alloc)?;
+    let root = repo_path(alloc)?;
     make_above(alloc, host, to)?;
     checkout(alloc, host, &root, commit, to)
 }

@@ -24,7 +24,8 @@ use Rattle.ost_model.specs.Order.{In}
 use Rattle.ost_store.proofs.Staying.{shown_stays}
 use Rattle.ost_commit.specs.declared.built.BuiltObject.{BuiltObject}
 use Rattle.ost_commit.specs.Objects.{have_of}
-use Rattle.ost_export.specs.Staging.{Named, IsApart, IsObjectName, IsAboveObject, AreStaged, HasStaged, IsCovered, StagesSome, Works, CanStageAll}
+use Rattle.ost_store.specs.ObjectNames.{IsObjectName, IsAboveObject}
+use Rattle.ost_export.specs.Staging.{Named, IsApart, AreStaged, HasStaged, IsCovered, StagesSome, Works, CanStageAll}
 use Rattle.ost_export.specs.Placing.{Puts, PutsStaged, WasStored, CanStore}
 use Rattle.ost_export.specs.Storing.{IsNoWork, IsWork, StoresAt, StoresName, StoresObjects, HasStored, CanStoreAll}
 use Rattle.ost_export.proofs.Given.{held_object}

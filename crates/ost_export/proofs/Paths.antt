@@ -4,7 +4,7 @@ use Rattle.fp_host.specs.Paths.{Elements, absent, IsAbove}
 use Rattle.fp_host.specs.View.{View, IsTree}
 use Rattle.fp_small.specs.Clear.{IsWithin}
 use Rattle.fp_small.specs.Folders.{IsFree}
-use Rattle.fp_small.specs.Places.{tmp, new_name}
+use Rattle.fp_small.specs.Places.{tmp, new_name, IsWorkName}
 use Rattle.fp_small.specs.Replace.{IsStaging}
 use Rattle.fp_small.proofs.Emptying.{above_longer, below_child}
 use Rattle.fp_small.proofs.Replacement.{one_staging}
@@ -12,8 +12,9 @@ use Rattle.fp_name.specs.Hex.{is_digest}
 use Rattle.fp_base.specs.declared.object.ObjKind.{ObjKind}
 use Rattle.ost_model.specs.Objects.{object_path}
 use Rattle.ost_model.specs.Stores.{objects_folder}
-use Rattle.ost_export.specs.Staging.{IsApart, IsObjectName, IsAboveObject}
-use Rattle.ost_export.specs.Storing.{IsNoWork, IsWorkName, IsWork, IsStoreFolder}
+use Rattle.ost_store.specs.ObjectNames.{IsObjectName, IsAboveObject}
+use Rattle.ost_export.specs.Staging.{IsApart}
+use Rattle.ost_export.specs.Storing.{IsNoWork, IsWork, IsStoreFolder}
 
 -- ---- one path and another
 

@@ -18,7 +18,8 @@ use Rattle.ost_model.proofs.Stores.{one_name}
 use Rattle.ost_store.specs.Place.{Places, WasPlaced, CanPlace}
 use Rattle.ost_store.specs.Stays.{Stays}
 use Rattle.ost_store.proofs.Staying.{placed_stays, placed_there, shown_stays, ready_stays}
-use Rattle.ost_export.specs.Staging.{Named, IsApart, IsOnce, AreOpen}
+use Rattle.ost_store.specs.ObjectNames.{AreOpen}
+use Rattle.ost_export.specs.Staging.{Named, IsApart, IsOnce}
 use Rattle.ost_export.specs.Placing.{Puts, PutsReady, IsReadyIn, AreReady, AreLacking, CanPlaceAll, CameTo, PlacesAll, PlacesSome}
 use Rattle.ost_export.proofs.Given.{given}
 use Rattle.ost_export.proofs.Paths.{off_object, above_on, below_work, not_both, free_at}

@@ -15,7 +15,8 @@ use Rattle.ost_store.specs.Gathers.{Gathers}
 use Rattle.ost_store.specs.Stage.{Stages, WasStaged, IsHeld, CanStage}
 use Rattle.ost_store.proofs.Staying.{staged_stays, held_stays, staged_held}
 use Rattle.ost_commit.specs.declared.built.BuiltObject.{BuiltObject}
-use Rattle.ost_export.specs.Staging.{Named, name_of, IsObjectName, IsOnce, IsStagedObject, AreStaged, IsAbsentSaid, IsLacking, StagesOne, IsIn, CanStageOne, AreOpen}
+use Rattle.ost_store.specs.ObjectNames.{IsObjectName, AreOpen}
+use Rattle.ost_export.specs.Staging.{Named, name_of, IsOnce, IsStagedObject, AreStaged, IsAbsentSaid, IsLacking, StagesOne, IsIn, CanStageOne}
 use Rattle.ost_export.proofs.Paths.{not_both}
 use Rattle.ost_export.proofs.Works.{above_object}
 

@@ -16,7 +16,8 @@ use Rattle.ost_model.specs.declared.object.Object.{Object}
 use Rattle.ost_model.specs.Objects.{object_path}
 use Rattle.ost_store.specs.Stage.{Stages}
 use Rattle.ost_store.specs.Stays.{Stays}
-use Rattle.ost_export.specs.Staging.{IsApart, IsAboveObject, Works, AreOpen}
+use Rattle.ost_store.specs.ObjectNames.{IsAboveObject, AreOpen}
+use Rattle.ost_export.specs.Staging.{IsApart, Works}
 use Rattle.ost_export.proofs.Paths.{below_work, not_both, off_object, branch_under, objects_branch, object_within, free_at}
 
 pub works_refl : {t : Elements} {v : View} → Works t v v

@@ -21,7 +21,8 @@ use Rattle.ost_commit.specs.declared.built.BuiltObject.{BuiltObject}
 use Rattle.ost_refs.specs.Places.{place_path, remotes}
 use Rattle.ost_refs.specs.Files.{ref_bytes}
 use Rattle.ost_refs.specs.declared.place.RefPlace.TheVariants.{Head}
-use Rattle.ost_export.specs.Staging.{IsObjectName, IsKeepableObject}
+use Rattle.ost_store.specs.ObjectNames.{IsObjectName}
+use Rattle.ost_export.specs.Staging.{IsKeepableObject}
 use Rattle.ost_export.specs.Storing.{IsWork, IsWorkAt, IsNewObject, IsNewName, IsStoreFolder, IsFitFor}
 
 -- ---- the files of the store

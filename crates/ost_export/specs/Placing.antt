@@ -12,7 +12,8 @@ use Rattle.ost_model.specs.Objects.{Have, object_path, object_at, Named as IsNam
 use Rattle.ost_model.specs.Order.{In}
 use Rattle.ost_store.specs.Place.{IsReadyAs}
 use Rattle.ost_store.specs.Stays.{Stays}
-use Rattle.ost_export.specs.Staging.{Named, IsOnce, AreStaged, AreOpen, IsAboveObject}
+use Rattle.ost_store.specs.ObjectNames.{AreOpen, IsAboveObject}
+use Rattle.ost_export.specs.Staging.{Named, IsOnce, AreStaged}
 
 -- this object, and no other, under its true name
 pub record IsTheObject (d : List ℕ) (kind : ObjKind) (object : Object) (spot : Spot) : Type 0 where

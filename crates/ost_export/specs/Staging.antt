@@ -1,7 +1,7 @@
 -- Objects that are staged in a work folder, laid out as those of a store.
 use Rattle.std.specs.Prelude.{◌≡◌, ◌⊎◌, ℕ, List, [], ◌∷◌, true, false, Bool, Some, None}
 use Rattle.std.specs.List.{AllByRecursion}
-use Rattle.fp_host.specs.Paths.{Elements, Slot, absent, dir, IsAbove}
+use Rattle.fp_host.specs.Paths.{Elements, Slot, absent, dir}
 use Rattle.fp_host.specs.View.{View}
 use Rattle.fp_host.specs.Outcome.{Spot, folder}
 use Rattle.fp_host.specs.Frame.{Keeps}
@@ -9,12 +9,12 @@ use Rattle.fp_name.specs.Hex.{is_digest}
 use Rattle.fp_base.specs.declared.object.ObjKind.{ObjKind}
 use Rattle.fp_small.specs.Clear.{IsWithin, IsCleared}
 use Rattle.fp_small.specs.Files.{KeepsFiles}
-use Rattle.fp_small.specs.Folders.{IsFree}
 use Rattle.fp_small.specs.Places.{tmp, new_name}
 use Rattle.ost_model.specs.declared.object.Object.{Object}
 use Rattle.ost_model.specs.Objects.{Have, object_path, name_fault}
 use Rattle.ost_model.specs.Order.{In}
 use Rattle.ost_store.specs.Gathers.{Gathers}
+use Rattle.ost_store.specs.ObjectNames.{IsObjectName, IsAboveObject, AreOpen}
 use Rattle.ost_store.specs.Stage.{IsHeld, IsKeepable}
 use Rattle.ost_commit.specs.declared.built.BuiltObject.{BuiltObject}
 use Rattle.ost_commit.specs.Objects.{IsNamed, AreApart}
@@ -31,20 +31,6 @@ pub record IsApart (root t : Elements) : Type 0 where
   pub number : ℕ
   pub is : t ≡ new_name number ∷ tmp
   pub no_work : IsWithin tmp root → ⊥
-
--- the path is an object's name in the store at root
-pub record IsObjectName (root q : Elements) : Type 0 where
-  pub digest : List ℕ
-  pub kind : ObjKind
-  pub digits : is_digest digest ≡ true
-  pub at : q ≡ object_path root digest kind
-
--- a folder above an object's name
-pub record IsAboveObject (root q : Elements) : Type 0 where
-  pub digest : List ℕ
-  pub kind : ObjKind
-  pub digits : is_digest digest ≡ true
-  pub above : IsAbove q (object_path root digest kind)
 
 -- What may stand where: anything at the objects' names below the folder t, and folders above these.
 abbrev pub WorksAt : Elements → Elements → Spot → Type 0
@@ -115,10 +101,6 @@ StagesSome have root t objects staged u w = IsCleared t u → HasStaged have roo
 pub record IsIn (have : Have) (o : BuiltObject) : Type 0 where
   pub is : have o.digest o.kind ≡ Some o.object
   pub named : name_fault o.digest o.kind (Some o.object) ≡ None
-
--- each folder above an object's name is there, or it may be made
-pub record AreOpen (root : Elements) (v : View) : Type 0 where
-  pub free : (q : Elements) → IsAboveObject root q → IsFree v q
 
 -- where one may be staged
 pub record CanStageOne (t : Elements) (object : Object) (v : View) : Type 0 where

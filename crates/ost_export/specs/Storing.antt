@@ -1,5 +1,5 @@
 -- The objects of a built commit, written into a store.
-use Rattle.std.specs.Prelude.{◌≡◌, ◌≢◌, ◌⊎◌, ◌≤◌, ℕ, List, ◌∷◌, length, true, Some, None}
+use Rattle.std.specs.Prelude.{◌≡◌, ◌≢◌, ◌⊎◌, ◌≤◌, ℕ, List, length, true, Some, None}
 use Rattle.std.specs.List.{AllByRecursion}
 use Rattle.fp_host.specs.Paths.{Elements, Slot, absent, dir}
 use Rattle.fp_host.specs.View.{View}
@@ -10,23 +10,19 @@ use Rattle.fp_base.specs.declared.object.ObjKind.{ObjKind}
 use Rattle.fp_small.specs.Clear.{IsWithin}
 use Rattle.fp_small.specs.Files.{KeepsFiles}
 use Rattle.fp_small.specs.Folders.{IsFree}
-use Rattle.fp_small.specs.Places.{repo, tmp, new_name}
+use Rattle.fp_small.specs.Places.{repo, tmp}
 use Rattle.fp_small.specs.Replace.{IsStaging}
 use Rattle.fp_small.specs.Shares.{Shares}
 use Rattle.ost_model.specs.declared.object.Object.{Object}
 use Rattle.ost_model.specs.Objects.{Have, object_path, store}
 use Rattle.ost_commit.specs.declared.built.BuiltObject.{BuiltObject}
-use Rattle.ost_export.specs.Staging.{IsObjectName, IsAboveObject, IsKeepableObject}
+use Rattle.ost_store.specs.ObjectNames.{IsObjectName, IsAboveObject}
+use Rattle.ost_export.specs.Staging.{IsKeepableObject}
 use Rattle.ost_export.specs.Placing.{IsTheObject}
 
 -- the store is neither repo/tmp nor below it
 pub record IsNoWork (root : Elements) : Type 0 where
   pub no_work : IsWithin tmp root → ⊥
-
--- one of the names new0, new1 and so on in repo/tmp
-pub record IsWorkName (t : Elements) : Type 0 where
-  pub number : ℕ
-  pub is : t ≡ new_name number ∷ tmp
 
 -- the first free name in repo/tmp, and what is below it
 pub record IsWork (u : View) (q : Elements) : Type 0 where

@@ -7,6 +7,5 @@ pub mod laws;
 mod placing;
 mod staging;
 mod storing;
-mod work;
 
 pub use exporting::export;

@@ -8,7 +8,8 @@ ghost use Rattle.fp_name.specs.Hex.{is_digest};
 ghost use Rattle.ost_model.specs.Objects.{Have, object_path, name_fault};
 ghost use Rattle.ost_store.specs.Stage.{CanStage, Stages, WasStaged};
 ghost use Rattle.ost_commit.specs.Objects.{have_of};
-ghost use Rattle.ost_export.specs.Staging.{AreOpen, AreWhole, CanStageAll, CanStageOne, IsAbsentSaid, IsApart, IsIn, IsLacking, StagesOne, StagesSome, Works, name_of};
+ghost use Rattle.ost_store.specs.ObjectNames.{AreOpen};
+ghost use Rattle.ost_export.specs.Staging.{AreWhole, CanStageAll, CanStageOne, IsAbsentSaid, IsApart, IsIn, IsLacking, StagesOne, StagesSome, Works, name_of};
 
 use fp_base::ObjKind;
 use fp_host::{Host, HostEnd, Path, Stat};

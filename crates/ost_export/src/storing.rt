@@ -11,11 +11,10 @@ ghost use Rattle.ost_export.specs.Storing.{CanStoreAll, HasStored, IsNoWork, Sto
 
 use crate::placing::place_all;
 use crate::staging::stage_all;
-use crate::work::work_place;
 use fp_base::ObjKind;
 use fp_host::{Host, HostEnd, Path};
 use fp_name::Digest;
-use fp_small::clear;
+use fp_small::{clear, staging_place};
 use ost_commit::BuiltObject;
 use std::alloc::Global;
 
@@ -60,7 +59,7 @@ pub(crate) fn store_objects<H: Host>(
     ensures fault_has_cause { IsCaused (IsErrOf result HostEnd.Fault) (H.moments host.old)
         (CanStoreAll root.now objects.now) (H.faults host.old) (H.faults host.new) }
 {
-    let work = work_place(alloc, host)?;
+    let work = staging_place(alloc, host)?;
     let mut staged = stage_all(alloc, host, root, &work, objects)?;
     store_staged(alloc, host, root, &work, &mut staged)
 }

@@ -19,7 +19,7 @@ use crate::refusing::{refuse_absent, refuse_commit, refuse_metadata, refuse_root
 use fp_base::{Blob, ObjKind};
 use fp_host::{Host, Path, Remotes};
 use fp_name::{Digest, RefName};
-use fp_small::{Refusal, RemoteRow};
+use fp_small::{Refusal, RemoteRow, repo_path};
 use ost_model::Object;
 use ost_object::{Commit, DirTree};
 use ost_walk::WalkEnd;
@@ -40,13 +40,6 @@ pub struct Head {
 pub(crate) struct Root {
     pub(crate) commit: Commit,
     pub(crate) tree: DirTree,
-}
-
-/// The folder of the installation's store.
-fn repo(alloc: Global) -> Result<Path, AllocError>
-    ensures { IfOk result (λ path. path ≡ repo) }
-{
-    Path::root(alloc).child("repo")
 }
 
 /// The dirtree and the dirmeta of a commit's root.
@@ -258,7 +251,7 @@ pub fn read_head<H: Host, R: Remotes>(
         → Supplies repo (Some remote.now.url) (H.moments host.old) (R.holds remotes.old) have
         → Answers result (head_of have name.now commit.now since) }
 {
-    let store = repo(alloc)?;
+    let store = repo_path(alloc)?;
     let url = remote.url.as_str();
     match read_root(alloc, host, remotes, &store, url, commit) {
         Ok(root) => {

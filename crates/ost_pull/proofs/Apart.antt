@@ -19,7 +19,8 @@ use Rattle.ost_model.proofs.Stores.{objects_are_named}
 use Rattle.ost_store.specs.Stays.{Stays}
 use Rattle.ost_store.specs.Place.{LeavesStore}
 use Rattle.ost_store.proofs.Staying.{shown_stays}
-use Rattle.ost_pull.specs.Work.{IsObjectName, IsAboveObject, WorksAt, WorksName, Works, AreOpen}
+use Rattle.ost_store.specs.ObjectNames.{IsObjectName, IsAboveObject, AreOpen}
+use Rattle.ost_pull.specs.Work.{WorksAt, WorksName, Works}
 use Rattle.ost_pull.specs.Pulls.{IsApart}
 use Rattle.ost_pull.proofs.Kept.{below_work, above_work}
 

@@ -26,7 +26,8 @@ use Rattle.ost_walk.specs.declared.ends.WalkEnd.{WalkEnd}
 use Rattle.ost_walk.specs.declared.ends.WalkEnd.TheVariants as ends
 use Rattle.ost_walk.specs.Ends.{of_host}
 use Rattle.ost_copy.specs.Brings.{Comes, CanBring}
-use Rattle.ost_pull.specs.Work.{Works, AreOpen, AreKept}
+use Rattle.ost_store.specs.ObjectNames.{AreOpen}
+use Rattle.ost_pull.specs.Work.{Works, AreKept}
 use Rattle.ost_pull.proofs.Kept.{works_on, below_work, above_object}
 
 -- ---- at each moment

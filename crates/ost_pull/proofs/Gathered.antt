@@ -20,7 +20,8 @@ use Rattle.ost_store.specs.Gathers.{Gathers}
 use Rattle.ost_store.specs.Stage.{Stages, WasStaged}
 use Rattle.ost_pull.specs.Placing.{PlacesAll}
 use Rattle.ost_pull.specs.Takes.{AreTaken}
-use Rattle.ost_pull.specs.Work.{IsObjectName, Works, Gathered, GathersAnew}
+use Rattle.ost_store.specs.ObjectNames.{IsObjectName}
+use Rattle.ost_pull.specs.Work.{Works, Gathered, GathersAnew}
 
 -- nothing was done
 pub gathered_refl : {t : Elements} {v : View} → Gathered t v v

@@ -32,7 +32,8 @@ use Rattle.ost_store.specs.Stage.{Stages, WasStaged, IsHeld, IsStaged, CanStage}
 use Rattle.ost_store.proofs.Staying.{staged_stays, held_stays}
 use Rattle.ost_head.specs.Found.{RemoteHas}
 use Rattle.ost_pull.proofs.Gathered.{gathered_same, gathered_staged}
-use Rattle.ost_pull.specs.Work.{IsAboveObject, Works, IsKept, IsOnce, AreKept, KeepsOne, CanKeep}
+use Rattle.ost_store.specs.ObjectNames.{IsAboveObject}
+use Rattle.ost_pull.specs.Work.{Works, IsKept, IsOnce, AreKept, KeepsOne, CanKeep}
 
 -- ---- work in the folder
 

@@ -14,7 +14,8 @@ use Rattle.ost_model.specs.Stores.{objects_folder, is_prefix, MayBePrefix, MayBe
 use Rattle.ost_model.proofs.Stores.{store_goes_on}
 use Rattle.ost_store.specs.Place.{LeavesStore}
 use Rattle.ost_store.proofs.Elements.{prefix_is_one}
-use Rattle.ost_pull.specs.Work.{Works, AreOpen}
+use Rattle.ost_store.specs.ObjectNames.{AreOpen}
+use Rattle.ost_pull.specs.Work.{Works}
 use Rattle.ost_pull.proofs.Apart.{object_within, off_object, off_above, works_off, spot_off, not_both, free_at}
 use Rattle.ost_pull.proofs.Kept.{below_work}
 use Rattle.ost_pull.specs.Pulls.{IsApart, PullsAt, PullsName, Pulls}

@@ -25,7 +25,8 @@ use Rattle.ost_store.proofs.Staying.{shown_stays}
 use Rattle.ost_pull.specs.Pulls.{IsApart}
 use Rattle.ost_pull.specs.Placing.{AreReady, AreLacking, CanPlaceAll, PlacesAll, PullsReady, PullsKept, WasStored, CanStore}
 use Rattle.ost_pull.specs.Takes.{AreTaken}
-use Rattle.ost_pull.specs.Work.{Works, AreOpen}
+use Rattle.ost_store.specs.ObjectNames.{AreOpen}
+use Rattle.ost_pull.specs.Work.{Works}
 use Rattle.ost_pull.proofs.Apart.{lacking_name, free_at, works_stays, object_within}
 use Rattle.ost_pull.proofs.Kept.{Named, synced_works, cleared_works}
 use Rattle.ost_pull.proofs.Placed.{stays_on, from_tree, to_tree}

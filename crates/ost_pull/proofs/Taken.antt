@@ -38,7 +38,8 @@ use Rattle.ost_head.specs.Objects.{IsFaultThere}
 use Rattle.ost_copy.specs.Brings.{JudgesRemote}
 use Rattle.ost_pull.specs.Pulls.{IsApart, CanPull}
 use Rattle.ost_pull.specs.Takes.{IsCovered, AreTaken, AreTakenNow, TakesOne, TakesAll, AddsAmong, CoversOrder}
-use Rattle.ost_pull.specs.Work.{Works, Gathered, KeepsOne, Adds, CanKeep, AreOpen}
+use Rattle.ost_store.specs.ObjectNames.{AreOpen}
+use Rattle.ost_pull.specs.Work.{Works, Gathered, KeepsOne, Adds, CanKeep}
 use Rattle.ost_pull.proofs.Apart.{works_object}
 use Rattle.ost_pull.proofs.Gathered.{gathered_same, gathered_on}
 use Rattle.ost_pull.proofs.Kept.{Named, in_push, in_cases, in_last, below_work, above_work, above_object}

@@ -15,7 +15,8 @@ use Rattle.ost_model.specs.Order.{In}
 use Rattle.ost_model.specs.Stores.{objects_folder}
 use Rattle.ost_store.specs.Place.{IsReadyAs, LeavesStore}
 use Rattle.ost_store.specs.Stays.{Stays}
-use Rattle.ost_pull.specs.Work.{IsOnce, AreOpen}
+use Rattle.ost_store.specs.ObjectNames.{AreOpen}
+use Rattle.ost_pull.specs.Work.{IsOnce}
 use Rattle.ost_pull.specs.Takes.{AreTaken}
 use Rattle.ost_pull.specs.Pulls.{Pulls}
 

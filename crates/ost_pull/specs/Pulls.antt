@@ -19,7 +19,8 @@ use Rattle.ost_walk.specs.Steps.{place_name}
 use Rattle.ost_head.specs.Ends.{RefusesBy}
 use Rattle.ost_head.specs.Refusals.{refusal_of}
 use Rattle.ost_head.specs.declared.ends.PullEnd.{PullEnd}
-use Rattle.ost_pull.specs.Work.{IsAboveObject, WorksAt, WorksName, AreOpen}
+use Rattle.ost_store.specs.ObjectNames.{IsAboveObject, AreOpen}
+use Rattle.ost_pull.specs.Work.{WorksAt, WorksName}
 
 -- the work folder has nothing to do with the objects of the store
 pub record IsApart (root t : Elements) : Type 0 where

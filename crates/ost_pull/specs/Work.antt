@@ -1,6 +1,6 @@
 -- Objects that are kept in a work folder, laid out as those of a store, until all of them are judged.
 use Rattle.std.specs.Prelude.{◌≡◌, ◌⊎◌, ℕ, List, [], ◌∷◌, ◌++◌, true, Option, Some, None}
-use Rattle.fp_host.specs.Paths.{Elements, Slot, absent, dir, file, IsAbove}
+use Rattle.fp_host.specs.Paths.{Elements, Slot, absent, dir, file}
 use Rattle.fp_host.specs.View.{View}
 use Rattle.fp_host.specs.Outcome.{Spot, folder}
 use Rattle.fp_host.specs.Frame.{Keeps}
@@ -9,27 +9,14 @@ use Rattle.fp_name.specs.Hex.{is_digest}
 use Rattle.fp_base.specs.declared.object.ObjKind.{ObjKind}
 use Rattle.fp_small.specs.Clear.{IsWithin, GoneWithin, AbsentWithin}
 use Rattle.fp_small.specs.Files.{KeepsFiles}
-use Rattle.fp_small.specs.Folders.{IsFree, ancestors, AreFree}
+use Rattle.fp_small.specs.Folders.{ancestors, AreFree}
 use Rattle.ost_model.specs.declared.object.Object.{Object}
 use Rattle.ost_model.specs.Objects.{object_path, name_fault}
 use Rattle.ost_model.specs.Order.{In}
 use Rattle.ost_store.specs.Gathers.{Gathers}
+use Rattle.ost_store.specs.ObjectNames.{IsObjectName, IsAboveObject}
 use Rattle.ost_store.specs.Stage.{IsHeld, IsKeepable}
 use Rattle.ost_head.specs.Found.{RemoteHas}
-
--- the path is an object's name in the store at root
-pub record IsObjectName (root q : Elements) : Type 0 where
-  pub digest : List ℕ
-  pub kind : ObjKind
-  pub digits : is_digest digest ≡ true
-  pub at : q ≡ object_path root digest kind
-
--- a folder above an object's name
-pub record IsAboveObject (root q : Elements) : Type 0 where
-  pub digest : List ℕ
-  pub kind : ObjKind
-  pub digits : is_digest digest ≡ true
-  pub above : IsAbove q (object_path root digest kind)
 
 -- What may stand where: anything at the objects' names below the folder t, folders above these, and nothing at t and below.
 abbrev pub WorksAt : Elements → Elements → Spot → Type 0
@@ -52,10 +39,6 @@ pub record Gathered (t : Elements) (u w : View) : Type 0 where
 pub record GathersAnew (t : Elements) (u w : View) : Type 0 where
   pub gathers : Gathers (IsObjectName t) u w
   pub new : (q : Elements) (id : ℕ) → IsWithin t q → w.names q ≡ file id → u.files id ≡ None
-
--- each folder above an object's name is there, or it may be made
-pub record AreOpen (root : Elements) (v : View) : Type 0 where
-  pub free : (q : Elements) → IsAboveObject root q → IsFree v q
 
 -- the folder keeps the object, which is the one that its digest names and that the remote has
 pub record IsKept (t : Elements) (url : List ℕ) (holds : Option Holdings) (o : List ℕ × ObjKind) (v : View) : Type 0 where

@@ -10,7 +10,8 @@ ghost use Rattle.ost_walk.specs.Ends.{EndsBy, IsRemotes};
 ghost use Rattle.ost_walk.specs.Surveys.{first_bad, first_named, told_fault};
 ghost use Rattle.ost_pull.specs.Pulls.{IsApart, CanPull};
 ghost use Rattle.ost_pull.specs.Takes.{AddsAmong, AreTaken, AreTakenNow, CoversOrder, StaysTaken, TakesAll};
-ghost use Rattle.ost_pull.specs.Work.{Works, GathersAnew, AreOpen};
+ghost use Rattle.ost_store.specs.ObjectNames.{AreOpen};
+ghost use Rattle.ost_pull.specs.Work.{Works, GathersAnew};
 
 use crate::taking::walk_end;
 use crate::turns::take_all;

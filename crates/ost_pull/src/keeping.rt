@@ -10,7 +10,8 @@ ghost use Rattle.ost_model.specs.Objects.{name_fault, object_path};
 ghost use Rattle.ost_walk.specs.Ends.{IsRemotes};
 ghost use Rattle.ost_head.specs.Found.{RemoteHas};
 ghost use Rattle.ost_copy.specs.Brings.{CanBring, Comes, IsBrought, JudgesRemote};
-ghost use Rattle.ost_pull.specs.Work.{Works, KeepsOne, Adds, AreKept, AreOpen, CanKeep};
+ghost use Rattle.ost_store.specs.ObjectNames.{AreOpen};
+ghost use Rattle.ost_pull.specs.Work.{Works, KeepsOne, Adds, AreKept, CanKeep};
 
 use fp_base::ObjKind;
 use fp_host::{Host, HostEnd, Path, Remotes, Stat};

@@ -10,7 +10,8 @@ ghost use Rattle.ost_walk.specs.Ends.{EndsBy, IsFaultOf, IsRemotes, of_host};
 ghost use Rattle.ost_walk.specs.Steps.{IsGood, own_fault};
 ghost use Rattle.ost_pull.specs.Pulls.{IsApart};
 ghost use Rattle.ost_pull.specs.Takes.{AreTakenNow, TakesOne};
-ghost use Rattle.ost_pull.specs.Work.{Works, Adds, AreOpen};
+ghost use Rattle.ost_store.specs.ObjectNames.{AreOpen};
+ghost use Rattle.ost_pull.specs.Work.{Works, Adds};
 
 use crate::keeping::{keep, keep_content};
 use fp_base::ObjKind;

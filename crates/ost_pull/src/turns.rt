@@ -12,7 +12,8 @@ ghost use Rattle.ost_walk.specs.Surveys.{first_bad, told_fault};
 ghost use Rattle.ost_pull.specs.Batches.{AreReady, IsBatched, IsReady};
 ghost use Rattle.ost_pull.specs.Pulls.{IsApart};
 ghost use Rattle.ost_pull.specs.Takes.{AddsAmong, AreTakenNow, StaysNoted, TakesAll, TakesOne};
-ghost use Rattle.ost_pull.specs.Work.{Adds, AreOpen, Works};
+ghost use Rattle.ost_store.specs.ObjectNames.{AreOpen};
+ghost use Rattle.ost_pull.specs.Work.{Adds, Works};
 
 use crate::batches::{Turn, read_batch};
 use crate::forms::{Form, is_good, whole};

@@ -6,3 +6,4 @@ pub mod Stays
 pub mod Names
 pub mod Walks
 pub mod Created
+pub mod ObjectNames

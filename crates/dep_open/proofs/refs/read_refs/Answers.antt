@@ -4,7 +4,8 @@ use Rattle.fp_host.specs.Paths.{Elements}
 use Rattle.fp_host.specs.Outcome.{shows}
 use Rattle.fp_host.proofs.Looking.{looks_within}
 use Rattle.fp_host.proofs.Ending.{ends_on, ends_looks, ends_both}
-use Rattle.dep_open.specs.Parts.{AreRefs, AreBranches}
+use Rattle.dep_states.specs.Branches.{AreBranches}
+use Rattle.dep_open.specs.Parts.{AreRefs}
 use Rattle.dep_open.proofs.refs.read_refs.Goals as goal
 
 pub returns-clause-unchanged : goal.returns-clause-unchanged

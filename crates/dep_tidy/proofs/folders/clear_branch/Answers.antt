@@ -1,7 +1,7 @@
 use Rattle.std.proofs.Common.{subst}
 use Rattle.fp_host.proofs.Framed.{frame_start}
 use Rattle.fp_host.proofs.Ending.{ends_to, ends_start}
-use Rattle.dep_tidy.specs.Steps.{IsRefAt}
+use Rattle.dep_states.specs.Branches.{IsRefAt}
 use Rattle.dep_tidy.proofs.UnkeptFolders.{none_in_bad}
 use Rattle.dep_tidy.proofs.folders.clear_branch.Goals as goal
 

@@ -5,7 +5,8 @@ use Rattle.fp_host.proofs.Framed.{frame_start, frame_looks, frame_within}
 use Rattle.fp_host.proofs.Goes.{knowing}
 use Rattle.fp_host.proofs.Ending.{ends_on, ends_both, ends_frame, ends_to, fault_caused}
 use Rattle.dep_states.specs.Sound.{Opens}
-use Rattle.dep_tidy.specs.Steps.{AreBranches, HasNoUnkept}
+use Rattle.dep_states.specs.Branches.{AreBranches}
+use Rattle.dep_tidy.specs.Steps.{HasNoUnkept}
 use Rattle.dep_tidy.proofs.Clearing.{opens_unkept}
 use Rattle.dep_tidy.proofs.UnkeptFolders.{none_in_start, none_in_next, none_in_all}
 use Rattle.dep_tidy.proofs.folders.clear_folders.Goals as goal

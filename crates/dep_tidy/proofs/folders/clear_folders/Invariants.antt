@@ -1,6 +1,7 @@
 use Rattle.std.proofs.Common.{◌≤◌, take}
 use Rattle.fp_host.specs.Frame.{Frame, AtEnd, NoPath}
-use Rattle.dep_tidy.specs.Steps.{AreBranches, UnkeptGone, UnkeptAbsent, HasNoneIn}
+use Rattle.dep_states.specs.Branches.{AreBranches}
+use Rattle.dep_tidy.specs.Steps.{UnkeptGone, UnkeptAbsent, HasNoneIn}
 use Rattle.dep_tidy.proofs.folders.clear_folders.Given as goal
 
 abbrev pub invariant-loop-path : goal.invariant-loop-path

@@ -18,19 +18,19 @@ pub store_staged-requires : goal.store_staged-requires
 store_staged-requires g c = apart_named c.requires.no_work c.in_ok-work.ensures.name
 
 pub returns-in_err-work-clause-any_moment : goal.returns-in_err-work-clause-any_moment
-returns-in_err-work-clause-any_moment g c = stores_looks (g.met.H.Host.is_tree c.args.host.now) c.work_place.ensures.unchanged
+returns-in_err-work-clause-any_moment g c = stores_looks (g.met.H.Host.is_tree c.args.host.now) c.staging_place.ensures.unchanged
 
 pub returns-in_err-staged-clause-any_moment : goal.returns-in_err-staged-clause-any_moment
 returns-in_err-staged-clause-any_moment g c =
     let t = g.met.H.Host.is_tree in
-    stores_works c.requires.no_work (t c.work_place.new.host) (stores_looks (t c.args.host.now) c.work_place.ensures.unchanged) (begun_at (t c.args.host.now) c.work_place.ensures.unchanged c.in_ok-work.ensures.tells) c.stage_all.ensures.any_moment
+    stores_works c.requires.no_work (t c.staging_place.new.host) (stores_looks (t c.args.host.now) c.staging_place.ensures.unchanged) (begun_at (t c.args.host.now) c.staging_place.ensures.unchanged c.in_ok-work.ensures.tells) c.stage_all.ensures.any_moment
 
 pub returns-in_err-staged-clause-fault_has_cause : goal.returns-in_err-staged-clause-fault_has_cause
 returns-in_err-staged-clause-fault_has_cause g c =
     let t = g.met.H.Host.is_tree in
     let objects = c.args.objects.now in
-    fault_caused (CanStoreAll c.args.root.now objects) (CanStageAll c.in_ok-work.work objects) _ _ _ _ _ (t c.args.host.now) c.work_place.ensures.fault_has_cause.later
-    (to_tree (t c.work_place.new.host) (begun_at (t c.args.host.now) c.work_place.ensures.unchanged c.in_ok-work.ensures.tells)) c.stage_all.ensures.fault_has_cause (same_fault _ _ _ c.in_err-staged.was c.from_residual-in_err-staged.ensures.1)
+    fault_caused (CanStoreAll c.args.root.now objects) (CanStageAll c.in_ok-work.work objects) _ _ _ _ _ (t c.args.host.now) c.staging_place.ensures.fault_has_cause.later
+    (to_tree (t c.staging_place.new.host) (begun_at (t c.args.host.now) c.staging_place.ensures.unchanged c.in_ok-work.ensures.tells)) c.stage_all.ensures.fault_has_cause (same_fault _ _ _ c.in_err-staged.was c.from_residual-in_err-staged.ensures.1)
     (λ u v tree q can. can_stage_all c.requires.no_work objects [] q.0 q.1 can)
 
 pub returns-clause-any_moment : goal.returns-clause-any_moment
@@ -38,17 +38,17 @@ returns-clause-any_moment g c =
     let t = g.met.H.Host.is_tree in
     let objects = c.args.objects.now in
     let staged = c.in_ok-staged.staged.items in
-    let begun = begun_at (t c.args.host.now) c.work_place.ensures.unchanged c.in_ok-work.ensures.tells in
-    let so_far = stores_works c.requires.no_work (t c.work_place.new.host) (stores_looks (t c.args.host.now) c.work_place.ensures.unchanged) begun c.stage_all.ensures.any_moment in
-    stores_puts c.requires.no_work objects staged (t c.stage_all.new.host) so_far (filled_at objects staged (t c.args.host.now) (t c.work_place.new.host) begun c.stage_all.ensures.any_moment c.in_ok-staged.ensures.on_success) (c.store_staged.ensures.any_moment (have_of objects))
+    let begun = begun_at (t c.args.host.now) c.staging_place.ensures.unchanged c.in_ok-work.ensures.tells in
+    let so_far = stores_works c.requires.no_work (t c.staging_place.new.host) (stores_looks (t c.args.host.now) c.staging_place.ensures.unchanged) begun c.stage_all.ensures.any_moment in
+    stores_puts c.requires.no_work objects staged (t c.stage_all.new.host) so_far (filled_at objects staged (t c.args.host.now) (t c.staging_place.new.host) begun c.stage_all.ensures.any_moment c.in_ok-staged.ensures.on_success) (c.store_staged.ensures.any_moment (have_of objects))
 
 pub returns-clause-on_success : goal.returns-clause-on_success
 returns-clause-on_success g c =
     let t = g.met.H.Host.is_tree in
     let objects = c.args.objects.now in
     let staged = c.in_ok-staged.staged.items in
-    let begun = begun_at (t c.args.host.now) c.work_place.ensures.unchanged c.in_ok-work.ensures.tells in
-    let filled = filled_at objects staged (t c.args.host.now) (t c.work_place.new.host) begun c.stage_all.ensures.any_moment c.in_ok-staged.ensures.on_success in
+    let begun = begun_at (t c.args.host.now) c.staging_place.ensures.unchanged c.in_ok-work.ensures.tells in
+    let filled = filled_at objects staged (t c.args.host.now) (t c.staging_place.new.host) begun c.stage_all.ensures.any_moment c.in_ok-staged.ensures.on_success in
     on_ok_weaker c.store_staged.result (λ was. stored_at c.requires.no_work objects staged (t c.stage_all.new.host) (t c.store_staged.new.host) filled (c.store_staged.ensures.any_moment (have_of objects)) was) (c.store_staged.ensures.on_success (have_of objects))
 
 pub returns-clause-fault_has_cause : goal.returns-clause-fault_has_cause
@@ -56,7 +56,7 @@ returns-clause-fault_has_cause g c =
     let t = g.met.H.Host.is_tree in
     let objects = c.args.objects.now in
     let staged = c.in_ok-staged.staged.items in
-    let begun = begun_at (t c.args.host.now) c.work_place.ensures.unchanged c.in_ok-work.ensures.tells in
-    fault_caused (CanStoreAll c.args.root.now objects) (CanStore (have_of objects) c.args.root.now c.in_ok-work.work staged) _ _ _ c.store_staged.result c.store_staged.result (t c.args.host.now) (omega (arith, c.work_place.ensures.fault_has_cause.later, c.stage_all.ensures.fault_has_cause.later))
-    (filled_at objects staged (t c.args.host.now) (t c.work_place.new.host) begun c.stage_all.ensures.any_moment c.in_ok-staged.ensures.on_success) (c.store_staged.ensures.fault_has_cause (have_of objects)) (λ e. e)
+    let begun = begun_at (t c.args.host.now) c.staging_place.ensures.unchanged c.in_ok-work.ensures.tells in
+    fault_caused (CanStoreAll c.args.root.now objects) (CanStore (have_of objects) c.args.root.now c.in_ok-work.work staged) _ _ _ c.store_staged.result c.store_staged.result (t c.args.host.now) (omega (arith, c.staging_place.ensures.fault_has_cause.later, c.stage_all.ensures.fault_has_cause.later))
+    (filled_at objects staged (t c.args.host.now) (t c.staging_place.new.host) begun c.stage_all.ensures.any_moment c.in_ok-staged.ensures.on_success) (c.store_staged.ensures.fault_has_cause (have_of objects)) (λ e. e)
     (λ u v tree q can. can_store c.requires.no_work objects staged q can)

@@ -11,7 +11,7 @@ use Rattle.ost_walk.specs.Ends.{RefusesBy}
 use Rattle.ost_walk.specs.Surveys.{first_named, told_fault}
 use Rattle.ost_pull.specs.Pulls.{CanPull}
 use Rattle.ost_pull.specs.Takes.{AreTaken}
-use Rattle.ost_pull.specs.Work.{AreOpen}
+use Rattle.ost_store.specs.ObjectNames.{AreOpen}
 use Rattle.ost_pull.proofs.Apart.{works_supplies}
 use Rattle.ost_pull.proofs.Gathered.{gathered_anew}
 use Rattle.ost_pull.proofs.Kept.{works_clear, works_within}

@@ -7,7 +7,8 @@ use Rattle.fp_host.proofs.Cause.{Rose-later}
 use Rattle.fp_host.proofs.Ending.{ends_on, ends_looks}
 use Rattle.ost_walk.specs.Surveys.{first_named, told_fault}
 use Rattle.ost_pull.specs.Takes.{AreTaken, AreTakenNow, TakesAll}
-use Rattle.ost_pull.specs.Work.{AreOpen, Gathered}
+use Rattle.ost_store.specs.ObjectNames.{AreOpen}
+use Rattle.ost_pull.specs.Work.{Gathered}
 use Rattle.ost_pull.proofs.Kept.{works_start, works_looks, works_within}
 use Rattle.ost_pull.proofs.Taken.{passed, counted, remotes_pass, survey_judged, covers_order, ok_two, placed_supplies, still_supplied, never_refused, taken_from}
 use Rattle.ost_pull.proofs.gathering.take_order.Goals as goal

@@ -7,7 +7,8 @@ use Rattle.fp_host.proofs.Ending.{ends_looks}
 use Rattle.ost_model.specs.Objects.{store}
 use Rattle.ost_copy.specs.Contents.{ChecksIfThere}
 use Rattle.ost_head.specs.Found.{HostHas}
-use Rattle.ost_pull.specs.Work.{AreOpen, AreKept}
+use Rattle.ost_store.specs.ObjectNames.{AreOpen}
+use Rattle.ost_pull.specs.Work.{AreKept}
 use Rattle.ost_pull.proofs.Kept.{works_looks, works_within}
 use Rattle.ost_pull.proofs.Taken.{passed, counted, no_remotes, ok_two, content_taken, content_good, content_bad, content_judged, lacked, new_taken}
 use Rattle.ost_pull.proofs.taking.take_content.Goals as goal

@@ -6,7 +6,8 @@ use Rattle.ost_walk.specs.declared.ends.WalkEnd.TheVariants as ends
 use Rattle.fp_host.proofs.Ending.{ends_looks}
 use Rattle.ost_head.specs.declared.found.Found.{Found}
 use Rattle.ost_head.specs.Found.{IsFound, IsKeepableIfNew}
-use Rattle.ost_pull.specs.Work.{AreOpen, CanKeep}
+use Rattle.ost_store.specs.ObjectNames.{AreOpen}
+use Rattle.ost_pull.specs.Work.{CanKeep}
 use Rattle.ost_pull.proofs.Kept.{works_looks, works_within}
 use Rattle.ost_pull.proofs.Taken.{host_fault, passed, stored_taken, lacked, new_taken, can_keep}
 use Rattle.ost_pull.proofs.taking.take_whole.Goals as goal

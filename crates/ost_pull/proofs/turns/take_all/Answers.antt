@@ -7,7 +7,7 @@ use Rattle.fp_host.proofs.Ending.{ends_start, ends_to, ends_on, ends_both, ends_
 use Rattle.fp_base.specs.declared.object.ObjKind.{ObjKind}
 use Rattle.ost_walk.specs.Surveys.{first_bad}
 use Rattle.ost_pull.specs.Takes.{AreTakenNow, TakesAll, AddsAmong}
-use Rattle.ost_pull.specs.Work.{AreOpen}
+use Rattle.ost_store.specs.ObjectNames.{AreOpen}
 use Rattle.ost_pull.proofs.Apart.{works_supplies, works_open}
 use Rattle.ost_pull.proofs.Kept.{works_start, works_within}
 use Rattle.ost_pull.proofs.Joined.{taken_more, added_more, good_more, bad_more}

@@ -7,7 +7,7 @@ use Rattle.fp_host.proofs.Cause.{Rose-later}
 use Rattle.fp_host.proofs.Ending.{ends_on, ends_looks}
 use Rattle.ost_walk.specs.Surveys.{first_bad, told_fault}
 use Rattle.ost_pull.specs.Takes.{AreTaken, AreTakenNow, TakesAll}
-use Rattle.ost_pull.specs.Work.{AreOpen}
+use Rattle.ost_store.specs.ObjectNames.{AreOpen}
 use Rattle.ost_pull.proofs.Batched.{ready_same}
 use Rattle.ost_pull.proofs.Kept.{works_looks, works_within}
 use Rattle.ost_pull.proofs.Taken.{passed, counted, remotes_pass, still_supplied, taken_from, never_named}

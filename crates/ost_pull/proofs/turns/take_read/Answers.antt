@@ -8,7 +8,8 @@ use Rattle.ost_walk.specs.declared.ends.WalkEnd.{WalkEnd}
 use Rattle.ost_walk.specs.declared.ends.WalkEnd.TheVariants as ends
 use Rattle.ost_head.specs.Found.{RemoteHas}
 use Rattle.ost_pull.specs.Batches.{object_in}
-use Rattle.ost_pull.specs.Work.{AreOpen, CanKeep}
+use Rattle.ost_store.specs.ObjectNames.{AreOpen}
+use Rattle.ost_pull.specs.Work.{CanKeep}
 use Rattle.ost_pull.proofs.Taken.{host_fault, passed, can_keep}
 use Rattle.ost_pull.proofs.Batched.{read_taken}
 use Rattle.ost_pull.proofs.turns.take_read.Goals as goal

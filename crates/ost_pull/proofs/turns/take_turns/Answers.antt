@@ -7,7 +7,7 @@ use Rattle.fp_base.specs.declared.object.ObjKind.{ObjKind}
 use Rattle.ost_walk.specs.Surveys.{first_bad}
 use Rattle.ost_pull.specs.Batches.{IsReady}
 use Rattle.ost_pull.specs.Takes.{AreTakenNow, TakesOne, TakesAll, AddsAmong}
-use Rattle.ost_pull.specs.Work.{AreOpen}
+use Rattle.ost_store.specs.ObjectNames.{AreOpen}
 use Rattle.ost_pull.proofs.Apart.{works_supplies, works_open}
 use Rattle.ost_pull.proofs.Kept.{works_start, works_within}
 use Rattle.ost_pull.proofs.Taken.{none_taken, next_taken, next_added, next_good, next_bad, all_is, passed, ends_to_tree, taken_from}

@@ -1,4 +1,4 @@
--- The texts of branch directories.
+-- The texts of paths, and of branch directories.
 use Rattle.std.proofs.Common.{◌≡◌, ℕ, List, [], ◌∷◌, ◌++◌, true, ◌&&◌, refl, sym, ◌∙◌, ap}
 use Rattle.std.specs.List.{list_all, join_with_byte}
 use Rattle.std.proofs.lemmas.Bool.{and_parts, and_from}
@@ -53,7 +53,7 @@ text_some x [] good e = element_some x good e
 text_some x (y ∷ up) good e = not_nil (path_text (y ∷ up)) 47 x (sym (text_more x y up) ∙ e)
 
 -- the text of a path reads back
-text_back : (q : Elements) → list_all is_element q ≡ true → elements_of (path_text q) ≡ q
+pub text_back : (q : Elements) → list_all is_element q ≡ true → elements_of (path_text q) ≡ q
 text_back [] good = refl
 text_back (x ∷ []) good = child_root x (and_parts (is_element x) true good).0
 text_back (x ∷ (y ∷ up)) good =

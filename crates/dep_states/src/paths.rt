@@ -1,30 +1,36 @@
-//! The paths that tidying looks at.
+//! The paths of an installation's small files and folders.
 ghost use Rattle.std.specs.Prelude.{◌≡◌, ◌∷◌, [], codes, IfOk};
-ghost use Rattle.fp_small.specs.Places.{repo, tmp};
-ghost use Rattle.dep_states.specs.Names.{config, remotes_conf, pins_file};
+ghost use Rattle.dep_states.specs.Names.{config, remotes_conf, pins_file, overrides_folder};
 
 use fp_host::Path;
 use std::alloc::{AllocError, Global};
 
 /// The path of `config`.
-pub(crate) fn config_path(alloc: Global) -> Result<Path, AllocError>
+pub fn config_path(alloc: Global) -> Result<Path, AllocError>
     ensures { IfOk result (λ p. p ≡ config) }
 {
     Path::root(alloc).child("config")
 }
 
 /// The path of the remotes in layout 1.
-pub(crate) fn remotes_path(alloc: Global) -> Result<Path, AllocError>
+pub fn remotes_path(alloc: Global) -> Result<Path, AllocError>
     ensures { IfOk result (λ p. p ≡ remotes_conf) }
 {
     Path::root(alloc).child("remotes.conf")
 }
 
 /// The path of the pins in layout 1.
-pub(crate) fn pins_path(alloc: Global) -> Result<Path, AllocError>
+pub fn pins_path(alloc: Global) -> Result<Path, AllocError>
     ensures { IfOk result (λ p. p ≡ pins_file) }
 {
     Path::root(alloc).child("pins")
+}
+
+/// The folder of the overrides.
+pub fn overrides_path(alloc: Global) -> Result<Path, AllocError>
+    ensures { IfOk result (λ p. p ≡ overrides_folder) }
+{
+    Path::root(alloc).child("overrides")
 }
 
 /// The folder of the applications.
@@ -39,18 +45,4 @@ pub(crate) fn runtimes_path(alloc: Global) -> Result<Path, AllocError>
     ensures { IfOk result (λ p. p ≡ codes "runtime" ∷ []) }
 {
     Path::root(alloc).child("runtime")
-}
-
-/// The installation's store.
-pub(crate) fn repo_path(alloc: Global) -> Result<Path, AllocError>
-    ensures { IfOk result (λ p. p ≡ repo) }
-{
-    Path::root(alloc).child("repo")
-}
-
-/// The folder of work.
-pub(crate) fn tmp_path(alloc: Global) -> Result<Path, AllocError>
-    ensures { IfOk result (λ p. p ≡ tmp) }
-{
-    repo_path(alloc)?.child("tmp")
 }

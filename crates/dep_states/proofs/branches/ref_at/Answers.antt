@@ -2,8 +2,8 @@ use Rattle.std.proofs.Common.{◌≡◌, ◌∙◌, Some, ap, sym, subst}
 use Rattle.std.specs.Prelude.{IfOk}
 use Rattle.fp_host.specs.Paths.{elements_of}
 use Rattle.fp_name.specs.Refs.{ref_of}
-use Rattle.dep_open.proofs.FindingRefs.{ref_there}
-use Rattle.dep_open.proofs.refs.ref_at.Goals as goal
+use Rattle.dep_states.proofs.BranchPaths.{ref_there}
+use Rattle.dep_states.proofs.branches.ref_at.Goals as goal
 
 pub returns-in-Ok : goal.returns-in-Ok
 returns-in-Ok c =

@@ -2,8 +2,8 @@ use Rattle.std.proofs.Common.{subst}
 use Rattle.fp_host.proofs.Looking.{looks_within}
 use Rattle.fp_host.proofs.Ending.{ends_on, ends_looks, ends_both}
 use Rattle.ost_refs.specs.Walks.{AreLevel}
-use Rattle.dep_open.proofs.FindingRefs.{both_branches}
-use Rattle.dep_open.proofs.refs.branch_paths.Goals as goal
+use Rattle.dep_states.proofs.BranchPaths.{both_branches}
+use Rattle.dep_states.proofs.branches.branch_paths.Goals as goal
 
 pub returns-in_err-more-clause-unchanged : goal.returns-in_err-more-clause-unchanged
 returns-in_err-more-clause-unchanged g c = looks_within c.paths_below-2.ensures.unchanged c.paths_below.ensures.unchanged (g.met.H.Host.is_tree c.paths_below.new.host)
