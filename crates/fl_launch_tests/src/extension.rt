@@ -344,7 +344,7 @@ fn put_numbered(text: &mut String, number: u32, head: &str, tail: &str) -> Resul
 }
 
 /// Texts with the numbers from 0, one after another, each with a head and a tail.
-fn many(rt: &impl Abort, alloc: Global, count: u32, head: &str, tail: &str) -> String {
+pub fn many(rt: &impl Abort, alloc: Global, count: u32, head: &str, tail: &str) -> String {
     let mut text = String::new(alloc);
     for number in 0..count {
         put_numbered(&mut text, number, head, tail).expect(rt, "memory");

@@ -2,6 +2,7 @@
 
 ghost use Rattle.std.specs.Prelude.{IsTrue, IsSome};
 
+use crate::extension::many;
 use crate::given::{key_file, ref_name, row_of};
 use crate::rows::agree;
 use bus_policy::{Grant, Level, Policy, PolicyRule};
@@ -263,7 +264,7 @@ fn texts(rt: HostRuntime) {
     }
 }
 
-/// The text of a launch without extension points.
+/// The text of a launch without extension points, with these options and another command.
 fn plain_text(
     rt: &impl Abort,
     alloc: Global,
@@ -271,12 +272,12 @@ fn plain_text(
     name: &RefName,
     app: &Meta,
     runtime: &Meta,
+    words: &Layer,
 ) -> Option<String> {
     if !names_runtime(app) {
         return None;
     }
-    let words = Layer::new(alloc);
-    let launch = launch(alloc, state, name, app, runtime, &words, Some("sh"));
+    let launch = launch(alloc, state, name, app, runtime, words, Some("sh"));
     Some(launch.expect(rt, "memory").text.into_string())
 }
 
@@ -285,18 +286,24 @@ fn meta_of(rt: &impl Abort, alloc: Global, text: &str, kind: MetaKind) -> Meta {
     Meta::read(alloc, &key_file(rt, alloc, text), kind).expect(rt, "metadata")
 }
 
-/// The text of the launch of the usual application with another command, in a state where an extension is installed.
-fn text_without_points(rt: &impl Abort, alloc: Global, state: &State) -> Option<String> {
+/// The same of the usual application. Spaces separate the options.
+fn text_without_points(
+    rt: &impl Abort,
+    alloc: Global,
+    state: &State,
+    options: &str,
+) -> Option<String> {
     let name = ref_name(rt, alloc, APP);
     let app = meta_of(rt, alloc, USUAL, MetaKind::App);
     let runtime = meta_of(rt, alloc, PLATFORM, MetaKind::Runtime);
-    let text = plain_text(rt, alloc, state, &name, &app, &runtime);
+    let words = options_of(rt, alloc, options);
+    let text = plain_text(rt, alloc, state, &name, &app, &runtime, &words);
     drop(app);
     drop(runtime);
     text
 }
 
-/// Whether a launch has the command that is given, and no points.
+/// Whether a launch has the command that is given, and no points, where an extension is installed.
 fn is_plain(text: &str) -> bool {
     text.contains("\ncommand=sh\n") && text.ends_with(LINES)
 }
@@ -304,9 +311,24 @@ fn is_plain(text: &str) -> bool {
 #[test]
 fn plain_launch(rt: HostRuntime) {
     let state = state_of(&rt, rt.alloc(), &WITH_LOCALE);
-    let text = text_without_points(&rt, rt.alloc(), &state);
+    let text = text_without_points(&rt, rt.alloc(), &state, "");
     drop(state);
     assert!(rt; is_plain(&text.expect(&rt, "a runtime")));
+}
+
+/// Whether a text has so many lines, and these among them.
+fn has_among(text: &str, count: usize, first: &str, last: &str) -> bool {
+    text.lines().count() == count && text.contains(first) && text.contains(last)
+}
+
+/// 1,100 variables stand in the text besides the 21 lines of the usual launch.
+#[test]
+fn many_variables(rt: HostRuntime) {
+    let state = state_of(&rt, rt.alloc(), &BARE);
+    let options = many(&rt, rt.alloc(), 1_100, "--env=V", "=x ");
+    let text = text_without_points(&rt, rt.alloc(), &state, &options).expect(&rt, "a runtime");
+    drop(state);
+    assert!(rt; has_among(&text, 1_121, "\nV0=x\n", "\nV1099=x\n"));
 }
 
 /// The word of a level.
@@ -320,7 +342,7 @@ fn word_of(level: Level) -> &'static str {
 }
 
 /// Whether a rule is `PATTERN=LEVEL`.
-fn is_rule(rule: &PolicyRule, want: &str) -> bool {
+pub fn is_rule(rule: &PolicyRule, want: &str) -> bool {
     match &rule.grant {
         Grant::Level(level) => {
             want.split_once('=') == Some((rule.pattern.as_str(), word_of(*level)))

@@ -1,4 +1,4 @@
-//! Tests of extension points and of launches.
+//! Tests of extension points, of launches, and of words that are options or rules.
 #![tactic(auto)]
 
 #[cfg(test)]
@@ -9,3 +9,5 @@ mod given;
 mod launch;
 #[cfg(test)]
 mod rows;
+#[cfg(test)]
+mod words;

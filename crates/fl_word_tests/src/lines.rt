@@ -333,6 +333,31 @@ fn info_of_row(rt: HostRuntime) {
     assert!(rt; told.as_str() == TOLD_OF_ROW);
 }
 
+/// The names of this many extensions, all the same.
+fn many_extensions(rt: &impl Abort, alloc: Global, count: usize) -> Items<Text> {
+    let mut names = Items::new(alloc);
+    for _ in 0..count {
+        names.push(text(rt, alloc, "org.x.E")).expect(rt, "memory");
+    }
+    names
+}
+
+/// What is told of a row with this many extensions.
+fn told_of_many(rt: &impl Abort, alloc: Global, row: &RefRow, count: usize) -> Text {
+    let names = many_extensions(rt, alloc, count);
+    info_text(alloc, row, None, names.as_slice()).expect(rt, "memory")
+}
+
+/// A line is printed for each of 1,100 extensions.
+#[test]
+fn info_of_many_extensions(rt: HostRuntime) {
+    let row = deployed(&rt, rt.alloc(), None);
+    let told = told_of_many(&rt, rt.alloc(), &row, 1_100);
+    drop(row);
+    let lines = repeated(&rt, rt.alloc(), "extension org.x.E\n", 1_100);
+    assert!(rt; told.as_str().strip_prefix(TOLD_OF_ROW) == Some(lines.as_str()));
+}
+
 #[test]
 fn skipped(rt: HostRuntime) {
     let name = ref_name(&rt, rt.alloc(), APP);

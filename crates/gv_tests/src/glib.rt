@@ -6,7 +6,7 @@ use crate::rows::{agree, agree_at};
 use crate::value::parsed;
 use crate::vectors::VECTORS;
 use fp_base::Text;
-use gv_decode::{DecodeError, decode};
+use gv_decode::{DecodeError, check_normal, decode};
 use gv_encode::encode;
 use gv_value::{GvType, GvValue};
 use std::alloc::Global;
@@ -28,10 +28,18 @@ fn is_read(rt: &impl Abort, alloc: Global, normal: bool, of: &GvType, bytes: &[u
     }
 }
 
-/// The same of a type string.
-fn agrees(rt: &impl Abort, alloc: Global, normal: bool, of: &str, bytes: &[u8]) -> bool {
+/// Whether bytes pass exactly where they are in normal form.
+fn is_checked(alloc: Global, normal: bool, of: &GvType, bytes: &[u8]) -> bool {
+    match check_normal(alloc, of, bytes) {
+        Ok(()) => normal,
+        Err(error) => error == DecodeError::NotNormal && !normal,
+    }
+}
+
+/// Both of a type string.
+pub fn agrees(rt: &impl Abort, alloc: Global, normal: bool, of: &str, bytes: &[u8]) -> bool {
     let of = parsed(rt, alloc, of);
-    let is_so = is_read(rt, alloc, normal, &of, bytes);
+    let is_so = is_read(rt, alloc, normal, &of, bytes) && is_checked(alloc, normal, &of, bytes);
     drop(of);
     is_so
 }
@@ -129,7 +137,7 @@ fn offsets_of_members_widen(rt: HostRuntime) {
 }
 
 /// So many texts of one letter.
-fn many_texts(rt: &impl Abort, alloc: Global, count: usize) -> GvValue {
+pub fn many_texts(rt: &impl Abort, alloc: Global, count: usize) -> GvValue {
     let mut items = Vec::new(alloc);
     for _ in 0..count {
         push(rt, &mut items, letters(rt, alloc, 1));

@@ -10,6 +10,8 @@ mod examples;
 #[cfg(test)]
 mod glib;
 #[cfg(test)]
+mod long;
+#[cfg(test)]
 mod rows;
 #[cfg(test)]
 mod value;

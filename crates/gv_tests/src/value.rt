@@ -100,7 +100,7 @@ fn nested_types(rt: HostRuntime) {
 }
 
 /// A type string of a tuple of so many bytes.
-fn long_tuple(rt: &impl Abort, alloc: Global, count: usize) -> String {
+pub fn long_tuple(rt: &impl Abort, alloc: Global, count: usize) -> String {
     let members = "y".repeat(alloc, count).expect(rt, "memory");
     ["(", &members, ")"].concat(alloc).expect(rt, "memory")
 }

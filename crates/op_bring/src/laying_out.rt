@@ -1,4 +1,4 @@
-// A commit that is laid out in its folder.
+//! A commit that is laid out in its folder.
 ghost use Rattle.std.specs.Prelude.{OnOk, IsErrOf};
 ghost use Rattle.fp_host.specs.Causes.{IsCaused};
 ghost use Rattle.fp_host.specs.Frame.{AtEnd};

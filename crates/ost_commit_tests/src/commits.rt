@@ -5,6 +5,7 @@ use fp_host::Path;
 use fp_name::RefName;
 use ost_commit::{BuildError, Built, TreeRow, commit_tree};
 use std::alloc::Global;
+use std::ops::Range;
 use std::panic::Expect;
 use std::process::Abort;
 use std::thread::Threads;
@@ -81,6 +82,34 @@ fn digits(
 fn as_ostree(rt: HostRuntime) {
     let found = digits(&rt, rt.alloc(), &rows(&rt, rt.alloc()));
     assert!(rt; found == Ok(*b"6a9c63939657b099e13480c81b59c39977f1b660cd41bd1e0e2adb60c706027f"));
+}
+
+/// What it gives to a tree of 1,100 files, in a folder `files`: their names are the numbers from 1000 on, and the bytes of each are
+/// those of its name.
+pub const MANY: [u8; 64] = *b"83d18e69cbeb79ab908981967b6e54a9b8e16d9aeb59ddccb46409d0af7de04e";
+
+/// The numbers that name them.
+pub const NAMES: Range<u32> = 1_000..2_100;
+
+/// A file whose bytes are those of its name.
+fn numbered(rt: &impl Abort, alloc: Global, number: u32) -> TreeRow {
+    let name = number.to_string(alloc).expect(rt, "memory");
+    let path = ["files/", &name].concat(alloc).expect(rt, "memory");
+    file(rt, alloc, &path, 0o644, name.as_bytes())
+}
+
+fn many_rows(rt: &impl Abort, alloc: Global) -> Vec<TreeRow> {
+    let mut rows = Vec::new(alloc);
+    for number in NAMES {
+        push(rt, &mut rows, numbered(rt, alloc, number));
+    }
+    rows
+}
+
+#[test]
+fn many_as_ostree(rt: HostRuntime) {
+    let found = digits(&rt, rt.alloc(), &many_rows(&rt, rt.alloc()));
+    assert!(rt; found == Ok(MANY));
 }
 
 #[test]

@@ -1,9 +1,10 @@
 //! Commits of descriptions, against what the `ostree` command makes of the same tree.
 
+use crate::commits::{MANY, NAMES};
 use fp_name::RefName;
 use ost_commit::Built;
 use ost_description::{DescriptionError, commit_description};
-use std::alloc::Global;
+use std::alloc::{AllocError, Global};
 use std::panic::Expect;
 use std::process::Abort;
 use std::thread::Threads;
@@ -43,6 +44,29 @@ dir empty
 fn described_as_ostree(rt: HostRuntime) {
     let found = digits(&rt, rt.alloc(), TREE);
     assert!(rt; found == Ok(*b"6a9c63939657b099e13480c81b59c39977f1b660cd41bd1e0e2adb60c706027f"));
+}
+
+/// Adds the line of a file whose bytes are those of its name.
+fn put_file(alloc: Global, text: &mut String, number: u32) -> Result<(), AllocError> {
+    let name = number.to_string(alloc)?;
+    let digits = hex::encode(alloc, name.as_bytes())?;
+    write!(text, "file files/{name} 644 {digits}\n")
+}
+
+/// The description of the tree of 1,100 files.
+fn many_files(rt: &impl Abort, alloc: Global) -> String {
+    let heading = "timestamp 1700000000\nsubject subject\n";
+    let mut text = String::from_str(alloc, heading).expect(rt, "memory");
+    for number in NAMES {
+        put_file(alloc, &mut text, number).expect(rt, "memory");
+    }
+    text
+}
+
+#[test]
+fn many_described_as_ostree(rt: HostRuntime) {
+    let tree = many_files(&rt, rt.alloc());
+    assert!(rt; digits(&rt, rt.alloc(), tree.as_bytes()) == Ok(MANY));
 }
 
 /// Descriptions, and the line that is bad.

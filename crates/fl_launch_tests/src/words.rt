@@ -1,0 +1,70 @@
+//! Lists of 1,100 words: options, commands, and rules of a filter.
+
+use crate::launch::is_rule;
+use bus_policy::PolicyRule;
+use fl_meta::{Mention, PermList};
+use fl_options::{last_command, layer_of};
+use fl_rules::policy_of;
+use fp_base::Text;
+use std::alloc::{AllocError, Global};
+use std::panic::Expect;
+use std::process::Abort;
+
+/// How many words there are.
+const COUNT: usize = 1_100;
+
+fn numbered(alloc: Global, head: &str, number: usize) -> Result<Text, AllocError> {
+    Ok(Text::from_string(format!(in alloc; "{head}{number}")?))
+}
+
+/// So many words with this head, numbered from 0.
+fn words(rt: &impl Abort, alloc: Global, head: &str) -> Vec<Text> {
+    let mut words = Vec::new(alloc);
+    for number in 0..COUNT {
+        let word = numbered(alloc, head, number).expect(rt, "memory");
+        words.push(word).expect(rt, "memory");
+    }
+    words
+}
+
+/// Whether a folder of the home is kept.
+fn is_kept(mention: &Mention, name: &str) -> bool {
+    mention.permission.list == PermList::Persistent && mention.permission.name.as_str() == name
+}
+
+/// Whether there are as many mentions as words, the first and the last of them of these folders.
+fn are_kept(mentions: &[Mention], first: &str, last: &str) -> bool {
+    match mentions {
+        [from, .., to] => mentions.len() == COUNT && is_kept(from, first) && is_kept(to, last),
+        _ => false,
+    }
+}
+
+/// Whether there are as many rules as words, the first and the last of them these.
+fn are_rules(rules: &[PolicyRule], first: &str, last: &str) -> bool {
+    match rules {
+        [from, .., to] => rules.len() == COUNT && is_rule(from, first) && is_rule(to, last),
+        _ => false,
+    }
+}
+
+#[test]
+fn many_options(rt: HostRuntime) {
+    let options = words(&rt, rt.alloc(), "--persist=f");
+    let layer = layer_of(rt.alloc(), &options).expect(&rt, "memory");
+    assert!(rt; are_kept(layer.as_slice(), "f0", "f1099"));
+}
+
+#[test]
+fn many_commands(rt: HostRuntime) {
+    let options = words(&rt, rt.alloc(), "--command=c");
+    let command = last_command(rt.alloc(), &options).expect(&rt, "memory");
+    assert!(rt; command.expect(&rt, "a command").as_str() == "c1099");
+}
+
+#[test]
+fn many_rules(rt: HostRuntime) {
+    let rules = words(&rt, rt.alloc(), "--see=org.x.N");
+    let policy = policy_of(rt.alloc(), &rules).expect(&rt, "memory");
+    assert!(rt; are_rules(policy.rules(), "org.x.N0=see", "org.x.N1099=see"));
+}
