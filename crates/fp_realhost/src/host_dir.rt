@@ -3,6 +3,7 @@ ghost use Rattle.std.specs.Prelude.{◌≡◌, ◌≢◌, ◌↔◌, ◌≤◌, 
 ghost use Rattle.fp_host.specs.Moments.{NeedsNoMemory};
 ghost use Rattle.fp_host.specs.Reads.{AreNames, HasBits};
 ghost use Rattle.fp_host.specs.declared.host.HostError.TheVariants.{Failed};
+ghost use Rattle.fp_host.specs.declared.limits.TheConstants.{PERMISSION_BITS};
 ghost use Rattle.fp_system.specs.Counts.{Counts, one_more, many_more};
 
 use crate::output::Output;
@@ -211,7 +212,7 @@ impl<R: System, T: Threads, O: Print> Host for HostDir<'_, R, T, O> {
 
     fn create(&mut self, path: &Path, mode: u32) -> Result<(), HostError>
         ensures counts { Counts self.old.faults self.new.faults result }
-        ensures bits { OnOk result (mode ≤ 4095) }
+        ensures bits { OnOk result (mode ≤ PERMISSION_BITS) }
         ensures needs_no_memory { NeedsNoMemory result }
     {
         let done = self.tree.create(&self.team, path, mode);

@@ -4,7 +4,7 @@ ghost use Rattle.std.specs.Prelude.{◌≢◌, ◌≤◌, [], OnOk};
 use crate::tree::Tree;
 use crate::writer::Writer;
 use crate::{folders, links, moves};
-use fp_host::Path;
+use fp_host::{PERMISSION_BITS, Path};
 use fp_realnotes::Notes;
 use fp_realroot::{OpenFiles, System, sync_open};
 use fp_system::{Cause, Reader, known};
@@ -54,9 +54,9 @@ impl<R: System> Tree<'_, R> {
         path: &Path,
         mode: u32,
     ) -> Result<(), Cause>
-        ensures { OnOk result (mode ≤ 4095) }
+        ensures { OnOk result (mode ≤ PERMISSION_BITS) }
     {
-        if mode > 0o7777 {
+        if mode > PERMISSION_BITS {
             return Err(Cause::BadBits);
         }
         if self.open.are_full() {

@@ -3,6 +3,7 @@ use Rattle.std.proofs.Common.{◌≡◌, ◌<◌, ◌≤◌, ◌+◌, ◌-◌, �
 use Rattle.std.specs.Prelude.{if◌then◌else◌, ◌&&◌, ◌||◌, leb}
 use Rattle.std.proofs.lemmas.Bool.{false≢true, leb-true}
 use Rattle.fp_host.specs.Paths.{Elements, path_eq}
+use Rattle.ost_commit.specs.declared.limits.TheConstants.{MOST_NAMES}
 use Rattle.ost_commit.specs.declared.row.TreeRow.{TreeRow}
 use Rattle.ost_commit.specs.declared.row.TreeRow.TheVariants as row
 use Rattle.ost_commit.specs.declared.tree.Tree.{Tree}
@@ -108,23 +109,23 @@ at_most : (a b : ℕ) → leb a b ≡ true → a ≤ b
 at_most a b h = leb-true a b h
 
 pub takes_row : (rows : List TreeRow) (said : Elements → Said) (r : TreeRow) (old mid new : Tree) (folder : ℕ) (taken b : Bool) → Gathers rows said old.folders.items → is_good_row r ≡ true
-    → is_clear said (row_path r) ≡ true → Reached rows said (drop 1 (row_path r)) old mid folder → PutsRow rows (with_above said (drop 1 (row_path r))) r mid new taken → b ≡ (taken && leb new.names 40000) → Takes rows said r old new b
+    → is_clear said (row_path r) ≡ true → Reached rows said (drop 1 (row_path r)) old mid folder → PutsRow rows (with_above said (drop 1 (row_path r))) r mid new taken → b ≡ (taken && leb new.names MOST_NAMES) → Takes rows said r old new b
 takes_row rows said r old mid new folder taken b g good clear reached puts is =
     let root = g.tree.root in
     let both = same_there rows said r (row_path r) root in
     let stands : taken ≡ may_stand r (said (row_path r)) = puts.is ∙ ap (may_stand r) (sym both.0) in
     let count : taken ≡ true → new.names ≡ old.names + new_names said (row_path r) = λ t. let h = puts.names t in omega (arith, h, reached.names, both.1) in
     record {
-      is = is ∙ (all taken stands count ∙ ap (λ c. c && (is_clear said (row_path r) && (may_stand r (said (row_path r)) && leb (old.names + new_names said (row_path r)) 40000))) (sym good));
-      gathers = λ t. let h = (and_true taken (leb new.names 40000) (sym is ∙ t)).0 in
+      is = is ∙ (all taken stands count ∙ ap (λ c. c && (is_clear said (row_path r) && (may_stand r (said (row_path r)) && leb (old.names + new_names said (row_path r)) MOST_NAMES))) (sym good));
+      gathers = λ t. let h = (and_true taken (leb new.names MOST_NAMES) (sym is ∙ t)).0 in
           gathers_same rows (with_entry (with_above said (drop 1 (row_path r))) (row_path r) (put_by r)) (with_row said r) new.folders.items (row_said said r root (sym stands ∙ h)) (puts.gathers h);
-      names = λ t. count (and_true taken (leb new.names 40000) (sym is ∙ t)).0;
+      names = λ t. count (and_true taken (leb new.names MOST_NAMES) (sym is ∙ t)).0;
     }
   where
     all : (t : Bool) → t ≡ may_stand r (said (row_path r)) → (t ≡ true → new.names ≡ old.names + new_names said (row_path r))
-        → (t && leb new.names 40000) ≡ (is_clear said (row_path r) && (may_stand r (said (row_path r)) && leb (old.names + new_names said (row_path r)) 40000))
-    all false s n = ap (λ m. m && leb (old.names + new_names said (row_path r)) 40000) s ∙ ap (λ k. k && (may_stand r (said (row_path r)) && leb (old.names + new_names said (row_path r)) 40000)) (sym clear)
-    all true s n = ap (λ k. leb k 40000) (n refl) ∙ (ap (λ m. m && leb (old.names + new_names said (row_path r)) 40000) s ∙ ap (λ k. k && (may_stand r (said (row_path r)) && leb (old.names + new_names said (row_path r)) 40000)) (sym clear))
+        → (t && leb new.names MOST_NAMES) ≡ (is_clear said (row_path r) && (may_stand r (said (row_path r)) && leb (old.names + new_names said (row_path r)) MOST_NAMES))
+    all false s n = ap (λ m. m && leb (old.names + new_names said (row_path r)) MOST_NAMES) s ∙ ap (λ k. k && (may_stand r (said (row_path r)) && leb (old.names + new_names said (row_path r)) MOST_NAMES)) (sym clear)
+    all true s n = ap (λ k. leb k MOST_NAMES) (n refl) ∙ (ap (λ m. m && leb (old.names + new_names said (row_path r)) MOST_NAMES) s ∙ ap (λ k. k && (may_stand r (said (row_path r)) && leb (old.names + new_names said (row_path r)) MOST_NAMES)) (sym clear))
 
 -- a directory, or a file or a link
 pub puts_dir : (rows : List TreeRow) (said : Elements → Said) (p : Elements) (old new : Tree) (taken : Bool) → TakesFolder rows said p old new taken → PutsRow rows said (row.Dir p) old new taken
@@ -155,7 +156,7 @@ unclear_row a true c e = absurd (false≢true (sym e))
 -- a row below a file or a link isn't taken
 pub takes_none : (rows : List TreeRow) (said : Elements → Said) (r : TreeRow) (old new : Tree) → is_clear said (row_path r) ≡ false → Takes rows said r old new false
 takes_none rows said r old new unclear = record {
-  is = unclear_row (is_good_row r) (is_clear said (row_path r)) (may_stand r (said (row_path r)) && leb (old.names + new_names said (row_path r)) 40000) unclear;
+  is = unclear_row (is_good_row r) (is_clear said (row_path r)) (may_stand r (said (row_path r)) && leb (old.names + new_names said (row_path r)) MOST_NAMES) unclear;
   gathers = λ t. absurd (false≢true t);
   names = λ t. absurd (false≢true t);
 }
@@ -171,8 +172,8 @@ good_short (row.File path mode bytes) good = at_most (length path) 65 (and_true 
 good_short (row.Link path target) good = at_most (length path) 65 (and_true (leb (length path) 65) _ good).0
 
 -- with a row that is taken there are at most 40,000 names
-pub few_taken : (said : Elements → Said) (names : ℕ) (r : TreeRow) → is_taken said names r ≡ true → names + new_names said (row_path r) ≤ 40000
+pub few_taken : (said : Elements → Said) (names : ℕ) (r : TreeRow) → is_taken said names r ≡ true → names + new_names said (row_path r) ≤ MOST_NAMES
 few_taken said names r taken =
     let clear = (and_true (is_good_row r) _ taken).1 in
     let stands = (and_true (is_clear said (row_path r)) _ clear).1 in
-    at_most (names + new_names said (row_path r)) 40000 (and_true (may_stand r (said (row_path r))) _ stands).1
+    at_most (names + new_names said (row_path r)) MOST_NAMES (and_true (may_stand r (said (row_path r))) _ stands).1

@@ -4,6 +4,7 @@ use Rattle.std.specs.List.{AllByRecursion}
 use Rattle.fp_host.specs.Paths.{Elements, is_link_text}
 use Rattle.ost_model.specs.declared.limits.TheConstants.{MOST_LEVELS, MOST_FILE_BYTES}
 use Rattle.ost_model.specs.Contents.{is_permission}
+use Rattle.ost_commit.specs.declared.limits.TheConstants.{MOST_NAMES}
 use Rattle.ost_commit.specs.declared.row.TreeRow.{TreeRow}
 use Rattle.ost_commit.specs.declared.row.TreeRow.TheVariants as row
 use Rattle.ost_commit.specs.declared.built.BuildError.{BuildError}
@@ -46,12 +47,9 @@ abbrev pub new_names : (Elements → Said) → Elements → ℕ
 new_names said [] = 0
 new_names said (x ∷ up) = (if is_nothing (said (x ∷ up)) then 1 else 0) + new_names said up
 
-abbrev pub most_names : ℕ
-most_names = 40000
-
 -- After rows that say this, and have so many names, the row is taken.
 abbrev pub is_taken : (Elements → Said) → ℕ → TreeRow → Bool
-is_taken said names r = is_good_row r && (is_clear said (row_path r) && (may_stand r (said (row_path r)) && leb (names + new_names said (row_path r)) most_names))
+is_taken said names r = is_good_row r && (is_clear said (row_path r) && (may_stand r (said (row_path r)) && leb (names + new_names said (row_path r)) MOST_NAMES))
 
 -- The place, counted from 1, of the first row that isn't taken, where these stand before, with so many names.
 abbrev pub refused_remainder : List TreeRow → ℕ → List TreeRow → Option ℕ

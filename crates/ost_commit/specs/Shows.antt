@@ -9,6 +9,7 @@ use Rattle.ost_model.specs.Readers.{meta_of}
 use Rattle.ost_model.specs.Objects.{Have, object_fault}
 use Rattle.ost_model.specs.Order.{In, read_as, tree_at}
 use Rattle.ost_model.specs.Look.{Found, nothing, directory, file_at, entry_in}
+use Rattle.ost_commit.specs.declared.limits.TheConstants.{DIRECTORY_MODE}
 use Rattle.ost_commit.specs.Rows.{Said, no_entry, a_directory, content}
 
 -- what was found, as rows say it
@@ -22,7 +23,7 @@ meta_at have d = read_as meta_of (have d kinds.DirMeta)
 
 -- owner and group 0, the mode 040755 (octal), no extended attributes
 abbrev pub plain_meta : MetaView
-plain_meta = record { uid = 0; gid = 0; mode = 0x41ED; bare = true }
+plain_meta = record { uid = 0; gid = 0; mode = DIRECTORY_MODE; bare = true }
 
 -- the object is there
 pub record IsThere (have : Have) (d : List ℕ) (kind : ObjKind) : Type 0 where

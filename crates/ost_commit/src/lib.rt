@@ -5,6 +5,7 @@ mod built;
 mod committing;
 mod contents;
 mod directories;
+mod limits;
 mod objects;
 mod row;
 mod tree;
@@ -12,4 +13,5 @@ mod writing;
 
 pub use built::{BuildError, Built, BuiltObject};
 pub use committing::commit_tree;
+pub use limits::{DIRECTORY_MODE, MOST_NAMES};
 pub use row::TreeRow;

@@ -7,6 +7,7 @@ ghost use Rattle.ost_commit.specs.Refusals.{first_refused, IsRefusal, is_good_ro
 ghost use Rattle.ost_commit.specs.Folders.{At, child_in, folder_place, Gathers, AreGathered, FolderAt, PutsChild, Enters, Reaches, Takes, TakesFolder, TakesContent, PutsRow};
 
 use crate::built::BuildError;
+use crate::limits::MOST_NAMES;
 use crate::row::TreeRow;
 use fp_base::Text;
 use fp_host::{Path, is_link_text};
@@ -16,9 +17,6 @@ use std::collections::BTreeMap;
 
 /// The most directories above a file or a link.
 const MOST_LEVELS: usize = ost_model::MOST_LEVELS as usize;
-
-/// The most names below the root.
-const MOST_NAMES: usize = 40_000;
 
 /// The most bytes of a file.
 const MOST_BYTES: usize = ost_model::MOST_FILE_BYTES as usize;
@@ -94,7 +92,7 @@ impl Tree {
     /// Takes the row with this place, or refuses it.
     fn take(&mut self, alloc: Global, row: &TreeRow, at: usize) -> Result<bool, AllocError>
         requires gathered { AreGathered self.old.folders.items }
-        requires few { self.old.names ≤ 40000 }
+        requires few { self.old.names ≤ MOST_NAMES }
         ensures { IfOk result (λ taken. (rows : List TreeRow) (said : Elements → Said)
             → Gathers rows said self.old.folders.items
             → At rows at row.now → Takes rows said row.now self.old self.new taken) }
@@ -136,7 +134,7 @@ impl Tree {
     fn folder_above(&mut self, alloc: Global, path: &Path) -> Result<Option<usize>, AllocError>
         requires gathered { AreGathered self.old.folders.items }
         requires short { length path.now ≤ MOST_LEVELS + 1 }
-        requires few { self.old.names ≤ 40000 }
+        requires few { self.old.names ≤ MOST_NAMES }
         ensures { IfOk result (λ found. (rows : List TreeRow) (said : Elements → Said)
             → Gathers rows said self.old.folders.items
             → Reaches rows said path.now self.old self.new found) }

@@ -11,6 +11,7 @@ ghost use Rattle.ost_commit.specs.Shows.{plain_meta};
 ghost use Rattle.ost_commit.specs.Writing.{IsWantOfRoom};
 
 use crate::built::BuildError;
+use crate::limits::DIRECTORY_MODE;
 use fp_base::{Blob, Text};
 use fp_name::{Digest, RefName};
 use gv_encode::{EncodeError, encode};
@@ -19,9 +20,6 @@ use ost_object::{
     Commit, DirMeta, DirTree, ObjectError, write_commit, write_dirmeta, write_dirtree,
 };
 use std::alloc::{AllocError, Global};
-
-/// The mode of each directory.
-const DIRECTORY_MODE: u32 = 0o040755;
 
 /// The key of a commit's metadata under which it says its refs.
 const REF_BINDING: &str = "ostree.ref-binding";

@@ -14,6 +14,7 @@ use Rattle.ost_commit.specs.declared.row.TreeRow.{TreeRow}
 use Rattle.ost_commit.specs.declared.row.TreeRow.TheVariants as row
 use Rattle.ost_commit.specs.Refusals.{first_refused}
 use Rattle.ost_description.specs.declared.description.Description.{Description}
+use Rattle.ost_description.specs.declared.limits.TheConstants.{MOST_SUBJECT_BYTES}
 use Rattle.ost_description.specs.Steps.{where_it, ◌>>=◌}
 use Rattle.ost_description.specs.Parts.{parts_at, number_in, mode_in, content_in, path_in, text_in, is_subject, is_control, is_lower_digit}
 use Rattle.ost_description.specs.Descriptions.{timestamp_in, subject_in, folder_in, file_in, link_in, row_in, pieces, row_before, rows_in, unformed_in, first_by, judged, with_rows, described}
@@ -38,7 +39,7 @@ decimal_line : (n : ℕ) → n < 2 ^ 64 → list_any is_newline (decimal n) ≡ 
 decimal_line n small = no_newline_by is_ascii_digit refl (decimal n) (own.from (decimal n) (decimal_is_IsNumeral n small).0.1)
 
 subject_line : (s : List ℕ) → is_subject s ≡ true → list_any is_newline s ≡ false
-subject_line s e = no_newline_by (λ b. not (is_control b)) refl s (and_parts (nat_le (length s) 1024) (list_all (λ b. not (is_control b)) s) e).1
+subject_line s e = no_newline_by (λ b. not (is_control b)) refl s (and_parts (nat_le (length s) MOST_SUBJECT_BYTES) (list_all (λ b. not (is_control b)) s) e).1
 
 content_line : (bytes : List ℕ) → IsBytes bytes → list_any is_newline (content_text bytes) ≡ false
 content_line [] good = refl

@@ -7,6 +7,7 @@ use Rattle.std.specs.Str.{bytes_eq, is_utf8}
 use Rattle.std.specs.Str.Parse.{digits_value}
 use Rattle.hex.specs.Hex.{decode_of}
 use Rattle.fp_host.specs.Paths.{Elements, is_element, cut}
+use Rattle.ost_description.specs.declared.limits.TheConstants.{MOST_SUBJECT_BYTES}
 use Rattle.ost_description.specs.Steps.{◌>>=◌, where_it}
 
 -- what stands before the first such byte, and after it
@@ -62,4 +63,4 @@ is_control b = nat_lt b 32 || b == 127
 
 -- at most 1,024 bytes of text without control characters
 abbrev pub is_subject : List ℕ → Bool
-is_subject text = nat_le (length text) 1024 && list_all (λ b. not (is_control b)) text
+is_subject text = nat_le (length text) MOST_SUBJECT_BYTES && list_all (λ b. not (is_control b)) text

@@ -4,9 +4,11 @@
 mod committing;
 mod description;
 mod laws;
+mod limits;
 mod parts;
 mod reading;
 
 pub use committing::commit_description;
 pub use description::{Description, DescriptionError};
 pub use laws::written_descriptions_read_back;
+pub use limits::MOST_SUBJECT_BYTES;

@@ -6,14 +6,12 @@ ghost use Rattle.std.specs.List.{list_all, list_any, position};
 ghost use Rattle.ost_description.specs.Steps.{Gives};
 ghost use Rattle.ost_description.specs.Parts.{parts_at, has_leading_zero, are_digits as are_digits_of, number_in, octal_in, mode_in, is_lower_digit, hex_in, content_in, path_in, text_in, is_control, is_subject as may_be_subject};
 
+use crate::limits::MOST_SUBJECT_BYTES;
 use fp_base::Blob;
 use fp_host::{Path, PathError};
 use hex::FromHexError;
 use std::alloc::{AllocError, Global};
 use std::str;
-
-/// The most bytes of a subject.
-const MOST_SUBJECT: usize = 1_024;
 
 /// The place of the first such byte.
 fn place_of_first(byte: u8, bytes: &[u8]) -> Option<usize>
@@ -197,5 +195,5 @@ fn has_no_control(text: &[u8]) -> bool
 pub(crate) fn is_subject(text: &str) -> bool
     ensures { result ≡ may_be_subject text.now }
 {
-    text.len() <= MOST_SUBJECT && has_no_control(text.as_bytes())
+    text.len() <= MOST_SUBJECT_BYTES && has_no_control(text.as_bytes())
 }

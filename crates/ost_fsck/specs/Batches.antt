@@ -1,5 +1,5 @@
 -- Small objects that are read one after another, and then judged by the digests of all of them.
-use Rattle.std.specs.Prelude.{◌≡◌, ◌*◌, ℕ, List, [], ◌∷◌, ◌++◌, count_by, flat_map, slice_get, Bool, true, false, Option, Some, None}
+use Rattle.std.specs.Prelude.{◌≡◌, ℕ, List, [], ◌∷◌, ◌++◌, count_by, flat_map, slice_get, Bool, true, false, Option, Some, None}
 use Rattle.std.specs.List.{AllZip}
 use Rattle.std.specs.Str.{bytes_eq}
 use Rattle.fp_host.specs.Paths.{Elements}
@@ -10,6 +10,7 @@ use Rattle.fp_base.specs.declared.object.ObjKind.TheVariants as kinds
 use Rattle.ost_model.specs.Contents.{header}
 use Rattle.ost_model.specs.Objects.{object_path}
 use Rattle.par_digest.specs.Digests.{item_digest}
+use Rattle.par_digest.specs.declared.limits.TheConstants.{MOST_SMALL_BYTES}
 use Rattle.par_digest.specs.declared.item.Item.{Item}
 use Rattle.ost_fsck.specs.declared.judging.Seen.{Seen}
 use Rattle.ost_fsck.specs.declared.report.Finding.{Finding}
@@ -19,7 +20,7 @@ use Rattle.ost_fsck.specs.Judging.{is_named, bad_unless, IsNameOf, LooksAt, Look
 
 -- the most bytes of an object that is hashed with others
 abbrev pub small_most : ℕ
-small_most = 256 * 1024
+small_most = MOST_SMALL_BYTES
 
 -- what stands before the bytes where the digest is taken
 abbrev pub head_of : ObjKind → ℕ → List ℕ

@@ -12,12 +12,9 @@ use crate::report::Report;
 use fp_base::Items;
 use fp_host::{Host, HostEnd, Path};
 use ost_store::names;
-use par_digest::Gate;
+use par_digest::{Gate, MOST_IN_BATCH};
 use std::alloc::Global;
 use std::thread::Threads;
-
-/// The most paths that are looked at together.
-const MOST_IN_BATCH: usize = 64;
 
 /// Looks at each of these paths in the store in this folder, a batch after the other.
 fn check_all<T: Threads + Sync, H: Host, G: Gate + Sync>(

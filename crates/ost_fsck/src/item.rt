@@ -11,11 +11,8 @@ use fp_base::{Blob, ObjKind, Text};
 use fp_host::{Host, HostEnd, Path, Stat, is_link_text};
 use fp_small::{Loaded, load};
 use ost_content::{header, is_permission, link_header};
-use par_digest::Item;
+use par_digest::{Item, MOST_SMALL_BYTES};
 use std::alloc::{AllocError, Global};
-
-/// The most bytes of an object that is hashed with others.
-const MOST_SMALL: u64 = 256 * 1024;
 
 /// The small object at the path as an item, where nothing but its digest keeps it from being one of the kind.
 pub(crate) fn small_item<H: Host>(
@@ -52,7 +49,7 @@ fn file_item<H: Host>(
     ensures fault_has_cause { IsCounted (IsErrOf result HostEnd.Fault)
         (H.moments host.old) (H.faults host.old) (H.faults host.new) }
 {
-    match load(alloc, host, path, MOST_SMALL)? {
+    match load(alloc, host, path, MOST_SMALL_BYTES)? {
         Loaded::Bytes(bytes) => item_of(alloc, kind, mode, bytes),
         Loaded::Absent | Loaded::NotFile | Loaded::TooLong(_) => Ok(None),
     }

@@ -17,6 +17,7 @@ use Rattle.ost_refs.specs.Places.{place_path}
 use Rattle.ost_refs.specs.Files.{ref_file}
 use Rattle.ost_refs.specs.declared.place.RefPlace.TheVariants.{Head}
 use Rattle.ost_refs.specs.declared.reading.TheConstants.{REF_FILE_BYTES}
+use Rattle.ost_head.specs.declared.modes.TheConstants.{MOST_MODE_BYTES}
 use Rattle.ost_head.specs.declared.offering.TheConstants.{MOST_STORE_CONFIG_BYTES}
 use Rattle.ost_refs.specs.declared.place.RefFile.{RefFile}
 use Rattle.ost_refs.specs.declared.place.RefFile.TheVariants as files
@@ -54,7 +55,7 @@ abbrev pub is_mode_byte : ℕ → Bool
 is_mode_byte b = (nat_le 97 b && nat_le b 122) || (nat_le 48 b && nat_le b 57) || b == 45
 
 abbrev pub is_mode_word : List ℕ → Bool
-is_mode_word text = if leb 1 (length text) then (if leb (length text) 32 then list_all is_mode_byte text else false) else false
+is_mode_word text = if leb 1 (length text) then (if leb (length text) MOST_MODE_BYTES then list_all is_mode_byte text else false) else false
 
 -- the mode that is said, `-` where none is
 abbrev pub mode_word : Option (List ℕ) → List ℕ

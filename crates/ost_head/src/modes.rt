@@ -12,8 +12,8 @@ use std::alloc::{AllocError, Global};
 /// What stands for a mode that isn't said.
 const NO_MODE: &str = "-";
 
-/// The longest mode that is said.
-const MOST_BYTES: usize = 32;
+/// The most bytes of a mode that is said.
+const MOST_MODE_BYTES: usize = 32;
 
 /// Whether a key of the group `core` has this value.
 fn is_core(file: &KeyFile, key: &str, value: &str) -> bool
@@ -54,7 +54,7 @@ fn is_mode_word(text: &str) -> bool
     if bytes.len() < 1 {
         return false;
     }
-    if bytes.len() > MOST_BYTES {
+    if bytes.len() > MOST_MODE_BYTES {
         return false;
     }
     are_mode_bytes(bytes)

@@ -5,6 +5,7 @@ use Rattle.fp_host.specs.View.{View}
 use Rattle.fp_host.specs.Outcome.{Spot}
 use Rattle.fp_host.proofs.Framed.{keeps_refl, keeps_to}
 use Rattle.fp_small.specs.Clear.{IsWithin, CanClear}
+use Rattle.fp_small.specs.declared.limits.TheConstants.{MOST_ELEMENTS}
 use Rattle.fp_small.proofs.Keeping.{files_on, files_stay}
 use Rattle.fp_small.proofs.Emptying.{above_longer}
 use Rattle.fp_name.specs.Hex.{hex}
@@ -156,7 +157,7 @@ module _ (root t : Elements) (apart : IsApart root t) {u w : View} (pulls : Pull
   }
 
   -- and the work folder may be cleared still
-  pub pulls_clears : length t + 3 ≤ 128 → CanClear t u → CanClear t w
+  pub pulls_clears : length t + 3 ≤ MOST_ELEMENTS → CanClear t u → CanClear t w
   pulls_clears low before = record {
     no_root = before.no_root;
     below = record {

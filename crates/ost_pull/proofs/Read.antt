@@ -25,6 +25,7 @@ use Rattle.ost_object.specs.Views.{root_in}
 use Rattle.ost_store.specs.Stage.{IsKeepable}
 use Rattle.ost_walk.specs.declared.ends.WalkEnd.{WalkEnd}
 use Rattle.ost_head.specs.Objects.{IsFit, rules_fault}
+use Rattle.par_digest.specs.declared.limits.TheConstants.{MOST_SMALL_BYTES}
 
 -- ---- what a node of a remote tells
 
@@ -75,13 +76,13 @@ object_there held url d kind k p root r is top kind_is there =
 
 -- ---- it is fit
 
-pub fit_file : (mode size : ℕ) (bytes : List ℕ) → length bytes ≤ size → size ≤ 262144 → is_permission mode ≡ true → IsFit kinds.File (objects.File mode bytes)
+pub fit_file : (mode size : ℕ) (bytes : List ℕ) → length bytes ≤ size → size ≤ MOST_SMALL_BYTES → is_permission mode ≡ true → IsFit kinds.File (objects.File mode bytes)
 fit_file mode size bytes few short bits = record { kind_is = refl; short = ap (λ b. unless b (too_long (length bytes))) (le-leb (length bytes) (1024 * 1024 * 1024) (omega (arith, few, short))); keepable = bits }
 
 pub fit_link : (text : List ℕ) → is_link_text text ≡ true → IsFit kinds.File (objects.Link text)
 fit_link text good = record { kind_is = refl; short = refl; keepable = good }
 
-pub fit_meta : (kind : ObjKind) (size : ℕ) (bytes : List ℕ) → may_be_link kind ≡ false → length bytes ≤ size → size ≤ 262144 → IsFit kind (objects.Meta bytes)
+pub fit_meta : (kind : ObjKind) (size : ℕ) (bytes : List ℕ) → may_be_link kind ≡ false → length bytes ≤ size → size ≤ MOST_SMALL_BYTES → IsFit kind (objects.Meta bytes)
 fit_meta kind size bytes meta few short = record { kind_is = ap not meta; short = ap (λ b. unless b (too_long (length bytes))) (le-leb (length bytes) (16 * 1024 * 1024) (omega (arith, few, short))); keepable = tt }
 
 -- ---- the item that its digest is taken of

@@ -10,6 +10,7 @@ use Rattle.fp_host.specs.Frame.{NoPath}
 use Rattle.fp_small.specs.Clear.{IsCleared, CanClear}
 use Rattle.fp_small.specs.Files.{KeepsFiles}
 use Rattle.fp_small.specs.Shares.{Shares}
+use Rattle.fp_small.specs.declared.limits.TheConstants.{MOST_ELEMENTS}
 use Rattle.ost_model.specs.Objects.{object_path}
 use Rattle.ost_model.specs.Order.{In}
 use Rattle.ost_model.specs.Stores.{objects_folder}
@@ -91,6 +92,6 @@ PullsKept root t url holds objects u w = AreTaken root t url holds objects u →
 pub record CanStore (root t : Elements) (url : List ℕ) (holds : Option Holdings) (objects : List (List ℕ × ObjKind)) (v : View) : Type 0 where
   pub taken : AreTaken root t url holds objects v
   pub true_names : LeavesStore root v
-  pub low : length t + 3 ≤ 128
+  pub low : length t + 3 ≤ MOST_ELEMENTS
   pub clears : CanClear t v
   pub store_open : AreOpen root v

@@ -9,6 +9,7 @@ use Rattle.fp_base.specs.declared.object.ObjKind.{ObjKind}
 use Rattle.fp_small.specs.Clear.{IsWithin, CanClear}
 use Rattle.fp_small.specs.Files.{KeepsFiles}
 use Rattle.fp_small.specs.Shares.{Shares}
+use Rattle.fp_small.specs.declared.limits.TheConstants.{MOST_ELEMENTS}
 use Rattle.fp_small.specs.declared.refusal.Refusal.{Refusal}
 use Rattle.ost_model.specs.Objects.{Have, Named, object_path, store}
 use Rattle.ost_model.specs.Order.{Agree, In, order, first_fault}
@@ -114,7 +115,7 @@ Refuses first (Err end) = RefusesBy (λ r. first ≡ Some r) end
 -- what stands below it, and what is above it and above the objects' names is absent or a folder.
 pub record CanPull (root t : Elements) (v : View) : Type 0 where
   pub true_names : LeavesStore root v
-  pub low : length t + 3 ≤ 128
+  pub low : length t + 3 ≤ MOST_ELEMENTS
   pub clears : CanClear t v
   pub work_open : (q : Elements) → IsAbove q t → (v.names q ≡ absent) ⊎ (v.names q ≡ dir)
   pub store_open : AreOpen root v

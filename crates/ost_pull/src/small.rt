@@ -17,10 +17,8 @@ use ost_content::is_permission;
 use ost_model::Object;
 use ost_store::path_of;
 use ost_walk::WalkEnd;
+use par_digest::MOST_SMALL_BYTES;
 use std::alloc::Global;
-
-/// The most bytes of an object of a batch.
-const MOST_SMALL: u64 = 256 * 1024;
 
 /// The bytes of a file of this size.
 fn read_bytes<R: Remotes>(
@@ -30,7 +28,7 @@ fn read_bytes<R: Remotes>(
     path: &Path,
     size: u64,
 ) -> Result<Blob, WalkEnd>
-    requires { size ≤ 262144 }
+    requires { size ≤ MOST_SMALL_BYTES }
     ensures same { R.holds remotes.new ≡ R.holds remotes.old }
     ensures short { IfOk result (λ bytes. length bytes ≤ size) }
     ensures tells { (held : Holdings) → R.holds remotes.old ≡ Some held
@@ -67,7 +65,7 @@ fn small_file<R: Remotes>(
     ensures fault_has_cause { IsRemotes (IsErrOf result WalkEnd.RemoteFault)
         (R.faults remotes.old) (R.faults remotes.new) }
 {
-    if size > MOST_SMALL || !is_permission(mode) {
+    if size > MOST_SMALL_BYTES || !is_permission(mode) {
         return Ok(None);
     }
     let bytes = read_bytes(alloc, remotes, url, path, size)?;
@@ -133,7 +131,7 @@ fn small_bytes<R: Remotes>(
     ensures fault_has_cause { IsRemotes (IsErrOf result WalkEnd.RemoteFault)
         (R.faults remotes.old) (R.faults remotes.new) }
 {
-    if size > MOST_SMALL {
+    if size > MOST_SMALL_BYTES {
         return Ok(None);
     }
     let bytes = read_bytes(alloc, remotes, url, path, size)?;

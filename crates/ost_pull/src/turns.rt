@@ -23,12 +23,9 @@ use fp_base::ObjKind;
 use fp_host::{Host, Path, Remotes};
 use fp_name::Digest;
 use ost_walk::WalkEnd;
-use par_digest::{Gate, Item, digests_gated};
+use par_digest::{Gate, Item, MOST_IN_BATCH, digests_gated};
 use std::alloc::Global;
 use std::thread::Threads;
-
-/// How many objects are in a batch.
-const BATCH: usize = 64;
 
 /// Takes an object of the remote that was read whole and whose digest was taken. One that isn't seen to be good is taken by
 /// itself, which refuses it for its fault.
@@ -234,9 +231,9 @@ fn batch_end(at: usize, count: usize) -> usize
     requires { at < count }
     ensures later { at < result }
     ensures within { result ≤ count }
-    ensures most { result ≤ at + 64 }
+    ensures most { result ≤ at + MOST_IN_BATCH }
 {
-    at + (count - at).min(BATCH)
+    at + (count - at).min(MOST_IN_BATCH)
 }
 
 /// Takes these objects in order, a batch at a time. It is refused with the first that has a fault, where what was noted before

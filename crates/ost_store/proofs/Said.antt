@@ -10,6 +10,7 @@ use Rattle.fp_base.specs.declared.object.ObjKind.{ObjKind}
 use Rattle.fp_base.specs.declared.object.ObjKind.TheVariants as kinds
 use Rattle.ost_model.specs.Objects.{kind_text, object_path}
 use Rattle.ost_model.proofs.Stores.{rest_long, take_at}
+use Rattle.ost_store.specs.declared.naming.TheConstants.{REST_DIGITS}
 use Rattle.ost_store.specs.Names.{kind_said, both_said, object_said}
 
 pub both_known : (a : Option (List ℕ)) (b : Option ObjKind) (d : List ℕ) (kind : ObjKind) → a ≡ Some d → b ≡ Some kind → both_said a b ≡ Some (d, kind)
@@ -20,8 +21,8 @@ no_kind None b none = refl
 no_kind (Some d) b none = ap (both_said (Some d)) none
 
 -- a name that is too short says no kind
-pub too_short : (folder name : List ℕ) → length name < 62 → object_said folder name ≡ None
-too_short folder name short = no_kind (unhex (folder ++ take 62 name)) (kind_said (drop 62 name)) (ap kind_said (drop_all 62 name (omega (arith, short))))
+pub too_short : (folder name : List ℕ) → length name < REST_DIGITS → object_said folder name ≡ None
+too_short folder name short = no_kind (unhex (folder ++ take REST_DIGITS name)) (kind_said (drop REST_DIGITS name)) (ap kind_said (drop_all REST_DIGITS name (omega (arith, short))))
 
 kind_back : (kind : ObjKind) → kind_said (codes "." ++ kind_text kind) ≡ Some kind
 kind_back kinds.Commit = refl
@@ -34,8 +35,8 @@ said_back : (d : List ℕ) (kind : ObjKind) → is_digest d ≡ true → object_
 said_back d kind good =
     let end = codes "." ++ kind_text kind in
     both_known _ _ d kind
-    (ap (λ l. unhex (take 2 (hex d) ++ l)) (take_at (drop 2 (hex d)) end 62 (rest_long d good)) ∙ ap unhex (take-append-drop 2 (hex d)) ∙ unhex-hex d good)
-    (ap kind_said (drop_at (drop 2 (hex d)) end 62 (rest_long d good)) ∙ kind_back kind)
+    (ap (λ l. unhex (take 2 (hex d) ++ l)) (take_at (drop 2 (hex d)) end REST_DIGITS (rest_long d good)) ∙ ap unhex (take-append-drop 2 (hex d)) ∙ unhex-hex d good)
+    (ap kind_said (drop_at (drop 2 (hex d)) end REST_DIGITS (rest_long d good)) ∙ kind_back kind)
 
 pub none_of : {A : Type 0} (o : Option A) → ((a : A) → o ≡ Some a → ⊥) → o ≡ None
 none_of None off = refl

@@ -10,6 +10,7 @@ use Rattle.fp_base.specs.declared.object.ObjKind.{ObjKind}
 use Rattle.fp_base.specs.declared.object.ObjKind.TheVariants as kinds
 use Rattle.ost_model.specs.Objects.{object_path}
 use Rattle.ost_model.specs.Stores.{objects_folder}
+use Rattle.ost_store.specs.declared.naming.TheConstants.{REST_DIGITS}
 use Rattle.ost_store.specs.Walks.{AreLeavesBelow}
 
 -- the files and links below `objects`, ascending by the bytes of their paths
@@ -36,7 +37,7 @@ both_said None kind = None
 
 -- the object that the names of its folder and of its file say
 abbrev pub object_said : List ℕ → List ℕ → Option (List ℕ × ObjKind)
-object_said folder name = both_said (unhex (folder ++ take 62 name)) (kind_said (drop 62 name))
+object_said folder name = both_said (unhex (folder ++ take REST_DIGITS name)) (kind_said (drop REST_DIGITS name))
 
 -- the path is that of this object in the store at root; or it is that of none
 abbrev pub IsNamed : Elements → Elements → Option (List ℕ × ObjKind) → Type 0

@@ -7,7 +7,7 @@ ghost use Rattle.ost_store.specs.Names.{kind_said, object_said, IsNamed};
 
 use fp_base::ObjKind;
 use fp_host::Path;
-use fp_name::Digest;
+use fp_name::{DIGEST_DIGITS, Digest};
 use std::alloc::{AllocError, Global};
 
 /// The word of the kind, with which the names of its objects end.
@@ -58,8 +58,8 @@ pub fn path_of(
     root.child("objects")?.child(&folder)?.child(&name)
 }
 
-/// How many digits an object's name has in its folder.
-const REST_DIGITS: usize = 62;
+/// How many digits an object's name has in its folder: all but the first two.
+const REST_DIGITS: usize = DIGEST_DIGITS - 2;
 
 /// The kind whose objects' names end so.
 fn kind_said(end: &[u8]) -> Option<ObjKind>

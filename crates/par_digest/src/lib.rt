@@ -4,7 +4,9 @@
 mod gate;
 mod halves;
 mod item;
+mod limits;
 
 pub use gate::{Gate, NoGate};
 pub use halves::{digests, digests_gated};
 pub use item::Item;
+pub use limits::{MOST_IN_BATCH, MOST_SMALL_BYTES};

@@ -1,4 +1,5 @@
 use Rattle.std.proofs.Common.{◌≡◌, ◌≤◌, take, drop}
+use Rattle.ost_commit.specs.declared.limits.TheConstants.{MOST_NAMES}
 use Rattle.ost_commit.specs.Rows.{says}
 use Rattle.ost_commit.specs.Refusals.{refused_remainder, first_refused}
 use Rattle.ost_commit.specs.Folders.{Gathers}
@@ -8,5 +9,5 @@ abbrev pub invariant-loop-at : goal.invariant-loop-at
 invariant-loop-at l = record {
   gathers : Gathers l.rows (says (take l.at l.rows)) l.tree.folders.items;
   refused : refused_remainder (take l.at l.rows) l.tree.names (drop l.at l.rows) ≡ first_refused l.rows;
-  few : l.tree.names ≤ 40000;
+  few : l.tree.names ≤ MOST_NAMES;
 }

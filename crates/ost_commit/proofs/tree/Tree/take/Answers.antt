@@ -1,5 +1,6 @@
 use Rattle.std.proofs.Common.{◌≡◌, Bool, true, false, leb, drop, refl, sym, ◌∙◌, ap, subst, arith, length-drop}
 use Rattle.std.specs.Prelude.{◌&&◌}
+use Rattle.ost_commit.specs.declared.limits.TheConstants.{MOST_NAMES}
 use Rattle.ost_commit.specs.Rows.{row_path}
 use Rattle.ost_commit.specs.Refusals.{is_good_row, is_clear}
 use Rattle.ost_commit.specs.Folders.{with_above, Reaches}
@@ -45,9 +46,9 @@ returns-then-taken c rows said g at =
     let good : is_good_row c.args.row.now ≡ true = sym c.is_good.ensures ∙ c.if-not-is_good.false in
     let r = subst (Reaches rows said (row_path c.args.row.now) c.args.self.now c.folder_above.new.self) c.in-Some.is
     (subst (λ p. Reaches rows said p c.args.self.now c.folder_above.new.self c.in_ok-folder.field-0) c.path.ensures (c.in_ok-folder.ensures rows said g)) in
-    takes_row rows said c.args.row.now c.args.self.now c.folder_above.new.self c.put_row.new.self c.in-Some.folder c.in_ok-taken.taken (leb c.put_row.new.self.names 40000) g good
+    takes_row rows said c.args.row.now c.args.self.now c.folder_above.new.self c.put_row.new.self c.in-Some.folder c.in_ok-taken.taken (leb c.put_row.new.self.names MOST_NAMES) g good
     (clear_from said (row_path c.args.row.now) r.clear r.above) r (c.in_ok-taken.ensures rows (with_above said (drop 1 (row_path c.args.row.now))) r.gathers at)
-    (sym (ap (λ t. t && leb c.put_row.new.self.names 40000) c.if-taken.true))
+    (sym (ap (λ t. t && leb c.put_row.new.self.names MOST_NAMES) c.if-taken.true))
 
 pub returns-else-taken : goal.returns-else-taken
 returns-else-taken c rows said g at =
@@ -56,4 +57,4 @@ returns-else-taken c rows said g at =
     (subst (λ p. Reaches rows said p c.args.self.now c.folder_above.new.self c.in_ok-folder.field-0) c.path.ensures (c.in_ok-folder.ensures rows said g)) in
     takes_row rows said c.args.row.now c.args.self.now c.folder_above.new.self c.put_row.new.self c.in-Some.folder c.in_ok-taken.taken c.in_ok-taken.taken g good
     (clear_from said (row_path c.args.row.now) r.clear r.above) r (c.in_ok-taken.ensures rows (with_above said (drop 1 (row_path c.args.row.now))) r.gathers at)
-    (and_false c.in_ok-taken.taken (leb c.put_row.new.self.names 40000) c.if-taken.false)
+    (and_false c.in_ok-taken.taken (leb c.put_row.new.self.names MOST_NAMES) c.if-taken.false)
