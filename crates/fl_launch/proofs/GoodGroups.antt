@@ -20,7 +20,8 @@ use Rattle.fl_meta.specs.declared.permission.Permission.{Permission}
 use Rattle.fl_meta.specs.declared.permission.Mention.{Mention}
 use Rattle.fl_meta.specs.Order.{permission_cmp}
 use Rattle.fl_context.specs.Grants.{permission_of, IsAscending}
-use Rattle.fl_override.specs.Written.{key_of, list_text, list_pair, context_pairs, named_pairs, group_if, file_with}
+use Rattle.fl_meta.specs.Names.{key_of}
+use Rattle.fl_override.specs.Written.{list_text, list_pair, context_pairs, named_pairs, group_if, file_with}
 use Rattle.fl_override.specs.Overrides.{AllCanWrite}
 use Rattle.fl_override.proofs.Reading.{utf8_ascii}
 use Rattle.fl_override.proofs.Files.{file_good}

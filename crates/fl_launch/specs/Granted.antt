@@ -1,6 +1,6 @@
 -- The granted permissions of a launch, written as groups of a key file.
-use Rattle.std.specs.Prelude.{ℕ, Bool, false, ◌&&◌, nat_lt, List, [], ◌∷◌, ◌++◌, codes}
-use Rattle.std.specs.List.{filter, flat_map}
+use Rattle.std.specs.Prelude.{ℕ, Bool, false, ◌&&◌, nat_lt, nat_eq, List, [], ◌∷◌, ◌++◌, drop, codes, if◌then◌else◌}
+use Rattle.std.specs.List.{filter, flat_map, starts_with}
 use Rattle.std.specs.Option.{option_map_or}
 use Rattle.fp_keyfile.specs.declared.group.Group.{Group}
 use Rattle.fp_keyfile.specs.declared.group.Pair.{Pair}
@@ -8,6 +8,7 @@ use Rattle.fl_meta.specs.declared.permission.PermList.{PermList}
 use Rattle.fl_meta.specs.declared.permission.PermList.TheVariants as lists
 use Rattle.fl_meta.specs.declared.permission.Permission.{Permission}
 use Rattle.fl_meta.specs.declared.permission.Mention.{Mention}
+use Rattle.fl_meta.specs.Names.{key_of}
 use Rattle.fl_meta.specs.Order.{place_of}
 use Rattle.fl_context.specs.Grants.{is_granted, value_in}
 use Rattle.fl_override.specs.Written.{list_text, pair_if, group_if, file_with}
@@ -28,16 +29,11 @@ gives_known m = is_known m.permission.list && gives m
 abbrev pub known : List Mention → List Mention
 known grants = filter gives_known grants
 
--- ---- what is unknown stands in a group of its own, whose keys are the names of the lists
+-- ---- what is unknown stands in a group of its own
 
+-- the key there is what stands after `unknown-` in the list's key
 abbrev pub unknown_key : PermList → List ℕ
-unknown_key lists.UnknownShared = codes "shared"
-unknown_key lists.UnknownSockets = codes "sockets"
-unknown_key lists.UnknownDevices = codes "devices"
-unknown_key lists.UnknownFeatures = codes "features"
-unknown_key lists.UnknownSessionBus = codes "session-bus"
-unknown_key lists.UnknownSystemBus = codes "system-bus"
-unknown_key list = []
+unknown_key list = if starts_with nat_eq (key_of list) (codes "unknown-") then drop 8 (key_of list) else []
 
 abbrev pub unknown_lists : List PermList
 unknown_lists = lists.UnknownShared ∷ lists.UnknownSockets ∷ lists.UnknownDevices ∷ lists.UnknownFeatures ∷ lists.UnknownSessionBus ∷ lists.UnknownSystemBus ∷ []

@@ -25,14 +25,9 @@ const UNKNOWN_LISTS: [PermList; 6] = [
 fn unknown_key(list: PermList) -> &'static str
     ensures { result.now ≡ spec.unknown_key list }
 {
-    match list {
-        PermList::UnknownShared => "shared",
-        PermList::UnknownSockets => "sockets",
-        PermList::UnknownDevices => "devices",
-        PermList::UnknownFeatures => "features",
-        PermList::UnknownSessionBus => "session-bus",
-        PermList::UnknownSystemBus => "system-bus",
-        _ => "",
+    match list.key().strip_prefix("unknown-") {
+        Some(key) => key,
+        None => "",
     }
 }
 

@@ -6,7 +6,6 @@ ghost use Rattle.fl_meta.specs.Entries.{is_semicolon};
 ghost use Rattle.fl_meta.specs.Mentions as mentions;
 
 use crate::entries::{is_off, push_list};
-use crate::names::{level_of, list_of_key, list_of_unknown_key};
 use crate::pattern::is_pattern;
 use crate::permission::{Layer, Mention, PermList, Value};
 use fp_base::Text;
@@ -27,10 +26,10 @@ fn list_at(source: Source, key: &str) -> Option<PermList>
     ensures { result ≡ mentions.list_at source key.now }
 {
     match source {
-        Source::Metadata => list_of_key(key),
-        Source::Override => match list_of_key(key) {
+        Source::Metadata => PermList::of_key(key),
+        Source::Override => match PermList::of_key(key) {
             Some(list) => Some(list),
-            None => list_of_unknown_key(key),
+            None => PermList::of_unknown_key(key),
         },
     }
 }
@@ -107,7 +106,7 @@ fn push_bus(
     ensures { OnOk result (out.new ≡ out.old ++ mentions.bus_mentions list unknown pair.now) }
 {
     let name = pair.key.as_str();
-    match level_of(pair.value.as_str()) {
+    match Value::of_word(pair.value.as_str()) {
         Some(level) if is_pattern(name) => {
             let mention = Mention::new(out.allocator(), list, name, level)?;
             out.push(mention)

@@ -56,49 +56,6 @@ pub(crate) fn list_with(list: PermList, name: &str) -> PermList
     }
 }
 
-/// The list of a key of the group `Context`.
-pub(crate) fn list_of_key(key: &str) -> Option<PermList>
-    ensures { result ≡ names.list_of_key key.now }
-{
-    match key {
-        "shared" => Some(PermList::Shared),
-        "sockets" => Some(PermList::Sockets),
-        "devices" => Some(PermList::Devices),
-        "features" => Some(PermList::Features),
-        "filesystems" => Some(PermList::Filesystems),
-        "persistent" => Some(PermList::Persistent),
-        _ => None,
-    }
-}
-
-/// The list of a key that overrides alone have.
-pub(crate) fn list_of_unknown_key(key: &str) -> Option<PermList>
-    ensures { result ≡ names.list_of_unknown_key key.now }
-{
-    match key {
-        "unknown-shared" => Some(PermList::UnknownShared),
-        "unknown-sockets" => Some(PermList::UnknownSockets),
-        "unknown-devices" => Some(PermList::UnknownDevices),
-        "unknown-features" => Some(PermList::UnknownFeatures),
-        "unknown-session-bus" => Some(PermList::UnknownSessionBus),
-        "unknown-system-bus" => Some(PermList::UnknownSystemBus),
-        _ => None,
-    }
-}
-
-/// The level of a bus policy.
-pub(crate) fn level_of(text: &str) -> Option<Value>
-    ensures { result ≡ names.level_of text.now }
-{
-    match text {
-        "none" => Some(Value::NoBus),
-        "see" => Some(Value::See),
-        "talk" => Some(Value::Talk),
-        "own" => Some(Value::Own),
-        _ => None,
-    }
-}
-
 /// What an ending of a filesystem says.
 pub(crate) fn access_of(text: &str) -> Option<Value>
     ensures { result ≡ names.access_of text.now }
@@ -108,5 +65,87 @@ pub(crate) fn access_of(text: &str) -> Option<Value>
         "rw" => Some(Value::Rw),
         "create" => Some(Value::Create),
         _ => None,
+    }
+}
+
+impl PermList {
+    /// The key of the list in the group `Context`. A list that has a group of its own has no key.
+    pub fn key(self) -> &'static str
+        ensures { result.now ≡ names.key_of self }
+    {
+        match self {
+            PermList::Shared => "shared",
+            PermList::Sockets => "sockets",
+            PermList::Devices => "devices",
+            PermList::Features => "features",
+            PermList::Filesystems => "filesystems",
+            PermList::Persistent => "persistent",
+            PermList::UnknownShared => "unknown-shared",
+            PermList::UnknownSockets => "unknown-sockets",
+            PermList::UnknownDevices => "unknown-devices",
+            PermList::UnknownFeatures => "unknown-features",
+            PermList::UnknownSessionBus => "unknown-session-bus",
+            PermList::UnknownSystemBus => "unknown-system-bus",
+            PermList::Environment | PermList::SessionBus | PermList::SystemBus => "",
+        }
+    }
+
+    /// The list of a key of the group `Context`, where each file may have the key.
+    pub fn of_key(key: &str) -> Option<Self>
+        ensures { result ≡ names.list_of_key key.now }
+    {
+        match key {
+            "shared" => Some(PermList::Shared),
+            "sockets" => Some(PermList::Sockets),
+            "devices" => Some(PermList::Devices),
+            "features" => Some(PermList::Features),
+            "filesystems" => Some(PermList::Filesystems),
+            "persistent" => Some(PermList::Persistent),
+            _ => None,
+        }
+    }
+
+    /// The list of a key that overrides alone have.
+    pub fn of_unknown_key(key: &str) -> Option<Self>
+        ensures { result ≡ names.list_of_unknown_key key.now }
+    {
+        match key {
+            "unknown-shared" => Some(PermList::UnknownShared),
+            "unknown-sockets" => Some(PermList::UnknownSockets),
+            "unknown-devices" => Some(PermList::UnknownDevices),
+            "unknown-features" => Some(PermList::UnknownFeatures),
+            "unknown-session-bus" => Some(PermList::UnknownSessionBus),
+            "unknown-system-bus" => Some(PermList::UnknownSystemBus),
+            _ => None,
+        }
+    }
+}
+
+impl Value {
+    /// The word of a level of a bus policy, or the text of a variable. The other values have no word.
+    pub fn word(&self) -> &str
+        ensures { result.now ≡ names.word_of self.now }
+    {
+        match self {
+            Value::Text(text) => text.as_str(),
+            Value::NoBus => "none",
+            Value::See => "see",
+            Value::Talk => "talk",
+            Value::Own => "own",
+            _ => "",
+        }
+    }
+
+    /// The level of a bus policy that has the word.
+    pub fn of_word(text: &str) -> Option<Self>
+        ensures { result ≡ names.level_of text.now }
+    {
+        match text {
+            "none" => Some(Value::NoBus),
+            "see" => Some(Value::See),
+            "talk" => Some(Value::Talk),
+            "own" => Some(Value::Own),
+            _ => None,
+        }
     }
 }

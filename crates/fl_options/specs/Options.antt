@@ -10,10 +10,14 @@ use Rattle.fp_keyfile.specs.declared.fault.KeyFault.{KeyFault}
 use Rattle.fp_keyfile.specs.Grammar.{is_blank, is_control, begins_so}
 use Rattle.fp_keyfile.specs.KeyFile.{file_of, is_good}
 use Rattle.fp_keyfile.specs.Lines.{split_at}
+use Rattle.fl_meta.specs.declared.permission.PermList.{PermList}
+use Rattle.fl_meta.specs.declared.permission.PermList.TheVariants as lists
+use Rattle.fl_meta.specs.declared.permission.Value.{Value}
+use Rattle.fl_meta.specs.declared.permission.Value.TheVariants as values
 use Rattle.fl_meta.specs.declared.permission.Mention.{Mention}
 use Rattle.fl_meta.specs.declared.mentions.Source.TheVariants as sources
 use Rattle.fl_meta.specs.Mentions.{file_mentions}
-use Rattle.fl_meta.specs.Names.{is_among}
+use Rattle.fl_meta.specs.Names.{is_among, key_of, word_of}
 use Rattle.fl_meta.specs.Patterns.{is_pattern}
 
 -- ---- what stands after the name
@@ -45,23 +49,23 @@ is_variable text = are_variable (split_at 61 text)
 -- ---- the names
 
 -- the list to which the option adds
-abbrev pub granted_key : List ℕ → Option (List ℕ)
-granted_key name =
-    if bytes_eq name (codes "--share") then Some (codes "shared")
-    else (if bytes_eq name (codes "--socket") then Some (codes "sockets")
-    else (if bytes_eq name (codes "--device") then Some (codes "devices")
-    else (if bytes_eq name (codes "--allow") then Some (codes "features")
-    else (if bytes_eq name (codes "--filesystem") then Some (codes "filesystems")
-    else (if bytes_eq name (codes "--persist") then Some (codes "persistent") else None)))))
+abbrev pub granted_list : List ℕ → Option PermList
+granted_list name =
+    if bytes_eq name (codes "--share") then Some lists.Shared
+    else (if bytes_eq name (codes "--socket") then Some lists.Sockets
+    else (if bytes_eq name (codes "--device") then Some lists.Devices
+    else (if bytes_eq name (codes "--allow") then Some lists.Features
+    else (if bytes_eq name (codes "--filesystem") then Some lists.Filesystems
+    else (if bytes_eq name (codes "--persist") then Some lists.Persistent else None)))))
 
 -- the list from which it takes away
-abbrev pub denied_key : List ℕ → Option (List ℕ)
-denied_key name =
-    if bytes_eq name (codes "--unshare") then Some (codes "shared")
-    else (if bytes_eq name (codes "--nosocket") then Some (codes "sockets")
-    else (if bytes_eq name (codes "--nodevice") then Some (codes "devices")
-    else (if bytes_eq name (codes "--disallow") then Some (codes "features")
-    else (if bytes_eq name (codes "--nofilesystem") then Some (codes "filesystems") else None))))
+abbrev pub denied_list : List ℕ → Option PermList
+denied_list name =
+    if bytes_eq name (codes "--unshare") then Some lists.Shared
+    else (if bytes_eq name (codes "--nosocket") then Some lists.Sockets
+    else (if bytes_eq name (codes "--nodevice") then Some lists.Devices
+    else (if bytes_eq name (codes "--disallow") then Some lists.Features
+    else (if bytes_eq name (codes "--nofilesystem") then Some lists.Filesystems else None))))
 
 -- the group of the bus whose policy it changes
 abbrev pub bus_group : List ℕ → Option (List ℕ)
@@ -70,29 +74,29 @@ bus_group name =
     else (if is_among (codes "--system-talk-name" ∷ codes "--system-own-name" ∷ codes "--system-no-talk-name" ∷ []) name then Some (codes "System Bus Policy") else None)
 
 -- the level that it gives
-abbrev pub bus_level : List ℕ → List ℕ
+abbrev pub bus_level : List ℕ → Value
 bus_level name =
-    if is_among (codes "--talk-name" ∷ codes "--system-talk-name" ∷ []) name then codes "talk"
-    else (if is_among (codes "--own-name" ∷ codes "--system-own-name" ∷ []) name then codes "own" else codes "none")
+    if is_among (codes "--talk-name" ∷ codes "--system-talk-name" ∷ []) name then values.Talk
+    else (if is_among (codes "--own-name" ∷ codes "--system-own-name" ∷ []) name then values.Own else values.NoBus)
 
 -- ---- the two lines
 
 -- in a list, after `=` or `=!`
-abbrev pub list_lines : Option (List ℕ) → List ℕ → List ℕ → Option (List ℕ)
+abbrev pub list_lines : Option PermList → List ℕ → List ℕ → Option (List ℕ)
 list_lines None mark name = None
-list_lines (Some key) mark name = if is_given name then Some (codes "[Context]\n" ++ (key ++ (mark ++ name))) else None
+list_lines (Some list) mark name = if is_given name then Some (codes "[Context]\n" ++ (key_of list ++ (mark ++ name))) else None
 
-abbrev pub bus_lines : Option (List ℕ) → List ℕ → List ℕ → Option (List ℕ)
+abbrev pub bus_lines : Option (List ℕ) → Value → List ℕ → Option (List ℕ)
 bus_lines None level pattern = None
-bus_lines (Some group) level pattern = if is_pattern pattern then Some (codes "[" ++ (group ++ (codes "]\n" ++ (pattern ++ (codes "=" ++ level))))) else None
+bus_lines (Some group) level pattern = if is_pattern pattern then Some (codes "[" ++ (group ++ (codes "]\n" ++ (pattern ++ (codes "=" ++ word_of level))))) else None
 
 abbrev pub variable_lines : List ℕ → List ℕ → Option (List ℕ)
 variable_lines name text = if bytes_eq name (codes "--env") && is_variable text then Some (codes "[Environment]\n" ++ text) else None
 
 unfoldable pub lines_with : List ℕ → List ℕ → Option (List ℕ)
 lines_with name text =
-    option_or (list_lines (granted_key name) (codes "=") text)
-    (option_or (list_lines (denied_key name) (codes "=!") text)
+    option_or (list_lines (granted_list name) (codes "=") text)
+    (option_or (list_lines (denied_list name) (codes "=!") text)
     (option_or (bus_lines (bus_group name) (bus_level name) text) (variable_lines name text)))
 
 abbrev pub lines_of_parts : List ℕ × List ℕ → Option (List ℕ)

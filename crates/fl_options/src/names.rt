@@ -4,31 +4,33 @@ ghost use Rattle.std.specs.Prelude.{◌≡◌};
 ghost use Rattle.std.specs.Option.{option_copied};
 ghost use Rattle.fl_options.specs.Options as spec;
 
+use fl_meta::{PermList, Value};
+
 /// The list of the group `Context` to which an option adds.
-pub(crate) fn granted_key(name: &str) -> Option<&'static str>
-    ensures { option_copied result ≡ spec.granted_key name.now }
+pub(crate) fn granted_list(name: &str) -> Option<PermList>
+    ensures { result ≡ spec.granted_list name.now }
 {
     match name {
-        "--share" => Some("shared"),
-        "--socket" => Some("sockets"),
-        "--device" => Some("devices"),
-        "--allow" => Some("features"),
-        "--filesystem" => Some("filesystems"),
-        "--persist" => Some("persistent"),
+        "--share" => Some(PermList::Shared),
+        "--socket" => Some(PermList::Sockets),
+        "--device" => Some(PermList::Devices),
+        "--allow" => Some(PermList::Features),
+        "--filesystem" => Some(PermList::Filesystems),
+        "--persist" => Some(PermList::Persistent),
         _ => None,
     }
 }
 
 /// The list from which an option takes away.
-pub(crate) fn denied_key(name: &str) -> Option<&'static str>
-    ensures { option_copied result ≡ spec.denied_key name.now }
+pub(crate) fn denied_list(name: &str) -> Option<PermList>
+    ensures { result ≡ spec.denied_list name.now }
 {
     match name {
-        "--unshare" => Some("shared"),
-        "--nosocket" => Some("sockets"),
-        "--nodevice" => Some("devices"),
-        "--disallow" => Some("features"),
-        "--nofilesystem" => Some("filesystems"),
+        "--unshare" => Some(PermList::Shared),
+        "--nosocket" => Some(PermList::Sockets),
+        "--nodevice" => Some(PermList::Devices),
+        "--disallow" => Some(PermList::Features),
+        "--nofilesystem" => Some(PermList::Filesystems),
         _ => None,
     }
 }
@@ -47,12 +49,12 @@ pub(crate) fn bus_group(name: &str) -> Option<&'static str>
 }
 
 /// The level that it gives there.
-pub(crate) fn bus_level(name: &str) -> &'static str
-    ensures { result.now ≡ spec.bus_level name.now }
+pub(crate) fn bus_level(name: &str) -> Value
+    ensures { result ≡ spec.bus_level name.now }
 {
     match name {
-        "--talk-name" | "--system-talk-name" => "talk",
-        "--own-name" | "--system-own-name" => "own",
-        _ => "none",
+        "--talk-name" | "--system-talk-name" => Value::Talk,
+        "--own-name" | "--system-own-name" => Value::Own,
+        _ => Value::NoBus,
     }
 }

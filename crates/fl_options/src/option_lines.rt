@@ -4,9 +4,9 @@ ghost use Rattle.std.specs.Prelude.{◌≡◌, IfOk, option_map, string_bytes};
 ghost use Rattle.std.specs.Option.{option_copied};
 ghost use Rattle.fl_options.specs.Options as spec;
 
-use crate::names::{bus_group, bus_level, denied_key, granted_key};
+use crate::names::{bus_group, bus_level, denied_list, granted_list};
 use crate::tests_of_text::{cut, is_given, is_variable};
-use fl_meta::is_pattern;
+use fl_meta::{PermList, Value, is_pattern};
 use std::alloc::{AllocError, Global};
 
 /// The lines of a word, where it is an option.
@@ -25,13 +25,13 @@ fn lines_with(alloc: Global, name: &str, text: &str) -> Result<Option<String>, A
     ensures { IfOk result (λ lines. option_map string_bytes lines ≡ spec.lines_with name.now
         text.now) }
 {
-    if let Some(lines) = list_lines(alloc, granted_key(name), "=", text)? {
+    if let Some(lines) = list_lines(alloc, granted_list(name), "=", text)? {
         return Ok(Some(lines));
     }
-    if let Some(lines) = list_lines(alloc, denied_key(name), "=!", text)? {
+    if let Some(lines) = list_lines(alloc, denied_list(name), "=!", text)? {
         return Ok(Some(lines));
     }
-    if let Some(lines) = bus_lines(alloc, bus_group(name), bus_level(name), text)? {
+    if let Some(lines) = bus_lines(alloc, bus_group(name), &bus_level(name), text)? {
         return Ok(Some(lines));
     }
     variable_lines(alloc, name, text)
@@ -40,15 +40,16 @@ fn lines_with(alloc: Global, name: &str, text: &str) -> Result<Option<String>, A
 /// The lines of an entry of a list, after `=` or `=!`.
 fn list_lines(
     alloc: Global,
-    key: Option<&str>,
+    list: Option<PermList>,
     mark: &str,
     name: &str,
 ) -> Result<Option<String>, AllocError>
-    ensures { IfOk result (λ lines. option_map string_bytes lines ≡ spec.list_lines
-        (option_copied key.entry) mark.now name.now) }
+    ensures { IfOk result (λ lines. option_map string_bytes lines ≡ spec.list_lines list
+        mark.now name.now) }
 {
-    match key {
-        Some(key) if is_given(name) => {
+    match list {
+        Some(list) if is_given(name) => {
+            let key = list.key();
             Ok(Some(format!(in alloc; "[Context]\n{key}{mark}{name}")?))
         }
         _ => Ok(None),
@@ -59,7 +60,7 @@ fn list_lines(
 fn bus_lines(
     alloc: Global,
     group: Option<&str>,
-    level: &str,
+    level: &Value,
     pattern: &str,
 ) -> Result<Option<String>, AllocError>
     ensures { IfOk result (λ lines. option_map string_bytes lines ≡ spec.bus_lines
@@ -67,6 +68,7 @@ fn bus_lines(
 {
     match group {
         Some(group) if is_pattern(pattern) => {
+            let level = level.word();
             Ok(Some(format!(in alloc; "[{group}]\n{pattern}={level}")?))
         }
         _ => Ok(None),

@@ -20,11 +20,12 @@ use Rattle.fl_meta.specs.declared.permission.PermList.{PermList}
 use Rattle.fl_meta.specs.declared.permission.PermList.TheVariants as lists
 use Rattle.fl_meta.specs.declared.permission.Permission.{Permission}
 use Rattle.fl_meta.specs.declared.permission.Mention.{Mention}
+use Rattle.fl_meta.specs.Names.{key_of}
 use Rattle.fl_meta.specs.Order.{place_of, permission_cmp, same_ties}
 use Rattle.fl_meta.proofs.Endings.{is_empty-cons}
 use Rattle.fl_meta.proofs.Same.{place_exact}
 use Rattle.fl_context.specs.Grants.{permission_of, IsAscending}
-use Rattle.fl_override.specs.Written.{key_of, entry_text, closed_entry, is_in, entry_in, list_text, pair_if, list_pair, context_lists, context_pairs, named_pair, named_in, named_pairs, group_if, file_with, pair_of, CanWrite}
+use Rattle.fl_override.specs.Written.{entry_text, closed_entry, is_in, entry_in, list_text, pair_if, list_pair, context_lists, context_pairs, named_pair, named_in, named_pairs, group_if, file_with, pair_of, CanWrite}
 use Rattle.fl_override.specs.Overrides.{AllCanWrite}
 use Rattle.fl_override.proofs.Reading.{IsListed, utf8_ascii}
 use Rattle.fl_override.proofs.Back.{all_listed, HasNames, has_variables, has_session, has_system}

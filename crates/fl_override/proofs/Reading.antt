@@ -25,7 +25,7 @@ use Rattle.fl_meta.specs.declared.permission.Value.TheVariants as values
 use Rattle.fl_meta.specs.declared.permission.Mention.{Mention}
 use Rattle.fl_meta.specs.declared.mentions.Source.{Source}
 use Rattle.fl_meta.specs.declared.mentions.Source.TheVariants as sources
-use Rattle.fl_meta.specs.Names.{is_among, shared_names, socket_names, device_names, feature_names, list_with, list_of_key, list_of_unknown_key, level_of, access_of}
+use Rattle.fl_meta.specs.Names.{is_among, shared_names, socket_names, device_names, feature_names, list_with, key_of, list_of_key, list_of_unknown_key, word_of, level_of, access_of}
 use Rattle.fl_meta.specs.Patterns.{is_pattern}
 use Rattle.fl_meta.specs.Entries.{is_semicolon, is_colon, is_mark, is_empty, is_off, without_mark, is_ending, without_endings, last_word, access_remainder, access_at, name_in, value_in, mention_of, named, mentions_in, list_mentions}
 use Rattle.fl_meta.specs.Cuts.{HasNoEnding}
@@ -33,7 +33,7 @@ use Rattle.fl_meta.specs.Mentions.{or_unknown, list_at, context_mentions, pair_n
 use Rattle.fl_meta.proofs.Endings.{last_word-cut, without_endings-cut, is_empty-cons}
 use Rattle.fl_meta.proofs.Bare.{IsFront, IsFront-without_endings, IsRest, HasNoEnding-without_endings, without_endings-twice}
 use Rattle.fl_meta.specs.Cuts.{CutsEnding}
-use Rattle.fl_override.specs.Written.{key_of, entry_with, entry_text, closed_entry, word_of, named_pair, group_of, pair_with, pair_of, CanWrite}
+use Rattle.fl_override.specs.Written.{entry_with, entry_text, closed_entry, named_pair, group_of, pair_with, pair_of, CanWrite}
 use Rattle.fl_override.specs.Overrides.{AllCanWrite}
 use Rattle.fl_override.proofs.Plain.{is_entry_byte, IsPlain, IsPlain-nil, IsPlain-before, IsPlain-after, IsPlain-joined, IsPlain-trimmed, IsPlain-without_mark, IsPlain-without_endings, Lacks, Lacks-plain, AllByRecursion-append, split_piece, plain_pieces}
 

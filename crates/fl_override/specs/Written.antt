@@ -11,28 +11,11 @@ use Rattle.fl_meta.specs.declared.permission.Value.{Value}
 use Rattle.fl_meta.specs.declared.permission.Value.TheVariants as values
 use Rattle.fl_meta.specs.declared.permission.Mention.{Mention}
 use Rattle.fl_meta.specs.declared.mentions.Source.TheVariants as sources
+use Rattle.fl_meta.specs.Names.{key_of, word_of}
 use Rattle.fl_meta.specs.Order.{place_of}
 use Rattle.fl_meta.specs.Mentions.{pair_mentions}
 
 -- ---- a list of the group `Context`
-
--- the key of a list
-abbrev pub key_of : PermList → List ℕ
-key_of lists.Shared = codes "shared"
-key_of lists.Sockets = codes "sockets"
-key_of lists.Devices = codes "devices"
-key_of lists.Features = codes "features"
-key_of lists.Filesystems = codes "filesystems"
-key_of lists.Persistent = codes "persistent"
-key_of lists.UnknownShared = codes "unknown-shared"
-key_of lists.UnknownSockets = codes "unknown-sockets"
-key_of lists.UnknownDevices = codes "unknown-devices"
-key_of lists.UnknownFeatures = codes "unknown-features"
-key_of lists.UnknownSessionBus = codes "unknown-session-bus"
-key_of lists.UnknownSystemBus = codes "unknown-system-bus"
-key_of lists.Environment = []
-key_of lists.SessionBus = []
-key_of lists.SystemBus = []
 
 -- off is a leading `!`, and rw has no ending
 abbrev pub entry_with : Value → List ℕ → List ℕ
@@ -72,15 +55,6 @@ unfoldable pub context_pairs : List Mention → List Pair
 context_pairs mentions = flat_map (list_pair mentions) context_lists
 
 -- ---- the groups whose keys are names
-
--- the text of a variable, and the word of a level
-abbrev pub word_of : Value → List ℕ
-word_of (values.Text text) = text
-word_of values.NoBus = codes "none"
-word_of values.See = codes "see"
-word_of values.Talk = codes "talk"
-word_of values.Own = codes "own"
-word_of value = []
 
 abbrev pub named_pair : Mention → Pair
 named_pair m = record { key = m.permission.name; value = word_of m.value }

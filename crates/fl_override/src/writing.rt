@@ -25,27 +25,6 @@ const CONTEXT_LISTS: [PermList; 12] = [
     PermList::UnknownSystemBus,
 ];
 
-/// The key of a list in the group `Context`. The other lists have groups of their own.
-fn key_of(list: PermList) -> &'static str
-    ensures { result.now ≡ written.key_of list }
-{
-    match list {
-        PermList::Shared => "shared",
-        PermList::Sockets => "sockets",
-        PermList::Devices => "devices",
-        PermList::Features => "features",
-        PermList::Filesystems => "filesystems",
-        PermList::Persistent => "persistent",
-        PermList::UnknownShared => "unknown-shared",
-        PermList::UnknownSockets => "unknown-sockets",
-        PermList::UnknownDevices => "unknown-devices",
-        PermList::UnknownFeatures => "unknown-features",
-        PermList::UnknownSessionBus => "unknown-session-bus",
-        PermList::UnknownSystemBus => "unknown-system-bus",
-        PermList::Environment | PermList::SessionBus | PermList::SystemBus => "",
-    }
-}
-
 /// Adds an entry of a list, without its end.
 fn push_open_entry(out: &mut String, mention: &Mention) -> Result<(), AllocError>
     ensures { OnOk result (string_bytes out.new ≡ string_bytes out.old ++ written.entry_text
@@ -112,7 +91,7 @@ fn push_list(
     if text.is_empty() {
         return Ok(());
     }
-    let key = Text::from_str(pairs.allocator(), key_of(list))?;
+    let key = Text::from_str(pairs.allocator(), list.key())?;
     pairs.push(Pair {
         key,
         value: Text::from_string(text),
@@ -144,20 +123,6 @@ fn context_pairs(alloc: Global, mentions: &[Mention]) -> Result<Items<Pair>, All
     Ok(pairs)
 }
 
-/// The text of a variable, or the word of a level.
-fn word_of(value: &Value) -> &str
-    ensures { result.now ≡ written.word_of value.now }
-{
-    match value {
-        Value::Text(text) => text.as_str(),
-        Value::NoBus => "none",
-        Value::See => "see",
-        Value::Talk => "talk",
-        Value::Own => "own",
-        _ => "",
-    }
-}
-
 /// Adds a pair of a group whose keys are names, where it belongs to the list.
 fn push_named(pairs: &mut Items<Pair>, list: PermList, mention: &Mention) -> Result<(), AllocError>
     ensures { OnOk result (pairs.new ≡ pairs.old ++ written.named_in list mention.now) }
@@ -166,7 +131,7 @@ fn push_named(pairs: &mut Items<Pair>, list: PermList, mention: &Mention) -> Res
         return Ok(());
     }
     let name = mention.permission.name.as_str();
-    let pair = Pair::new(pairs.allocator(), name, word_of(&mention.value))?;
+    let pair = Pair::new(pairs.allocator(), name, mention.value.word())?;
     pairs.push(pair)
 }
 
