@@ -25,6 +25,7 @@ use Rattle.ost_commit.specs.Objects.{have_of, is_kind}
 use Rattle.ost_head.specs.Offers.{small_file, mode_in, ref_said, commit_said, after_mode, offered, config_path, ref_path}
 use Rattle.ost_export.specs.Exports.{IsOffered}
 use Rattle.ost_export.specs.Remotes.{held_of, held_at}
+use Rattle.fl_gen.specs.declared.limits.TheConstants.{RUNTIMES}
 use Rattle.fl_gen.specs.Made.{Ware, each_of, wares, runtime_ware, app_ware}
 use Rattle.fl_gen.specs.Stores.{Entry, Offer, IsOfferOf, AreOffersOf, IsStoreOf, Reads, config_entry, has_below, object_entry, offer_entries, ref_entry, spot_by, store_entries}
 use Rattle.fl_gen.specs.Generator.{IsGenerated, first_url, second_url}
@@ -175,14 +176,14 @@ module _ (exports : ExportsAreOffers) (objects : ObjectsAreTheStores) where
     at_second : (w : Ware) → In (wares 2 apps) w → Offers held second_url 2 w
     at_second w has = offers_by held second_url 2 (wares 2 apps) g.second w g.second_is (g.holds second_url) has
 
-    pub runtimes : (r : ℕ) → r < 4 → Offers held first_url 1 (runtime_ware 1 r) × Offers held second_url 2 (runtime_ware 2 r)
+    pub runtimes : (r : ℕ) → r < RUNTIMES → Offers held first_url 1 (runtime_ware 1 r) × Offers held second_url 2 (runtime_ware 2 r)
     runtimes r low = (
-      at_first (runtime_ware 1 r) (in_left (each_of (runtime_ware 1) 4) (each_of (app_ware 1) apps) (runtime_ware 1 r) (series_has (runtime_ware 1) 4 r low)),
-      at_second (runtime_ware 2 r) (in_left (each_of (runtime_ware 2) 4) (each_of (app_ware 2) apps) (runtime_ware 2 r) (series_has (runtime_ware 2) 4 r low)),
+      at_first (runtime_ware 1 r) (in_left (each_of (runtime_ware 1) RUNTIMES) (each_of (app_ware 1) apps) (runtime_ware 1 r) (series_has (runtime_ware 1) RUNTIMES r low)),
+      at_second (runtime_ware 2 r) (in_left (each_of (runtime_ware 2) RUNTIMES) (each_of (app_ware 2) apps) (runtime_ware 2 r) (series_has (runtime_ware 2) RUNTIMES r low)),
     )
 
     pub applications : (k : ℕ) → k < apps → Offers held first_url 1 (app_ware 1 k) × Offers held second_url 2 (app_ware 2 k)
     applications k low = (
-      at_first (app_ware 1 k) (in_right (each_of (runtime_ware 1) 4) (each_of (app_ware 1) apps) (app_ware 1 k) (series_has (app_ware 1) apps k low)),
-      at_second (app_ware 2 k) (in_right (each_of (runtime_ware 2) 4) (each_of (app_ware 2) apps) (app_ware 2 k) (series_has (app_ware 2) apps k low)),
+      at_first (app_ware 1 k) (in_right (each_of (runtime_ware 1) RUNTIMES) (each_of (app_ware 1) apps) (app_ware 1 k) (series_has (app_ware 1) apps k low)),
+      at_second (app_ware 2 k) (in_right (each_of (runtime_ware 2) RUNTIMES) (each_of (app_ware 2) apps) (app_ware 2 k) (series_has (app_ware 2) apps k low)),
     )

@@ -4,6 +4,7 @@ use Rattle.std.specs.List.{list_any}
 use Rattle.std.proofs.lemmas.List.{append-nil, flat_map_more}
 use Rattle.fp_host.specs.Outcome.{Spot}
 use Rattle.fl_gen.specs.declared.store.Row.{Row}
+use Rattle.fl_gen.specs.declared.limits.TheConstants.{RUNTIMES}
 use Rattle.fl_gen.specs.Made.{Ware, each_of, wares, runtime_ware, app_ware}
 use Rattle.fl_gen.specs.Stores.{Entry, Offer, IsOfferOf, AreOffersOf, IsStoreOf, config_entry, offer_entries, store_entries, spot_by, found}
 use Rattle.fl_gen.specs.Keeping.{Adds, Brings, Keeps, Stocks, covers, kept}
@@ -40,10 +41,10 @@ brings_on {version = version} {xs = xs} {ys = ys} {u = u} first second = record 
 pub brings_more : {version : ℕ} (f : ℕ → Ware) (n : ℕ) {s t u : List Row} → Brings version (each_of f n) s t → Brings version (f n ∷ []) t u → Brings version (each_of f (n + 1)) s u
 brings_more {version = version} f n {s = s} {u = u} first second = subst (λ (l : List Ware). Brings version l s u) (sym (one_more f n)) (brings_on first second)
 
-pub store_made : (version apps : ℕ) (bare runtimes : List Row) (rows : List Row) → Stocks version [] bare → Brings version (each_of (runtime_ware version) 4) bare runtimes → Brings version (each_of (app_ware version) apps) runtimes rows
+pub store_made : (version apps : ℕ) (bare runtimes : List Row) (rows : List Row) → Stocks version [] bare → Brings version (each_of (runtime_ware version) RUNTIMES) bare runtimes → Brings version (each_of (app_ware version) apps) runtimes rows
     → IsStoreOf version (wares version apps) (kept rows)
 store_made version apps bare runtimes rows stocks first second =
-    let s = second.after (each_of (runtime_ware version) 4) (first.after [] stocks) in
+    let s = second.after (each_of (runtime_ware version) RUNTIMES) (first.after [] stocks) in
     record {
       offers = s.offers;
       offered = s.offered;

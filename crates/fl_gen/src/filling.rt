@@ -9,6 +9,7 @@ ghost use Rattle.fl_gen.specs.Made.{app_ware, each_of, runtime_ware, wares};
 ghost use Rattle.fl_gen.specs.Stores.{IsStoreOf, Reads, config_entry, file_spot, has_link_text, object_bits, object_entry, object_spot, ref_entry};
 ghost use Rattle.fl_gen.specs.Keeping.{Adds, Brings, Stocks, kept, leaf_bits, leaf_spot};
 
+use crate::limits::RUNTIMES;
 use crate::naming::{app_ref, path_at_root, runtime_ref};
 use crate::store::{Leaf, Store};
 use crate::trees::{app_rows, runtime_rows};
@@ -22,9 +23,6 @@ use ost_refs::{RefPlace, path_of as ref_path};
 use ost_store::path_of;
 use std::alloc::{AllocError, Global};
 use std::thread::Threads;
-
-/// How many runtimes there are.
-const RUNTIMES: usize = 4;
 
 /// The subject of each commit.
 const SUBJECT: &str = "gen";
@@ -152,7 +150,7 @@ fn offer_runtimes(
     version: u64,
 ) -> Result<(), AllocError>
     requires { version < 2 ^ 8 }
-    ensures { OnOk result (Brings version (each_of (runtime_ware version) 4) store.old.rows.items
+    ensures { OnOk result (Brings version (each_of (runtime_ware version) RUNTIMES) store.old.rows.items
         store.new.rows.items) }
 {
     for number in 0..RUNTIMES {

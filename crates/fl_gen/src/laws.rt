@@ -5,6 +5,7 @@ ghost use Rattle.fp_name.specs.Refs.{Ref, ref_text};
 ghost use Rattle.ost_model.specs.Order.{In};
 ghost use Rattle.fl_words.specs.declared.command.Change.{Change};
 ghost use Rattle.fl_words.specs.declared.command.Change.TheVariants as changes;
+ghost use Rattle.fl_gen.specs.declared.limits.TheConstants.{RUNTIMES};
 ghost use Rattle.fl_gen.specs.Made.{app_metadata, app_ref, app_rows, app_ware, made_bytes, runtime_metadata, runtime_ref, runtime_rows, runtime_ware, start_at};
 ghost use Rattle.fl_gen.specs.Generator.{IsGenerated, first_url, second_url};
 ghost use Rattle.fl_gen.specs.Offered.{Offers};
@@ -15,7 +16,7 @@ use ost_export::laws::exports_are_offers;
 /// The generator's remotes offer each runtime and each application: in the first version at the first url, and in the second
 /// version at the second.
 pub fn what_is_generated_is_offered()
-    ensures runtimes { (apps : ℕ) (held : Holdings) → IsGenerated apps held → (r : ℕ) → r < 4
+    ensures runtimes { (apps : ℕ) (held : Holdings) → IsGenerated apps held → (r : ℕ) → r < RUNTIMES
         → Offers held first_url 1 (runtime_ware 1 r) × Offers held second_url 2 (runtime_ware 2 r) }
     ensures applications { (apps : ℕ) (held : Holdings) → IsGenerated apps held → (k : ℕ) → k < apps
         → Offers held first_url 1 (app_ware 1 k) × Offers held second_url 2 (app_ware 2 k) }

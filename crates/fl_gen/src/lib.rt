@@ -5,6 +5,7 @@ mod commands;
 mod copying;
 mod filling;
 pub mod laws;
+mod limits;
 mod naming;
 mod remotes;
 mod series;

@@ -3,6 +3,7 @@ ghost use Rattle.std.specs.Prelude.{◌≡◌, ◌∷◌, IfOk, codes, string_by
 ghost use Rattle.fp_name.specs.Refs.{ref_with};
 ghost use Rattle.fl_gen.specs.Made as made;
 
+use crate::limits::RUNTIMES;
 use fp_base::Blob;
 use fp_host::Path;
 use fp_name::{RefKind, RefName, RemoteName, RemoteUrl};
@@ -73,11 +74,11 @@ pub(crate) fn runtime_metadata(alloc: Global, number: usize) -> Result<Blob, All
     Blob::from_slice(alloc, text.as_bytes())
 }
 
-/// The file `metadata` of the application with this number, which runs on one of the four runtimes.
+/// The file `metadata` of the application with this number, which runs on one of the runtimes.
 pub(crate) fn app_metadata(alloc: Global, number: usize) -> Result<Blob, AllocError>
     ensures { IfOk result (λ bytes. bytes ≡ made.app_metadata number) }
 {
-    let runtime = number % 4;
+    let runtime = number % RUNTIMES;
     let text = format!(in alloc;
         "[Application]\nname=org.gen.App{number}\nruntime=org.gen.Run{runtime}/x86_64/1\n"
     )?;

@@ -2,6 +2,7 @@
 ghost use Rattle.std.specs.Prelude.{◌≡◌, ◌≤◌, IfOk, Some};
 ghost use Rattle.std.specs.Option.{option_copied};
 ghost use Rattle.fp_host.specs.Remote.{Holdings};
+ghost use Rattle.fl_words.specs.declared.limits.TheConstants.{MOST_APPS};
 ghost use Rattle.fl_gen.specs.Generator.{IsGenerated, at_urls, holdings_of};
 
 use crate::filling::made_store;
@@ -24,9 +25,9 @@ pub struct GenRemotes {
 }
 
 impl GenRemotes {
-    /// The remotes for this number of applications, 1 to 64: at each of two urls a store of four runtimes and these applications.
+    /// The remotes for this number of applications: at each of two urls a store of the runtimes and these applications.
     pub fn new(rt: &(impl Threads + Sync), alloc: Global, apps: u32) -> Result<Self, AllocError>
-        requires { apps ≤ 64 }
+        requires { apps ≤ MOST_APPS }
         ensures holds { IfOk result (λ r. ⟦<GenRemotes as Remotes>⟧.holds r ≡ Some (holdings_of r)) }
         ensures generated { IfOk result (λ r. IsGenerated apps (holdings_of r)) }
         ensures faults { IfOk result (λ r. ⟦<GenRemotes as Remotes>⟧.faults r ≡ 0) }

@@ -2,33 +2,25 @@
 ghost use Rattle.std.specs.Prelude.{◌≡◌, ◌≤◌, ◌<◌, ◌+◌, ◌^◌, ◌++◌, IfOk, OnOk};
 ghost use Rattle.fl_gen.specs.Made.{each_of, made_bytes, counted_bytes, start_at, start_in, IsSmall, file_row as row};
 
+use crate::limits::{BYTE_END, CHANGED_FILES, FILE_BYTES};
 use crate::naming::{numbered, path_in_files};
 use fp_base::{Blob, Items};
 use fp_small::FILE_MODE;
 use ost_commit::TreeRow;
 use std::alloc::{AllocError, Global};
 
-/// The bytes of each file, but for `metadata`.
-const FILE_BYTES: usize = 4_096;
-
-/// The least number that no byte of such a file is.
-const BYTE_END: usize = 251;
-
-/// The files of a series from this number on are the same in each version.
-const CHANGED: usize = 8;
-
 /// Files whose names are a word and a number.
 #[derive(Clone, Copy)]
 pub(crate) struct Series {
-    /// The first byte of the file with the number 0, modulo 251.
+    /// The number of the first byte of the file with the number 0.
     pub(crate) base: usize,
     /// By how much it goes on with each number.
     pub(crate) step: usize,
-    /// By how much more it goes on in each of the first eight files.
+    /// By how much more it goes on in each of the files that change.
     pub(crate) version: usize,
 }
 
-/// So many bytes: the first is the number modulo 251, and each goes on by 1.
+/// So many bytes: the first is the number modulo `BYTE_END`, and each goes on by 1.
 fn counted(alloc: Global, start: usize, count: usize) -> Result<Vec<u8>, AllocError>
     requires { start + count < 2 ^ 32 }
     ensures { IfOk result (λ bytes. bytes.items ≡ counted_bytes start count) }
@@ -47,7 +39,11 @@ fn start_of(series: Series, number: usize) -> usize
     ensures start { result ≡ start_in series number }
     ensures low { result < 2 ^ 24 }
 {
-    let shift = if number < CHANGED { series.version } else { 0 };
+    let shift = if number < CHANGED_FILES {
+        series.version
+    } else {
+        0
+    };
     series.base + series.step * number + shift
 }
 

@@ -2,6 +2,7 @@
 ghost use Rattle.std.specs.Prelude.{◌≡◌, ◌∷◌, ◌++◌, [], ◌<◌, ◌^◌, IfOk, OnOk};
 ghost use Rattle.fl_gen.specs.Made as made;
 
+use crate::limits::{LIBRARIES, OWN_FILES, SHARED_FILES};
 use crate::naming::{app_metadata, path_at_root, path_in_files, runtime_metadata};
 use crate::series::{Series, push_series};
 use fp_base::{Blob, Items, Text};
@@ -39,7 +40,7 @@ pub(crate) fn runtime_rows(
         version,
     };
     let mut rows = with_metadata(alloc, runtime_metadata(alloc, number)?)?;
-    push_series(alloc, &mut rows, "lib", libraries, 32)?;
+    push_series(alloc, &mut rows, "lib", libraries, LIBRARIES)?;
     Ok(rows)
 }
 
@@ -73,8 +74,8 @@ pub(crate) fn app_rows(
         version: 0,
     };
     let mut rows = with_metadata(alloc, app_metadata(alloc, number)?)?;
-    push_series(alloc, &mut rows, "f", own, 64)?;
-    push_series(alloc, &mut rows, "shared", shared, 16)?;
+    push_series(alloc, &mut rows, "f", own, OWN_FILES)?;
+    push_series(alloc, &mut rows, "shared", shared, SHARED_FILES)?;
     push_link(alloc, &mut rows)?;
     Ok(rows)
 }

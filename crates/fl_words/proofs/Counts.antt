@@ -7,16 +7,17 @@ use Rattle.std.specs.Str.Parse.{ParsesUnsigned}
 use Rattle.std.proofs.lemmas.Bool.{and_from, and_parts, leb-true, false_from_ne_true, false≢true}
 use Rattle.std.proofs.lemmas.Fmt.{decimal_is_IsNumeral, parse-decimal}
 use Rattle.std.proofs.lemmas.Slice.Eq.{bytes_eq-Decides}
+use Rattle.fl_words.specs.declared.limits.TheConstants.{MOST_APPS}
 use Rattle.fl_words.specs.Counts.{is_app_count, count_at, is_count_text}
 
--- ---- numbers from 1 to 64
+-- ---- numbers from 1 to the most
 
-pub within : (n : ℕ) → is_app_count n ≡ true → n ≤ 64
-within n good = leb-true n 64 (and_parts (nat_le 1 n) (nat_le n 64) good).1
+pub within : (n : ℕ) → is_app_count n ≡ true → n ≤ MOST_APPS
+within n good = leb-true n MOST_APPS (and_parts (nat_le 1 n) (nat_le n MOST_APPS) good).1
 
 -- ---- as they are printed
 
-back_of : (n : ℕ) → n ≤ 64 → count_at (decimal n) ≡ n
+back_of : (n : ℕ) → n ≤ MOST_APPS → count_at (decimal n) ≡ n
 back_of n small = (decimal_is_IsNumeral n (omega (arith, small))).1
 
 pub count_back : (n : ℕ) → is_app_count n ≡ true → count_at (decimal n) ≡ n
@@ -59,7 +60,7 @@ no_number text r e is parses = false_from_ne_true (is_count_text text) (λ good.
 other_number : {E : Type 0} (text : List ℕ) (r : Result ℕ E) (n : ℕ) → r ≡ Ok n → ParsesUnsigned 32 10 text r → is_count_text text ≡ true → n ≡ count_at text
 other_number text r n is parses good = let both : Ok n ≡ Ok (count_at text) = sym is ∙ parsed_as text r parses good in cc both
 
--- it isn't from 1 to 64
+-- it isn't from 1 to the most
 pub out_of_range : {E : Type 0} (text : List ℕ) (r : Result ℕ E) (n : ℕ) → r ≡ Ok n → ParsesUnsigned 32 10 text r → is_app_count n ≡ false → is_count_text text ≡ false
 out_of_range text r n is parses none =
     false_from_ne_true (is_count_text text) (λ good. false≢true (sym none ∙ ap is_app_count (other_number text r n is parses good) ∙ is_number text good))

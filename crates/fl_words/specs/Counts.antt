@@ -2,10 +2,11 @@
 use Rattle.std.specs.Prelude.{ℕ, List, Bool, ◌&&◌, nat_le, decimal}
 use Rattle.std.specs.Str.{bytes_eq}
 use Rattle.std.specs.Str.Parse.{digits_value}
+use Rattle.fl_words.specs.declared.limits.TheConstants.{MOST_APPS}
 
--- from 1 to 64
+-- from 1 to the most
 abbrev pub is_app_count : ℕ → Bool
-is_app_count n = nat_le 1 n && nat_le n 64
+is_app_count n = nat_le 1 n && nat_le n MOST_APPS
 
 -- the number that decimal digits write
 abbrev pub count_at : List ℕ → ℕ

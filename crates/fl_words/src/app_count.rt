@@ -3,14 +3,12 @@ ghost use Rattle.std.specs.Prelude.{◌≡◌, ◌≤◌, true, false, IfOk, OnO
 ghost use Rattle.std.specs.Str.{bytes_eq};
 ghost use Rattle.fl_words.specs.Counts.{is_app_count, count_at, is_count_text};
 
+use crate::limits::MOST_APPS;
 use fp_name::NameError;
 use std::alloc::{AllocError, Global};
 use std::marker::Model;
 
-/// The most applications.
-const MOST_APPS: u32 = 64;
-
-/// How many applications an exercise has, 1 to 64, which contracts see as a number.
+/// How many applications an exercise has, 1 to `MOST_APPS`, which contracts see as a number.
 #[derive(Drop)]
 pub struct AppCount {
     number: u32,
@@ -28,7 +26,8 @@ impl Model for AppCount {
 }
 
 impl AppCount {
-    /// The number that a word is in decimal. `Bad` comes exactly where it is none from 1 to 64, or has a leading zero or a sign.
+    /// The number that a word is in decimal. `Bad` comes exactly where it is none from 1 to `MOST_APPS`, or has a leading
+    /// zero or a sign.
     pub fn parse(alloc: Global, text: &str) -> Result<AppCount, NameError>
         ensures ok { IfOk result (λ count. count ≡ count_at text.now) }
         ensures good { OnOk result (is_count_text text.now ≡ true) }
@@ -48,7 +47,7 @@ impl AppCount {
     pub fn number(&self) -> u32
         ensures number { result ≡ self.now }
         ensures good { is_app_count result ≡ true }
-        ensures within { result ≤ 64 }
+        ensures within { result ≤ MOST_APPS }
     {
         self.number
     }

@@ -7,6 +7,7 @@ mod batch_reasons;
 mod command;
 mod forms;
 mod laws;
+mod limits;
 mod override_name;
 mod reading;
 mod reasons;
@@ -21,6 +22,7 @@ pub use forms::{Form, Slot};
 pub use laws::{
     bad_index_is_least, batches_hold_changes, usage_is_of_forms_begun, words_read_back,
 };
+pub use limits::MOST_APPS;
 pub use override_name::OverrideName;
 pub use reading::read_words;
 pub use reasons::reason;

@@ -1,4 +1,5 @@
 use Rattle.std.proofs.Common.{◌≡◌, ℕ, List, sym, ◌∙◌, subst, arith}
+use Rattle.fl_gen.specs.declared.limits.TheConstants.{RUNTIMES}
 use Rattle.fl_gen.specs.Made.{Ware, each_of, runtime_ware}
 use Rattle.fl_gen.specs.Keeping.{Brings}
 use Rattle.fl_gen.proofs.Counting.{none_yet}
@@ -16,5 +17,5 @@ loop-number-preserved g c = brings_more (runtime_ware c.args.version) c.loop-num
 
 pub returns : goal.returns
 returns g c =
-    let all : c.loop-number.number ≡ 4 = omega (arith, c.loop-number-test.false, c.loop-number.auto.number-end) in
+    let all : c.loop-number.number ≡ RUNTIMES = omega (arith, c.loop-number-test.false, c.loop-number.auto.number-end) in
     subst (λ (n : ℕ). Brings c.args.version (each_of (runtime_ware c.args.version) n) c.args.store.now.rows.items c.loop-number.store.rows.items) all c.loop-number.invariant
